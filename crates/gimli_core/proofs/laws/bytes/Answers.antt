@@ -1,0 +1,5 @@
+use Rattle.gimli_core.proofs.LineLaws.{reads_some_bytes}
+use Rattle.gimli_core.proofs.laws.bytes.Goals as goal
+
+pub returns : goal.returns
+returns c = reads_some_bytes

@@ -1,0 +1,5 @@
+use Rattle.gimli_core.proofs.LineLaws.{reads_number}
+use Rattle.gimli_core.proofs.laws.fixed_numbers.Goals as goal
+
+pub returns : goal.returns
+returns c = reads_number

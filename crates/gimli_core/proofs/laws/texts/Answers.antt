@@ -1,0 +1,5 @@
+use Rattle.gimli_core.proofs.LineLaws.{reads_text}
+use Rattle.gimli_core.proofs.laws.texts.Goals as goal
+
+pub returns : goal.returns
+returns c = reads_text

@@ -1,0 +1,5 @@
+use Rattle.gimli_core.proofs.LineLaws.{reads_unit_length}
+use Rattle.gimli_core.proofs.laws.unit_lengths.Goals as goal
+
+pub returns : goal.returns
+returns c = reads_unit_length

@@ -1,0 +1,35 @@
+use Rattle.std.proofs.Common.{rules, ◌≡◌, ◌∙◌, sym, ap, arith, to_z, of_z, w64}
+use Rattle.std.proofs.lemmas.Int.{ints}
+use Rattle.std.proofs.lemmas.Result.{err_from_is_err_and}
+use Rattle.gimli_core.proofs.Leb.{low_grows}
+use Rattle.gimli_core.proofs.SignedLeb.{ends_err, ends_ok, goes_on, ends_tenth, ok_z}
+use Rattle.gimli_core.proofs.reader.Reader.read_sleb128.Goals as goal
+
+pub returns-in_err-byte-clause-read : goal.returns-in_err-byte-clause-read
+returns-in_err-byte-clause-read g c =
+    let p = err_from_is_err_and c.from_residual.result c.from_residual.ensures.1 in
+    rw (p.1, p.2) (ends_err _ _ _ c.loop-group.group _ _ c.loop-group.invariant.so_far c.in_err-byte.ensures.read)
+
+pub sign_extended-requires-clause-low : goal.sign_extended-requires-clause-low
+sign_extended-requires-clause-low g c = rw c.with_group-value.ensures (low_grows _ _ _ c.loop-group.invariant.low)
+
+pub returns-then-byte-lt128-clause-read : goal.returns-then-byte-lt128-clause-read
+returns-then-byte-lt128-clause-read g c =
+    let back : to_z w64 (of_z w64 c.sign_extended.result) ≡ c.sign_extended.result = omega (arith, ints) in
+    rw (back, c.sign_extended.ensures, c.with_group-value.ensures) (ends_ok _ _ _ c.loop-group.group c.in_ok-byte.byte _ c.loop-group.invariant.so_far c.loop-group-test.true c.if-byte-lt128.true c.in_ok-byte.ensures.read)
+
+pub loop-group-preserved : goal.loop-group-preserved
+loop-group-preserved g c = record {
+  so_far = rw c.with_group-value.ensures (goes_on _ _ _ c.loop-group.group c.in_ok-byte.byte _ c.loop-group.invariant.so_far c.loop-group-test.true c.if-byte-lt128.false c.in_ok-byte.ensures.read);
+  order = search rules;
+  low = rw c.with_group-value.ensures (low_grows _ _ _ c.loop-group.invariant.low);
+}
+
+pub returns-in_err-last-clause-read : goal.returns-in_err-last-clause-read
+returns-in_err-last-clause-read g c =
+    let p = err_from_is_err_and c.from_residual-in_err-last.result c.from_residual-in_err-last.ensures.1 in
+    rw (p.1, p.2) (ends_err _ _ _ c.loop-group.group _ _ c.loop-group.invariant.so_far c.in_err-last.ensures.read)
+
+pub returns-clause-read : goal.returns-clause-read
+returns-clause-read g c =
+    rw c.with_tenth.ensures (ends_tenth _ _ _ c.loop-group.group c.in_ok-last.last _ c.loop-group.invariant.so_far c.loop-group-test.false (omega arith) c.in_ok-last.ensures.read)

@@ -1,0 +1,97 @@
+-- The forms of the tables of version 5 (DWARF 5, section 7.5.5): how a value lies in the bytes.
+use Rattle.std.specs.Prelude.{◌≡◌, ℕ, List, [], ◌∷◌, Option, Some, None, Bool, not, nat_eq, if◌then◌else◌, ℤ}
+use Rattle.gimli_core.specs.Notation.{Notation}
+use Rattle.gimli_core.specs.Values.{Value}
+use Rattle.gimli_core.specs.Line.{Line, ◌>>=◌, done, refuse, number, unsigned, signed, text, some_bytes, below_limit, offset_word}
+use Rattle.gimli_core.specs.declared.common.Format.{Format}
+use Rattle.gimli_core.specs.declared.constants.DwForm.{DwForm}
+use Rattle.gimli_core.specs.declared.error.Error.TheVariants.{UnknownForm}
+use Rattle.gimli_core.specs.declared.attribute_value.AttributeValue.TheVariants.{Block, Data1, Data2, Data4, Data8, Udata, Sdata, Flag, SecOffset, String, DebugStrRef, DebugStrRefSup, DebugLineStrRef, DebugStrOffsetsIndex}
+
+-- how a value lies in the bytes, and which value it is
+pub data Shape : Type 0 where
+  -- a number of so many bytes
+  fixed : ℕ → (ℕ → Value) → Shape
+  -- a number of three bytes, which is an index
+  three_bytes : (ℕ → Value) → Shape
+  -- a word of the format, which is an offset
+  word_offset : (ℕ → Value) → Shape
+  -- LEB128 numbers, and one that is an index
+  leb : (ℕ → Value) → Shape
+  signed_leb : (ℤ → Value) → Shape
+  leb_offset : (ℕ → Value) → Shape
+  -- so many bytes
+  block : ℕ → Shape
+  -- a length of so many bytes, or in LEB128, and that many bytes
+  counted : ℕ → Shape
+  leb_counted : Shape
+  -- bytes that aren't zero, and a zero byte
+  string : Shape
+
+abbrev pub index : ℕ → Value
+index n = DebugStrOffsetsIndex (record { 0 = n })
+
+-- the forms that are known, by their numbers
+abbrev pub shapes : List (ℕ × Shape)
+shapes =
+    (0x0a, counted 1) ∷ (0x03, counted 2) ∷ (0x04, counted 4) ∷ (0x09, leb_counted) ∷ (0x1e, block 16)
+    ∷ (0x0b, fixed 1 Data1) ∷ (0x05, fixed 2 Data2) ∷ (0x06, fixed 4 Data4) ∷ (0x07, fixed 8 Data8)
+    ∷ (0x0f, leb Udata) ∷ (0x0d, signed_leb Sdata) ∷ (0x0c, fixed 1 (λ n. Flag (not (nat_eq n 0))))
+    ∷ (0x17, word_offset SecOffset) ∷ (0x08, string)
+    ∷ (0x0e, word_offset (λ n. DebugStrRef (record { 0 = n })))
+    ∷ (0x1d, word_offset (λ n. DebugStrRefSup (record { 0 = n }))) ∷ (0x1f21, word_offset (λ n. DebugStrRefSup (record { 0 = n })))
+    ∷ (0x1f, word_offset (λ n. DebugLineStrRef (record { 0 = n })))
+    ∷ (0x1a, leb_offset index) ∷ (0x1f02, leb_offset index)
+    ∷ (0x25, fixed 1 index) ∷ (0x26, fixed 2 index) ∷ (0x27, three_bytes index) ∷ (0x28, fixed 4 index) ∷ []
+
+abbrev pub shape_among : ℕ → List (ℕ × Shape) → Option Shape
+shape_among form [] = None
+shape_among form (row ∷ rows) = if nat_eq form row.0 then Some row.1 else shape_among form rows
+
+-- that many bytes, as a block
+abbrev pub block_line : ℕ → Line Value
+block_line n = do
+  bytes ← some_bytes n
+  done (Block bytes)
+
+module _ (notation : Notation) (format : Format) where
+  abbrev pub shape_line : Shape → Line Value
+  shape_line (fixed size make) = do
+    n ← number notation.big size
+    done (make n)
+  shape_line (three_bytes make) = do
+    n ← below_limit notation (number notation.big 3)
+    done (make n)
+  shape_line (word_offset make) = do
+    n ← offset_word notation format
+    done (make n)
+  shape_line (leb make) = do
+    n ← unsigned
+    done (make n)
+  shape_line (signed_leb make) = do
+    z ← signed
+    done (make z)
+  shape_line (leb_offset make) = do
+    n ← below_limit notation unsigned
+    done (make n)
+  shape_line (block size) = block_line size
+  shape_line (counted size) = do
+    n ← number notation.big size
+    block_line n
+  shape_line leb_counted = do
+    n ← below_limit notation unsigned
+    block_line n
+  shape_line string = do
+    name ← text
+    done (String name)
+
+  -- a value in a form; a form that isn't known is refused, whatever comes
+  abbrev pub form_line : ℕ → Line Value
+  form_line form = elim (shape_among form shapes) [
+    | Some shape ↦ shape_line shape
+    | None ↦ refuse (UnknownForm (record { 0 = form }))
+  ]
+
+  -- the bytes are a value in this form
+  abbrev pub SpellsForm : ℕ → List ℕ → Value → Type 0
+  SpellsForm form = (form_line form).Spells

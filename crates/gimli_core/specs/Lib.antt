@@ -1,0 +1,7 @@
+pub mod Order
+pub mod Numbers
+pub mod Notation
+pub mod Values
+pub mod Reading
+pub mod Line
+pub mod Form

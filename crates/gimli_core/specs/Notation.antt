@@ -1,0 +1,8 @@
+-- How a reader notes numbers.
+use Rattle.std.specs.Prelude.{ℕ, Bool}
+
+pub record Notation : Type 0 where
+  -- the most significant byte comes first
+  pub big : Bool
+  -- the first number that is too large for an offset of the reader
+  pub limit : ℕ

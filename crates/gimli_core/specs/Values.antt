@@ -1,0 +1,36 @@
+-- The values of forms, with lists of bytes in the place of readers and numbers in the place of offsets.
+use Rattle.std.specs.Prelude.{ℕ, List, Option, Some, None, ℤ, pos, negsuc}
+use Rattle.gimli_core.specs.declared.attribute_value.AttributeValue.{AttributeValue}
+use Rattle.gimli_core.specs.declared.attribute_value.AttributeValue.TheVariants.{Block, Data1, Data2, Data4, Data8, Udata, Sdata, Flag, SecOffset, String, DebugStrRef, DebugStrRefSup, DebugLineStrRef, DebugStrOffsetsIndex}
+
+abbrev pub Value : Type 0
+Value = AttributeValue (List ℕ) ℕ (Unit {0})
+
+-- a value, its readers seen by bytes and its offsets by number
+module _ {R Offset Endian : Type 0} (bytes : R → List ℕ) (number : Offset → ℕ) where
+  abbrev pub value_seen : AttributeValue R Offset Endian → Value
+  value_seen (Block r) = Block (bytes r)
+  value_seen (Data1 n) = Data1 n
+  value_seen (Data2 n) = Data2 n
+  value_seen (Data4 n) = Data4 n
+  value_seen (Data8 n) = Data8 n
+  value_seen (Udata n) = Udata n
+  value_seen (Sdata n) = Sdata n
+  value_seen (Flag b) = Flag b
+  value_seen (SecOffset o) = SecOffset (number o)
+  value_seen (String r) = String (bytes r)
+  value_seen (DebugStrRef o) = DebugStrRef (record { 0 = number o.0 })
+  value_seen (DebugStrRefSup o) = DebugStrRefSup (record { 0 = number o.0 })
+  value_seen (DebugLineStrRef o) = DebugLineStrRef (record { 0 = number o.0 })
+  value_seen (DebugStrOffsetsIndex i) = DebugStrOffsetsIndex (record { 0 = number i.0 })
+
+-- the number of a value that is an unsigned number, or a signed one that isn't negative
+abbrev pub udata_value : {R Offset Endian : Type 0} → AttributeValue R Offset Endian → Option ℕ
+udata_value (Data1 n) = Some n
+udata_value (Data2 n) = Some n
+udata_value (Data4 n) = Some n
+udata_value (Data8 n) = Some n
+udata_value (Udata n) = Some n
+udata_value (Sdata (pos n)) = Some n
+udata_value (Sdata (negsuc n)) = None
+udata_value v = None

@@ -1,0 +1,168 @@
+ghost use Rattle.std.specs.Prelude.{◌≡◌, ◌++◌, ◌≤◌, Bool, true, false, not, length, take, drop};
+ghost use Rattle.gimli_core.specs.Numbers.{value_of, number_bytes};
+
+/// An order of bytes.
+pub trait Endianity: Copy + Eq {
+    /// Whether the most significant byte comes first.
+    ghost big: { Self → Bool };
+
+    /// Whether the most significant byte comes first.
+    fn is_big_endian(self) -> bool
+        ensures { result ≡ big self };
+
+    /// Whether the least significant byte comes first.
+    fn is_little_endian(self) -> bool
+        ensures { result ≡ not (big self) }
+    {
+        !self.is_big_endian()
+    }
+
+    /// The number of the first two bytes.
+    fn read_u16(self, buf: &[u8]) -> u16
+        requires { 2 ≤ length buf.now }
+        ensures { result ≡ value_of (big self) (take 2 buf.now) }
+    {
+        let bytes = [buf[0], buf[1]];
+        if self.is_big_endian() {
+            u16::from_be_bytes(bytes)
+        } else {
+            u16::from_le_bytes(bytes)
+        }
+    }
+
+    /// The number of the first four bytes.
+    fn read_u32(self, buf: &[u8]) -> u32
+        requires { 4 ≤ length buf.now }
+        ensures { result ≡ value_of (big self) (take 4 buf.now) }
+    {
+        let bytes = [buf[0], buf[1], buf[2], buf[3]];
+        if self.is_big_endian() {
+            u32::from_be_bytes(bytes)
+        } else {
+            u32::from_le_bytes(bytes)
+        }
+    }
+
+    /// The number of the first eight bytes.
+    fn read_u64(self, buf: &[u8]) -> u64
+        requires { 8 ≤ length buf.now }
+        ensures { result ≡ value_of (big self) (take 8 buf.now) }
+    {
+        let bytes = [
+            buf[0], buf[1], buf[2], buf[3], buf[4], buf[5], buf[6], buf[7],
+        ];
+        if self.is_big_endian() {
+            u64::from_be_bytes(bytes)
+        } else {
+            u64::from_le_bytes(bytes)
+        }
+    }
+
+    /// The number of the first sixteen bytes.
+    fn read_u128(self, buf: &[u8]) -> u128
+        requires { 16 ≤ length buf.now }
+        ensures { result ≡ value_of (big self) (take 16 buf.now) }
+    {
+        let first = self.read_u64(buf);
+        let second = self.read_u64(&buf[8..]);
+        if self.is_big_endian() {
+            u128::from(first) << 64 | u128::from(second)
+        } else {
+            u128::from(second) << 64 | u128::from(first)
+        }
+    }
+
+    /// Puts a number into the first two bytes.
+    fn write_u16(self, buf: &mut [u8], n: u16)
+        requires { 2 ≤ length buf.old }
+        ensures { buf.new ≡ number_bytes (big self) 2 n ++ drop 2 buf.old }
+    {
+        if self.is_big_endian() {
+            buf[..2].copy_from_slice(&n.to_be_bytes());
+        } else {
+            buf[..2].copy_from_slice(&n.to_le_bytes());
+        }
+    }
+
+    /// Puts a number into the first four bytes.
+    fn write_u32(self, buf: &mut [u8], n: u32)
+        requires { 4 ≤ length buf.old }
+        ensures { buf.new ≡ number_bytes (big self) 4 n ++ drop 4 buf.old }
+    {
+        if self.is_big_endian() {
+            buf[..4].copy_from_slice(&n.to_be_bytes());
+        } else {
+            buf[..4].copy_from_slice(&n.to_le_bytes());
+        }
+    }
+
+    /// Puts a number into the first eight bytes.
+    fn write_u64(self, buf: &mut [u8], n: u64)
+        requires { 8 ≤ length buf.old }
+        ensures { buf.new ≡ number_bytes (big self) 8 n ++ drop 8 buf.old }
+    {
+        if self.is_big_endian() {
+            buf[..8].copy_from_slice(&n.to_be_bytes());
+        } else {
+            buf[..8].copy_from_slice(&n.to_le_bytes());
+        }
+    }
+
+    /// Puts a number into the first sixteen bytes.
+    fn write_u128(self, buf: &mut [u8], n: u128)
+        requires { 16 ≤ length buf.old }
+        ensures { buf.new ≡ number_bytes (big self) 16 n ++ drop 16 buf.old }
+    {
+        if self.is_big_endian() {
+            buf[..16].copy_from_slice(&n.to_be_bytes());
+        } else {
+            buf[..16].copy_from_slice(&n.to_le_bytes());
+        }
+    }
+}
+
+/// The least significant byte first.
+#[derive(Clone, Copy, Debug, PartialEq, Eq, Default)]
+pub struct LittleEndian;
+
+/// The most significant byte first.
+#[derive(Clone, Copy, Debug, PartialEq, Eq, Default)]
+pub struct BigEndian;
+
+/// An order that is known when the program runs.
+#[derive(Clone, Copy, Debug, PartialEq, Eq)]
+pub enum RunTimeEndian {
+    /// The least significant byte first.
+    Little,
+    /// The most significant byte first.
+    Big,
+}
+
+impl Endianity for LittleEndian {
+    ghost big = { λ _. false };
+
+    fn is_big_endian(self) -> bool {
+        false
+    }
+}
+
+impl Endianity for BigEndian {
+    ghost big = { λ _. true };
+
+    fn is_big_endian(self) -> bool {
+        true
+    }
+}
+
+impl Endianity for RunTimeEndian {
+    ghost use Rattle.gimli_core.specs.Order.{is_big};
+
+    ghost big = { is_big };
+
+    fn is_big_endian(self) -> bool {
+        match self {
+            RunTimeEndian::Little => false,
+            RunTimeEndian::Big => true,
+        }
+    }
+}

@@ -1,0 +1,106 @@
+ghost use Rattle.std.specs.Prelude.{◌≡◌, ℕ, ◌+◌, ◌-◌, ◌*◌, ◌^◌, IsTrue};
+ghost use Rattle.gimli_core.specs.Numbers.{is_address_size};
+ghost use Rattle.gimli_core.specs.Reading.{seen, offset_of, sized_sum};
+
+use crate::error::{Error, Result};
+
+/// A number of bytes in a reader, or an offset into a section. Each number of 32 bits has one.
+pub trait ReaderOffset: Copy + Eq + Ord {
+    /// The number that it stands for.
+    ghost number: { Self → ℕ };
+
+    /// The first number that is too large for the type.
+    ghost limit: { ℕ };
+
+    /// The offset of a number of 8 bits.
+    fn from_u8(offset: u8) -> Self
+        ensures { number result ≡ offset };
+
+    /// The offset of a number of 16 bits.
+    fn from_u16(offset: u16) -> Self
+        ensures { number result ≡ offset };
+
+    /// The offset of a number of 32 bits.
+    fn from_u32(offset: u32) -> Self
+        ensures { number result ≡ offset };
+
+    /// The offset of a number. Refused by `UnsupportedOffset`, exactly where it is too large for the type.
+    fn from_u64(offset: u64) -> Result<Self>
+        ensures { seen number result ≡ offset_of limit offset };
+
+    /// The number that it stands for.
+    fn into_u64(self) -> u64
+        ensures { result ≡ number self };
+}
+
+impl ReaderOffset for usize {
+    ghost number = { λ n. n };
+
+    ghost limit = { 2 ^ 64 };
+
+    fn from_u8(offset: u8) -> usize {
+        usize::from(offset)
+    }
+
+    fn from_u16(offset: u16) -> usize {
+        usize::from(offset)
+    }
+
+    fn from_u32(offset: u32) -> usize {
+        offset as usize
+    }
+
+    fn from_u64(offset: u64) -> Result<usize> {
+        Ok(offset as usize)
+    }
+
+    fn into_u64(self) -> u64 {
+        self as u64
+    }
+}
+
+/// An address of a machine, whose size is given in bytes: 1, 2, 4 or 8.
+pub trait ReaderAddress: Copy {
+    /// The number that it stands for.
+    ghost number: { Self → ℕ };
+
+    /// The address so many bytes further on. Refused by `AddressOverflow`, exactly where it is above the
+    /// greatest address of the size.
+    fn add_sized(self, length: u64, size: u8) -> Result<Self>
+        requires { IsTrue (is_address_size size) }
+        ensures { seen number result ≡ sized_sum (number self) length size };
+
+    /// The least address that stands for nothing: the greatest of the size but one. Linkers put it, or the
+    /// greatest, in the place of an address that they dropped.
+    fn min_tombstone(size: u8) -> Self
+        requires { IsTrue (is_address_size size) }
+        ensures { number result ≡ 2 ^ (8 * size) - 2 };
+}
+
+/// The greatest address of a size.
+fn greatest_address(size: u8) -> u64
+    requires { IsTrue (is_address_size size) }
+    ensures { result + 1 ≡ 2 ^ (8 * size) }
+{
+    match size {
+        1 => 0xff,
+        2 => 0xffff,
+        4 => 0xffff_ffff,
+        _ => 0xffff_ffff_ffff_ffff,
+    }
+}
+
+impl ReaderAddress for u64 {
+    ghost number = { λ n. n };
+
+    fn add_sized(self, length: u64, size: u8) -> Result<u64> {
+        match self.checked_add(length) {
+            Some(sum) if sum <= greatest_address(size) => Ok(sum),
+            _ => Err(Error::AddressOverflow),
+        }
+    }
+
+    fn min_tombstone(size: u8) -> u64 {
+        greatest_address(size) - 1
+    }
+}

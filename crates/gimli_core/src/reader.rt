@@ -1,0 +1,320 @@
+ghost use Rattle.std.specs.Prelude.{◌≡◌, ℕ, ◌+◌, ◌-◌, ◌≤◌, ◌↔◌, ◌++◌, Bool, List, [], length, take, IsTrue, IfOk, IfErr, OnErr};
+ghost use Rattle.std.specs.Cow.{cow_slice_items};
+ghost use Rattle.gimli_core.specs.Numbers.{is_address_size};
+ghost use Rattle.gimli_core.specs.Reading.{seen, split_at, skip_at, truncate_at, find_at, text_at, byte_at, signed_byte_at, number_at, unsigned_at, unsigned_16_at, signed_at, word_at, initial_length_at, address_size_at};
+
+use crate::common::Format;
+use crate::endianity::Endianity;
+use crate::error::{Error, Result};
+use crate::leb128::{sign_extended, with_group, with_tenth};
+use crate::offset::ReaderOffset;
+use std::borrow::CowSlice;
+
+/// Bytes that are read from the front, and an order of bytes for the numbers among them.
+///
+/// A copy reads on by itself. Where bytes are wanting, the refusal is `UnexpectedEof`. What a refused
+/// call leaves is said at each; where nothing is said, the reader stays as it was.
+pub trait Reader: Copy {
+    /// The order of bytes.
+    type Endian: Endianity;
+
+    /// A number of bytes of this reader.
+    type Offset: ReaderOffset;
+
+    /// The bytes left.
+    ghost bytes: { Self → List ℕ };
+
+    /// Whether the most significant byte of a number comes first.
+    ghost big: { Self → Bool };
+
+    /// The order of bytes.
+    fn endian(&self) -> Self::Endian
+        ensures { Self.Endian.big result ≡ big self.now };
+
+    /// How many bytes are left.
+    fn len(&self) -> Self::Offset
+        ensures { Self.Offset.number result ≡ length (bytes self.now) };
+
+    /// Lets all bytes go.
+    fn empty(&mut self)
+        ensures left { bytes self.new ≡ [] }
+        ensures order { big self.new ≡ big self.old };
+
+    /// Lets all bytes go but the first `len`.
+    fn truncate(&mut self, len: Self::Offset) -> Result<()>
+        ensures read { (seen (λ _. tt) result, bytes self.new) ≡ truncate_at (Self.Offset.number len) (bytes self.old) }
+        ensures order { big self.new ≡ big self.old };
+
+    /// How many bytes stand in `base` before those that are left here, which are an end of those of `base`.
+    fn offset_from(&self, base: &Self) -> Self::Offset
+        requires { (front : List ℕ) × (bytes base.now ≡ front ++ bytes self.now) }
+        ensures { Self.Offset.number result + length (bytes self.now) ≡ length (bytes base.now) };
+
+    /// How many bytes stand before the first such byte.
+    fn find(&self, byte: u8) -> Result<Self::Offset>
+        ensures { seen Self.Offset.number result ≡ find_at byte (bytes self.now) };
+
+    /// Lets the first `len` bytes go.
+    fn skip(&mut self, len: Self::Offset) -> Result<()>
+        ensures read { (seen (λ _. tt) result, bytes self.new) ≡ skip_at (Self.Offset.number len) (bytes self.old) }
+        ensures order { big self.new ≡ big self.old };
+
+    /// Takes the first `len` bytes, as a reader of their own.
+    fn split(&mut self, len: Self::Offset) -> Result<Self>
+        ensures read { (seen bytes result, bytes self.new) ≡ split_at (Self.Offset.number len) (bytes self.old) }
+        ensures order { big self.new ≡ big self.old }
+        ensures part { IfOk result (λ part. big part ≡ big self.old) };
+
+    /// The bytes left, lent where they lie in one piece, else copied. Refused only by `OutOfMemory`, where
+    /// the copy found no memory.
+    fn to_slice(&self) -> Result<CowSlice<'_, u8>>
+        ensures ok { IfOk result (λ slice. cow_slice_items slice ≡ bytes self.now) }
+        ensures err { IfErr result (λ e. e ≡ Error.OutOfMemory) };
+
+    /// Takes as many bytes as the buffer has, into the buffer. Where they are wanting, the buffer stays as
+    /// it was too.
+    fn read_slice(&mut self, buf: &mut [u8]) -> Result<()>
+        ensures read { (seen (λ _. buf.new) result, bytes self.new) ≡ split_at (length buf.old) (bytes self.old) }
+        ensures order { big self.new ≡ big self.old }
+        ensures refused { OnErr result (buf.new ≡ buf.old) };
+
+    /// Whether no bytes are left.
+    fn is_empty(&self) -> bool
+        ensures { IsTrue result ↔ (bytes self.now ≡ []) }
+    {
+        self.len().into_u64() == 0
+    }
+
+    /// Takes sixteen bytes.
+    fn read_u8_array_16(&mut self) -> Result<[u8; 16]>
+        ensures read { (result, bytes self.new) ≡ split_at 16 (bytes self.old) }
+        ensures order { big self.new ≡ big self.old }
+    {
+        let mut buf = [0; 16];
+        self.read_slice(&mut buf)?;
+        Ok(buf)
+    }
+
+    /// Takes an unsigned number of one byte.
+    fn read_u8(&mut self) -> Result<u8>
+        ensures read { (result, bytes self.new) ≡ byte_at (bytes self.old) }
+        ensures order { big self.new ≡ big self.old }
+    {
+        let mut buf = [0; 1];
+        self.read_slice(&mut buf)?;
+        Ok(buf[0])
+    }
+
+    /// Takes a signed number of one byte.
+    fn read_i8(&mut self) -> Result<i8>
+        ensures read { (result, bytes self.new) ≡ signed_byte_at (bytes self.old) }
+        ensures order { big self.new ≡ big self.old }
+    {
+        let byte = self.read_u8()?;
+        Ok(byte.cast_signed())
+    }
+
+    /// Takes an unsigned number of two bytes.
+    fn read_u16(&mut self) -> Result<u16>
+        ensures read { (result, bytes self.new) ≡ number_at (big self.old) 2 (bytes self.old) }
+        ensures order { big self.new ≡ big self.old }
+    {
+        let mut buf = [0; 2];
+        self.read_slice(&mut buf)?;
+        Ok(self.endian().read_u16(&buf))
+    }
+
+    /// Takes an unsigned number of four bytes.
+    fn read_u32(&mut self) -> Result<u32>
+        ensures read { (result, bytes self.new) ≡ number_at (big self.old) 4 (bytes self.old) }
+        ensures order { big self.new ≡ big self.old }
+    {
+        let mut buf = [0; 4];
+        self.read_slice(&mut buf)?;
+        Ok(self.endian().read_u32(&buf))
+    }
+
+    /// Takes an unsigned number of eight bytes.
+    fn read_u64(&mut self) -> Result<u64>
+        ensures read { (result, bytes self.new) ≡ number_at (big self.old) 8 (bytes self.old) }
+        ensures order { big self.new ≡ big self.old }
+    {
+        let mut buf = [0; 8];
+        self.read_slice(&mut buf)?;
+        Ok(self.endian().read_u64(&buf))
+    }
+
+    /// Takes an unsigned number of `n` bytes, eight at most.
+    fn read_uint(&mut self, n: usize) -> Result<u64>
+        requires { n ≤ 8 }
+        ensures read { (result, bytes self.new) ≡ number_at (big self.old) n (bytes self.old) }
+        ensures order { big self.new ≡ big self.old }
+    {
+        let mut buf = [0; 8];
+        if self.endian().is_big_endian() {
+            self.read_slice(&mut buf[8 - n..])?;
+        } else {
+            self.read_slice(&mut buf[..n])?;
+        }
+        Ok(self.endian().read_u64(&buf))
+    }
+
+    /// Takes the bytes before the first zero byte, as a reader of their own, and lets the zero byte go.
+    fn read_null_terminated_slice(&mut self) -> Result<Self>
+        ensures read { (seen bytes result, bytes self.new) ≡ text_at (bytes self.old) }
+        ensures order { big self.new ≡ big self.old }
+        ensures part { IfOk result (λ part. big part ≡ big self.old) }
+    {
+        let len = self.find(0)?;
+        let text = self.split(len)?;
+        self.skip(Self::Offset::from_u8(1))?;
+        Ok(text)
+    }
+
+    /// Takes an unsigned LEB128 number. Refused by `BadUnsignedLeb128` where it doesn't fit 64 bits or has
+    /// more than ten bytes. A refused call has taken the bytes that it looked at.
+    fn read_uleb128(&mut self) -> Result<u64>
+        ensures read { (result, bytes self.new) ≡ unsigned_at (bytes self.old) }
+        ensures order { big self.new ≡ big self.old }
+    {
+        let mut value = 0;
+        for group in 0..9u32 {
+            let byte = self.read_u8()?;
+            value = with_group(value, byte, group);
+            if byte < 128 {
+                return Ok(value);
+            }
+        }
+        let last = self.read_u8()?;
+        if last > 1 {
+            return Err(Error::BadUnsignedLeb128);
+        }
+        Ok(with_group(value, last, 9))
+    }
+
+    /// Takes an unsigned LEB128 number of 16 bits. Refused by `BadUnsignedLeb128` where it doesn't fit
+    /// them or has more than three bytes. A refused call has taken the bytes that it looked at.
+    #[tactic(auto, unfolding(crate::specs::Reading::uleb_at))]
+    fn read_uleb128_u16(&mut self) -> Result<u16>
+        ensures read { (result, bytes self.new) ≡ unsigned_16_at (bytes self.old) }
+        ensures order { big self.new ≡ big self.old }
+    {
+        let first = self.read_u8()?;
+        if first < 128 {
+            return Ok(u16::from(first));
+        }
+        let second = self.read_u8()?;
+        let low = u16::from(first % 128) + 128 * u16::from(second % 128);
+        if second < 128 {
+            return Ok(low);
+        }
+        let third = self.read_u8()?;
+        if third > 3 {
+            return Err(Error::BadUnsignedLeb128);
+        }
+        Ok(low + 128 * 128 * u16::from(third))
+    }
+
+    /// Takes a signed LEB128 number. Refused by `BadSignedLeb128` where it doesn't fit 64 bits or has more
+    /// than ten bytes. A refused call has taken the bytes that it looked at.
+    fn read_sleb128(&mut self) -> Result<i64>
+        ensures read { (result, bytes self.new) ≡ signed_at (bytes self.old) }
+        ensures order { big self.new ≡ big self.old }
+    {
+        let mut value = 0;
+        for group in 0..9u32 {
+            let byte = self.read_u8()?;
+            value = with_group(value, byte, group);
+            if byte < 128 {
+                return Ok(sign_extended(value, byte, group));
+            }
+        }
+        let last = self.read_u8()?;
+        with_tenth(value, last)
+    }
+
+    /// Takes the length of a unit, and says which format it tells. Refused by `UnknownReservedLength` at a
+    /// reserved first word, and by `UnsupportedOffset` where the offset type is too narrow. A refused call
+    /// has taken the first word, if it is there, and a length of eight bytes that is too large.
+    #[tactic(auto, unfolding(crate::specs::Reading::initial_length_at))]
+    fn read_initial_length(&mut self) -> Result<(Self::Offset, Format)>
+        ensures read { (seen (λ found. (Self.Offset.number found.0, found.1)) result, bytes self.new)
+            ≡ initial_length_at (big self.old) Self.Offset.limit (bytes self.old) }
+        ensures order { big self.new ≡ big self.old }
+    {
+        let first = self.read_u32()?;
+        if first < 0xffff_fff0 {
+            return Ok((Self::Offset::from_u32(first), Format::Dwarf32));
+        }
+        if first < 0xffff_ffff {
+            return Err(Error::UnknownReservedLength);
+        }
+        let length = self.read_u64()?;
+        Ok((Self::Offset::from_u64(length)?, Format::Dwarf64))
+    }
+
+    /// Takes the size of an address. Refused by `UnsupportedAddressSize` where it isn't 1, 2, 4 or 8; the
+    /// byte is taken then too.
+    #[tactic(auto, unfolding(crate::specs::Reading::address_size_at))]
+    fn read_address_size(&mut self) -> Result<u8>
+        ensures read { (result, bytes self.new) ≡ address_size_at (bytes self.old) }
+        ensures order { big self.new ≡ big self.old }
+    {
+        let size = self.read_u8()?;
+        match size {
+            1 | 2 | 4 | 8 => Ok(size),
+            _ => Err(Error::UnsupportedAddressSize(size)),
+        }
+    }
+
+    /// Takes an address of `size` bytes.
+    fn read_address(&mut self, size: u8) -> Result<u64>
+        requires { IsTrue (is_address_size size) }
+        ensures read { (result, bytes self.new) ≡ number_at (big self.old) size (bytes self.old) }
+        ensures order { big self.new ≡ big self.old }
+    {
+        match size {
+            1 => {
+                let address = self.read_u8()?;
+                Ok(u64::from(address))
+            }
+            2 => {
+                let address = self.read_u16()?;
+                Ok(u64::from(address))
+            }
+            4 => {
+                let address = self.read_u32()?;
+                Ok(u64::from(address))
+            }
+            _ => self.read_u64(),
+        }
+    }
+
+    /// Takes a length of one word of the format. Refused by `UnsupportedOffset` where the offset type is
+    /// too narrow; the word is taken then.
+    #[tactic(auto, unfolding(crate::specs::Reading::word_at))]
+    fn read_length(&mut self, format: Format) -> Result<Self::Offset>
+        ensures read { (seen Self.Offset.number result, bytes self.new) ≡ word_at (big self.old) Self.Offset.limit format (bytes self.old) }
+        ensures order { big self.new ≡ big self.old }
+    {
+        match format {
+            Format::Dwarf32 => {
+                let length = self.read_u32()?;
+                Ok(Self::Offset::from_u32(length))
+            }
+            Format::Dwarf64 => {
+                let length = self.read_u64()?;
+                Self::Offset::from_u64(length)
+            }
+        }
+    }
+
+    /// Takes an offset of one word of the format. Refused by `UnsupportedOffset` where the offset type is
+    /// too narrow; the word is taken then.
+    fn read_offset(&mut self, format: Format) -> Result<Self::Offset>
+        ensures read { (seen Self.Offset.number result, bytes self.new) ≡ word_at (big self.old) Self.Offset.limit format (bytes self.old) }
+        ensures order { big self.new ≡ big self.old }
+    {
+        self.read_length(format)
+    }
+}
