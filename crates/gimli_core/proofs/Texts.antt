@@ -1,7 +1,7 @@
 -- Reading a text up to its zero byte.
-use Rattle.std.proofs.Common.{◌≡◌, ℕ, ◌+◌, ◌-◌, ◌<◌, ◌≤◌, List, length, drop, Result, Ok, Err, refl, sym, ap, ◌∙◌, arith, inl, inr}
+use Rattle.std.proofs.Common.{◌≡◌, ℕ, ◌+◌, ◌-◌, ◌<◌, ◌≤◌, List, ◌++◌, length, take, drop, Result, Ok, Err, refl, sym, ap, ◌∙◌, arith, inl, inr}
 use Rattle.std.proofs.lemmas.Bool.{cases_lt, le-ltb, lt-ltb}
-use Rattle.std.proofs.lemmas.List.{length-drop}
+use Rattle.std.proofs.lemmas.List.{length-drop, take-append-drop}
 use Rattle.std.specs.Prelude.{nat_eq}
 use Rattle.std.specs.List.{position_or_len}
 use Rattle.gimli_core.specs.declared.error.Error.{Error}
@@ -15,6 +15,13 @@ found_within byte n bytes e =
       | inl lt ↦ let f = rw (lt-ltb place (length bytes) lt, find_at) at e in let same : n ≡ place = cc in rw same lt
       | inr le ↦ let f = rw (le-ltb place (length bytes) le, find_at) at e in absurd cc
     ]
+
+-- what is left behind a skip is an end of the bytes
+pub skip_front : (n : ℕ) (bytes rest : List ℕ) → ◌≡◌ {A = Read (Unit {0})} (Ok tt, rest) (skip_at n bytes) → (front : List ℕ) × (bytes ≡ front ++ rest)
+skip_front n bytes rest e = elim (cases_lt (length bytes) n) [
+  | inl lt ↦ let p = ap (λ (r : Read (Unit {0})). r.0) (rw (lt-ltb (length bytes) n lt, skip_at) at e) in absurd cc
+  | inr le ↦ let left = ap (λ (r : Read (Unit {0})). r.1) (rw (le-ltb (length bytes) n le, skip_at) at e) in (take n bytes, sym (rw left (take-append-drop n bytes)))
+]
 
 -- so the byte itself can be skipped, behind those before it
 pub skip_refuses_not : (n one : ℕ) (bytes text mid rest : List ℕ) (e : Error) → n < length bytes → one ≡ 1

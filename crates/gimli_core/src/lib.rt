@@ -15,6 +15,8 @@ mod leb128;
 mod offset;
 mod reader;
 mod section;
+#[cfg(test)]
+mod tests;
 
 pub use attribute_value::AttributeValue;
 pub use common::{
