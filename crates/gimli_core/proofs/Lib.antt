@@ -6,3 +6,4 @@ pub mod Lines
 pub mod UnsignedLeb
 pub mod SignedLaws
 pub mod LineLaws
+pub mod Written

@@ -1,7 +1,8 @@
 //! Laws of the formats: the functions by which a reader's calls are told read the lines of the grammar,
 //! in both directions, with their refusals.
 
-ghost use Rattle.std.specs.Prelude.{ℕ, Bool};
+ghost use Rattle.std.specs.Prelude.{ℕ, Bool, ◌<◌, ◌^◌};
+ghost use Rattle.gimli_core.specs.Numbers.{SpellsNumber, number_bytes};
 ghost use Rattle.gimli_core.specs.Notation.{Notation};
 ghost use Rattle.gimli_core.specs.declared.common.Format.{Format};
 ghost use Rattle.gimli_core.specs.Line.{Reads, byte, some_bytes, number, text, unsigned, unsigned_16, signed, offset_word, unit_length};
@@ -54,3 +55,9 @@ pub fn words()
 pub fn unit_lengths()
     ensures { (notation : Notation) → Reads (unit_length notation) (initial_length_at notation.big notation.limit) }
 {}
+
+/// What `Endianity::write_u16` to `write_u128` put into a slice spells the number.
+pub fn written_numbers()
+    ensures { (big : Bool) (size n : ℕ) → n < 256 ^ size → SpellsNumber big size (number_bytes big size n) n }
+{
+}
