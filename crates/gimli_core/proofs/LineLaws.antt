@@ -1,8 +1,8 @@
 -- Reading the single lines of a format: bytes, numbers, texts, lengths.
-use Rattle.std.proofs.Common.{◌≡◌, ◌≢◌, ℕ, zero, suc, ◌+◌, ◌-◌, ◌*◌, ◌<◌, ◌≤◌, Bool, true, false, not, cond, if◌then◌else◌, List, [], ◌∷◌, ◌++◌, length, take, drop, Result, Ok, Err, refl, sym, ap, subst, ◌∙◌, arith, append_assoc, inl, inr, ◌⊎◌}
-use Rattle.std.specs.Prelude.{nat_eq, nat_lt, nat_le}
+use Rattle.std.proofs.Common.{◌≡◌, ◌≢◌, ℕ, suc, ◌+◌, ◌<◌, ◌≤◌, Bool, true, false, if◌then◌else◌, List, [], ◌∷◌, ◌++◌, length, take, drop, Ok, Err, refl, sym, ap, subst, ◌∙◌, arith, append_assoc, inl, inr, ◌⊎◌}
+use Rattle.std.specs.Prelude.{nat_eq, nat_lt}
 use Rattle.std.specs.List.{AllByRecursion, position_or_len}
-use Rattle.std.proofs.lemmas.Bool.{cases_lt, le-ltb, lt-ltb, eqb-true, eqb-false, eq-eqb, ne_eqb, le-leb, lt-leb}
+use Rattle.std.proofs.lemmas.Bool.{cases_lt, le-ltb, lt-ltb, ne_eqb, le-leb, lt-leb}
 use Rattle.std.proofs.lemmas.Bool.Decides.{eqb_tells}
 use Rattle.std.proofs.lemmas.List.{append-nil, take_at, drop_at, take-append-drop, length-append, length-take-le}
 use Rattle.gimli_core.specs.declared.common.Format.{Format}
@@ -10,10 +10,10 @@ use Rattle.gimli_core.specs.declared.common.Format.TheVariants.{Dwarf32, Dwarf64
 use Rattle.gimli_core.specs.declared.error.Error.{Error}
 use Rattle.gimli_core.specs.declared.error.Error.TheVariants.{UnknownReservedLength, UnsupportedOffset}
 use Rattle.gimli_core.specs.Notation.{Notation}
-use Rattle.gimli_core.specs.Numbers.{SpellsNumber, SpellsInitialLength, value_of, word_size}
-use Rattle.gimli_core.specs.Reading.{Read, ◌>>=◌, seen, eof, byte_at, number_at, split_at, text_at, word_at, initial_length_at, offset_of}
-use Rattle.gimli_core.specs.Line.{Line, ◌>>=◌ as ◌>>>◌, done, check, byte, number, some_bytes, text, word, below_limit, fits_offset, offset_word, initial_length, unit_length, IsWanting, Reads}
-use Rattle.gimli_core.proofs.Lines.{ok_parts, bind_ok, bind_fault, bind_refused, reads_both, reads_done, reads_check, reads_same, check_at}
+use Rattle.gimli_core.specs.Numbers.{SpellsNumber, SpellsInitialLength, value_of}
+use Rattle.gimli_core.specs.Reading.{Read, ◌>>=◌, seen, eof, byte_at, number_at, split_at, text_at, word_at, initial_length_at, offset_of, check_at, below_at}
+use Rattle.gimli_core.specs.Line.{Line, check, byte, number, some_bytes, text, below_limit, fits_offset, offset_word, initial_length, unit_length, IsWanting, Reads}
+use Rattle.gimli_core.proofs.Lines.{ok_parts, bind_ok, bind_fault, bind_refused, reads_both, reads_done, reads_check, reads_same}
 use Rattle.gimli_core.proofs.Padded.{split_ok}
 
 -- ---- bytes
@@ -186,10 +186,6 @@ bind_assoc (Ok x, rest) f g = refl
 bind_assoc (Err e, rest) f g = refl
 
 -- ---- offsets, words and lengths
-
--- a number that an offset has to hold
-abbrev pub below_at : ℕ → (List ℕ → Read ℕ) → List ℕ → Read ℕ
-below_at limit read bytes = read bytes >>= λ n rest. (offset_of limit n, rest)
 
 -- the test of a number
 test_of : (limit n : ℕ) (rest : List ℕ) → (check_at (nat_lt n limit) UnsupportedOffset rest >>= λ fits left. (let r : Read ℕ = (Ok n, left) in r)) ≡ (offset_of limit n, rest)

@@ -1,10 +1,8 @@
 -- Reading one line after another: what reads the lines reads what is put together of them.
-use Rattle.std.proofs.Common.{◌≡◌, ◌≢◌, ℕ, zero, suc, ◌+◌, ◌-◌, ◌<◌, ◌≤◌, Bool, true, false, IsTrue, IsFalse, if◌then◌else◌, List, [], ◌∷◌, ◌++◌, length, take, drop, Result, Ok, Err, refl, sym, ap, subst, ◌∙◌, append_assoc, ◌⊎◌, inl, inr, arith}
-use Rattle.std.proofs.lemmas.Bool.{cases_lt, le-ltb, lt-ltb, ltb-true}
-use Rattle.std.proofs.lemmas.List.{append-nil}
+use Rattle.std.proofs.Common.{◌≡◌, ℕ, zero, suc, Bool, true, false, if◌then◌else◌, List, [], ◌∷◌, ◌++◌, Ok, Err, refl, sym, ap, ◌∙◌, append_assoc, ◌⊎◌, inl, inr}
 use Rattle.gimli_core.specs.declared.error.Error.{Error}
-use Rattle.gimli_core.specs.Reading.{Read, ◌>>=◌}
-use Rattle.gimli_core.specs.Line.{Line, ◌>>=◌ as ◌>>>◌, done, refuse, check, choose, Each, times, IsOpen, closed, within, Reads}
+use Rattle.gimli_core.specs.Reading.{Read, ◌>>=◌, check_at, times_at, with_rest, within_at}
+use Rattle.gimli_core.specs.Line.{Line, ◌>>=◌ as ◌>>>◌, done, refuse, check, choose, times, within, Reads}
 
 -- ---- steps that may fail
 
@@ -75,10 +73,6 @@ reads_refuse {A} d = record {
   refused = λ bytes e f. rw f refl;
 }
 
--- a test
-abbrev pub check_at : Bool → Error → List ℕ → Read (Unit {0})
-check_at b d bytes = if b then (Ok tt, bytes) else (Err d, bytes)
-
 pub reads_check : (b : Bool) (d : Error) → Reads (check b d) (check_at b d)
 reads_check true d = record {
   found = λ bytes x rest e. let p = ok_parts tt x bytes rest e in ([], p.1, (refl, refl));
@@ -101,23 +95,12 @@ reads_if false l m r s p q = q
 
 -- ---- so many of a line
 
-abbrev pub times_at : {A : Type 0} → ℕ → (List ℕ → Read A) → List ℕ → Read (List A)
-times_at zero read bytes = (Ok [], bytes)
-times_at (suc n) read bytes = read bytes >>= λ x rest. times_at n read rest >>= λ xs left. (Ok (x ∷ xs), left)
-
 pub reads_times : {A : Type 0} (n : ℕ) (l : Line A) (read : List ℕ → Read A) → Reads l read → Reads (times n l) (times_at n read)
 reads_times zero l read r = reads_done []
 reads_times (suc n) l read r =
     reads_both l _ read _ r (λ x. reads_both (times n l) _ (times_at n read) _ (reads_times n l read r) (λ xs. reads_done (x ∷ xs)))
 
 -- ---- a line within bytes that were cut out before
-
-abbrev pub with_rest : {A : Type 0} → Read A → Result (A × List ℕ) Error
-with_rest (Ok x, rest) = Ok (x, rest)
-with_rest (Err e, rest) = Err e
-
-abbrev pub within_at : {A : Type 0} → List ℕ → (List ℕ → Read A) → List ℕ → Read (A × List ℕ)
-within_at inside read bytes = (with_rest (read inside), bytes)
 
 with_rest_ok : {A : Type 0} (r : Read A) (x : A × List ℕ) → with_rest r ≡ Ok x → r ≡ (Ok x.0, x.1)
 with_rest_ok {A} (Ok y, rest) x e = let p : (y, rest) ≡ x = cc in ap (λ (z : A × List ℕ). let r : Read A = (Ok z.0, z.1) in r) p

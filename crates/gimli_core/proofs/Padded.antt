@@ -1,11 +1,10 @@
 -- Numbers of fewer than eight bytes, read as numbers of eight whose most significant bytes are zero.
-use Rattle.std.proofs.Common.{◌≡◌, ℕ, zero, suc, ◌+◌, ◌-◌, ◌*◌, ◌^◌, ◌<◌, ◌≤◌, Bool, true, false, List, [], ◌∷◌, ◌++◌, length, take, drop, reverse, Result, Ok, Err, inl, inr, refl, sym, ap, ◌∙◌, arith, pow-suc}
+use Rattle.std.proofs.Common.{◌≡◌, ℕ, zero, suc, ◌+◌, ◌-◌, ◌*◌, ◌^◌, ◌≤◌, Bool, true, false, List, [], ◌∷◌, ◌++◌, length, take, drop, reverse, Ok, inl, inr, refl, ap, ◌∙◌, arith, pow-suc}
 use Rattle.std.proofs.Math.ListN.{replicate}
 use Rattle.std.proofs.lemmas.Bool.{cases_lt, le-ltb, lt-ltb}
-use Rattle.std.proofs.lemmas.List.{length-append, length-take, length-take-le, take_all, take-replicate, drop-replicate, reverse-append, length-replicate}
+use Rattle.std.proofs.lemmas.List.{length-append, length-take-le, take_all, take-replicate, drop-replicate, reverse-append, length-replicate}
 use Rattle.std.proofs.lemmas.Slice.{take-put_mid}
 use borrow.Rule.Slice.PartMut.{put_mid}
-use Rattle.gimli_core.specs.declared.error.Error.{Error}
 use Rattle.gimli_core.specs.Numbers.{le_value, value_of}
 use Rattle.gimli_core.specs.Reading.{Read, number_at, split_at}
 

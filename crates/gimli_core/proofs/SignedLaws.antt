@@ -1,18 +1,17 @@
 -- Reading a signed LEB128 number takes a spelling of it.
-use Rattle.std.proofs.Common.{◌≡◌, ◌≢◌, ℕ, zero, suc, ◌+◌, ◌-◌, ◌*◌, ◌%◌, ◌^◌, ◌<◌, ◌≤◌, Bool, true, false, cond, if◌then◌else◌, ◌||◌, ltb, List, [], ◌∷◌, ◌++◌, length, Result, Ok, Err, refl, sym, ap, ◌∙◌, arith, inl, inr, ◌⊎◌}
+use Rattle.std.proofs.Common.{◌≡◌, ◌≢◌, ℕ, zero, suc, ◌+◌, ◌*◌, ◌%◌, ◌^◌, ◌<◌, ◌≤◌, Bool, true, false, if◌then◌else◌, ◌||◌, List, [], ◌∷◌, ◌++◌, length, Ok, Err, refl, sym, ap, ◌∙◌, arith, inl, inr}
 use Rattle.std.specs.Prelude.{ℤ, pos, ◌-ℤ◌, nat_le, nat_eq, FitsSigned}
 use Rattle.std.specs.Int.{w64}
-use Rattle.std.proofs.Math.Nat.{mul-zero}
 use Rattle.std.proofs.lemmas.Bool.{cases_lt, le-ltb, lt-ltb, eqb-true, eqb-false, le-leb, lt-leb}
 use Rattle.std.proofs.lemmas.Int.{ints}
 use Rattle.gimli_core.specs.declared.error.Error.{Error}
 use Rattle.gimli_core.specs.declared.error.Error.TheVariants.{BadSignedLeb128}
-use Rattle.gimli_core.specs.Numbers.{Groups, is_negative, signed_value, SpellsSleb128}
-use Rattle.gimli_core.specs.Reading.{Read, ◌>>=◌, Difference, last_group, sleb_at, signed_at, eof}
-use Rattle.gimli_core.specs.Line.{Line, signed, IsLebFault, AllHigh, Reads}
+use Rattle.gimli_core.specs.Numbers.{Groups, is_negative, SpellsSleb128}
+use Rattle.gimli_core.specs.Reading.{Read, Difference, last_group, sleb_at, signed_at}
+use Rattle.gimli_core.specs.Line.{signed, IsLebFault, Reads}
 use Rattle.gimli_core.proofs.Leb.{pow_next}
 use Rattle.gimli_core.proofs.Lines.{bind_ok, bind_fault, bind_refused, ok_parts}
-use Rattle.gimli_core.proofs.UnsignedLeb.{longer, not_nil, only_last, Behind, first_high}
+use Rattle.gimli_core.proofs.UnsignedLeb.{longer, not_nil, only_last, first_high}
 
 -- the numbers that fit so many groups and a last one that repeats the sign are above - limit and below it
 abbrev pub limit : ℕ → ℕ

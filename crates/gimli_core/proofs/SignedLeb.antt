@@ -1,12 +1,11 @@
 -- Reading a signed LEB128 number, one byte after another.
-use Rattle.std.proofs.Common.{◌≡◌, ℕ, zero, suc, ◌+◌, ◌-◌, ◌*◌, ◌%◌, ◌^◌, ◌<◌, ◌≤◌, ◌≢◌, Bool, true, false, cond, if◌then◌else◌, ltb, ◌||◌, List, [], ◌∷◌, Result, Ok, Err, refl, sym, ap, subst, ◌∙◌, arith, inl, inr, nat_eq}
+use Rattle.std.proofs.Common.{◌≡◌, ℕ, zero, suc, ◌+◌, ◌-◌, ◌*◌, ◌%◌, ◌^◌, ◌<◌, ◌≤◌, Bool, true, false, if◌then◌else◌, List, [], ◌∷◌, Ok, Err, refl, sym, ap, ◌∙◌, arith, nat_eq}
 use Rattle.std.specs.Prelude.{ℤ, pos, ◌-ℤ◌, nat_le}
 use Rattle.std.proofs.Math.Nat.{mul-zero}
-use Rattle.std.proofs.lemmas.Bool.{cases_lt, le-ltb, lt-ltb, eqb-true}
+use Rattle.std.proofs.lemmas.Bool.{le-ltb, lt-ltb, eqb-true}
 use Rattle.std.proofs.lemmas.Int.{ints}
 use Rattle.gimli_core.specs.declared.error.Error.{Error}
-use Rattle.gimli_core.specs.declared.error.Error.TheVariants.{BadSignedLeb128}
-use Rattle.gimli_core.specs.Reading.{Read, ◌>>=◌, Difference, byte_at, sleb_at, signed_at, last_group, tenth_at, eof}
+use Rattle.gimli_core.specs.Reading.{Read, ◌>>=◌, Difference, byte_at, sleb_at, tenth_at, eof}
 use Rattle.gimli_core.proofs.Leb.{ok, err, byte_ok, byte_err, pow_next}
 
 abbrev pub ok_z : List ℕ → ℤ → Read ℤ

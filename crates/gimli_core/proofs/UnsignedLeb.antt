@@ -1,11 +1,11 @@
 -- Reading an unsigned LEB128 number takes a spelling of it.
-use Rattle.std.proofs.Common.{◌≡◌, ℕ, zero, suc, ◌+◌, ◌-◌, ◌*◌, ◌%◌, ◌^◌, ◌<◌, ◌≤◌, Bool, true, false, cond, ltb, List, [], ◌∷◌, ◌++◌, length, Result, Ok, Err, refl, sym, ap, subst, ◌∙◌, arith, inl, inr, ◌⊎◌}
+use Rattle.std.proofs.Common.{◌≡◌, ℕ, zero, suc, ◌+◌, ◌*◌, ◌%◌, ◌<◌, ◌≤◌, List, [], ◌∷◌, ◌++◌, length, Ok, Err, refl, sym, ap, ◌∙◌, arith, inl, inr}
 use Rattle.std.proofs.lemmas.Bool.{cases_lt, le-ltb, lt-ltb}
 use Rattle.gimli_core.specs.declared.error.Error.{Error}
 use Rattle.gimli_core.specs.declared.error.Error.TheVariants.{BadUnsignedLeb128}
-use Rattle.gimli_core.specs.Numbers.{Groups, SpellsUleb128}
-use Rattle.gimli_core.specs.Reading.{Read, ◌>>=◌, uleb_at, eof}
-use Rattle.gimli_core.specs.Line.{Line, unsigned, unsigned_16, IsLebFault, AllHigh, Reads}
+use Rattle.gimli_core.specs.Numbers.{Groups}
+use Rattle.gimli_core.specs.Reading.{Read, uleb_at}
+use Rattle.gimli_core.specs.Line.{unsigned, unsigned_16, IsLebFault, AllHigh, Reads}
 use Rattle.gimli_core.proofs.Lines.{bind_ok, bind_fault, bind_refused, ok_parts}
 
 -- the first number that is too large for so many groups and a last one of at most top

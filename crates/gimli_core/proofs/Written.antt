@@ -1,9 +1,9 @@
 -- The one spelling of a number in so many bytes.
-use Rattle.std.proofs.Common.{◌≡◌, ℕ, zero, suc, ◌+◌, ◌-◌, ◌*◌, ◌/◌, ◌%◌, ◌^◌, ◌<◌, ◌≤◌, Bool, true, false, List, [], ◌∷◌, ◌++◌, length, reverse, refl, sym, ap, ◌∙◌, arith, pow-suc}
+use Rattle.std.proofs.Common.{◌≡◌, ℕ, zero, suc, ◌+◌, ◌*◌, ◌/◌, ◌%◌, ◌^◌, ◌<◌, Bool, true, false, List, [], ◌∷◌, ◌++◌, length, reverse, refl, sym, ap, ◌∙◌, arith, pow-suc}
 use Rattle.std.proofs.Math.Nat.{div-div-eq-div-mul, div-one}
 use Rattle.std.specs.Int.{byte_at, bytes_low_first, bytes_high_first}
 use Rattle.std.proofs.lemmas.List.{reverse-append}
-use Rattle.gimli_core.specs.Numbers.{le_value, value_of, SpellsNumber, number_bytes}
+use Rattle.gimli_core.specs.Numbers.{le_value, SpellsNumber, number_bytes}
 
 length_low : (size i n : ℕ) → length (bytes_low_first i size n) ≡ size
 length_low zero i n = refl

@@ -1,10 +1,9 @@
 -- The forms of the tables of version 5 (DWARF 5, section 7.5.5): how a value lies in the bytes.
-use Rattle.std.specs.Prelude.{◌≡◌, ℕ, List, [], ◌∷◌, Option, Some, None, Bool, not, nat_eq, if◌then◌else◌, ℤ}
+use Rattle.std.specs.Prelude.{ℕ, List, [], ◌∷◌, Option, Some, None, not, nat_eq, if◌then◌else◌, ℤ}
 use Rattle.gimli_core.specs.Notation.{Notation}
 use Rattle.gimli_core.specs.Values.{Value}
 use Rattle.gimli_core.specs.Line.{Line, ◌>>=◌, done, refuse, number, unsigned, signed, text, some_bytes, below_limit, offset_word}
 use Rattle.gimli_core.specs.declared.common.Format.{Format}
-use Rattle.gimli_core.specs.declared.constants.DwForm.{DwForm}
 use Rattle.gimli_core.specs.declared.error.Error.TheVariants.{UnknownForm}
 use Rattle.gimli_core.specs.declared.attribute_value.AttributeValue.TheVariants.{Block, Data1, Data2, Data4, Data8, Udata, Sdata, Flag, SecOffset, String, DebugStrRef, DebugStrRefSup, DebugLineStrRef, DebugStrOffsetsIndex}
 

@@ -1,6 +1,6 @@
 -- Lines of a format. A line says what spells a value, and which refusal it is where nothing does. Lines are put
 -- together by concatenation: behind the bytes of one come those of the next.
-use Rattle.std.specs.Prelude.{◌≡◌, ◌≢◌, ◌⊎◌, ℕ, zero, suc, ◌+◌, ◌*◌, ◌-◌, ◌<◌, ◌≤◌, List, [], ◌∷◌, ◌++◌, length, All, Bool, true, false, IsTrue, IsFalse, Result, Ok, Err, ℤ, nat_lt}
+use Rattle.std.specs.Prelude.{◌≡◌, ◌≢◌, ◌⊎◌, ℕ, zero, suc, ◌+◌, ◌<◌, ◌≤◌, List, [], ◌∷◌, ◌++◌, length, Bool, true, false, IsTrue, IsFalse, Ok, Err, ℤ, nat_lt}
 use Rattle.std.specs.List.{AllByRecursion}
 use Rattle.gimli_core.specs.Numbers.{SpellsNumber, SpellsUleb128, SpellsSleb128, SpellsInitialLength, word_size}
 use Rattle.gimli_core.specs.Notation.{Notation}

@@ -1,5 +1,5 @@
 -- Numbers as bytes: what spells a number. "big" says that the most significant byte comes first.
-use Rattle.std.specs.Prelude.{◌≡◌, ℕ, suc, ◌+◌, ◌*◌, ◌-◌, ◌%◌, ◌<◌, ◌≤◌, ◌^◌, Bool, true, false, List, [], ◌∷◌, ◌++◌, length, reverse, ℤ, pos, ◌-ℤ◌, nat_le, nat_eq, ◌||◌, if◌then◌else◌, FitsSigned}
+use Rattle.std.specs.Prelude.{◌≡◌, ℕ, ◌+◌, ◌*◌, ◌%◌, ◌<◌, ◌≤◌, ◌^◌, Bool, false, List, [], ◌∷◌, ◌++◌, length, reverse, ℤ, pos, ◌-ℤ◌, nat_le, nat_eq, ◌||◌, if◌then◌else◌, FitsSigned}
 use Rattle.std.specs.Int.{w64, bytes_low_first, bytes_high_first}
 use Rattle.gimli_core.specs.declared.common.Format.{Format}
 use Rattle.gimli_core.specs.declared.common.Format.TheVariants.{Dwarf32, Dwarf64}

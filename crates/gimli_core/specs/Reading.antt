@@ -1,11 +1,10 @@
 -- What readers take from the front of a list of bytes, and what they leave.
-use Rattle.std.specs.Prelude.{◌≡◌, ℕ, zero, suc, ◌+◌, ◌*◌, ◌-◌, ◌%◌, ◌<◌, ◌≤◌, ◌^◌, Bool, List, [], ◌∷◌, ◌++◌, length, take, drop, position, Result, Ok, Err, Option, Some, None, nat_lt, nat_le, nat_eq, ◌||◌, ◌&&◌, if◌then◌else◌, ℤ, pos, ◌+ℤ◌, ◌-ℤ◌, ◌*ℤ◌}
+use Rattle.std.specs.Prelude.{ℕ, zero, suc, ◌+◌, ◌*◌, ◌%◌, ◌^◌, Bool, List, [], ◌∷◌, length, take, drop, position, Result, Ok, Err, Some, None, nat_lt, nat_le, nat_eq, ◌||◌, if◌then◌else◌, ℤ, pos, ◌-ℤ◌}
 use Rattle.std.specs.Int.{w8, cast_signed}
 use Rattle.gimli_core.specs.Numbers.{value_of, is_address_size}
 use Rattle.gimli_core.specs.declared.common.Format.{Format}
 use Rattle.gimli_core.specs.declared.common.Format.TheVariants.{Dwarf32, Dwarf64}
 use Rattle.gimli_core.specs.declared.error.Error.{Error}
-use Rattle.gimli_core.specs.declared.error.ReaderOffsetId.{ReaderOffsetId}
 use Rattle.gimli_core.specs.declared.error.Error.TheVariants.{UnexpectedEof, BadUnsignedLeb128, BadSignedLeb128, UnknownReservedLength, UnsupportedAddressSize, UnsupportedOffset, AddressOverflow}
 
 -- what a call answers, and the bytes that it leaves
@@ -17,6 +16,23 @@ infixl 10 ◌>>=◌
 abbrev pub ◌>>=◌ : {A B : Type 0} → Read A → (A → List ℕ → Read B) → Read B
 (Ok x, rest) >>= f = f x rest
 (Err e, rest) >>= f = (Err e, rest)
+
+-- a test
+abbrev pub check_at : Bool → Error → List ℕ → Read (Unit {0})
+check_at b d bytes = if b then (Ok tt, bytes) else (Err d, bytes)
+
+-- so many of a call
+abbrev pub times_at : {A : Type 0} → ℕ → (List ℕ → Read A) → List ℕ → Read (List A)
+times_at zero read bytes = (Ok [], bytes)
+times_at (suc n) read bytes = read bytes >>= λ x rest. times_at n read rest >>= λ xs left. (Ok (x ∷ xs), left)
+
+-- a call on bytes that were cut out before: what it answers and what it leaves of these
+abbrev pub with_rest : {A : Type 0} → Read A → Result (A × List ℕ) Error
+with_rest (Ok x, rest) = Ok (x, rest)
+with_rest (Err e, rest) = Err e
+
+abbrev pub within_at : {A : Type 0} → List ℕ → (List ℕ → Read A) → List ℕ → Read (A × List ℕ)
+within_at inside read bytes = (with_rest (read inside), bytes)
 
 -- an answer, its value seen by view
 abbrev pub seen : {A B E : Type 0} → (A → B) → Result A E → Result B E
@@ -67,6 +83,10 @@ number_at big size bytes = if nat_lt (length bytes) size then (Err (eof bytes), 
 -- a number as an offset, below the limit of the offsets
 abbrev pub offset_of : ℕ → ℕ → Result ℕ Error
 offset_of limit n = if nat_le limit n then Err UnsupportedOffset else Ok n
+
+-- a number that an offset has to hold
+abbrev pub below_at : ℕ → (List ℕ → Read ℕ) → List ℕ → Read ℕ
+below_at limit read bytes = read bytes >>= λ n rest. (offset_of limit n, rest)
 
 -- the groups of seven bits of an unsigned number: at most so many bytes before the last, and then one of at most top
 unfoldable pub uleb_at : ℕ → ℕ → List ℕ → Read ℕ

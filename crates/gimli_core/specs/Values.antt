@@ -1,5 +1,5 @@
 -- The values of forms, with lists of bytes in the place of readers and numbers in the place of offsets.
-use Rattle.std.specs.Prelude.{ℕ, List, Option, Some, None, ℤ, pos, negsuc}
+use Rattle.std.specs.Prelude.{ℕ, List, Option, Some, None, pos, negsuc}
 use Rattle.gimli_core.specs.declared.attribute_value.AttributeValue.{AttributeValue}
 use Rattle.gimli_core.specs.declared.attribute_value.AttributeValue.TheVariants.{Block, Data1, Data2, Data4, Data8, Udata, Sdata, Flag, SecOffset, String, DebugStrRef, DebugStrRefSup, DebugLineStrRef, DebugStrOffsetsIndex}
 

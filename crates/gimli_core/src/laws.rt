@@ -59,5 +59,4 @@ pub fn unit_lengths()
 /// What `Endianity::write_u16` to `write_u128` put into a slice spells the number.
 pub fn written_numbers()
     ensures { (big : Bool) (size n : ℕ) → n < 256 ^ size → SpellsNumber big size (number_bytes big size n) n }
-{
-}
+{}

@@ -10,7 +10,7 @@ const USAGE: u8 = 2;
 /// Does what the words after the program's name ask for, and answers the status of the program. There is no
 /// command yet, so any words are answered by `usage` and the status 2.
 pub fn run<E: Write>(_words: &[&str], err: &mut E) -> u8
-    ensures { result ≡ USAGE }
+    ensures { result ≡ 2 }
 {
     let _ = err.write_all(b"usage\n");
     USAGE

@@ -1,4 +1,3 @@
-use Rattle.std.proofs.Common.{rules, ◌≡◌, ℕ, suc, ◌+◌, ◌*◌, ◌%◌, ◌^◌, ◌<◌, ◌≤◌, arith, Fits, w64, subst, sym, ap, ◌∙◌}
 use Rattle.gimli_core.proofs.Leb.{group_fits}
 use Rattle.gimli_core.proofs.leb128.with_group.Goals as goal
 

@@ -1,4 +1,4 @@
-use Rattle.std.proofs.Common.{◌≡◌, ℕ, ◌+◌, ◌*◌, ◌^◌, ◌<◌, ◌-◌}
+use Rattle.std.proofs.Common.{◌≡◌, ◌*◌, ◌^◌, ◌<◌, ◌-◌}
 use Rattle.gimli_core.specs.Reading.{sleb_at, signed_at}
 use Rattle.gimli_core.proofs.SignedLeb.{grown_z}
 use Rattle.gimli_core.proofs.reader.Reader.read_sleb128.Given as goal

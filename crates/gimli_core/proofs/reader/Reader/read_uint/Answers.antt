@@ -1,7 +1,6 @@
-use Rattle.std.proofs.Common.{◌≡◌, ◌∙◌, sym, ap, arith, length, take, drop, ◌-◌, ℕ, List, true, false, Bool}
+use Rattle.std.proofs.Common.{◌≡◌, ◌∙◌, ap, arith, length, take, drop, ◌-◌, true, false, Bool}
 use Rattle.std.proofs.lemmas.List.{length-take, length-drop}
 use Rattle.gimli_core.specs.Numbers.{value_of}
-use Rattle.gimli_core.specs.Reading.{Read, number_at}
 use Rattle.gimli_core.proofs.Padded.{zeros_8, read_big, read_little}
 use Rattle.gimli_core.proofs.reader.Reader.read_uint.Goals as goal
 use Rattle.gimli_core.proofs.reader.Reader.read_uint.Goals.{then-is_big_endian+in_ok-read_slice, else-is_big_endian+in_ok-read_slice-2}

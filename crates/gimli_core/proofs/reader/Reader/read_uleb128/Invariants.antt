@@ -1,4 +1,4 @@
-use Rattle.std.proofs.Common.{◌≡◌, ℕ, ◌+◌, ◌*◌, ◌^◌, ◌<◌, ◌-◌}
+use Rattle.std.proofs.Common.{◌≡◌, ◌*◌, ◌^◌, ◌<◌, ◌-◌}
 use Rattle.gimli_core.specs.Reading.{uleb_at}
 use Rattle.gimli_core.proofs.Leb.{grown}
 use Rattle.gimli_core.proofs.reader.Reader.read_uleb128.Given as goal
