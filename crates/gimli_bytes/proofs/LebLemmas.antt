@@ -1,0 +1,61 @@
+-- The groups of a number, one at a time.
+use Rattle.std.proofs.Common.{◌≡◌, ℕ, zero, suc, ◌+◌, ◌-◌, ◌/◌, ◌%◌, ◌<◌, ◌≤◌, true, false, List, [], ◌∷◌, ◌++◌, length, take, set, refl, sym, ap, ◌∙◌, arith, if◌then◌else◌, append_assoc, ℤ, pos, negsuc}
+use Rattle.std.proofs.Math.Nat.{mod-eq_of_lt}
+use Rattle.std.proofs.lemmas.List.{take_more_set}
+use Rattle.std.proofs.lemmas.Bool.{lt-ltb, le-ltb}
+use Rattle.std.specs.Int.{int_div_euclid}
+use Rattle.gimli_bytes.specs.Number.{uleb_within, sleb_within, low_bits, high_bits, has_seven_bits}
+
+-- the last group
+pub uleb_last : (k v : ℕ) → v < 128 → uleb_within k v ≡ v ∷ []
+uleb_last zero v h = ap (λ (x : ℕ). x ∷ []) (mod-eq_of_lt h)
+uleb_last (suc k) v h = ap (λ b. if b then v ∷ [] else (v % 128 + 128) ∷ uleb_within k (v / 128)) (lt-ltb v 128 h)
+
+-- a group that isn't the last
+pub uleb_more : (k v : ℕ) → 128 ≤ v → uleb_within (suc k) v ≡ (v % 128 + 128) ∷ uleb_within k (v / 128)
+uleb_more k v h = ap (λ b. if b then v ∷ [] else (v % 128 + 128) ∷ uleb_within k (v / 128)) (le-ltb v 128 h)
+
+-- one more byte in the buffer
+pub uleb_step : (bytes : List ℕ) (i v : ℕ) (all : List ℕ) → i < length bytes → i < 9 → 128 ≤ v → take i bytes ++ uleb_within (9 - i) v ≡ all
+    → take (i + 1) (set bytes i (v % 128 + 128)) ++ uleb_within (9 - (i + 1)) (v / 128) ≡ all
+uleb_step bytes i v all short low high so =
+    let down : 9 - i ≡ suc (9 - (i + 1)) = omega arith in
+    ap (λ t. t ++ uleb_within (9 - (i + 1)) (v / 128)) (take_more_set bytes i (v % 128 + 128) short)
+    ∙ append_assoc (take i bytes) ((v % 128 + 128) ∷ []) (uleb_within (9 - (i + 1)) (v / 128))
+    ∙ ap (λ t. take i bytes ++ t) (sym (uleb_more (9 - (i + 1)) v high))
+    ∙ ap (λ (k : ℕ). take i bytes ++ uleb_within k v) (sym down)
+    ∙ so
+
+-- the last byte in the buffer
+pub uleb_end : (bytes : List ℕ) (i v : ℕ) (all : List ℕ) → i < length bytes → v < 128 → take i bytes ++ uleb_within (9 - i) v ≡ all → take (i + 1) (set bytes i v) ≡ all
+uleb_end bytes i v all short low so =
+    take_more_set bytes i v short ∙ ap (λ t. take i bytes ++ t) (sym (uleb_last (9 - i) v low)) ∙ so
+
+-- the same of signed numbers
+pub high_bits_is : (z : ℤ) → int_div_euclid z (pos 128) ≡ high_bits z
+high_bits_is (pos n) = refl
+high_bits_is (negsuc n) = refl
+
+pub sleb_last : (k : ℕ) (z : ℤ) → has_seven_bits z ≡ true → sleb_within k z ≡ low_bits z ∷ []
+unfolding sleb_within
+sleb_last zero z h = refl
+sleb_last (suc k) z h = ap (λ b. if b then low_bits z ∷ [] else (low_bits z + 128) ∷ sleb_within k (high_bits z)) h
+
+pub sleb_more : (k : ℕ) (z : ℤ) → has_seven_bits z ≡ false → sleb_within (suc k) z ≡ (low_bits z + 128) ∷ sleb_within k (high_bits z)
+unfolding sleb_within
+sleb_more k z h = ap (λ b. if b then low_bits z ∷ [] else (low_bits z + 128) ∷ sleb_within k (high_bits z)) h
+
+pub sleb_step : (bytes : List ℕ) (i : ℕ) (z : ℤ) (all : List ℕ) → i < length bytes → i < 9 → has_seven_bits z ≡ false → take i bytes ++ sleb_within (9 - i) z ≡ all
+    → take (i + 1) (set bytes i (low_bits z + 128)) ++ sleb_within (9 - (i + 1)) (int_div_euclid z (pos 128)) ≡ all
+sleb_step bytes i z all short low high so =
+    let down : 9 - i ≡ suc (9 - (i + 1)) = omega arith in
+    ap (λ t. t ++ sleb_within (9 - (i + 1)) (int_div_euclid z (pos 128))) (take_more_set bytes i (low_bits z + 128) short)
+    ∙ append_assoc (take i bytes) ((low_bits z + 128) ∷ []) (sleb_within (9 - (i + 1)) (int_div_euclid z (pos 128)))
+    ∙ ap (λ (rest : ℤ). take i bytes ++ ((low_bits z + 128) ∷ sleb_within (9 - (i + 1)) rest)) (high_bits_is z)
+    ∙ ap (λ t. take i bytes ++ t) (sym (sleb_more (9 - (i + 1)) z high))
+    ∙ ap (λ (k : ℕ). take i bytes ++ sleb_within k z) (sym down)
+    ∙ so
+
+pub sleb_end : (bytes : List ℕ) (i : ℕ) (z : ℤ) (all : List ℕ) → i < length bytes → has_seven_bits z ≡ true → take i bytes ++ sleb_within (9 - i) z ≡ all → take (i + 1) (set bytes i (low_bits z)) ≡ all
+sleb_end bytes i z all short low so =
+    take_more_set bytes i (low_bits z) short ∙ ap (λ t. take i bytes ++ t) (sym (sleb_last (9 - i) z low)) ∙ so

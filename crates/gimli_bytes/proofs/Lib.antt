@@ -1,0 +1,4 @@
+pub mod LebLemmas
+pub mod ShortestUleb
+pub mod ShortestSleb
+pub mod TextLemmas

@@ -1,0 +1,24 @@
+use Rattle.std.proofs.Common.{◌≡◌, ◌-◌, ◌+◌, ◌%◌, ◌++◌, ℕ, take, arith, ap, ◌∙◌, sym}
+use Rattle.std.proofs.lemmas.List.{take_more_set, length-set}
+use Rattle.gimli_bytes.specs.Number.{uleb, uleb_within}
+use Rattle.gimli_bytes.proofs.LebLemmas.{uleb_end, uleb_step}
+use Rattle.gimli_bytes.proofs.leb128.Leb128.unsigned.Goals as goal
+
+pub returns-then-rest-lt128 : goal.returns-then-rest-lt128
+unfolding uleb
+returns-then-rest-lt128 c =
+    uleb_end c.loop-len.bytes c.loop-len.len c.loop-len.rest (uleb_within 9 c.args.val) (omega arith) c.if-rest-lt128.true c.loop-len.invariant.so
+
+pub loop-len-preserved : goal.loop-len-preserved
+loop-len-preserved c = record {
+  ten = length-set c.loop-len.bytes c.loop-len.len (c.loop-len.rest % 128 + 128) ∙ c.loop-len.invariant.ten;
+  so = uleb_step c.loop-len.bytes c.loop-len.len c.loop-len.rest (uleb_within 9 c.args.val) (omega arith) (omega arith) c.if-rest-lt128.false c.loop-len.invariant.so;
+}
+
+pub returns : goal.returns
+unfolding uleb
+returns c =
+    let nine : c.loop-len.len ≡ 9 = omega arith in
+    take_more_set c.loop-len.bytes 9 _ (omega arith)
+    ∙ ap (λ (i : ℕ). take i c.loop-len.bytes ++ uleb_within (9 - i) c.loop-len.rest) (sym nine)
+    ∙ c.loop-len.invariant.so

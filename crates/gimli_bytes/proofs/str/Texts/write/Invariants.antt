@@ -1,0 +1,14 @@
+use Rattle.std.proofs.Common.{◌≡◌, ◌++◌, IsTrue, take}
+use Rattle.gimli_bytes.specs.Texts.{table_bytes}
+use Rattle.gimli_bytes.specs.TextsInside.{texts_of}
+use Rattle.gimli_bytes.specs.Written.{Begins}
+use Rattle.gimli_bytes.proofs.str.Texts.write.Given as goal
+
+abbrev pub invariant-loop-text : goal.invariant-loop-text
+invariant-loop-text g l =
+    let contents = g.W.Writer.contents in
+    record {
+      keeps : Begins (contents l.fn.w) (contents l.w);
+      ordered : g.W.Writer.big l.w ≡ g.W.Writer.big l.fn.w;
+      put : IsTrue g.W.Writer.plain → contents l.w ≡ contents l.fn.w ++ table_bytes (texts_of (take l.text-index l.text-items));
+    }

@@ -1,0 +1,5 @@
+pub mod Written
+pub mod Number
+pub mod Section
+pub mod Texts
+pub mod TextsInside

@@ -1,0 +1,124 @@
+-- The bytes of a number as it is written, or the refusal of its value or its size. "big" says that the most
+-- significant byte comes first.
+use Rattle.std.specs.Prelude.{ℕ, zero, suc, ◌+◌, ◌-◌, ◌*◌, ◌/◌, ◌%◌, ◌^◌, Bool, ◌||◌, nat_lt, nat_eq, if◌then◌else◌, List, [], ◌∷◌, ◌++◌, Result, Ok, Err, ℤ, pos, negsuc, bit_and}
+use Rattle.std.specs.Int.{w64, cast_signed}
+use Rattle.gimli_core.specs.Numbers.{number_bytes}
+use Rattle.gimli_core.specs.Reading.{seen}
+use Rattle.gimli_core.specs.declared.common.Format.{Format}
+use Rattle.gimli_core.specs.declared.common.Format.TheVariants.{Dwarf32, Dwarf64}
+use Rattle.gimli_core.specs.declared.constants.DwEhPe.{DwEhPe}
+use Rattle.gimli_bytes.specs.declared.address.Address.{Address}
+use Rattle.gimli_bytes.specs.declared.address.Address.TheVariants.{Constant, Symbol}
+use Rattle.gimli_bytes.specs.declared.error.Error.{Error}
+use Rattle.gimli_bytes.specs.declared.error.Error.TheVariants.{ValueTooLarge, UnsupportedWordSize, InitialLengthOverflow, InvalidAddress, UnsupportedPointerEncoding}
+
+-- ---- numbers of a size that is handed (DWARF 5, section 7.5.5)
+
+-- an unsigned number of 1, 2, 3, 4 or 8 bytes
+abbrev pub udata : Bool → ℕ → ℕ → Result (List ℕ) Error
+udata big n size =
+    if nat_eq size 1 || nat_eq size 2 || nat_eq size 3 || nat_eq size 4 || nat_eq size 8
+    then (if nat_lt n (256 ^ size) then Ok (number_bytes big size n) else Err ValueTooLarge)
+    else Err (UnsupportedWordSize size)
+
+-- the number of so many bytes that stands for z in two's complement
+abbrev pub twos_complement : ℕ → ℤ → Result ℕ Error
+twos_complement size (pos n) = if nat_lt n (2 ^ (8 * size - 1)) then Ok n else Err ValueTooLarge
+twos_complement size (negsuc n) = if nat_lt n (2 ^ (8 * size - 1)) then Ok (2 ^ (8 * size) - suc n) else Err ValueTooLarge
+
+-- a signed number of 1, 2, 4 or 8 bytes
+abbrev pub sdata : Bool → ℤ → ℕ → Result (List ℕ) Error
+sdata big z size =
+    if nat_eq size 1 || nat_eq size 2 || nat_eq size 4 || nat_eq size 8
+    then seen (number_bytes big size) (twos_complement size z)
+    else Err (UnsupportedWordSize size)
+
+-- ---- LEB128 (DWARF 5, section 7.6)
+
+-- seven bits a byte, the least significant first, until nothing is left; at most so many bytes before the last
+abbrev pub uleb_within : ℕ → ℕ → List ℕ
+uleb_within zero n = n % 128 ∷ []
+uleb_within (suc more) n = if nat_lt n 128 then n ∷ [] else (n % 128 + 128) ∷ uleb_within more (n / 128)
+
+-- an unsigned number of 64 bits
+unfoldable pub uleb : ℕ → List ℕ
+uleb n = uleb_within 9 n
+
+-- the lowest seven bits of a signed number, in two's complement
+abbrev pub low_bits : ℤ → ℕ
+low_bits (pos n) = n % 128
+low_bits (negsuc n) = 127 - n % 128
+
+-- the bits above them
+abbrev pub high_bits : ℤ → ℤ
+high_bits (pos n) = pos (n / 128)
+high_bits (negsuc n) = negsuc (n / 128)
+
+-- seven bits hold the number, with its sign
+abbrev pub has_seven_bits : ℤ → Bool
+has_seven_bits (pos n) = nat_lt n 64
+has_seven_bits (negsuc n) = nat_lt n 64
+
+-- seven bits a byte, the least significant first, until no more than the sign is left; at most so many bytes before
+-- the last
+unfoldable pub sleb_within : ℕ → ℤ → List ℕ
+sleb_within zero z = low_bits z ∷ []
+sleb_within (suc more) z = if has_seven_bits z then low_bits z ∷ [] else (low_bits z + 128) ∷ sleb_within more (high_bits z)
+
+-- a signed number of 64 bits
+unfoldable pub sleb : ℤ → List ℕ
+sleb z = sleb_within 9 z
+
+-- ---- addresses
+
+-- an address of a size: what a symbol stands for isn't known
+abbrev pub address_bytes : Bool → Address → ℕ → Result (List ℕ) Error
+address_bytes big (Constant n) size = udata big n size
+address_bytes big (Symbol symbol addend) size = Err InvalidAddress
+
+-- ---- initial lengths (DWARF 5, section 7.4)
+
+-- how many bytes stand before the word of a length
+abbrev pub escape_size : Format → ℕ
+escape_size Dwarf32 = 0
+escape_size Dwarf64 = 4
+
+-- a length whose word is still 0
+abbrev pub open_length : Bool → Format → List ℕ
+open_length big Dwarf32 = number_bytes big 4 0
+open_length big Dwarf64 = number_bytes big 4 0xffff_ffff ++ number_bytes big 8 0
+
+-- the word of a length: in the 32-bit format the greatest sixteen words are reserved
+abbrev pub length_word : Bool → Format → ℕ → Result (List ℕ) Error
+length_word big Dwarf32 n =
+    if nat_lt n 0xffff_fff0 then Ok (number_bytes big 4 n)
+    else (if nat_lt n (2 ^ 32) then Err InitialLengthOverflow else Err ValueTooLarge)
+length_word big Dwarf64 n = Ok (number_bytes big 8 n)
+
+-- ---- pointers of .eh_frame
+
+-- a value in a pointer format; the size is that of the format absptr
+abbrev pub pointer_data : Bool → ℕ → DwEhPe → ℕ → Result (List ℕ) Error
+pointer_data big n format size =
+    if nat_eq format.0 0x00 then udata big n size
+    else (if nat_eq format.0 0x01 then Ok (uleb n)
+    else (if nat_eq format.0 0x02 then udata big n 2
+    else (if nat_eq format.0 0x03 then udata big n 4
+    else (if nat_eq format.0 0x04 then udata big n 8
+    else (if nat_eq format.0 0x09 then Ok (sleb (cast_signed w64 n))
+    else (if nat_eq format.0 0x0a then sdata big (cast_signed w64 n) 2
+    else (if nat_eq format.0 0x0b then sdata big (cast_signed w64 n) 4
+    else (if nat_eq format.0 0x0c then sdata big (cast_signed w64 n) 8
+    else Err (UnsupportedPointerEncoding format)))))))))
+
+-- the format of an encoding: its low four bits
+abbrev pub format_of : DwEhPe → DwEhPe
+format_of encoding = record { 0 = bit_and encoding.0 0x0f }
+
+-- an address in a pointer encoding, as it is or relative to the place where it is written
+abbrev pub pointer_bytes : Bool → ℕ → Address → DwEhPe → ℕ → Result (List ℕ) Error
+pointer_bytes big place (Constant n) encoding size =
+    if nat_eq (bit_and encoding.0 0x70) 0x00 then pointer_data big n (format_of encoding) size
+    else (if nat_eq (bit_and encoding.0 0x70) 0x10 then pointer_data big ((n + (2 ^ 64 - place)) % 2 ^ 64) (format_of encoding) size
+    else Err (UnsupportedPointerEncoding encoding))
+pointer_bytes big place (Symbol symbol addend) encoding size = Err InvalidAddress

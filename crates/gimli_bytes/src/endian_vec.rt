@@ -1,0 +1,117 @@
+ghost use Rattle.std.specs.Prelude.{◌≡◌, ◌++◌, [], true, IfOk, IfErr, OnOk, OnErr};
+
+use crate::error::{Error, Result};
+use crate::writer::Writer;
+use gimli_core::Endianity;
+use std::alloc::Global;
+use std::marker::Model;
+
+/// A section in one vector, and the order of its numbers. It is plain and steady, and a refused `write`
+/// changes nothing.
+#[derive(Clone, Debug, Drop)]
+pub struct EndianVec<E: Endianity> {
+    vec: Vec<u8>,
+    endian: E,
+}
+
+impl<E: Endianity> Model for EndianVec<E> {
+    ghost use Rattle.gimli_bytes.specs.Section.{Section, section_code};
+
+    ghost Value = { Section E };
+
+    ghost coded = { section_code E.code };
+
+    ghost view = { λ v. record { bytes = v.vec.items; endian = v.endian } };
+}
+
+impl<E: Endianity> EndianVec<E> {
+    /// An empty section.
+    pub fn new(alloc: Global, endian: E) -> EndianVec<E>
+        ensures { result ≡ record { bytes = []; endian = endian } }
+    {
+        EndianVec {
+            vec: Vec::new(alloc),
+            endian,
+        }
+    }
+
+    /// The bytes.
+    pub fn slice(&self) -> &[u8]
+        ensures { result.now ≡ self.now.bytes }
+    {
+        self.vec.as_slice()
+    }
+
+    /// The bytes, as the vector that held them.
+    pub fn into_vec(self) -> Vec<u8>
+        ensures { result.items ≡ self.bytes }
+    {
+        let EndianVec { vec, .. } = self;
+        vec
+    }
+
+    /// Takes the bytes out, and leaves the section empty.
+    pub fn take(&mut self) -> Vec<u8>
+        ensures taken { result.items ≡ self.old.bytes }
+        ensures left { self.new ≡ record { bytes = []; endian = self.old.endian } }
+    {
+        let alloc = *self.vec.allocator();
+        std::mem::replace(&mut self.vec, Vec::new(alloc))
+    }
+
+    /// A copy, which is equal to the section. Refused for want of memory alone.
+    pub fn clone(&self) -> Result<EndianVec<E>>
+        ensures { IfOk result (λ copy. copy ≡ self.now) }
+    {
+        Ok(EndianVec {
+            vec: self.vec.clone()?,
+            endian: self.endian,
+        })
+    }
+}
+
+impl<E: Endianity> Writer for EndianVec<E> {
+    type Endian = E;
+
+    ghost contents = { λ v. v.bytes };
+
+    ghost big = { λ v. E.big v.endian };
+
+    ghost plain = { true };
+
+    ghost steady = { true };
+
+    fn endian(&self) -> E
+        ensures { result ≡ self.now.endian }
+    {
+        self.endian
+    }
+
+    fn len(&self) -> usize {
+        self.vec.len()
+    }
+
+    fn write(&mut self, bytes: &[u8]) -> Result<()>
+        ensures ok { OnOk result (self.new ≡ record self.old { bytes = self.old.bytes ++ bytes.now }) }
+        ensures err { OnErr result (self.new ≡ self.old) }
+        ensures memory { IfErr result (λ e. e ≡ Error.OutOfMemory) }
+    {
+        self.vec.extend_from_slice(bytes)?;
+        Ok(())
+    }
+
+    fn write_at(&mut self, offset: usize, bytes: &[u8]) -> Result<()> {
+        let len = self.len();
+        if offset > len {
+            return Err(Error::OffsetOutOfBounds);
+        }
+        if bytes.len() > len - offset {
+            return Err(Error::LengthOutOfBounds);
+        }
+        self.vec[offset..offset + bytes.len()].copy_from_slice(bytes);
+        Ok(())
+    }
+}
+
+#[cfg(test)]
+mod tests;

@@ -1,0 +1,33 @@
+//! Laws of what is written.
+
+ghost use Rattle.std.specs.Prelude.{◌≡◌, ◌≢◌, ℕ, ◌+◌, ◌<◌, ◌≤◌, ◌^◌, ℤ, List, ◌∷◌, ◌++◌, length, drop, Some, All, slice_get, FitsSigned};
+ghost use Rattle.std.specs.Int.{w64};
+ghost use Rattle.gimli_core.specs.Numbers.{SpellsUleb128, SpellsSleb128, IsShortest};
+ghost use Rattle.gimli_bytes.specs.Number.{uleb, sleb};
+ghost use Rattle.gimli_bytes.specs.Texts.{AreTexts, with_text, table_bytes, byte_count, offset_of};
+
+/// What `write_uleb128` appends is a spelling of the number, and no other is shorter.
+pub fn uleb_is_shortest()
+    ensures { (n : ℕ) → n < 2 ^ 64 → IsShortest (SpellsUleb128 64) (uleb n) n }
+{}
+
+/// What `write_sleb128` appends is a spelling of the number, and no other is shorter.
+pub fn sleb_is_shortest()
+    ensures { (z : ℤ) → FitsSigned w64 z → IsShortest SpellsSleb128 (sleb z) z }
+{}
+
+/// A text that is added to texts leaves texts.
+pub fn with_text_are_texts()
+    ensures { (texts : List (List ℕ)) (t : List ℕ) → AreTexts texts → All (λ b. b ≢ 0) t → AreTexts (with_text texts t) }
+{}
+
+/// Where a text begins, it stands in the bytes of its table, and a zero byte behind it.
+pub fn text_at_offset()
+    ensures { (texts : List (List ℕ)) (i : ℕ) (t : List ℕ) → slice_get texts i ≡ Some t →
+        drop (offset_of texts i) (table_bytes texts) ≡ t ++ 0 ∷ table_bytes (drop (i + 1) texts) }
+{}
+
+/// A table is written as so many bytes.
+pub fn table_bytes_length()
+    ensures { (texts : List (List ℕ)) → length (table_bytes texts) ≡ byte_count texts }
+{}

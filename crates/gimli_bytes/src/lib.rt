@@ -1,0 +1,22 @@
+//! Writers of DWARF sections, tables of strings, and the errors of writing.
+//!
+//! A [`Writer`] means the list of its bytes, and two facts of the type: whether it is plain, and whether it
+//! is steady. A string table means a list of distinct texts.
+#![tactic(auto)]
+
+mod address;
+mod endian_vec;
+mod error;
+pub mod laws;
+mod leb128;
+mod section;
+mod str;
+mod writer;
+
+pub use address::Address;
+pub use endian_vec::EndianVec;
+pub use error::{Error, Result};
+pub use leb128::Leb128;
+pub use section::{DebugLine, DebugLineStr, DebugStr};
+pub use str::{LineStringId, LineStringTable, StringId, StringTable};
+pub use writer::{InitialLengthOffset, Writer};

@@ -1,0 +1,583 @@
+ghost use Rattle.std.specs.Prelude.{◌≡◌, ℕ, ◌+◌, ◌≤◌, Bool, List, IsTrue, IfOk, IfErr, OnOk, OnErr, Ok, Err, length, take};
+ghost use Rattle.gimli_core.specs.Numbers.{number_bytes, SpellsUleb128, SpellsSleb128, IsShortest};
+ghost use Rattle.gimli_bytes.specs.Written.{Begins, Appends, Refuses, patch};
+ghost use Rattle.gimli_bytes.specs.Number.{udata, sdata, twos_complement, uleb, sleb, address_bytes, escape_size, open_length, length_word, pointer_data, pointer_bytes};
+
+use crate::address::Address;
+use crate::error::{Error, Result};
+use crate::leb128::Leb128;
+use gimli_core::{DwEhPe, Endianity, Format, SectionId, constants};
+
+/// What a section is written to.
+///
+/// A writer means the list of its bytes. Calls append to it, but for those whose names end in
+/// `_at`, which write over bytes that are there. Whatever the writer, a refused append leaves the
+/// old bytes as a beginning, a refused `_at` call changes no byte, and no `_at` call changes the
+/// length.
+pub trait Writer {
+    /// The order of bytes.
+    type Endian: Endianity;
+
+    /// The bytes of the section.
+    ghost contents: { Self → List ℕ };
+
+    /// Whether the most significant byte of a number comes first.
+    ghost big: { Self → Bool };
+
+    /// Whether a writer of this type keeps exactly the bytes given to it.
+    ghost plain: { Bool };
+
+    /// Whether a writer of this type refuses a `write` for want of memory alone, a `write_at` for
+    /// its two bounds alone, and any other call for what is said there, or as the `write` or
+    /// `write_at` under it.
+    ghost steady: { Bool };
+
+    /// The order of bytes.
+    fn endian(&self) -> Self::Endian
+        ensures { Self.Endian.big result ≡ big self.now };
+
+    /// The length of the section in bytes, which is also the offset of what is appended next.
+    fn len(&self) -> usize
+        ensures { result ≡ length (contents self.now) };
+
+    /// Appends bytes.
+    fn write(&mut self, bytes: &[u8]) -> Result<()>
+        ensures keeps { Begins (contents self.old) (contents self.new) }
+        ensures ordered { big self.new ≡ big self.old }
+        ensures ok { IsTrue plain →
+            OnOk result (Appends (Ok bytes.now) (contents self.old) (contents self.new)) }
+        ensures err { IsTrue steady → IfErr result (Refuses (Ok bytes.now)) };
+
+    /// Writes over the bytes from an offset on. Refused by `OffsetOutOfBounds` where the offset
+    /// is past the end of the section, else by `LengthOutOfBounds` where the bytes would pass the
+    /// end.
+    fn write_at(&mut self, offset: usize, bytes: &[u8]) -> Result<()>
+        ensures len { length (contents self.new) ≡ length (contents self.old) }
+        ensures before { take offset (contents self.new) ≡ take offset (contents self.old) }
+        ensures ordered { big self.new ≡ big self.old }
+        ensures refused { OnErr result (contents self.new ≡ contents self.old) }
+        ensures ok { IsTrue plain →
+            OnOk result (patch (Ok bytes.now) (contents self.old) offset ≡ Ok (contents self.new)) }
+        ensures err { IsTrue steady →
+            IfErr result (λ e. patch (Ok bytes.now) (contents self.old) offset ≡ Err e) };
+
+    /// Appends an address of `size` bytes. A symbol is `InvalidAddress`; a constant is refused as
+    /// by `write_udata`. A writer that supports relocations has a body of its own.
+    fn write_address(&mut self, address: Address, size: u8) -> Result<()>
+        ensures keeps { Begins (contents self.old) (contents self.new) }
+        ensures ordered { big self.new ≡ big self.old }
+        ensures ok { IsTrue plain → OnOk result
+            (Appends (address_bytes (big self.old) address size)
+            (contents self.old) (contents self.new)) }
+        ensures err { IsTrue steady →
+            IfErr result (Refuses (address_bytes (big self.old) address size)) }
+    {
+        match address {
+            Address::Constant(val) => self.write_udata(val, size),
+            Address::Symbol { .. } => Err(Error::InvalidAddress),
+        }
+    }
+
+    /// Appends an address in a pointer encoding of `.eh_frame`: as it is, or relative to the end
+    /// of the section. A symbol is `InvalidAddress`, an address that is relative to anything else
+    /// `UnsupportedPointerEncoding`; the number is refused as by `write_eh_pointer_data`.
+    fn write_eh_pointer(&mut self, address: Address, eh_pe: DwEhPe, size: u8) -> Result<()>
+        ensures keeps { Begins (contents self.old) (contents self.new) }
+        ensures ordered { big self.new ≡ big self.old }
+        ensures ok { IsTrue plain → OnOk result
+            (Appends (pointer_bytes (big self.old) (length (contents self.old)) address eh_pe size)
+            (contents self.old) (contents self.new)) }
+        ensures err { IsTrue steady → IfErr result
+            (Refuses (pointer_bytes (big self.old) (length (contents self.old)) address eh_pe size)) }
+    {
+        match address {
+            Address::Constant(val) => match eh_pe.application() {
+                constants::DW_EH_PE_absptr => self.write_eh_pointer_data(val, eh_pe.format(), size),
+                constants::DW_EH_PE_pcrel => {
+                    let val = val.wrapping_sub(self.len() as u64);
+                    self.write_eh_pointer_data(val, eh_pe.format(), size)
+                }
+                _ => Err(Error::UnsupportedPointerEncoding(eh_pe)),
+            },
+            Address::Symbol { .. } => Err(Error::InvalidAddress),
+        }
+    }
+
+    /// Appends a number in a pointer format of `.eh_frame`; `size` is that of the format
+    /// `DW_EH_PE_absptr`. Refused as by `write_udata` and `write_sdata`, and by
+    /// `UnsupportedPointerEncoding` for other formats.
+    fn write_eh_pointer_data(&mut self, val: u64, format: DwEhPe, size: u8) -> Result<()>
+        ensures keeps { Begins (contents self.old) (contents self.new) }
+        ensures ordered { big self.new ≡ big self.old }
+        ensures ok { IsTrue plain → OnOk result
+            (Appends (pointer_data (big self.old) val format size)
+            (contents self.old) (contents self.new)) }
+        ensures err { IsTrue steady →
+            IfErr result (Refuses (pointer_data (big self.old) val format size)) }
+    {
+        match format {
+            constants::DW_EH_PE_absptr => self.write_udata(val, size),
+            constants::DW_EH_PE_uleb128 => self.write_uleb128(val),
+            constants::DW_EH_PE_udata2 => self.write_udata(val, 2),
+            constants::DW_EH_PE_udata4 => self.write_udata(val, 4),
+            constants::DW_EH_PE_udata8 => self.write_udata(val, 8),
+            constants::DW_EH_PE_sleb128 => self.write_sleb128(val.cast_signed()),
+            constants::DW_EH_PE_sdata2 => self.write_sdata(val.cast_signed(), 2),
+            constants::DW_EH_PE_sdata4 => self.write_sdata(val.cast_signed(), 4),
+            constants::DW_EH_PE_sdata8 => self.write_sdata(val.cast_signed(), 8),
+            _ => Err(Error::UnsupportedPointerEncoding(format)),
+        }
+    }
+
+    /// Appends an offset into a section, of `size` bytes. Refused as by `write_udata`. A writer
+    /// that supports relocations has a body of its own.
+    fn write_offset(&mut self, val: usize, _section: SectionId, size: u8) -> Result<()>
+        ensures keeps { Begins (contents self.old) (contents self.new) }
+        ensures ordered { big self.new ≡ big self.old }
+        ensures ok { IsTrue plain → OnOk result
+            (Appends (udata (big self.old) val size)
+            (contents self.old) (contents self.new)) }
+        ensures err { IsTrue steady → IfErr result (Refuses (udata (big self.old) val size)) }
+    {
+        self.write_udata(val as u64, size)
+    }
+
+    /// Writes an offset into a section, of `size` bytes, over the bytes from an offset on.
+    /// Refused as by `write_udata_at`.
+    fn write_offset_at(
+        &mut self,
+        offset: usize,
+        val: usize,
+        _section: SectionId,
+        size: u8,
+    ) -> Result<()>
+        ensures len { length (contents self.new) ≡ length (contents self.old) }
+        ensures before { take offset (contents self.new) ≡ take offset (contents self.old) }
+        ensures ordered { big self.new ≡ big self.old }
+        ensures refused { OnErr result (contents self.new ≡ contents self.old) }
+        ensures ok { IsTrue plain → OnOk result
+            (patch (udata (big self.old) val size) (contents self.old) offset
+            ≡ Ok (contents self.new)) }
+        ensures err { IsTrue steady → IfErr result
+            (λ e. patch (udata (big self.old) val size) (contents self.old) offset ≡ Err e) }
+    {
+        self.write_udata_at(offset, val as u64, size)
+    }
+
+    /// Appends a reference to a symbol, of `size` bytes: always `InvalidReference`. A writer that
+    /// knows of symbols has a body of its own.
+    fn write_reference(&mut self, _symbol: usize, _size: u8) -> Result<()>
+        ensures keeps { Begins (contents self.old) (contents self.new) }
+        ensures ordered { big self.new ≡ big self.old }
+        ensures ok { IsTrue plain → OnOk result
+            (Appends (Err Error.InvalidReference)
+            (contents self.old) (contents self.new)) }
+        ensures err { IsTrue steady → IfErr result (Refuses (Err Error.InvalidReference)) }
+    {
+        Err(Error::InvalidReference)
+    }
+
+    /// Appends a byte.
+    fn write_u8(&mut self, val: u8) -> Result<()>
+        ensures keeps { Begins (contents self.old) (contents self.new) }
+        ensures ordered { big self.new ≡ big self.old }
+        ensures ok { IsTrue plain → OnOk result
+            (Appends (Ok (number_bytes (big self.old) 1 val))
+            (contents self.old) (contents self.new)) }
+        ensures err { IsTrue steady →
+            IfErr result (Refuses (Ok (number_bytes (big self.old) 1 val))) }
+    {
+        self.write(&[val])
+    }
+
+    /// Appends a number of two bytes.
+    fn write_u16(&mut self, val: u16) -> Result<()>
+        ensures keeps { Begins (contents self.old) (contents self.new) }
+        ensures ordered { big self.new ≡ big self.old }
+        ensures ok { IsTrue plain → OnOk result
+            (Appends (Ok (number_bytes (big self.old) 2 val))
+            (contents self.old) (contents self.new)) }
+        ensures err { IsTrue steady →
+            IfErr result (Refuses (Ok (number_bytes (big self.old) 2 val))) }
+    {
+        self.write(&bytes_of_u16(self.endian(), val))
+    }
+
+    /// Appends a number of four bytes.
+    fn write_u32(&mut self, val: u32) -> Result<()>
+        ensures keeps { Begins (contents self.old) (contents self.new) }
+        ensures ordered { big self.new ≡ big self.old }
+        ensures ok { IsTrue plain → OnOk result
+            (Appends (Ok (number_bytes (big self.old) 4 val))
+            (contents self.old) (contents self.new)) }
+        ensures err { IsTrue steady →
+            IfErr result (Refuses (Ok (number_bytes (big self.old) 4 val))) }
+    {
+        self.write(&bytes_of_u32(self.endian(), val))
+    }
+
+    /// Appends a number of eight bytes.
+    fn write_u64(&mut self, val: u64) -> Result<()>
+        ensures keeps { Begins (contents self.old) (contents self.new) }
+        ensures ordered { big self.new ≡ big self.old }
+        ensures ok { IsTrue plain → OnOk result
+            (Appends (Ok (number_bytes (big self.old) 8 val))
+            (contents self.old) (contents self.new)) }
+        ensures err { IsTrue steady →
+            IfErr result (Refuses (Ok (number_bytes (big self.old) 8 val))) }
+    {
+        self.write(&bytes_of_u64(self.endian(), val))
+    }
+
+    /// Appends a number of sixteen bytes.
+    fn write_u128(&mut self, val: u128) -> Result<()>
+        ensures keeps { Begins (contents self.old) (contents self.new) }
+        ensures ordered { big self.new ≡ big self.old }
+        ensures ok { IsTrue plain → OnOk result
+            (Appends (Ok (number_bytes (big self.old) 16 val))
+            (contents self.old) (contents self.new)) }
+        ensures err { IsTrue steady →
+            IfErr result (Refuses (Ok (number_bytes (big self.old) 16 val))) }
+    {
+        self.write(&bytes_of_u128(self.endian(), val))
+    }
+
+    /// Writes a byte over that at an offset. Refused as by `write_at`.
+    fn write_u8_at(&mut self, offset: usize, val: u8) -> Result<()>
+        ensures len { length (contents self.new) ≡ length (contents self.old) }
+        ensures before { take offset (contents self.new) ≡ take offset (contents self.old) }
+        ensures ordered { big self.new ≡ big self.old }
+        ensures refused { OnErr result (contents self.new ≡ contents self.old) }
+        ensures ok { IsTrue plain → OnOk result
+            (patch (Ok (number_bytes (big self.old) 1 val)) (contents self.old) offset
+            ≡ Ok (contents self.new)) }
+        ensures err { IsTrue steady → IfErr result
+            (λ e. patch (Ok (number_bytes (big self.old) 1 val)) (contents self.old) offset ≡ Err e) }
+    {
+        self.write_at(offset, &[val])
+    }
+
+    /// Writes a number over the two bytes from an offset on. Refused as by `write_at`.
+    fn write_u16_at(&mut self, offset: usize, val: u16) -> Result<()>
+        ensures len { length (contents self.new) ≡ length (contents self.old) }
+        ensures before { take offset (contents self.new) ≡ take offset (contents self.old) }
+        ensures ordered { big self.new ≡ big self.old }
+        ensures refused { OnErr result (contents self.new ≡ contents self.old) }
+        ensures ok { IsTrue plain → OnOk result
+            (patch (Ok (number_bytes (big self.old) 2 val)) (contents self.old) offset
+            ≡ Ok (contents self.new)) }
+        ensures err { IsTrue steady → IfErr result
+            (λ e. patch (Ok (number_bytes (big self.old) 2 val)) (contents self.old) offset ≡ Err e) }
+    {
+        self.write_at(offset, &bytes_of_u16(self.endian(), val))
+    }
+
+    /// Writes a number over the four bytes from an offset on. Refused as by `write_at`.
+    fn write_u32_at(&mut self, offset: usize, val: u32) -> Result<()>
+        ensures len { length (contents self.new) ≡ length (contents self.old) }
+        ensures before { take offset (contents self.new) ≡ take offset (contents self.old) }
+        ensures ordered { big self.new ≡ big self.old }
+        ensures refused { OnErr result (contents self.new ≡ contents self.old) }
+        ensures ok { IsTrue plain → OnOk result
+            (patch (Ok (number_bytes (big self.old) 4 val)) (contents self.old) offset
+            ≡ Ok (contents self.new)) }
+        ensures err { IsTrue steady → IfErr result
+            (λ e. patch (Ok (number_bytes (big self.old) 4 val)) (contents self.old) offset ≡ Err e) }
+    {
+        self.write_at(offset, &bytes_of_u32(self.endian(), val))
+    }
+
+    /// Writes a number over the eight bytes from an offset on. Refused as by `write_at`.
+    fn write_u64_at(&mut self, offset: usize, val: u64) -> Result<()>
+        ensures len { length (contents self.new) ≡ length (contents self.old) }
+        ensures before { take offset (contents self.new) ≡ take offset (contents self.old) }
+        ensures ordered { big self.new ≡ big self.old }
+        ensures refused { OnErr result (contents self.new ≡ contents self.old) }
+        ensures ok { IsTrue plain → OnOk result
+            (patch (Ok (number_bytes (big self.old) 8 val)) (contents self.old) offset
+            ≡ Ok (contents self.new)) }
+        ensures err { IsTrue steady → IfErr result
+            (λ e. patch (Ok (number_bytes (big self.old) 8 val)) (contents self.old) offset ≡ Err e) }
+    {
+        self.write_at(offset, &bytes_of_u64(self.endian(), val))
+    }
+
+    /// Writes a number over the sixteen bytes from an offset on. Refused as by `write_at`.
+    fn write_u128_at(&mut self, offset: usize, val: u128) -> Result<()>
+        ensures len { length (contents self.new) ≡ length (contents self.old) }
+        ensures before { take offset (contents self.new) ≡ take offset (contents self.old) }
+        ensures ordered { big self.new ≡ big self.old }
+        ensures refused { OnErr result (contents self.new ≡ contents self.old) }
+        ensures ok { IsTrue plain → OnOk result
+            (patch (Ok (number_bytes (big self.old) 16 val)) (contents self.old) offset
+            ≡ Ok (contents self.new)) }
+        ensures err { IsTrue steady → IfErr result
+            (λ e. patch (Ok (number_bytes (big self.old) 16 val)) (contents self.old) offset ≡ Err e) }
+    {
+        self.write_at(offset, &bytes_of_u128(self.endian(), val))
+    }
+
+    /// Appends an unsigned number of `size` bytes. Refused by `UnsupportedWordSize` where the
+    /// size isn't 1, 2, 3, 4 or 8, and by `ValueTooLarge` where the number doesn't fit it.
+    fn write_udata(&mut self, val: u64, size: u8) -> Result<()>
+        ensures keeps { Begins (contents self.old) (contents self.new) }
+        ensures ordered { big self.new ≡ big self.old }
+        ensures ok { IsTrue plain → OnOk result
+            (Appends (udata (big self.old) val size)
+            (contents self.old) (contents self.new)) }
+        ensures err { IsTrue steady → IfErr result (Refuses (udata (big self.old) val size)) }
+    {
+        match size {
+            1 => {
+                if val > 0xff {
+                    return Err(Error::ValueTooLarge);
+                }
+                self.write_u8(val as u8)
+            }
+            2 => {
+                if val > 0xffff {
+                    return Err(Error::ValueTooLarge);
+                }
+                self.write_u16(val as u16)
+            }
+            3 => {
+                if val > 0xff_ffff {
+                    return Err(Error::ValueTooLarge);
+                }
+                let bytes = bytes_of_u32(self.endian(), val as u32);
+                if self.endian().is_big_endian() {
+                    self.write(&bytes[1..])
+                } else {
+                    self.write(&bytes[..3])
+                }
+            }
+            4 => {
+                if val > 0xffff_ffff {
+                    return Err(Error::ValueTooLarge);
+                }
+                self.write_u32(val as u32)
+            }
+            8 => self.write_u64(val),
+            otherwise => Err(Error::UnsupportedWordSize(otherwise)),
+        }
+    }
+
+    /// Appends a signed number of `size` bytes in two's complement. Refused by
+    /// `UnsupportedWordSize` where the size isn't 1, 2, 4 or 8, and by `ValueTooLarge` where the
+    /// number doesn't fit it.
+    fn write_sdata(&mut self, val: i64, size: u8) -> Result<()>
+        ensures keeps { Begins (contents self.old) (contents self.new) }
+        ensures ordered { big self.new ≡ big self.old }
+        ensures ok { IsTrue plain → OnOk result
+            (Appends (sdata (big self.old) val size)
+            (contents self.old) (contents self.new)) }
+        ensures err { IsTrue steady → IfErr result (Refuses (sdata (big self.old) val size)) }
+    {
+        match size {
+            1 => self.write_u8(bits_of_i8(val)?),
+            2 => self.write_u16(bits_of_i16(val)?),
+            4 => self.write_u32(bits_of_i32(val)?),
+            8 => self.write_u64(val.cast_unsigned()),
+            otherwise => Err(Error::UnsupportedWordSize(otherwise)),
+        }
+    }
+
+    /// Writes an unsigned number of `size` bytes over the bytes from an offset on. Refused as by
+    /// `write_udata`, and then as by `write_at`.
+    fn write_udata_at(&mut self, offset: usize, val: u64, size: u8) -> Result<()>
+        ensures len { length (contents self.new) ≡ length (contents self.old) }
+        ensures before { take offset (contents self.new) ≡ take offset (contents self.old) }
+        ensures ordered { big self.new ≡ big self.old }
+        ensures refused { OnErr result (contents self.new ≡ contents self.old) }
+        ensures ok { IsTrue plain → OnOk result
+            (patch (udata (big self.old) val size) (contents self.old) offset
+            ≡ Ok (contents self.new)) }
+        ensures err { IsTrue steady → IfErr result
+            (λ e. patch (udata (big self.old) val size) (contents self.old) offset ≡ Err e) }
+    {
+        match size {
+            1 => {
+                if val > 0xff {
+                    return Err(Error::ValueTooLarge);
+                }
+                self.write_u8_at(offset, val as u8)
+            }
+            2 => {
+                if val > 0xffff {
+                    return Err(Error::ValueTooLarge);
+                }
+                self.write_u16_at(offset, val as u16)
+            }
+            3 => {
+                if val > 0xff_ffff {
+                    return Err(Error::ValueTooLarge);
+                }
+                let bytes = bytes_of_u32(self.endian(), val as u32);
+                if self.endian().is_big_endian() {
+                    self.write_at(offset, &bytes[1..])
+                } else {
+                    self.write_at(offset, &bytes[..3])
+                }
+            }
+            4 => {
+                if val > 0xffff_ffff {
+                    return Err(Error::ValueTooLarge);
+                }
+                self.write_u32_at(offset, val as u32)
+            }
+            8 => self.write_u64_at(offset, val),
+            otherwise => Err(Error::UnsupportedWordSize(otherwise)),
+        }
+    }
+
+    /// Appends an unsigned number as LEB128, in its shortest spelling.
+    fn write_uleb128(&mut self, val: u64) -> Result<()>
+        ensures shortest { IsShortest (SpellsUleb128 64) (uleb val) val }
+        ensures keeps { Begins (contents self.old) (contents self.new) }
+        ensures ordered { big self.new ≡ big self.old }
+        ensures ok { IsTrue plain →
+            OnOk result (Appends (Ok (uleb val)) (contents self.old) (contents self.new)) }
+        ensures err { IsTrue steady → IfErr result (Refuses (Ok (uleb val))) }
+    {
+        self.write(Leb128::unsigned(val).bytes())
+    }
+
+    /// Appends a signed number as LEB128, in its shortest spelling.
+    fn write_sleb128(&mut self, val: i64) -> Result<()>
+        ensures shortest { IsShortest SpellsSleb128 (sleb val) val }
+        ensures keeps { Begins (contents self.old) (contents self.new) }
+        ensures ordered { big self.new ≡ big self.old }
+        ensures ok { IsTrue plain →
+            OnOk result (Appends (Ok (sleb val)) (contents self.old) (contents self.new)) }
+        ensures err { IsTrue steady → IfErr result (Refuses (Ok (sleb val))) }
+    {
+        self.write(Leb128::signed(val).bytes())
+    }
+
+    /// Appends an initial length of 0, and answers where its word stands, for
+    /// `write_initial_length_at`.
+    fn write_initial_length(&mut self, format: Format) -> Result<InitialLengthOffset>
+        ensures keeps { Begins (contents self.old) (contents self.new) }
+        ensures ordered { big self.new ≡ big self.old }
+        ensures after { IfOk result (λ word. length (contents self.old) ≤ word.0) }
+        ensures place { IsTrue plain →
+            IfOk result (λ word. word.0 ≡ length (contents self.old) + escape_size format) }
+        ensures ok { IsTrue plain → OnOk result
+            (Appends (Ok (open_length (big self.old) format))
+            (contents self.old) (contents self.new)) }
+        ensures err { IsTrue steady →
+            IfErr result (Refuses (Ok (open_length (big self.old) format))) }
+    {
+        match format {
+            Format::Dwarf32 => {
+                let offset = InitialLengthOffset(self.len());
+                self.write_u32(0)?;
+                Ok(offset)
+            }
+            Format::Dwarf64 => {
+                self.write_u32(0xffff_ffff)?;
+                let offset = InitialLengthOffset(self.len());
+                self.write_u64(0)?;
+                Ok(offset)
+            }
+        }
+    }
+
+    /// Writes a length over the word of an initial length. In the 32-bit format a length from
+    /// 0xffff_fff0 to 0xffff_ffff is `InitialLengthOverflow`, a larger one `ValueTooLarge`; the
+    /// place is refused as by `write_at`.
+    fn write_initial_length_at(
+        &mut self,
+        offset: InitialLengthOffset,
+        val: u64,
+        format: Format,
+    ) -> Result<()>
+        ensures len { length (contents self.new) ≡ length (contents self.old) }
+        ensures before { take offset.0 (contents self.new) ≡ take offset.0 (contents self.old) }
+        ensures ordered { big self.new ≡ big self.old }
+        ensures refused { OnErr result (contents self.new ≡ contents self.old) }
+        ensures ok { IsTrue plain → OnOk result
+            (patch (length_word (big self.old) format val) (contents self.old) offset.0
+            ≡ Ok (contents self.new)) }
+        ensures err { IsTrue steady → IfErr result
+            (λ e. patch (length_word (big self.old) format val) (contents self.old) offset.0 ≡ Err e) }
+    {
+        if format == Format::Dwarf32 && (0xffff_fff0..=0xffff_ffff).contains(&val) {
+            return Err(Error::InitialLengthOverflow);
+        }
+        self.write_udata_at(offset.0, val, format.word_size())
+    }
+}
+
+/// Where the word of an initial length stands.
+#[derive(Clone, Copy, Debug)]
+pub struct InitialLengthOffset(pub usize);
+
+/// The two bytes of a number in an order.
+fn bytes_of_u16<E: Endianity>(endian: E, val: u16) -> [u8; 2]
+    ensures { result ≡ number_bytes (E.big endian) 2 val }
+{
+    let mut bytes = [0; 2];
+    endian.write_u16(&mut bytes, val);
+    bytes
+}
+
+/// The four bytes of a number in an order.
+fn bytes_of_u32<E: Endianity>(endian: E, val: u32) -> [u8; 4]
+    ensures { result ≡ number_bytes (E.big endian) 4 val }
+{
+    let mut bytes = [0; 4];
+    endian.write_u32(&mut bytes, val);
+    bytes
+}
+
+/// The eight bytes of a number in an order.
+fn bytes_of_u64<E: Endianity>(endian: E, val: u64) -> [u8; 8]
+    ensures { result ≡ number_bytes (E.big endian) 8 val }
+{
+    let mut bytes = [0; 8];
+    endian.write_u64(&mut bytes, val);
+    bytes
+}
+
+/// The sixteen bytes of a number in an order.
+fn bytes_of_u128<E: Endianity>(endian: E, val: u128) -> [u8; 16]
+    ensures { result ≡ number_bytes (E.big endian) 16 val }
+{
+    let mut bytes = [0; 16];
+    endian.write_u128(&mut bytes, val);
+    bytes
+}
+
+/// The bits of a number that eight bits hold with its sign, else `ValueTooLarge`.
+fn bits_of_i8(val: i64) -> Result<u8>
+    ensures { result ≡ twos_complement 1 val }
+{
+    match i8::try_from(val) {
+        Ok(val) => Ok(val.cast_unsigned()),
+        Err(_) => Err(Error::ValueTooLarge),
+    }
+}
+
+/// The bits of a number that sixteen bits hold with its sign, else `ValueTooLarge`.
+fn bits_of_i16(val: i64) -> Result<u16>
+    ensures { result ≡ twos_complement 2 val }
+{
+    match i16::try_from(val) {
+        Ok(val) => Ok(val.cast_unsigned()),
+        Err(_) => Err(Error::ValueTooLarge),
+    }
+}
+
+/// The bits of a number that 32 bits hold with its sign, else `ValueTooLarge`.
+fn bits_of_i32(val: i64) -> Result<u32>
+    ensures { result ≡ twos_complement 4 val }
+{
+    match i32::try_from(val) {
+        Ok(val) => Ok(val.cast_unsigned()),
+        Err(_) => Err(Error::ValueTooLarge),
+    }
+}
+
+#[cfg(test)]
+mod tests;
