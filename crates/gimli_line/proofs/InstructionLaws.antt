@@ -1,0 +1,205 @@
+-- Reading instructions, and cutting a program into them.
+use Rattle.std.proofs.Common.{◌≡◌, ◌≢◌, ℕ, zero, suc, ◌-◌, ◌<◌, ◌≤◌, List, [], ◌∷◌, ◌++◌, length, take, Option, Some, None, Ok, Err, refl, sym, ap, subst, ◌∙◌, append_assoc, arith, inl, inr}
+use Rattle.std.specs.Prelude.{nat_eq, nat_le, slice_index}
+use Rattle.std.proofs.lemmas.List.{length-append, take_at}
+use Rattle.gimli_core.specs.Notation.{Notation}
+use Rattle.gimli_core.specs.Reading.{Read, ◌>>=◌, within_at}
+use Rattle.gimli_core.specs.Line.{Line, ◌>>=◌ as ◌>>>◌, done, times, byte, number, some_bytes, text, unsigned, signed, below_limit, within, Reads}
+use Rattle.gimli_core.specs.declared.error.Error.{Error}
+use Rattle.gimli_core.proofs.Lines.{reads_both, reads_done, reads_if, reads_times, reads_within, bind_ok, bind_fault, bind_refused, ok_parts}
+use Rattle.gimli_core.proofs.LineLaws.{reads_byte, reads_some_bytes, reads_number, reads_text, reads_below_limit}
+use Rattle.gimli_core.proofs.UnsignedLeb.{reads_unsigned}
+use Rattle.gimli_core.proofs.SignedLaws.{reads_signed}
+use Rattle.gimli_line.specs.declared.instruction.LineInstruction.TheVariants.{Special, UnknownStandard0, UnknownStandard1, UnknownStandardN, UnknownExtended}
+use Rattle.gimli_line.specs.Instruction.{Ins}
+use Rattle.gimli_line.specs.Header.{Header}
+use Rattle.gimli_line.specs.Lines.{bytes_of, among}
+use Rattle.gimli_line.specs.HeaderGrammar.{file_line}
+use Rattle.gimli_line.specs.InstructionGrammar.{Operand, none, uleb, sleb, half, address, file, standard_opcodes, extended_opcodes, operand_line, unknown_line, standard_line, extended_operands, extended_line, instruction_line, SpellsInstruction, Cuts}
+use Rattle.gimli_line.specs.InstructionReading.{bytes_at, operand_at, unknown_at, standard_at, extended_operands_at, extended_at, ins_at, cut_behind, cut_upto, cut_at}
+use Rattle.gimli_line.proofs.HeaderLaws.{reads_file, given_ok, given_err, answer_of}
+
+-- ---- the bytes of a line
+
+module _ {A : Type 0} (l : Line A) (read : List ℕ → Read A) (r : Reads l read) where
+  -- what stands in front of the rest
+  front_is : (front rest : List ℕ) → take (length (front ++ rest) - length rest) (front ++ rest) ≡ front
+  front_is front rest = take_at front rest (length (front ++ rest) - length rest) (omega (arith, length-append front rest))
+
+  abbrev as_bytes : List ℕ → A → List ℕ → Read (List ℕ)
+  as_bytes bytes x rest = (Ok (take (length bytes - length rest) bytes), rest)
+
+  bytes_found : (bytes xs rest : List ℕ) → bytes_at read bytes ≡ (Ok xs, rest) → (front : List ℕ) × (bytes ≡ front ++ rest) × (bytes_of l).Spells front xs
+  bytes_found bytes xs rest e =
+      let a = bind_ok (read bytes) (as_bytes bytes) xs rest e in
+      let p = ok_parts (take (length bytes - length a.1) bytes) xs a.1 rest a.3 in
+      let f = r.found bytes a.0 a.1 a.2 in
+      let whole : bytes ≡ f.0 ++ rest = f.1 ∙ ap (λ (ys : List ℕ). f.0 ++ ys) p.1 in
+      let taken : take (length bytes - length a.1) bytes ≡ f.0 = ap (λ (ys : List ℕ). take (length ys - length a.1) ys) f.1 ∙ front_is f.0 a.1 in
+      (f.0, whole, (sym p.0 ∙ taken, (a.0, f.2)))
+
+  bytes_fault : (bytes : List ℕ) (e : Error) → (bytes_at read bytes).0 ≡ Err e → l.Fault bytes e
+  bytes_fault bytes e is = elim (bind_fault (read bytes) (as_bytes bytes) e is) [
+    | inl p ↦ r.fault bytes e p
+    | inr a ↦ let no = a.3 in absurd cc
+  ]
+
+  pub reads_bytes_of : Reads (bytes_of l) (bytes_at read)
+  reads_bytes_of = record {
+    found = bytes_found;
+    only = λ front xs rest s. rw (r.only front s.1.0 rest s.1.1, front_is front rest, s.0) refl;
+    fault = bytes_fault;
+    refused = λ bytes e f. bind_refused (read bytes) (as_bytes bytes) e (r.refused bytes e f);
+  }
+
+-- ---- instructions
+
+module _ (notation : Notation) (h : Header) where
+  reads_operand : (operand : Operand) → Reads (operand_line notation h operand) (operand_at notation h operand)
+  reads_operand (none i) = reads_done i
+  reads_operand (uleb make) = reads_both unsigned _ _ _ reads_unsigned (λ n. reads_done (make n))
+  reads_operand (sleb make) = reads_both signed _ _ _ reads_signed (λ z. reads_done (make z))
+  reads_operand (half make) = reads_both (number notation.big 2) _ _ _ (reads_number notation.big 2) (λ n. reads_done (make n))
+  reads_operand (address make) = reads_both (number notation.big h.rules.encoding.address_size) _ _ _ (reads_number notation.big h.rules.encoding.address_size) (λ a. reads_done (make a))
+  reads_operand (file make) = reads_both text _ _ _ reads_text (λ path. reads_both (file_line path) _ _ _ (reads_file path) (λ f. reads_done (make f)))
+
+  reads_unknown : (opcode count : ℕ) → Reads (unknown_line notation h opcode count) (unknown_at notation h opcode count)
+  unfolding unknown_at
+  reads_unknown opcode zero = reads_done (UnknownStandard0 (record { 0 = opcode }))
+  reads_unknown opcode (suc zero) = reads_both unsigned _ _ _ reads_unsigned (λ n. reads_done (UnknownStandard1 (record { 0 = opcode }) n))
+  reads_unknown opcode (suc (suc more)) =
+      reads_both (bytes_of (times (suc (suc more)) unsigned)) _ _ _ (reads_bytes_of (times (suc (suc more)) unsigned) _ (reads_times (suc (suc more)) unsigned _ reads_unsigned))
+      (λ operands. reads_done (UnknownStandardN (record { 0 = opcode }) operands))
+
+  pub reads_standard : (opcode : ℕ) → Reads (standard_line notation h opcode) (standard_at notation h opcode)
+  unfolding standard_at
+  reads_standard opcode = at_operand (among opcode standard_opcodes)
+    where
+      at_operand : (found : Option Operand) → Reads {A = Ins}
+          (elim found [ Some operand ↦ operand_line notation h operand | None ↦ unknown_line notation h opcode (slice_index h.operand_counts (opcode - 1)) ])
+          (λ bytes. elim found [ Some operand ↦ operand_at notation h operand bytes | None ↦ unknown_at notation h opcode (slice_index h.operand_counts (opcode - 1)) bytes ])
+      at_operand (Some operand) = reads_operand operand
+      at_operand None = reads_unknown opcode (slice_index h.operand_counts (opcode - 1))
+
+  reads_extended_operands : (opcode : ℕ) (operands : List ℕ) → Reads (extended_operands notation h opcode operands) (extended_operands_at notation h opcode operands)
+  unfolding extended_operands_at
+  reads_extended_operands opcode operands = at_operand (among opcode (extended_opcodes h.rules.encoding.version))
+    where
+      at_operand : (found : Option Operand) → Reads {A = Ins}
+          (elim found [ Some operand ↦ within operands (operand_line notation h operand) >>> (λ read. done read.0) | None ↦ done (UnknownExtended (record { 0 = opcode }) operands) ])
+          (λ bytes. elim found [ Some operand ↦ within_at operands (operand_at notation h operand) bytes >>= (λ read rest. (Ok read.0, rest)) | None ↦ (Ok (UnknownExtended (record { 0 = opcode }) operands), bytes) ])
+      at_operand (Some operand) = reads_both (within operands (operand_line notation h operand)) _ _ _ (reads_within operands (operand_line notation h operand) _ (reads_operand operand)) (λ read. reads_done read.0)
+      at_operand None = reads_done (UnknownExtended (record { 0 = opcode }) operands)
+
+  reads_extended : Reads (extended_line notation h) (extended_at notation h)
+  unfolding extended_at
+  reads_extended =
+      reads_both (below_limit notation unsigned) _ _ _ (reads_below_limit notation unsigned _ reads_unsigned)
+      (λ size. reads_both (some_bytes size) _ _ _ (reads_some_bytes size)
+      (λ inside. reads_both (within inside byte) _ _ _ (reads_within inside byte _ reads_byte)
+      (λ opened. reads_extended_operands opened.0 opened.1)))
+
+  pub reads_instruction : Reads (instruction_line notation h) (ins_at notation h)
+  unfolding ins_at
+  reads_instruction =
+      reads_both byte _ _ _ reads_byte
+      (λ opcode. reads_if (nat_eq opcode 0) (extended_line notation h) _ _ _ reads_extended
+      (reads_if (nat_le h.rules.opcode_base opcode) (done (Special opcode)) _ _ _ (reads_done (Special opcode)) (reads_standard opcode)))
+
+  -- ---- a program
+
+  -- an instruction has bytes
+  pub takes_bytes : (front : List ℕ) (i : Ins) → SpellsInstruction notation h front i → 0 < length front
+  takes_bytes front i s =
+      let some : length s.1 ≡ 1 = ap length s.4 in
+      omega (arith, length-append s.1 s.2, ap length s.3)
+
+  cut_is : (more : ℕ) (bytes : List ℕ) → length bytes ≤ more → Cuts notation h bytes (cut_upto notation h more bytes).0 (cut_upto notation h more bytes).1
+  unfolding cut_upto
+  cut_is zero [] le = record { front = []; rest = []; parts = refl; spelled = refl; ended = refl }
+  cut_is zero (b ∷ bytes) le = absurd (omega arith)
+  cut_is (suc more) [] le = record { front = []; rest = []; parts = refl; spelled = refl; ended = refl }
+  cut_is (suc more) (b ∷ bytes) le = elim (answer_of (ins_at notation h (b ∷ bytes))) [
+    | given_ok i rest is ↦
+        let f = reads_instruction.found (b ∷ bytes) i rest is in
+        let some = takes_bytes f.0 i f.2 in
+        let c = cut_is more rest (omega (arith, length-append f.0 rest, ap length f.1)) in
+        rw is (record {
+          front = f.0 ++ c.front;
+          rest = c.rest;
+          parts = f.1 ∙ ap (λ (xs : List ℕ). f.0 ++ xs) c.parts ∙ sym (append_assoc f.0 c.front c.rest);
+          spelled = (f.0, c.front, refl, f.2, c.spelled);
+          ended = c.ended;
+        })
+    | given_err e is ↦ at_fault e (ins_at notation h (b ∷ bytes)) refl is
+  ]
+    where
+      at_fault : (e : Error) (r : Read Ins) → r ≡ ins_at notation h (b ∷ bytes) → r.0 ≡ Err e → Cuts notation h (b ∷ bytes) (cut_behind notation h (cut_upto notation h more) r).0 (cut_behind notation h (cut_upto notation h more) r).1
+      at_fault e (Ok i, rest) same is = absurd cc
+      at_fault e (Err d, rest) same is = record {
+        front = [];
+        rest = b ∷ bytes;
+        parts = refl;
+        spelled = refl;
+        ended = (λ none. absurd cc, reads_instruction.fault (b ∷ bytes) d (rw (← same) refl));
+      }
+
+  only_cut : (list : List Ins) (end : Option Error) (more : ℕ) (bytes : List ℕ) → length bytes ≤ more → Cuts notation h bytes list end → (list, end) ≡ cut_upto notation h more bytes
+  unfolding cut_upto
+  only_cut [] None more bytes le c = at_end more bytes (c.parts ∙ rw (c.spelled, c.ended) refl)
+    where
+      at_end : (more : ℕ) (bytes : List ℕ) → bytes ≡ [] → ([], None) ≡ cut_upto notation h more bytes
+      at_end zero bytes is = refl
+      at_end (suc more) [] is = refl
+      at_end (suc more) (b ∷ bytes) is = absurd cc
+  only_cut [] (Some e) more bytes le c =
+      let whole : bytes ≡ c.rest = c.parts ∙ rw c.spelled refl in
+      at_fault more bytes le (λ none. c.ended.0 (sym whole ∙ none)) (subst (λ (xs : List ℕ). (instruction_line notation h).Fault xs e) (sym whole) c.ended.1)
+    where
+      behind : (b : ℕ) (bytes : List ℕ) (more : ℕ) (r : Read Ins) → r.0 ≡ Err e → ([], Some e) ≡ cut_behind notation h (cut_upto notation h more) r
+      behind b bytes more (Ok i, rest) is = absurd cc
+      behind b bytes more (Err d, rest) is = let same : d ≡ e = cc in rw same refl
+
+      at_fault : (more : ℕ) (bytes : List ℕ) → length bytes ≤ more → bytes ≢ [] → (instruction_line notation h).Fault bytes e → ([], Some e) ≡ cut_upto notation h more bytes
+      at_fault zero [] le some f = absurd (some refl)
+      at_fault zero (b ∷ bytes) le some f = absurd (omega arith)
+      at_fault (suc more) [] le some f = absurd (some refl)
+      at_fault (suc more) (b ∷ bytes) le some f = behind b bytes more (ins_at notation h (b ∷ bytes)) (reads_instruction.refused (b ∷ bytes) e f)
+  only_cut (i ∷ list) end more bytes le c =
+      let s = c.spelled in
+      let some = takes_bytes s.0 i s.3 in
+      let whole : bytes ≡ s.0 ++ (s.1 ++ c.rest) = c.parts ∙ ap (λ (xs : List ℕ). xs ++ c.rest) s.2 ∙ append_assoc s.0 s.1 c.rest in
+      let first : ins_at notation h bytes ≡ (Ok i, s.1 ++ c.rest) = ap (ins_at notation h) whole ∙ reads_instruction.only s.0 i (s.1 ++ c.rest) s.3 in
+      at_more more bytes le (s.1 ++ c.rest) first (omega (arith, length-append s.0 (s.1 ++ c.rest), ap length whole))
+      (λ less fewer. only_cut list end less (s.1 ++ c.rest) fewer (record { front = s.1; rest = c.rest; parts = refl; spelled = s.4; ended = c.ended }))
+    where
+      at_more : (more : ℕ) (bytes : List ℕ) → length bytes ≤ more → (rest : List ℕ) → ins_at notation h bytes ≡ (Ok i, rest) → length rest < length bytes
+          → ((less : ℕ) → length rest ≤ less → (list, end) ≡ cut_upto notation h less rest) → (i ∷ list, end) ≡ cut_upto notation h more bytes
+      at_more zero bytes le rest first fewer others = absurd (omega arith)
+      at_more (suc more) [] le rest first fewer others = absurd (omega arith)
+      at_more (suc more) (b ∷ bytes) le rest first fewer others = rw (first, ← others more (omega arith)) refl
+
+  -- a program is cut so
+  pub cuts : (bytes : List ℕ) → Cuts notation h bytes (cut_at notation h bytes).0 (cut_at notation h bytes).1
+  cuts bytes = cut_is (length bytes) bytes (omega arith)
+
+  -- and no other way
+  pub one_cut : (bytes : List ℕ) (list : List Ins) (end : Option Error) → Cuts notation h bytes list end → (list, end) ≡ cut_at notation h bytes
+  one_cut bytes list end c = only_cut list end (length bytes) bytes (omega arith) c
+
+  -- ---- no more instructions than bytes
+
+  cut_bounded : (more : ℕ) (bytes : List ℕ) → length (cut_upto notation h more bytes).0 ≤ more
+  unfolding cut_upto
+  cut_bounded zero bytes = omega arith
+  cut_bounded (suc more) [] = omega arith
+  cut_bounded (suc more) (b ∷ bytes) = behind (λ rest. cut_bounded more rest) (ins_at notation h (b ∷ bytes))
+    where
+      behind : ((rest : List ℕ) → length (cut_upto notation h more rest).0 ≤ more) → (r : Read Ins) → length (cut_behind notation h (cut_upto notation h more) r).0 ≤ suc more
+      behind bound (Ok i, rest) = omega (arith, bound rest)
+      behind bound (Err e, rest) = omega arith
+
+  pub instructions_bounded : (bytes : List ℕ) (list : List Ins) (end : Option Error) → Cuts notation h bytes list end → length list ≤ length bytes
+  instructions_bounded bytes list end c =
+      let same : length list ≡ length (cut_at notation h bytes).0 = ap (λ (p : List Ins × Option Error). length p.0) (one_cut bytes list end c) in
+      omega (arith, cut_bounded (length bytes) bytes)

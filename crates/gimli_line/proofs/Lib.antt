@@ -1,0 +1,13 @@
+pub mod Pointers
+pub mod Backwards
+pub mod Worked
+pub mod Closed
+pub mod HeaderLaws
+pub mod InstructionLaws
+pub mod Bounds
+pub mod Programs
+pub mod Headers
+pub mod Loops
+pub mod Entries
+pub mod Opened
+pub mod LookUps

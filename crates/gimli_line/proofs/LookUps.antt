@@ -1,0 +1,35 @@
+-- Looking up the entry of an index in a table that begins at 1.
+use Rattle.std.proofs.Common.{◌≡◌, ℕ, zero, suc, ◌-◌, ◌<◌, ◌≤◌, List, Option, refl, ap, ◌∙◌, arith}
+use Rattle.std.specs.Prelude.{map, slice_get, Some, None, option_map}
+use Rattle.std.specs.Option.{option_copied}
+use Rattle.std.proofs.Common.{Bor, sym}
+use Rattle.std.proofs.lemmas.Bool.{le-leb}
+use Rattle.std.proofs.lemmas.Option.{slice_get-map}
+use Rattle.gimli_line.specs.Header.{Header, from_one, directory_of, file_of}
+
+above : {A : Type 0} (first : Option A) (entries : List A) (i : ℕ) → 0 < i → from_one first entries i ≡ slice_get entries (i - 1)
+above first entries zero lt = absurd (omega arith)
+above first entries (suc i) lt = let less : i ≡ suc i - 1 = omega arith in ap (slice_get entries) less
+
+pub directory_above : (h : Header) (i : ℕ) → h.rules.encoding.version ≤ 4 → 0 < i → directory_of h i ≡ slice_get h.directories (i - 1)
+directory_above h i old lt = rw (le-leb h.rules.encoding.version 4 old) (above _ h.directories i lt)
+
+pub file_above : (h : Header) (i : ℕ) → h.rules.encoding.version ≤ 4 → 0 < i → file_of h i ≡ slice_get h.files (i - 1)
+file_above h i old lt = rw (le-leb h.rules.encoding.version 4 old) (above _ h.files i lt)
+
+-- ---- an entry that was found, seen as a table's
+
+module _ {A B : Type 0} (see : A → B) where
+  now_seen : (found : Option (Bor A)) → option_map (λ b. see b.now) found ≡ option_map see (option_map (λ b. b.now) found)
+  now_seen (Some b) = refl
+  now_seen None = refl
+
+  copied_seen : (found : Option (Bor A)) → option_map see (option_copied found) ≡ option_map see (option_map (λ b. b.now) found)
+  copied_seen (Some b) = refl
+  copied_seen None = refl
+
+  pub lent_entry : (items : List A) (found : Option (Bor A)) (i : ℕ) → option_map (λ b. b.now) found ≡ slice_get items i → option_map (λ b. see b.now) found ≡ slice_get (map see items) i
+  lent_entry items found i is = now_seen found ∙ ap (option_map see) is ∙ sym (slice_get-map see items i)
+
+  pub copied_entry : (items : List A) (found : Option (Bor A)) (i : ℕ) → option_map (λ b. b.now) found ≡ slice_get items i → option_map see (option_copied found) ≡ slice_get (map see items) i
+  copied_entry items found i is = copied_seen found ∙ ap (option_map see) is ∙ sym (slice_get-map see items i)

@@ -1,0 +1,216 @@
+-- Reading the items of a table one after the other, as loops do.
+use Rattle.std.proofs.Common.{◌≡◌, ◌≢◌, ℕ, zero, suc, ◌+◌, ◌-◌, ◌<◌, ◌≤◌, Bool, true, false, List, [], ◌∷◌, ◌++◌, length, map, Ok, Err, refl, sym, ap, ◌∙◌, append_assoc, arith}
+use Rattle.std.specs.Prelude.{nat_eq, IsTrue, ◌↔◌}
+use Rattle.std.proofs.lemmas.Bool.{ne_eqb, le-leb, lt-leb}
+use Rattle.std.specs.List.{AllByRecursion}
+use Rattle.std.proofs.lemmas.List.{append-nil, length-append}
+use Rattle.gimli_core.specs.declared.error.Error.{Error}
+use Rattle.gimli_core.specs.Notation.{Notation}
+use Rattle.gimli_core.specs.Reading.{Read, ◌>>=◌, text_at, unsigned_at, times_at}
+use Rattle.gimli_core.specs.declared.common.Format.{Format}
+use Rattle.gimli_core.specs.Line.{Line, IsOpen}
+use Rattle.gimli_core.proofs.Lines.{bind_ok, bind_refused, ok_parts}
+use Rattle.gimli_core.proofs.LineLaws.{reads_text}
+use Rattle.gimli_line.specs.Gives.{viewed}
+use Rattle.gimli_line.specs.TableReading.{is_closed, closed_below, closed_at}
+use Rattle.gimli_line.specs.Instruction.{File}
+use Rattle.gimli_line.specs.HeaderGrammar.{Entry, file_of_entry}
+use Rattle.gimli_core.specs.declared.common.Encoding.{Encoding}
+use Rattle.gimli_line.specs.HeaderReading.{plain_file_at, named_file_at, files_at, formats_at, entry_at, entries_at, table_at, file_names_at}
+use Rattle.gimli_line.specs.declared.file_entry.FileEntryFormat.{FileEntryFormat}
+use Rattle.gimli_line.proofs.Closed.{ReadsOpen}
+
+-- ---- items before, and those that are read behind them
+
+-- the items that were read before, and behind them those that reading gives, each seen by f
+abbrev pub collected : {A B : Type 0} → List B → (A → B) → Read (List A) → Read (List B)
+collected xs f r = r >>= λ ys rest. (Ok (xs ++ map f ys), rest)
+
+-- where nothing is changed
+map_same : {A : Type 0} (xs : List A) → map (λ x. x) xs ≡ xs
+map_same [] = refl
+map_same (x ∷ xs) = ap (λ ys. x ∷ ys) (map_same xs)
+
+pub collected_same : {A : Type 0} (r : Read (List A)) → collected [] (λ x. x) r ≡ r
+collected_same {A} (Ok xs, rest) = ap (λ (ys : List A). let r : Read (List A) = (Ok ys, rest) in r) (map_same xs)
+collected_same (Err e, rest) = refl
+
+pub viewed_same : {A : Type 0} (r : Read A) → viewed (λ x. x) r ≡ r
+viewed_same (Ok x, rest) = refl
+viewed_same (Err e, rest) = refl
+
+module _ {A B : Type 0} (f : A → B) where
+  regroup : (xs : List B) (x : A) (v : B) → f x ≡ v → (r : Read (List A)) → collected xs f (r >>= λ ys rest. (Ok (x ∷ ys), rest)) ≡ collected (xs ++ v ∷ []) f r
+  regroup xs x v is (Ok ys, rest) =
+      ap (λ (zs : List B). let r : Read (List B) = (Ok zs, rest) in r) (sym (append_assoc xs (f x ∷ []) (map f ys)) ∙ ap (λ (w : B). (xs ++ w ∷ []) ++ map f ys) is)
+  regroup xs x v is (Err e, rest) = refl
+
+  -- what was read, where it is seen
+  seen_item : (r : Read A) (v : B) (left : List ℕ) → (Ok v, left) ≡ viewed f r → (x : A) × (r ≡ (Ok x, left)) × (f x ≡ v)
+  seen_item r v left e =
+      let a = bind_ok r (λ x rest. (let s : Read B = (Ok (f x), rest) in s)) v left (sym e) in
+      let p = ok_parts (f a.0) v a.1 left a.3 in
+      (a.0, a.2 ∙ ap (λ (xs : List ℕ). let s : Read A = (Ok a.0, xs) in s) p.1, p.0)
+
+  seen_fault : (r : Read A) (e : Error) (left : List ℕ) → (Err e, left) ≡ viewed f r → r.0 ≡ Err e
+  seen_fault (Ok x, rest) e left is = let p = ap (λ (s : Read B). s.0) is in absurd cc
+  seen_fault (Err d, rest) e left is = let p = ap (λ (s : Read B). s.0) is in let same : e ≡ d = cc in rw same refl
+
+  none_left : (xs : List B) (bytes : List ℕ) → collected xs f (Ok [], bytes) ≡ (Ok xs, bytes)
+  none_left xs bytes = ap (λ (zs : List B). let r : Read (List B) = (Ok zs, bytes) in r) (append-nil xs)
+
+  -- ---- so many of an item
+
+  module _ (read : List ℕ → Read A) where
+    pub times_goes_on : (xs : List B) (count i : ℕ) (bytes : List ℕ) (v : B) (left : List ℕ) (total : Read (List B)) → i < count → (Ok v, left) ≡ viewed f (read bytes)
+        → collected xs f (times_at (count - i) read bytes) ≡ total → collected (xs ++ v ∷ []) f (times_at (count - (i + 1)) read left) ≡ total
+    times_goes_on xs count i bytes v left total lt e so_far =
+        let a = seen_item (read bytes) v left e in
+        let k : count - i ≡ suc (count - (i + 1)) = omega arith in
+        let one : collected xs f (times_at (count - i) read bytes) ≡ collected (xs ++ v ∷ []) f (times_at (count - (i + 1)) read left) =
+        rw (k, a.1) (regroup xs a.0 v a.2 (times_at (count - (i + 1)) read left)) in
+        sym one ∙ so_far
+
+    pub times_ends : (xs : List B) (count i : ℕ) (bytes : List ℕ) (e : Error) (left : List ℕ) (total : Read (List B)) → i < count → (Err e, left) ≡ viewed f (read bytes)
+        → collected xs f (times_at (count - i) read bytes) ≡ total → total.0 ≡ Err e
+    times_ends xs count i bytes e left total lt is so_far =
+        let k : count - i ≡ suc (count - (i + 1)) = omega arith in
+        let refused = seen_fault (read bytes) e left is in
+        let inner = bind_refused (read bytes) (λ x rest. times_at (count - (i + 1)) read rest >>= λ ys end. (let s : Read (List A) = (Ok (x ∷ ys), end) in s)) e refused in
+        let one : (collected xs f (times_at (count - i) read bytes)).0 ≡ Err e = rw k (bind_refused (times_at (suc (count - (i + 1))) read bytes) (λ ys rest. (let s : Read (List B) = (Ok (xs ++ map f ys), rest) in s)) e inner) in
+        ap (λ (r : Read (List B)). r.0) (sym so_far) ∙ one
+
+    pub times_done : (xs : List B) (count i : ℕ) (bytes : List ℕ) (total : Read (List B)) → count ≤ i → collected xs f (times_at (count - i) read bytes) ≡ total → total ≡ (Ok xs, bytes)
+    times_done xs count i bytes total le so_far =
+        let k : count - i ≡ 0 = omega arith in
+        let one : collected xs f (times_at (count - i) read bytes) ≡ (Ok xs, bytes) = rw k (none_left xs bytes) in
+        sym so_far ∙ one
+
+  -- ---- items up to a zero byte
+
+  module _ (l : Line A) (read : List ℕ → Read A) (r : ReadsOpen l read) where
+    -- an item has bytes
+    pub shrinks : (bytes : List ℕ) (x : A) (rest : List ℕ) → IsOpen bytes → read bytes ≡ (Ok x, rest) → length rest < length bytes
+    shrinks bytes x rest free e =
+        let a = r.found bytes x rest free e in
+        let o = r.opens a.0 x a.2 in
+        omega (arith, length-append a.0 rest, ap length a.1, ap length o.parts)
+
+    is_open : (bytes : List ℕ) → is_closed bytes ≡ false → IsOpen bytes
+    is_open [] is = tt
+    is_open (b ∷ bytes) is = λ zero_is. let no : nat_eq 0 0 ≡ false = rw zero_is at is in absurd cc
+
+    -- a greater bound on their number changes nothing
+    bound_free : (n m : ℕ) (bytes : List ℕ) → length bytes < n → length bytes < m → closed_below n read bytes ≡ closed_below m read bytes
+    unfolding closed_below
+    bound_free zero m bytes lt also = absurd (omega arith)
+    bound_free (suc n) zero bytes lt also = absurd (omega arith)
+    bound_free (suc n) (suc m) bytes lt also = at_test (is_closed bytes) refl (read bytes) refl (λ rest fewer more. bound_free n m rest fewer more)
+      where
+        at_test : (test : Bool) → is_closed bytes ≡ test → (one : Read A) → read bytes ≡ one → ((rest : List ℕ) → length rest < n → length rest < m → closed_below n read rest ≡ closed_below m read rest)
+            → closed_below (suc n) read bytes ≡ closed_below (suc m) read bytes
+        at_test true is one same others = rw is refl
+        at_test false is (Ok x, rest) same others =
+            let fewer = shrinks bytes x rest (is_open bytes is) same in
+            rw (is, same, others rest (omega arith) (omega arith)) refl
+        at_test false is (Err e, rest) same others = rw (is, same) refl
+
+    -- an item, and the further ones
+    step : (bytes : List ℕ) (x : A) (left : List ℕ) → is_closed bytes ≡ false → read bytes ≡ (Ok x, left) → closed_at read bytes ≡ (closed_at read left >>= λ ys rest. (Ok (x ∷ ys), rest))
+    unfolding closed_below
+    step bytes x left is same =
+        let fewer = shrinks bytes x left (is_open bytes is) same in
+        let further : closed_below (length bytes) read left ≡ closed_at read left = bound_free (length bytes) (suc (length left)) left fewer (omega arith) in
+        rw (is, same) (ap (λ (s : Read (List A)). s >>= λ ys rest. (let t : Read (List A) = (Ok (x ∷ ys), rest) in t)) further)
+
+    pub closed_goes_on : (xs : List B) (bytes : List ℕ) (v : B) (left : List ℕ) (total : Read (List B)) → is_closed bytes ≡ false → (Ok v, left) ≡ viewed f (read bytes)
+        → collected xs f (closed_at read bytes) ≡ total → collected (xs ++ v ∷ []) f (closed_at read left) ≡ total
+    closed_goes_on xs bytes v left total is e so_far =
+        let a = seen_item (read bytes) v left e in
+        let one : collected xs f (closed_at read bytes) ≡ collected (xs ++ v ∷ []) f (closed_at read left) =
+        ap (collected xs f) (step bytes a.0 left is a.1) ∙ regroup xs a.0 v a.2 (closed_at read left) in
+        sym one ∙ so_far
+
+    pub closed_smaller : (bytes : List ℕ) (v : B) (left : List ℕ) → is_closed bytes ≡ false → (Ok v, left) ≡ viewed f (read bytes) → length left < length bytes
+    closed_smaller bytes v left is e = let a = seen_item (read bytes) v left e in shrinks bytes a.0 left (is_open bytes is) a.1
+
+    pub closed_ends : (xs : List B) (bytes : List ℕ) (e : Error) (left : List ℕ) (total : Read (List B)) → is_closed bytes ≡ false → (Err e, left) ≡ viewed f (read bytes)
+        → collected xs f (closed_at read bytes) ≡ total → total.0 ≡ Err e
+    unfolding closed_below
+    closed_ends xs bytes e left total is same so_far =
+        let refused = seen_fault (read bytes) e left same in
+        let inner : (closed_at read bytes).0 ≡ Err e = rw is (bind_refused (read bytes) (λ x rest. closed_below (length bytes) read rest >>= λ ys end. (let s : Read (List A) = (Ok (x ∷ ys), end) in s)) e refused) in
+        let one = bind_refused (closed_at read bytes) (λ ys rest. (let s : Read (List B) = (Ok (xs ++ map f ys), rest) in s)) e inner in
+        ap (λ (r : Read (List B)). r.0) (sym so_far) ∙ one
+
+    pub closed_done : (xs : List B) (bytes left : List ℕ) (total : Read (List B)) → bytes ≡ 0 ∷ left → collected xs f (closed_at read bytes) ≡ total → total ≡ (Ok xs, left)
+    unfolding closed_below
+    closed_done xs bytes left total is so_far =
+        let one : collected xs f (closed_at read bytes) ≡ (Ok xs, left) = rw is (none_left xs left) in
+        sym so_far ∙ one
+
+-- ---- what a text tells of the zero byte
+
+pub text_closed : (bytes text rest : List ℕ) → (IsTrue true ↔ (text ≡ [])) → (Ok text, rest) ≡ text_at bytes → bytes ≡ 0 ∷ rest
+text_closed bytes text rest empty e =
+    let none = empty.0 refl in
+    let a = reads_text.found bytes text rest (sym e) in
+    let front : a.0 ≡ 0 ∷ [] = a.2.1 ∙ ap (λ (xs : List ℕ). xs ++ 0 ∷ []) none in
+    a.1 ∙ ap (λ (xs : List ℕ). xs ++ rest) front
+
+pub text_free : (bytes text rest : List ℕ) → (IsTrue false ↔ (text ≡ [])) → (Ok text, rest) ≡ text_at bytes → is_closed bytes ≡ false
+text_free bytes text rest empty e =
+    let some : text ≢ [] = λ none. let no = empty.1 none in cc in
+    let a = reads_text.found bytes text rest (sym e) in
+    first bytes a.0 text a.1 some a.2.0 a.2.1
+  where
+    first : (bytes front text : List ℕ) → bytes ≡ front ++ rest → text ≢ [] → AllByRecursion (λ b. b ≢ 0) text → front ≡ text ++ 0 ∷ [] → is_closed bytes ≡ false
+    first bytes front [] parts some all is = absurd (some refl)
+    first bytes front (b ∷ text) parts some all is = rw (parts, is) (ne_eqb b 0 all.0)
+
+pub text_refused : (bytes rest : List ℕ) (e : Error) → (Err e, rest) ≡ text_at bytes → is_closed bytes ≡ false
+text_refused bytes rest e is = all_free bytes (reads_text.fault bytes e (ap (λ (r : Read (List ℕ)). r.0) (sym is))).0
+  where
+    all_free : (bytes : List ℕ) → AllByRecursion (λ b. b ≢ 0) bytes → is_closed bytes ≡ false
+    all_free [] all = refl
+    all_free (b ∷ bytes) all = ne_eqb b 0 all.0
+
+-- ---- a file, whose path is read first
+
+pub named_is : (bytes path mid : List ℕ) (answer : Read File) → (Ok path, mid) ≡ text_at bytes → answer ≡ plain_file_at path mid → answer ≡ viewed (λ x. x) (named_file_at bytes)
+named_is bytes path mid answer e is = is ∙ ap (λ (r : Read (List ℕ)). r >>= plain_file_at) e ∙ sym (viewed_same (named_file_at bytes))
+
+pub named_fault : (bytes mid : List ℕ) (e : Error) → (Err e, mid) ≡ text_at bytes → (Err e, mid) ≡ viewed (λ x. x) (named_file_at bytes)
+named_fault bytes mid e is = ap (λ (r : Read (List ℕ)). r >>= plain_file_at) is ∙ sym (viewed_same (named_file_at bytes))
+
+-- ---- the entries of a table of version 5, whose count is read first
+
+module _ (notation : Notation) (format : Format) {B : Type 0} (f : Entry → B) (formats : List FileEntryFormat) where
+  pub entries_start : (bytes : List ℕ) (count : ℕ) (left : List ℕ) → (Ok count, left) ≡ unsigned_at bytes
+      → collected [] f (times_at (count - 0) (entry_at notation format formats) left) ≡ viewed (map f) (entries_at notation format formats bytes)
+  unfolding entries_at
+  entries_start bytes count left is =
+      let all : count - 0 ≡ count = omega arith in
+      rw all (ap (λ (r : Read ℕ). viewed (map f) (r >>= λ n rest. times_at n (entry_at notation format formats) rest)) is)
+
+-- the order of bytes, which a loop keeps
+pub entry_kept : (format : Format) {B : Type 0} (f : Entry → B) (formats : List FileEntryFormat) (now first : Bool) (limit : ℕ) (bytes : List ℕ) (answer : Read B) → now ≡ first
+    → answer ≡ viewed f (entry_at (record { big = now; limit = limit }) format formats bytes) → answer ≡ viewed f (entry_at (record { big = first; limit = limit }) format formats bytes)
+entry_kept format f formats now first limit bytes answer same is = is ∙ ap (λ (b : Bool). viewed f (entry_at (record { big = b; limit = limit }) format formats bytes)) same
+
+-- ---- the files of a version
+
+pub files_up_to_4 : (notation : Notation) (encoding : Encoding) (bytes : List ℕ) (files : List File) (left : List ℕ) (none : List FileEntryFormat) → encoding.version ≤ 4 → none ≡ []
+    → files_at bytes ≡ (Ok files, left) → file_names_at notation encoding bytes ≡ (Ok (none, files), left)
+unfolding file_names_at
+files_up_to_4 notation encoding bytes files left none old empty is = rw (le-leb encoding.version 4 old, is, empty) refl
+
+pub files_from_5 : (now first : Bool) (limit : ℕ) (encoding : Encoding) (bytes mid : List ℕ) (formats lent : List FileEntryFormat) (files : List File) (left : List ℕ) → 4 < encoding.version
+    → formats_at bytes ≡ (Ok formats, mid) → now ≡ first → lent ≡ formats
+    → viewed (map file_of_entry) (entries_at (record { big = now; limit = limit }) encoding.format lent mid) ≡ (Ok files, left) → file_names_at (record { big = first; limit = limit }) encoding bytes ≡ (Ok (formats, files), left)
+unfolding file_names_at table_at
+files_from_5 now first limit encoding bytes mid formats lent files left new head kept same tail =
+    let notation : Notation = record { big = first; limit = limit } in
+    let again : viewed (map file_of_entry) (entries_at notation encoding.format formats mid) ≡ (Ok files, left) = rw (← kept, ← same) tail in
+    let a = seen_item (map file_of_entry) (entries_at notation encoding.format formats mid) files left (sym again) in
+    rw (lt-leb encoding.version 4 new, head, a.1, a.2) refl

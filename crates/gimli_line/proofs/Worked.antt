@@ -1,0 +1,165 @@
+-- Worked programs: the events of each, computed from the definitions.
+use Rattle.std.proofs.Common.{◌≡◌, ℕ, Bool, true, false, List, [], ◌∷◌, None, refl}
+use Rattle.std.specs.Prelude.{pos, negsuc}
+use Rattle.gimli_core.specs.declared.common.Format.TheVariants.{Dwarf32}
+use Rattle.gimli_core.specs.declared.error.Error.TheVariants.{AddressOverflow}
+use Rattle.gimli_line.specs.declared.instruction.LineInstruction.TheVariants.{Special, Copy, AdvancePc, AdvanceLine, SetFile, SetColumn, NegateStatement, SetBasicBlock, EndSequence, SetAddress, DefineFile, SetDiscriminator, FixedAddPc, ConstAddPc, SetPrologueEnd, SetEpilogueBegin}
+use Rattle.gimli_line.specs.Rules.{Rules}
+use Rattle.gimli_line.specs.declared.row.LineRow.{LineRow}
+use Rattle.gimli_line.specs.Instruction.{Ins, File}
+use Rattle.gimli_line.specs.Header.{plain_file}
+use Rattle.gimli_line.specs.Events.{Event, row, fault, program_events, through_last_end, defined_files}
+
+-- opcode base 13, with the default line encoding but for the operations
+abbrev rules_13 : ℕ → ℕ → Rules
+rules_13 address_size operations = record {
+  encoding = record { address_size = address_size; format = Dwarf32; version = 4 };
+  line_encoding = record { minimum_instruction_length = 1; maximum_operations_per_instruction = operations; default_is_stmt = true; line_base = negsuc 4; line_range = 14 };
+  opcode_base = 13;
+}
+
+-- opcode base 3, and special opcodes that advance no line
+abbrev rules_3 : Rules
+rules_3 = record {
+  encoding = record { address_size = 4; format = Dwarf32; version = 4 };
+  line_encoding = record { minimum_instruction_length = 1; maximum_operations_per_instruction = 1; default_is_stmt = true; line_base = pos 0; line_range = 1 };
+  opcode_base = 3;
+}
+
+-- a row of the first file, at the left edge
+abbrev blank : ℕ → ℕ → ℕ → LineRow
+blank address op_index line = record {
+  tombstone = false;
+  address = address;
+  op_index = op_index;
+  file = 1;
+  line = line;
+  column = 0;
+  is_stmt = true;
+  basic_block = false;
+  end_sequence = false;
+  prologue_end = false;
+  epilogue_begin = false;
+  isa = 0;
+  discriminator = 0;
+}
+
+abbrev at : ℕ → ℕ → ℕ → Bool → Event
+at address op_index line end = row (record (blank address op_index line) { end_sequence = end })
+
+pub tombstone_in_a_sequence : program_events rules_3 (SetAddress 1 ∷ Copy ∷ SetAddress 0xffff_ffff ∷ EndSequence ∷ Copy ∷ EndSequence ∷ []) None
+    ≡ at 1 0 1 false ∷ at 0 0 1 false ∷ at 0 0 1 true ∷ []
+tombstone_in_a_sequence = refl
+
+abbrev three_sequences : List Ins
+three_sequences =
+    SetAddress 1 ∷ Copy ∷ AdvancePc 1 ∷ Copy ∷ AdvancePc 2 ∷ EndSequence
+    ∷ SetAddress 0xffff_ffff ∷ Copy ∷ AdvancePc 1 ∷ Copy ∷ AdvancePc 2 ∷ EndSequence
+    ∷ SetAddress 0x0b ∷ Copy ∷ AdvancePc 1 ∷ Copy ∷ AdvancePc 2 ∷ EndSequence ∷ []
+
+pub tombstone_between_sequences : program_events rules_3 three_sequences None
+    ≡ at 1 0 1 false ∷ at 2 0 1 false ∷ at 4 0 1 true ∷ at 11 0 1 false ∷ at 12 0 1 false ∷ at 14 0 1 true ∷ []
+tombstone_between_sequences = refl
+
+-- the last row but one is behind the last end
+pub through_the_last_end : through_last_end (program_events (rules_13 4 1) (Copy ∷ EndSequence ∷ Copy ∷ []) None)
+    ≡ at 0 0 1 false ∷ at 0 0 1 true ∷ []
+through_the_last_end = refl
+
+pub overflow_at_one_byte : program_events (rules_13 1 1) (AdvancePc 255 ∷ AdvancePc 1 ∷ Copy ∷ []) None
+    ≡ fault AddressOverflow ∷ at 255 0 1 false ∷ []
+overflow_at_one_byte = refl
+
+pub line_stops_at_zero : program_events (rules_13 4 1) (AdvanceLine (negsuc 9223372036854775807) ∷ Copy ∷ []) None ≡ at 0 0 0 false ∷ []
+line_stops_at_zero = refl
+
+pub low_opcode_base : program_events rules_3 (Special 5 ∷ EndSequence ∷ []) None ≡ at 2 0 1 false ∷ at 2 0 1 true ∷ []
+low_opcode_base = refl
+
+pub several_operations : program_events (rules_13 4 3) (AdvancePc 4 ∷ Copy ∷ AdvancePc 1 ∷ Copy ∷ EndSequence ∷ []) None
+    ≡ at 1 1 1 false ∷ at 1 2 1 false ∷ at 1 2 1 true ∷ []
+several_operations = refl
+
+pub fixed_advance_of_several_operations : program_events (rules_13 4 3) (AdvancePc 4 ∷ FixedAddPc 5 ∷ Copy ∷ EndSequence ∷ []) None
+    ≡ at 6 0 1 false ∷ at 6 0 1 true ∷ []
+fixed_advance_of_several_operations = refl
+
+pub set_address_that_goes_back : program_events (rules_13 4 1) (SetAddress 0x10 ∷ Copy ∷ SetAddress 8 ∷ AdvanceLine (pos 2) ∷ Copy ∷ AdvancePc 9 ∷ SetAddress 0x20 ∷ Copy ∷ EndSequence ∷ []) None
+    ≡ at 0x10 0 1 false ∷ at 0x20 0 3 false ∷ at 0x20 0 3 true ∷ []
+set_address_that_goes_back = refl
+
+pub special_overflow : program_events (rules_13 1 1) (AdvancePc 255 ∷ Special 33 ∷ Copy ∷ []) None
+    ≡ fault AddressOverflow ∷ at 255 0 2 false ∷ []
+special_overflow = refl
+
+pub demo_unit : program_events (rules_13 4 1) (SetAddress 0x1000 ∷ Copy ∷ Special 0x4c ∷ AdvancePc 4 ∷ EndSequence ∷ []) None
+    ≡ at 0x1000 0 1 false ∷ at 0x1004 0 3 false ∷ at 0x1008 0 3 true ∷ []
+demo_unit = refl
+
+-- the two greatest addresses stand for nothing, the one below them is an address
+pub least_tombstone : program_events (rules_13 4 1) (SetAddress 0xffff_fffe ∷ Copy ∷ EndSequence ∷ SetAddress 0xffff_fffd ∷ Copy ∷ EndSequence ∷ []) None
+    ≡ at 0xffff_fffd 0 1 false ∷ at 0xffff_fffd 0 1 true ∷ []
+least_tombstone = refl
+
+-- a hidden part stands still: its advances move nothing, so the set address behind it doesn't go back
+pub hidden_part_stands_still : program_events (rules_13 4 1) (SetAddress 0x10 ∷ Copy ∷ SetAddress 8 ∷ AdvancePc 0x30 ∷ SetAddress 0x20 ∷ Copy ∷ EndSequence ∷ []) None
+    ≡ at 0x10 0 1 false ∷ at 0x20 0 1 false ∷ at 0x20 0 1 true ∷ []
+hidden_part_stands_still = refl
+
+-- a set address that hides is no address: the next one is held against the address before both
+pub hiding_address_is_none : program_events (rules_13 4 1) (SetAddress 0x10 ∷ Copy ∷ SetAddress 8 ∷ SetAddress 0x0c ∷ Copy ∷ EndSequence ∷ []) None
+    ≡ at 0x10 0 1 false ∷ []
+hiding_address_is_none = refl
+
+-- nothing overflows in a hidden part
+pub hidden_part_overflows_not : program_events (rules_13 1 1) (AdvancePc 0xf0 ∷ Copy ∷ SetAddress 0xff ∷ AdvancePc 0x20 ∷ Copy ∷ EndSequence ∷ []) None
+    ≡ at 0xf0 0 1 false ∷ []
+hidden_part_overflows_not = refl
+
+-- a hidden row takes its marks with it
+pub marks_of_a_hidden_row : program_events (rules_13 4 1) (SetAddress 0xffff_ffff ∷ SetDiscriminator 5 ∷ SetBasicBlock ∷ Copy ∷ SetAddress 0x10 ∷ Copy ∷ []) None
+    ≡ at 0x10 0 1 false ∷ []
+marks_of_a_hidden_row = refl
+
+-- so does an overflow
+pub marks_of_an_overflow : program_events (rules_13 1 1) (AdvancePc 255 ∷ SetDiscriminator 5 ∷ SetPrologueEnd ∷ SetEpilogueBegin ∷ AdvancePc 1 ∷ Copy ∷ []) None
+    ≡ fault AddressOverflow ∷ at 255 0 1 false ∷ []
+marks_of_an_overflow = refl
+
+-- at an overflow the address stays, and op_index goes on: 255 and 1, and four operations more
+pub op_index_of_an_overflow : program_events (rules_13 1 3) (AdvancePc 766 ∷ AdvancePc 4 ∷ Copy ∷ []) None
+    ≡ fault AddressOverflow ∷ at 255 2 1 false ∷ []
+op_index_of_an_overflow = refl
+
+-- at a fixed advance neither changes
+pub op_index_of_a_fixed_overflow : program_events (rules_13 1 3) (AdvancePc 766 ∷ FixedAddPc 1 ∷ Copy ∷ []) None
+    ≡ fault AddressOverflow ∷ at 255 1 1 false ∷ []
+op_index_of_a_fixed_overflow = refl
+
+-- a second negation turns the first one back
+pub statement_negated_twice : program_events (rules_13 4 1) (NegateStatement ∷ Copy ∷ NegateStatement ∷ Copy ∷ []) None
+    ≡ row (record (blank 0 0 1) { is_stmt = false }) ∷ at 0 0 1 false ∷ []
+statement_negated_twice = refl
+
+-- const_add_pc advances as the special opcode 255, 242 over 14, and moves no line
+pub constant_advance : program_events (rules_13 4 1) (ConstAddPc ∷ Copy ∷ []) None ≡ at 17 0 1 false ∷ []
+constant_advance = refl
+
+-- an address that is set to itself hides nothing
+pub same_address : program_events (rules_13 4 1) (SetAddress 0x10 ∷ Copy ∷ SetAddress 0x10 ∷ EndSequence ∷ []) None
+    ≡ at 0x10 0 1 false ∷ at 0x10 0 1 true ∷ []
+same_address = refl
+
+-- the registers of a sequence start anew behind its end, and marks behind each row
+pub registers_start_anew : program_events (rules_13 4 1) (SetDiscriminator 5 ∷ SetBasicBlock ∷ SetColumn 7 ∷ SetFile 2 ∷ NegateStatement ∷ AdvanceLine (pos 3) ∷ Copy ∷ EndSequence ∷ Copy ∷ []) None
+    ≡ row (record (blank 0 0 4) { file = 2; column = 7; is_stmt = false; basic_block = true; discriminator = 5 })
+    ∷ row (record (blank 0 0 4) { file = 2; column = 7; is_stmt = false; end_sequence = true })
+    ∷ row (blank 0 0 1) ∷ []
+registers_start_anew = refl
+
+abbrev b_c : File
+b_c = plain_file (0x62 ∷ 0x2e ∷ 0x63 ∷ []) 0 0 0
+
+-- a file is there from its definition on
+pub file_defined_before : defined_files [] (Copy ∷ DefineFile b_c ∷ Copy ∷ SetFile 2 ∷ []) ≡ b_c ∷ []
+file_defined_before = refl

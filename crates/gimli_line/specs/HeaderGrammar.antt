@@ -1,0 +1,256 @@
+-- How the header of a unit is spelled, line by line, and which refusal comes where a line isn't there
+-- (DWARF 5, section 6.2.4; DWARF 4, section 6.2.4).
+use Rattle.std.specs.Prelude.{◌≡◌, ℕ, ◌-◌, List, [], ◌∷◌, ◌++◌, length, map, replicate, min, count_by, Bool, not, ◌&&◌, nat_eq, nat_le, if◌then◌else◌, Option, Some, None, option_map}
+use Rattle.std.specs.Int.{w8, cast_signed}
+use Rattle.gimli_core.specs.Numbers.{is_address_size}
+use Rattle.gimli_core.specs.Values.{Value, udata_value}
+use Rattle.gimli_core.specs.Line.{Line, ◌>>=◌, done, check, choose, times, closed, within, byte, number, some_bytes, unsigned, unsigned_16, offset_word, unit_length}
+use Rattle.gimli_core.specs.Form.{form_line}
+use Rattle.gimli_core.specs.declared.common.Encoding.{Encoding}
+use Rattle.gimli_core.specs.declared.common.LineEncoding.{LineEncoding}
+use Rattle.gimli_core.specs.declared.common.Format.{Format}
+use Rattle.gimli_core.specs.declared.attribute_value.AttributeValue.TheVariants.{Block, String}
+use Rattle.gimli_core.specs.declared.error.Error.{Error}
+use Rattle.gimli_core.specs.declared.error.Error.TheVariants.{UnknownVersion, UnsupportedAddressSize, UnsupportedSegmentSize, MinimumInstructionLengthZero, MaximumOperationsPerInstructionZero, LineRangeZero, OpcodeBaseZero, MissingFileEntryFormatPath}
+use Rattle.gimli_core.specs.Notation.{Notation}
+use Rattle.gimli_line.specs.Rules.{Rules}
+use Rattle.gimli_line.specs.Instruction.{File}
+use Rattle.gimli_line.specs.Header.{Header, Given, plain_file}
+use Rattle.gimli_line.specs.Lines.{name, positive}
+use Rattle.gimli_line.specs.declared.file_entry.FileEntryFormat.{FileEntryFormat}
+
+-- ---- tables up to version 4 (DWARF 4, section 6.2.4, parts 11 and 12)
+
+-- directories: texts that aren't empty, closed by a zero byte
+abbrev pub paths_line : Line (List (List ℕ))
+paths_line = closed name
+
+-- behind the path of a file: its directory, its timestamp and its size
+abbrev pub file_line : List ℕ → Line File
+file_line path = do
+  directory ← unsigned
+  time ← unsigned
+  size ← unsigned
+  done (plain_file path directory time size)
+
+-- files: each a path that isn't empty and three numbers, closed by a zero byte
+abbrev pub files_line : Line (List File)
+files_line = closed (do
+  path ← name
+  file_line path)
+
+-- ---- tables of version 5 (DWARF 5, section 6.2.4, parts 14 to 19)
+
+-- one format: a content type, those that are too large as ffff, and a form
+abbrev pub format_line : Line FileEntryFormat
+format_line = do
+  content ← unsigned
+  form ← unsigned_16
+  done (record { content_type = record { 0 = min content 0xffff }; form = record { 0 = form } })
+
+-- whether a format is of this content type
+abbrev pub is_content : ℕ → FileEntryFormat → Bool
+is_content content format = nat_eq format.content_type.0 content
+
+-- a count and so many formats, exactly one of which is a path
+abbrev pub formats_line : Line (List FileEntryFormat)
+formats_line = do
+  count ← byte
+  formats ← times count format_line
+  path ← check (nat_eq (count_by (is_content 0x0001) formats) 1) MissingFileEntryFormatPath
+  done formats
+
+-- the values of an entry, each beside its content type
+abbrev pub Entry : Type 0
+Entry = List (ℕ × Value)
+
+module _ (notation : Notation) (format : Format) where
+  -- an entry: a value for each format
+  abbrev pub entry_line : List FileEntryFormat → Line Entry
+  entry_line [] = done []
+  entry_line (f ∷ formats) = do
+    value ← form_line notation format f.form.0
+    values ← entry_line formats
+    done ((f.content_type.0, value) ∷ values)
+
+  -- a count and so many entries
+  abbrev pub entries_line : List FileEntryFormat → Line (List Entry)
+  entries_line formats = do
+    count ← unsigned
+    times count (entry_line formats)
+
+  -- a table: its formats and its entries
+  abbrev pub table_line : Line (List FileEntryFormat × List Entry)
+  table_line = do
+    formats ← formats_line
+    entries ← entries_line formats
+    done (formats, entries)
+
+-- the last value of a content type that is of use, else what stands at first
+abbrev pub last_value : {A : Type 0} → ℕ → (Value → Option A) → A → Entry → A
+last_value content pick first [] = first
+last_value content pick first (v ∷ entry) =
+    elim (if nat_eq v.0 content then pick v.1 else None) [ Some x ↦ last_value content pick x entry | None ↦ last_value content pick first entry ]
+
+-- the bytes of an MD5 digest: a block of exactly sixteen bytes
+abbrev pub digest : Value → Option (List ℕ)
+digest (Block bytes) = if nat_eq (length bytes) 16 then Some bytes else None
+digest v = None
+
+abbrev pub path_of : Entry → Value
+path_of entry = last_value 0x0001 Some (String []) entry
+
+abbrev pub file_of_entry : Entry → File
+file_of_entry entry = record {
+  path_name = path_of entry;
+  directory_index = last_value 0x0002 udata_value 0 entry;
+  timestamp = last_value 0x0003 udata_value 0 entry;
+  size = last_value 0x0004 udata_value 0 entry;
+  md5 = last_value 0x0005 digest (replicate 16 0) entry;
+  source = last_value 0x2001 (λ v. Some (Some v)) None entry;
+}
+
+-- ---- the parts of a header
+
+-- from version 2 to version 5
+abbrev pub version_line : Bool → Line ℕ
+version_line big = do
+  version ← number big 2
+  known ← check (nat_le 2 version && nat_le version 5) (UnknownVersion version)
+  done version
+
+-- up to version 4 the handed address size; in version 5 the unit's own, and behind it a segment selector size of 0
+abbrev pub address_size_line : ℕ → ℕ → Line ℕ
+address_size_line version handed =
+    choose (nat_le version 4) (done handed) (do
+      size ← byte
+      allowed ← check (is_address_size size) (UnsupportedAddressSize size)
+      selector ← byte
+      none ← check (nat_eq selector 0) (UnsupportedSegmentSize selector)
+      done size)
+
+-- the fields in front of the header length, and the bytes of that length
+pub record Opening : Type 0 where
+  pub encoding : Encoding
+  pub header_length : ℕ
+  pub fields : List ℕ
+
+abbrev pub opening_line : Notation → ℕ → Format → Line Opening
+opening_line notation handed format = do
+  version ← version_line notation.big
+  address_size ← address_size_line version handed
+  header_length ← offset_word notation format
+  fields ← some_bytes header_length
+  done (record {
+    encoding = record { address_size = address_size; format = format; version = version };
+    header_length = header_length;
+    fields = fields;
+  })
+
+-- up to version 3 an instruction of the machine is one operation
+abbrev pub line_encoding_line : ℕ → Line LineEncoding
+line_encoding_line version = do
+  minimum ← positive MinimumInstructionLengthZero
+  maximum ← choose (nat_le version 3) (done 1) (positive MaximumOperationsPerInstructionZero)
+  statement ← byte
+  base ← byte
+  range ← positive LineRangeZero
+  done (record {
+    minimum_instruction_length = minimum;
+    maximum_operations_per_instruction = maximum;
+    default_is_stmt = not (nat_eq statement 0);
+    line_base = cast_signed w8 base;
+    line_range = range;
+  })
+
+-- what the instructions are executed by
+abbrev pub rules_line : Encoding → Line Rules
+rules_line encoding = do
+  line_encoding ← line_encoding_line encoding.version
+  opcode_base ← positive OpcodeBaseZero
+  done (record { encoding = encoding; line_encoding = line_encoding; opcode_base = opcode_base })
+
+-- the directories, with their formats
+abbrev pub directory_table : Notation → Encoding → Line (List FileEntryFormat × List Value)
+directory_table notation encoding =
+    choose (nat_le encoding.version 4)
+    (do
+      paths ← paths_line
+      done ([], map String paths))
+    (do
+      table ← table_line notation encoding.format
+      done (table.0, map path_of table.1))
+
+-- the files, with their formats
+abbrev pub file_table : Notation → Encoding → Line (List FileEntryFormat × List File)
+file_table notation encoding =
+    choose (nat_le encoding.version 4)
+    (do
+      files ← files_line
+      done ([], files))
+    (do
+      table ← table_line notation encoding.format
+      done (table.0, map file_of_entry table.1))
+
+-- what was handed in, where the version takes it
+abbrev pub taken : {A : Type 0} → Encoding → Option A → Option A
+taken encoding handed = if nat_le encoding.version 4 then handed else None
+
+-- the further fields of a header, whose program was found already
+abbrev pub fields_line : Notation → Given → ℕ → Opening → List ℕ → Line Header
+fields_line notation given unit opening program = do
+  rules ← rules_line opening.encoding
+  counts ← some_bytes (rules.opcode_base - 1)
+  directories ← directory_table notation opening.encoding
+  files ← file_table notation opening.encoding
+  done (record {
+    rules = rules;
+    unit_length = unit;
+    header_length = opening.header_length;
+    operand_counts = counts;
+    directory_formats = directories.0;
+    directories = directories.1;
+    file_formats = files.0;
+    files = files.1;
+    program = program;
+    comp_dir = taken opening.encoding given.directory;
+    comp_file = taken opening.encoding (option_map (λ path. plain_file path 0 0 0) given.name);
+  })
+
+-- ---- the header
+
+-- a unit: its length, and that many bytes. At their front stand the version and so on, up to the fields that the
+-- header length counts, with slack behind the last of these; behind them stands the program
+abbrev pub header_line : Notation → Given → Line Header
+header_line notation given = do
+  unit ← unit_length notation
+  inside ← some_bytes unit.0
+  opened ← within inside (opening_line notation given.address_size unit.1)
+  fields ← within opened.0.fields (fields_line notation given unit.0 opened.0 opened.1)
+  done fields.0
+
+-- the bytes begin with a unit that has this header, whatever follows
+abbrev pub SpellsUnit : Notation → Given → List ℕ → Header → Type 0
+SpellsUnit notation given bytes h = (unit : List ℕ) × (after : List ℕ) × (bytes ≡ unit ++ after) × (header_line notation given).Spells unit h
+
+-- the bytes begin with no unit, and this is the refusal
+abbrev pub HasHeaderFault : Notation → Given → List ℕ → Error → Type 0
+HasHeaderFault notation given bytes e = (header_line notation given).Fault bytes e
+
+-- ---- what spells a table
+
+-- texts that aren't empty, closed by an empty one
+abbrev pub SpellsPaths : List ℕ → List (List ℕ) → Type 0
+SpellsPaths = paths_line.Spells
+
+-- files of the tables up to version 4
+abbrev pub SpellsFiles : List ℕ → List File → Type 0
+SpellsFiles = files_line.Spells
+
+-- the formats of a table of version 5
+abbrev pub SpellsFormats : List ℕ → List FileEntryFormat → Type 0
+SpellsFormats = formats_line.Spells
+
+-- the entries of a table of version 5
+abbrev pub SpellsEntries : Notation → Format → List FileEntryFormat → List ℕ → List Entry → Type 0
+SpellsEntries notation format formats = (entries_line notation format formats).Spells

@@ -1,0 +1,16 @@
+pub mod Rules
+pub mod Instruction
+pub mod Header
+pub mod Lines
+pub mod HeaderGrammar
+pub mod InstructionGrammar
+pub mod TableReading
+pub mod FormReading
+pub mod Gives
+pub mod HeaderReading
+pub mod EntryReading
+pub mod InstructionReading
+pub mod Registers
+pub mod Pointer
+pub mod Events
+pub mod Machine

@@ -1,0 +1,124 @@
+ghost use Rattle.std.specs.Prelude.{◌≡◌, ◌≢◌, IfErr, IfOk, IsTrue, drop, option_map};
+ghost use Rattle.gimli_core.specs.Numbers.{is_address_size};
+ghost use Rattle.gimli_line.specs.HeaderGrammar.{HasHeaderFault, SpellsUnit};
+
+use crate::header::LineProgramHeader;
+use crate::program::IncompleteLineProgram;
+use gimli_core::{
+    DebugLineOffset, EndianSlice, Endianity, Error, Reader, ReaderOffset, Result, Section,
+    SectionId,
+};
+use std::alloc::Global;
+use std::marker::Model;
+
+/// The section `.debug_line`, which holds the line programs of units.
+#[derive(Clone, Copy, Debug, Default)]
+pub struct DebugLine<R> {
+    debug_line_section: R,
+}
+
+impl<R> Model for DebugLine<R> {
+    ghost Value = { R };
+
+    ghost view = { λ a. a.debug_line_section };
+
+    ghost inverse = { λ v. record { debug_line_section = v } };
+}
+
+impl<'i, E: Endianity> DebugLine<EndianSlice<'i, E>> {
+    /// The section of these bytes, in this order.
+    pub fn new(debug_line_section: &'i [u8], endian: E) -> Self
+        ensures bytes { ⟦<EndianSlice<'i, E> as Reader>⟧.bytes result ≡ debug_line_section.now }
+        ensures order { ⟦<EndianSlice<'i, E> as Reader>⟧.big result ≡ E.big endian }
+    {
+        Self::from(EndianSlice::new(debug_line_section, endian))
+    }
+}
+
+impl<R: Reader> DebugLine<R> {
+    /// The line program whose header stands at an offset. In version 5 the address size, the directory and the
+    /// name that are handed in mean nothing. An offset past the end leaves no bytes. Refused as the first line of
+    /// the header that isn't there says, or by `OutOfMemory`.
+    pub fn program(
+        &self,
+        alloc: Global,
+        offset: DebugLineOffset<R::Offset>,
+        address_size: u8,
+        comp_dir: Option<R>,
+        comp_name: Option<R>,
+    ) -> Result<IncompleteLineProgram<R>>
+        requires { IsTrue (is_address_size address_size) }
+        ensures unit { IfOk result (λ program. SpellsUnit (record { big = R.big self.now; limit = R.Offset.limit })
+            (record { address_size = address_size; directory = option_map R.bytes comp_dir; name = option_map R.bytes comp_name })
+            (drop (R.Offset.number offset.0) (R.bytes self.now)) program.meaning) }
+        ensures refusal { IfErr result (λ e. e ≢ Error.OutOfMemory → HasHeaderFault (record { big = R.big self.now; limit = R.Offset.limit })
+            (record { address_size = address_size; directory = option_map R.bytes comp_dir; name = option_map R.bytes comp_name })
+            (drop (R.Offset.number offset.0) (R.bytes self.now)) e) }
+        ensures notation { IfOk result (λ program. program.notation ≡ record { big = R.big self.now; limit = R.Offset.limit }) }
+        ensures offset { IfOk result (λ program. program.offset ≡ offset) }
+    {
+        let mut input = self.input_at(offset.0);
+        let header = LineProgramHeader::parse(
+            alloc,
+            &mut input,
+            offset,
+            address_size,
+            comp_dir,
+            comp_name,
+        )?;
+        Ok(IncompleteLineProgram { header })
+    }
+
+    /// The bytes from an offset on; none where it is past the end.
+    fn input_at(&self, offset: R::Offset) -> R
+        ensures bytes { R.bytes result ≡ drop (R.Offset.number offset) (R.bytes self.now) }
+        ensures order { R.big result ≡ R.big self.now }
+    {
+        let mut input = self.debug_line_section;
+        if input.skip(offset).is_err() {
+            input.empty();
+        }
+        input
+    }
+}
+
+impl<T> DebugLine<T> {
+    /// The section over what `borrow` makes of the contents of this one.
+    pub fn borrow<'a, F, R>(&'a self, mut borrow: F) -> DebugLine<R>
+    where
+        F: FnMut(&'a T) -> R + Drop,
+        requires { F.IsAlwaysCallable borrow }
+        ensures { (contents : _) × (after : F) × (contents.now ≡ self.now) × F.step borrow contents result after }
+    {
+        borrow(&self.debug_line_section).into()
+    }
+}
+
+impl<R> Section<R> for DebugLine<R> {
+    ghost use Rattle.std.specs.Prelude.{refl};
+    ghost use Rattle.gimli_core.specs.declared.common.SectionId.TheVariants.{DebugLine as debug_line};
+
+    ghost section = { debug_line };
+
+    ghost contents = { λ section. section };
+
+    ghost holds_reader = { λ reader made is. is };
+
+    fn id() -> SectionId {
+        SectionId::DebugLine
+    }
+
+    fn reader(&self) -> &R {
+        &self.debug_line_section
+    }
+}
+
+impl<R> From<R> for DebugLine<R> {
+    ghost use Rattle.std.specs.Prelude.{◌≡◌};
+
+    ghost from_gives = { λ reader section. section ≡ reader };
+
+    fn from(debug_line_section: R) -> Self {
+        DebugLine { debug_line_section }
+    }
+}

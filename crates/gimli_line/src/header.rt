@@ -1,0 +1,444 @@
+ghost use Rattle.std.specs.Prelude.{◌≡◌, ◌≢◌, ◌-◌, IfErr, IfOk, IsTrue, map, nat_le, option_map, slice_get, ◌||◌};
+ghost use Rattle.gimli_core.specs.Numbers.{is_address_size};
+ghost use Rattle.gimli_core.specs.Values.{value_seen};
+
+use crate::file_entry::{FileEntry, FileEntryFormat};
+use crate::parse::{Opening, parse_opening, parse_parameters};
+use crate::tables::{parse_directory_table, parse_file_table};
+use gimli_core::{
+    AttributeValue, DebugLineOffset, DwLnct, Encoding, Format, LineEncoding, Reader, ReaderOffset,
+    Result, constants,
+};
+use std::alloc::Global;
+use std::marker::Model;
+
+/// What instructions are read and executed by.
+#[derive(Clone, Copy, Debug, PartialEq, Eq)]
+pub(crate) struct Parameters {
+    pub(crate) encoding: Encoding,
+    pub(crate) line_encoding: LineEncoding,
+    /// The number of the first special opcode.
+    pub(crate) opcode_base: u8,
+}
+
+impl Model for Parameters {
+    ghost use Rattle.gimli_line.specs.Rules.{Rules, AreAllowed};
+
+    ghost Value = { Rules };
+
+    ghost view = { λ a. record { encoding = a.encoding; line_encoding = a.line_encoding; opcode_base = a.opcode_base } };
+
+    ghost inverse = { λ v. record { encoding = v.encoding; line_encoding = v.line_encoding; opcode_base = v.opcode_base } };
+
+    ghost invariant = { λ a. AreAllowed (record { encoding = a.encoding; line_encoding = a.line_encoding; opcode_base = a.opcode_base }) };
+}
+
+/// The header of a line program. Texts, blocks and the program are readers over the section.
+#[derive(Clone, Debug, PartialEq, Eq, Drop)]
+pub struct LineProgramHeader<R, Offset = <R as Reader>::Offset>
+where
+    R: Reader<Offset = Offset>,
+    Offset: ReaderOffset,
+{
+    pub(crate) parameters: Parameters,
+    offset: DebugLineOffset<Offset>,
+    unit_length: Offset,
+    header_length: Offset,
+    /// How many LEB128 operands each standard opcode has, from opcode 1 on.
+    pub(crate) standard_opcode_lengths: R,
+    directory_entry_format: Vec<FileEntryFormat>,
+    include_directories: Vec<AttributeValue<R, Offset>>,
+    file_name_entry_format: Vec<FileEntryFormat>,
+    pub(crate) file_names: Vec<FileEntry<R, Offset>>,
+    pub(crate) program_buf: R,
+    /// The directory at index 0 up to version 4, as it was handed in.
+    comp_dir: Option<R>,
+    /// The file at index 0 up to version 4, of the name that was handed in.
+    comp_file: Option<FileEntry<R, Offset>>,
+}
+
+impl<R, Offset> Model for LineProgramHeader<R, Offset>
+where
+    R: Reader<Offset = Offset>,
+    Offset: ReaderOffset,
+{
+    ghost use Rattle.std.specs.Prelude.{◌≡◌, ◌+◌, length, map, option_map};
+    ghost use Rattle.gimli_core.specs.Values.{value_seen};
+    ghost use Rattle.gimli_line.specs.Instruction.{file_seen};
+    ghost use Rattle.gimli_line.specs.Header.{SeenHeader};
+
+    ghost Value = { SeenHeader R Offset R.Endian };
+
+    ghost view = { λ a. record {
+      meaning = record {
+        rules = a.parameters;
+        unit_length = Offset.number a.unit_length;
+        header_length = Offset.number a.header_length;
+        operand_counts = R.bytes a.standard_opcode_lengths;
+        directory_formats = a.directory_entry_format.items;
+        directories = map (value_seen R.bytes Offset.number) a.include_directories.items;
+        file_formats = a.file_name_entry_format.items;
+        files = map (file_seen R.bytes Offset.number) a.file_names.items;
+        program = R.bytes a.program_buf;
+        comp_dir = option_map R.bytes a.comp_dir;
+        comp_file = option_map (file_seen R.bytes Offset.number) a.comp_file;
+      };
+      notation = record { big = R.big a.program_buf; limit = Offset.limit };
+      parameters = a.parameters;
+      offset = a.offset;
+      unit_length = a.unit_length;
+      header_length = a.header_length;
+      standard_opcode_lengths = a.standard_opcode_lengths;
+      directory_entry_format = a.directory_entry_format;
+      include_directories = a.include_directories;
+      file_name_entry_format = a.file_name_entry_format;
+      file_names = a.file_names;
+      program_buf = a.program_buf;
+      comp_dir = a.comp_dir;
+      comp_file = a.comp_file;
+    } };
+
+    ghost inverse = { λ v. record {
+      parameters = v.parameters;
+      offset = v.offset;
+      unit_length = v.unit_length;
+      header_length = v.header_length;
+      standard_opcode_lengths = v.standard_opcode_lengths;
+      directory_entry_format = v.directory_entry_format;
+      include_directories = v.include_directories;
+      file_name_entry_format = v.file_name_entry_format;
+      file_names = v.file_names;
+      program_buf = v.program_buf;
+      comp_dir = v.comp_dir;
+      comp_file = v.comp_file;
+    } };
+}
+
+impl<R, Offset> LineProgramHeader<R, Offset>
+where
+    R: Reader<Offset = Offset>,
+    Offset: ReaderOffset,
+{
+    ghost use Rattle.gimli_line.specs.Gives.{Answers};
+    ghost use Rattle.gimli_line.specs.Header.{plain_file, directory_of, file_of, has_content};
+    ghost use Rattle.gimli_line.specs.HeaderGrammar.{taken};
+    ghost use Rattle.gimli_line.specs.HeaderReading.{fields_at, header_at};
+    ghost use Rattle.gimli_line.specs.Instruction.{file_seen};
+
+    /// The offset of the header in the section `.debug_line`, as it was handed in.
+    pub fn offset(&self) -> DebugLineOffset<Offset>
+        ensures { result ≡ self.now.offset }
+    {
+        self.offset
+    }
+
+    /// The length of the unit in bytes, without the length itself.
+    pub fn unit_length(&self) -> Offset
+        ensures { Offset.number result ≡ self.now.meaning.unit_length }
+    {
+        self.unit_length
+    }
+
+    /// What the numbers of the unit are encoded by.
+    pub fn encoding(&self) -> Encoding
+        ensures { result ≡ self.now.meaning.rules.encoding }
+    {
+        self.parameters.encoding
+    }
+
+    /// The version, from 2 to 5.
+    pub fn version(&self) -> u16
+        ensures { result ≡ self.now.meaning.rules.encoding.version }
+    {
+        self.parameters.encoding.version
+    }
+
+    /// The length of the header in bytes, from behind that length on.
+    pub fn header_length(&self) -> Offset
+        ensures { Offset.number result ≡ self.now.meaning.header_length }
+    {
+        self.header_length
+    }
+
+    /// The number of bytes of an address.
+    pub fn address_size(&self) -> u8
+        ensures { result ≡ self.now.meaning.rules.encoding.address_size }
+    {
+        self.parameters.encoding.address_size
+    }
+
+    /// The format of words.
+    pub fn format(&self) -> Format
+        ensures { result ≡ self.now.meaning.rules.encoding.format }
+    {
+        self.parameters.encoding.format
+    }
+
+    /// What rows are encoded by.
+    pub fn line_encoding(&self) -> LineEncoding
+        ensures { result ≡ self.now.meaning.rules.line_encoding }
+    {
+        self.parameters.line_encoding
+    }
+
+    /// The number of bytes of the shortest instruction of the machine.
+    pub fn minimum_instruction_length(&self) -> u8
+        ensures { result ≡ self.now.meaning.rules.line_encoding.minimum_instruction_length }
+    {
+        self.parameters.line_encoding.minimum_instruction_length
+    }
+
+    /// The greatest number of operations in one instruction of the machine.
+    pub fn maximum_operations_per_instruction(&self) -> u8
+        ensures { result ≡ self.now.meaning.rules.line_encoding.maximum_operations_per_instruction }
+    {
+        self.parameters
+            .line_encoding
+            .maximum_operations_per_instruction
+    }
+
+    /// Whether a row is the beginning of a statement, where the program says nothing of it.
+    pub fn default_is_stmt(&self) -> bool
+        ensures { result ≡ self.now.meaning.rules.line_encoding.default_is_stmt }
+    {
+        self.parameters.line_encoding.default_is_stmt
+    }
+
+    /// The least line advance of a special opcode.
+    pub fn line_base(&self) -> i8
+        ensures { result ≡ self.now.meaning.rules.line_encoding.line_base }
+    {
+        self.parameters.line_encoding.line_base
+    }
+
+    /// How many line advances special opcodes have.
+    pub fn line_range(&self) -> u8
+        ensures { result ≡ self.now.meaning.rules.line_encoding.line_range }
+    {
+        self.parameters.line_encoding.line_range
+    }
+
+    /// The number of the first special opcode.
+    pub fn opcode_base(&self) -> u8
+        ensures { result ≡ self.now.meaning.rules.opcode_base }
+    {
+        self.parameters.opcode_base
+    }
+
+    /// How many LEB128 operands each standard opcode has, from opcode 1 on: a byte for each.
+    pub fn standard_opcode_lengths(&self) -> &R
+        ensures { R.bytes result.now ≡ self.now.meaning.operand_counts }
+    {
+        &self.standard_opcode_lengths
+    }
+
+    /// What the table of directories holds of each; nothing up to version 4.
+    pub fn directory_entry_format(&self) -> &[FileEntryFormat]
+        ensures { result.now ≡ self.now.meaning.directory_formats }
+    {
+        &self.directory_entry_format
+    }
+
+    /// The table of directories. Up to version 4 it begins with directory 1.
+    pub fn include_directories(&self) -> &[AttributeValue<R, Offset>]
+        ensures { map (value_seen R.bytes Offset.number) result.now ≡ self.now.meaning.directories }
+    {
+        &self.include_directories
+    }
+
+    /// The directory of an index. Up to version 4 index 0 is the handed directory.
+    pub fn directory(&self, directory: u64) -> Option<AttributeValue<R, Offset>>
+        ensures { option_map (value_seen R.bytes Offset.number) result ≡ directory_of self.now.meaning directory }
+    {
+        if self.version() > 4 {
+            return entry(&self.include_directories, directory).copied();
+        }
+        if directory > 0 {
+            return entry(&self.include_directories, directory - 1).copied();
+        }
+        match self.comp_dir {
+            Some(path) => Some(AttributeValue::String(path)),
+            None => None,
+        }
+    }
+
+    /// What the table of files holds of each; nothing up to version 4.
+    pub fn file_name_entry_format(&self) -> &[FileEntryFormat]
+        ensures { result.now ≡ self.now.meaning.file_formats }
+    {
+        &self.file_name_entry_format
+    }
+
+    /// Whether the files have a timestamp. Where it doesn't hold, it isn't known of any file.
+    pub fn file_has_timestamp(&self) -> bool
+        ensures { result ≡ (nat_le self.now.meaning.rules.encoding.version 4 || has_content 0x0003 self.now.meaning.file_formats) }
+    {
+        self.version() <= 4 || self.file_has(constants::DW_LNCT_timestamp)
+    }
+
+    /// Whether the files have a size. Where it doesn't hold, it isn't known of any file.
+    pub fn file_has_size(&self) -> bool
+        ensures { result ≡ (nat_le self.now.meaning.rules.encoding.version 4 || has_content 0x0004 self.now.meaning.file_formats) }
+    {
+        self.version() <= 4 || self.file_has(constants::DW_LNCT_size)
+    }
+
+    /// Whether the files have a digest.
+    pub fn file_has_md5(&self) -> bool
+        ensures { result ≡ has_content 0x0005 self.now.meaning.file_formats }
+    {
+        self.file_has(constants::DW_LNCT_MD5)
+    }
+
+    /// Whether the files have a source text.
+    pub fn file_has_source(&self) -> bool
+        ensures { result ≡ has_content 0x2001 self.now.meaning.file_formats }
+    {
+        self.file_has(constants::DW_LNCT_LLVM_source)
+    }
+
+    /// Whether the table of files holds such a value.
+    fn file_has(&self, content_type: DwLnct) -> bool
+        ensures { result ≡ has_content content_type.0 self.now.meaning.file_formats }
+    {
+        self.file_name_entry_format
+            .iter()
+            .any(|format| format.content_type == content_type)
+    }
+
+    /// The table of files, and behind them those that the program has defined so far. Up to version 4 it begins
+    /// with file 1.
+    pub fn file_names(&self) -> &[FileEntry<R, Offset>]
+        ensures { map (file_seen R.bytes Offset.number) result.now ≡ self.now.meaning.files }
+    {
+        &self.file_names
+    }
+
+    /// The file of an index. Up to version 4 index 0 is a file of the handed name.
+    pub fn file(&self, file: u64) -> Option<&FileEntry<R, Offset>>
+        ensures { option_map (λ found. file_seen R.bytes Offset.number found.now) result ≡ file_of self.now.meaning file }
+    {
+        if self.version() > 4 {
+            return entry(&self.file_names, file);
+        }
+        if file > 0 {
+            return entry(&self.file_names, file - 1);
+        }
+        self.comp_file.as_ref()
+    }
+
+    /// The bytes of the program.
+    pub fn raw_program_buf(&self) -> R
+        ensures bytes { R.bytes result ≡ self.now.meaning.program }
+        ensures order { R.big result ≡ self.now.notation.big }
+    {
+        self.program_buf
+    }
+
+    /// Takes the header of a unit, and its program.
+    #[tactic(auto, unfolding(crate::specs::HeaderReading::header_at))]
+    pub(crate) fn parse(
+        alloc: Global,
+        input: &mut R,
+        offset: DebugLineOffset<Offset>,
+        address_size: u8,
+        comp_dir: Option<R>,
+        comp_name: Option<R>,
+    ) -> Result<Self>
+        requires { IsTrue (is_address_size address_size) }
+        ensures read { Answers (λ header. header.meaning) result
+            (header_at (record { big = R.big input.old; limit = Offset.limit })
+            (record { address_size = address_size; directory = option_map R.bytes comp_dir; name = option_map R.bytes comp_name }) (R.bytes input.old)).0 }
+        ensures notation { IfOk result (λ header. header.notation ≡ record { big = R.big input.old; limit = Offset.limit }) }
+        ensures offset { IfOk result (λ header. header.offset ≡ offset) }
+    {
+        let (unit_length, format) = input.read_initial_length()?;
+        let mut program_buf = input.split(unit_length)?;
+        let opening = parse_opening(&mut program_buf, address_size, format)?;
+        Self::parse_fields(
+            alloc,
+            opening,
+            program_buf,
+            offset,
+            unit_length,
+            comp_dir,
+            comp_name,
+        )
+    }
+
+    /// Takes the fields of a header within its length.
+    #[tactic(auto, unfolding(crate::specs::HeaderReading::fields_at))]
+    fn parse_fields(
+        alloc: Global,
+        opening: Opening<R>,
+        program_buf: R,
+        offset: DebugLineOffset<Offset>,
+        unit_length: Offset,
+        comp_dir: Option<R>,
+        comp_name: Option<R>,
+    ) -> Result<Self>
+        requires size { IsTrue (is_address_size opening.encoding.address_size) }
+        requires order { R.big opening.fields ≡ R.big program_buf }
+        ensures read { Answers (λ header. header.meaning) result
+            (fields_at (record { big = R.big program_buf; limit = Offset.limit })
+            (record { address_size = opening.encoding.address_size; directory = option_map R.bytes comp_dir; name = option_map R.bytes comp_name })
+            (Offset.number unit_length)
+            (record { encoding = opening.encoding; header_length = Offset.number opening.header_length; fields = R.bytes opening.fields })
+            (R.bytes program_buf) (R.bytes opening.fields)).0 }
+        ensures notation { IfOk result (λ header. header.notation ≡ record { big = R.big program_buf; limit = Offset.limit }) }
+        ensures offset { IfOk result (λ header. header.offset ≡ offset) }
+    {
+        let encoding = opening.encoding;
+        let mut input = opening.fields;
+        let parameters = parse_parameters(&mut input, encoding)?;
+        let standard_opcode_lengths = input.split(Offset::from_u8(parameters.opcode_base - 1))?;
+        let (directory_entry_format, include_directories) = parse_directory_table(
+            alloc, &mut input, encoding,
+        )?;
+        let (file_name_entry_format, file_names) = parse_file_table(alloc, &mut input, encoding)?;
+        Ok(LineProgramHeader {
+            parameters,
+            offset,
+            unit_length,
+            header_length: opening.header_length,
+            standard_opcode_lengths,
+            directory_entry_format,
+            include_directories,
+            file_name_entry_format,
+            file_names,
+            program_buf,
+            comp_dir: Self::comp_dir_of(encoding, comp_dir),
+            comp_file: Self::comp_file_of(encoding, comp_name),
+        })
+    }
+
+    /// The handed directory, where the version takes it.
+    fn comp_dir_of(encoding: Encoding, comp_dir: Option<R>) -> Option<R>
+        ensures { option_map R.bytes result ≡ taken encoding (option_map R.bytes comp_dir) }
+    {
+        if encoding.version <= 4 {
+            comp_dir
+        } else {
+            None
+        }
+    }
+
+    /// The file of the handed name, where the version takes it.
+    fn comp_file_of(encoding: Encoding, comp_name: Option<R>) -> Option<FileEntry<R, Offset>>
+        ensures { option_map (file_seen R.bytes Offset.number) result
+            ≡ taken encoding (option_map (λ path. plain_file path 0 0 0) (option_map R.bytes comp_name)) }
+    {
+        match comp_name {
+            Some(name) if encoding.version <= 4 => Some(FileEntry::of_path(name)),
+            _ => None,
+        }
+    }
+}
+
+/// The entry of an index, from 0 on. No index wraps.
+fn entry<T>(entries: &[T], index: u64) -> Option<&T>
+    ensures { option_map (λ entry. entry.now) result ≡ slice_get entries.now index }
+{
+    let index = usize::try_from(index).ok()?;
+    entries.get(index)
+}

@@ -1,0 +1,19 @@
+//! Line number programs of DWARF, versions 2 to 5, as they are read.
+#![tactic(auto)]
+
+mod debug_line;
+mod file_entry;
+mod forms;
+mod header;
+mod instruction;
+mod parse;
+mod program;
+mod row;
+mod tables;
+
+pub use debug_line::DebugLine;
+pub use file_entry::{FileEntry, FileEntryFormat};
+pub use header::LineProgramHeader;
+pub use instruction::LineInstruction;
+pub use program::IncompleteLineProgram;
+pub use row::{ColumnType, LineRow};
