@@ -6,6 +6,7 @@ mod file_entry;
 mod forms;
 mod header;
 mod instruction;
+pub mod laws;
 mod parse;
 mod program;
 mod row;

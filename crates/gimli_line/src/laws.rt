@@ -1,0 +1,48 @@
+//! Laws of the two grammars: a unit has one header or one refusal, a program is cut in one way.
+
+ghost use Rattle.std.specs.Prelude.{◌≡◌, ◌≢◌, ◌≤◌, ◌⊎◌, ◌++◌, ℕ, List, [], Option, length};
+ghost use Rattle.gimli_core.specs.Notation.{Notation};
+ghost use Rattle.gimli_core.specs.declared.common.Format.{Format};
+ghost use Rattle.gimli_core.specs.declared.error.Error.{Error};
+ghost use Rattle.gimli_line.specs.Header.{Header, Given};
+ghost use Rattle.gimli_line.specs.HeaderGrammar.{Entry, SpellsUnit, HasHeaderFault, SpellsEntries};
+ghost use Rattle.gimli_line.specs.Instruction.{Ins};
+ghost use Rattle.gimli_line.specs.InstructionGrammar.{Cuts};
+ghost use Rattle.gimli_line.specs.declared.file_entry.FileEntryFormat.{FileEntryFormat};
+
+/// Bytes begin with a unit, or they have a refusal.
+pub fn unit_or_refusal()
+    ensures { (notation : Notation) (given : Given) (bytes : List ℕ) →
+        ((h : Header) × SpellsUnit notation given bytes h) ⊎ ((e : Error) × HasHeaderFault notation given bytes e) }
+{}
+
+/// They don't have both, the header is one, and so is the refusal.
+pub fn one_unit_or_refusal()
+    ensures both { (notation : Notation) (given : Given) (bytes : List ℕ) (h : Header) (e : Error) →
+        SpellsUnit notation given bytes h → HasHeaderFault notation given bytes e → ⊥ }
+    ensures header { (notation : Notation) (given : Given) (bytes : List ℕ) (h k : Header) →
+        SpellsUnit notation given bytes h → SpellsUnit notation given bytes k → h ≡ k }
+    ensures refusal { (notation : Notation) (given : Given) (bytes : List ℕ) (e d : Error) →
+        HasHeaderFault notation given bytes e → HasHeaderFault notation given bytes d → e ≡ d }
+{}
+
+/// A program is cut into instructions, and in one way.
+pub fn one_cut()
+    ensures some { (notation : Notation) (h : Header) (bytes : List ℕ) →
+        (list : List Ins) × (end : Option Error) × Cuts notation h bytes list end }
+    ensures one { (notation : Notation) (h : Header) (bytes : List ℕ) (list other : List Ins) (end finish : Option Error) →
+        Cuts notation h bytes list end → Cuts notation h bytes other finish → (list ≡ other) × (end ≡ finish) }
+{}
+
+/// A program has no more instructions than bytes.
+pub fn instructions_are_bounded()
+    ensures { (notation : Notation) (h : Header) (bytes : List ℕ) (list : List Ins) (end : Option Error) →
+        Cuts notation h bytes list end → length list ≤ length bytes }
+{}
+
+/// A table of version 5 has no more entries than bytes behind their count.
+pub fn entries_are_bounded()
+    ensures { (notation : Notation) (format : Format) (formats : List FileEntryFormat) → formats ≢ [] →
+        (bytes : List ℕ) (entries : List Entry) → SpellsEntries notation format formats bytes entries →
+        (count : List ℕ) × (behind : List ℕ) × (bytes ≡ count ++ behind) × (length entries ≤ length behind) }
+{}
