@@ -11,3 +11,4 @@ pub mod Loops
 pub mod Entries
 pub mod Opened
 pub mod LookUps
+pub mod Operands

@@ -10,6 +10,7 @@ pub mod Gives
 pub mod HeaderReading
 pub mod EntryReading
 pub mod InstructionReading
+pub mod Source
 pub mod Registers
 pub mod Pointer
 pub mod Events

@@ -96,7 +96,7 @@ fn parse_block<R: Reader>(input: &mut R, len: R::Offset) -> Result<AttributeValu
 
 /// Takes an unsigned LEB128 number as an offset. Refused by `UnsupportedOffset` where the offset type is too
 /// narrow.
-fn parse_offset<R: Reader>(input: &mut R) -> Result<R::Offset>
+pub(crate) fn parse_offset<R: Reader>(input: &mut R) -> Result<R::Offset>
     ensures read { (seen R.Offset.number result, R.bytes input.new) ≡ offset_at R.Offset.limit unsigned_at (R.bytes input.old) }
     ensures order { R.big input.new ≡ R.big input.old }
 {

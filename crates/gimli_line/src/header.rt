@@ -1,12 +1,13 @@
 ghost use Rattle.std.specs.Prelude.{◌≡◌, ◌≢◌, ◌-◌, IfErr, IfOk, IsTrue, map, nat_le, option_map, slice_get, ◌||◌};
 ghost use Rattle.gimli_core.specs.Numbers.{is_address_size};
 ghost use Rattle.gimli_core.specs.Values.{value_seen};
+ghost use Rattle.std.specs.Prelude.{◌<◌, slice_index};
 
 use crate::file_entry::{FileEntry, FileEntryFormat};
 use crate::parse::{Opening, parse_opening, parse_parameters};
 use crate::tables::{parse_directory_table, parse_file_table};
 use gimli_core::{
-    AttributeValue, DebugLineOffset, DwLnct, Encoding, Format, LineEncoding, Reader, ReaderOffset,
+    AttributeValue, DebugLineOffset, DwLnct, DwLns, Encoding, Format, LineEncoding, Reader, ReaderOffset,
     Result, constants,
 };
 use std::alloc::Global;
@@ -230,6 +231,18 @@ where
         ensures { R.bytes result.now ≡ self.now.meaning.operand_counts }
     {
         &self.standard_opcode_lengths
+    }
+
+    /// How many LEB128 operands a standard opcode has; 0 where the header says nothing of it.
+    pub(crate) fn operand_count(&self, opcode: DwLns) -> u8
+        requires { 0 < opcode.0 }
+        ensures { result ≡ slice_index self.now.meaning.operand_counts (opcode.0 - 1) }
+    {
+        let mut counts = self.standard_opcode_lengths;
+        match counts.skip(Offset::from_u8(opcode.0 - 1)) {
+            Ok(()) => counts.read_u8().unwrap_or(0),
+            Err(_) => 0,
+        }
     }
 
     /// What the table of directories holds of each; nothing up to version 4.
