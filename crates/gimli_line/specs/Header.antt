@@ -1,5 +1,5 @@
 -- A header: what it says, and how contracts see it.
-use Rattle.std.specs.Prelude.{ℕ, zero, suc, Bool, List, Option, None, option_map, replicate, nat_le, nat_eq, if◌then◌else◌, slice_get}
+use Rattle.std.specs.Prelude.{ℕ, zero, suc, Bool, List, [], ◌∷◌, ◌++◌, Option, None, option_map, replicate, nat_le, nat_eq, if◌then◌else◌, slice_get}
 use Rattle.std.specs.List.{list_any}
 use Rattle.std.specs.declared.vec.Vec.{Vec}
 use Rattle.std.specs.declared.alloc.Global.{Global}
@@ -9,7 +9,8 @@ use Rattle.gimli_core.specs.declared.attribute_value.AttributeValue.TheVariants.
 use Rattle.gimli_core.specs.declared.common.DebugLineOffset.{DebugLineOffset}
 use Rattle.gimli_core.specs.Notation.{Notation}
 use Rattle.gimli_line.specs.Rules.{Rules}
-use Rattle.gimli_line.specs.Instruction.{File}
+use Rattle.gimli_line.specs.Instruction.{Ins, File}
+use Rattle.gimli_line.specs.declared.instruction.LineInstruction.TheVariants.{DefineFile}
 use Rattle.gimli_line.specs.declared.file_entry.FileEntry.{FileEntry}
 use Rattle.gimli_line.specs.declared.file_entry.FileEntryFormat.{FileEntryFormat}
 
@@ -69,6 +70,16 @@ file_of h i =
 -- a format of this content type is there
 abbrev pub has_content : ℕ → List FileEntryFormat → Bool
 has_content content formats = list_any (λ f. nat_eq f.content_type.0 content) formats
+
+-- ---- files that a program defines
+
+abbrev pub with_file : Header → File → Header
+with_file h f = record h { files = h.files ++ f ∷ [] }
+
+-- what a header says behind an instruction; a list of files that is complete isn't added to
+abbrev pub defined_by : Bool → Ins → Header → Header
+defined_by appends (DefineFile f) h = if appends then with_file h f else h
+defined_by appends i h = h
 
 -- ---- how contracts see a header
 

@@ -60,3 +60,8 @@ makes_row (Special o) = true
 makes_row Copy = true
 makes_row EndSequence = true
 makes_row i = false
+
+-- a file is added to the header's files
+abbrev pub defines_file : Ins → Bool
+defines_file (DefineFile f) = true
+defines_file i = false

@@ -15,3 +15,4 @@ pub mod Registers
 pub mod Pointer
 pub mod Events
 pub mod Machine
+pub mod Columns

@@ -33,6 +33,10 @@ reset_row rules r =
     if r.end_sequence then initial rules
     else record r { discriminator = 0; basic_block = false; prologue_end = false; epilogue_begin = false }
 
+-- the registers where addresses count from a set address
+abbrev pub rebased : LineRow → LineRow
+rebased r = record r { tombstone = false; address = 0; op_index = 0 }
+
 -- the caller's condition: a special opcode is at least the opcode base
 abbrev pub IsAllowed : Rules → Ins → Type 0
 IsAllowed rules (Special o) = rules.opcode_base ≤ o
@@ -48,6 +52,20 @@ at_pointer p r = record r { address = p.address; op_index = p.op_index }
 abbrev pub moved : Rules → Ins → LineRow → LineRow
 moved rules i r = at_pointer (next_pointer rules r.tombstone i (pointer_of r)) r
 
+-- a register that an instruction sets, whatever the rules are
+abbrev pub with_register : Ins → LineRow → LineRow
+with_register (AdvanceLine v) r = record r { line = advanced_line v r.line }
+with_register (SetFile n) r = record r { file = n }
+with_register (SetColumn n) r = record r { column = n }
+with_register NegateStatement r = record r { is_stmt = not r.is_stmt }
+with_register SetBasicBlock r = record r { basic_block = true }
+with_register SetPrologueEnd r = record r { prologue_end = true }
+with_register SetEpilogueBegin r = record r { epilogue_begin = true }
+with_register (SetIsa n) r = record r { isa = n }
+with_register (SetDiscriminator n) r = record r { discriminator = n }
+with_register EndSequence r = record r { end_sequence = true }
+with_register i r = r
+
 -- the registers after an instruction; at an end the pointer stays until the reset
 abbrev pub stepped : Rules → Ins → LineRow → LineRow
 stepped rules (Special o) r = record (moved rules (Special o) r) { line = elim (line_advance rules (Special o)) [ Some v ↦ advanced_line v r.line | None ↦ r.line ] }
@@ -55,17 +73,7 @@ stepped rules (AdvancePc n) r = moved rules (AdvancePc n) r
 stepped rules ConstAddPc r = moved rules ConstAddPc r
 stepped rules (FixedAddPc n) r = moved rules (FixedAddPc n) r
 stepped rules (SetAddress a) r = record (moved rules (SetAddress a) r) { tombstone = hides rules a (pointer_of r) }
-stepped rules (AdvanceLine v) r = record r { line = advanced_line v r.line }
-stepped rules (SetFile n) r = record r { file = n }
-stepped rules (SetColumn n) r = record r { column = n }
-stepped rules NegateStatement r = record r { is_stmt = not r.is_stmt }
-stepped rules SetBasicBlock r = record r { basic_block = true }
-stepped rules SetPrologueEnd r = record r { prologue_end = true }
-stepped rules SetEpilogueBegin r = record r { epilogue_begin = true }
-stepped rules (SetIsa n) r = record r { isa = n }
-stepped rules (SetDiscriminator n) r = record r { discriminator = n }
-stepped rules EndSequence r = record r { end_sequence = true }
-stepped rules i r = r
+stepped rules i r = with_register i r
 
 -- whether an instruction is refused by `AddressOverflow`
 abbrev pub is_refused : Rules → Ins → LineRow → Bool

@@ -66,9 +66,21 @@ where
 {
     ghost use Rattle.std.specs.Prelude.{◌≡◌, ◌<◌, ◌≤◌, ℕ, List, IfOk};
     ghost use Rattle.gimli_core.specs.Reading.{seen};
-    ghost use Rattle.gimli_line.specs.Instruction.{ins_seen};
+    ghost use Rattle.gimli_line.specs.Instruction.{ins_seen, makes_row};
     ghost use Rattle.gimli_line.specs.InstructionReading.{ins_at, extended_at, extended_operands_at, standard_at, unknown_at};
     ghost use Rattle.gimli_line.specs.Machine.{IsAllowed};
+
+    /// Whether it makes a row, hidden or not.
+    pub(crate) fn makes_row(&self) -> bool
+        ensures { result ≡ makes_row (ins_seen R.bytes Offset.number self.now) }
+    {
+        match self {
+            LineInstruction::Special(_) | LineInstruction::Copy | LineInstruction::EndSequence => {
+                true
+            }
+            _ => false,
+        }
+    }
 
     /// Takes an instruction.
     #[tactic(auto, unfolding(crate::specs::InstructionReading::ins_at))]

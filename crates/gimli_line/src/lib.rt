@@ -15,6 +15,6 @@ mod tables;
 pub use debug_line::DebugLine;
 pub use file_entry::{FileEntry, FileEntryFormat};
 pub use header::LineProgramHeader;
-pub use instruction::LineInstruction;
-pub use program::IncompleteLineProgram;
+pub use instruction::{LineInstruction, LineInstructions};
+pub use program::{CompleteLineProgram, IncompleteLineProgram, LineProgram};
 pub use row::{ColumnType, LineRow};

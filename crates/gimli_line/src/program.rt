@@ -1,6 +1,31 @@
+use crate::file_entry::FileEntry;
 use crate::header::LineProgramHeader;
-use gimli_core::{Reader, ReaderOffset};
+use gimli_core::{Error, Reader, ReaderOffset, Result};
 use std::marker::Model;
+
+/// What has the header of a line program, and takes the files that the program defines.
+pub trait LineProgram<R: Reader> {
+    ghost use Rattle.std.specs.Prelude.{◌≡◌, Bool, true, if◌then◌else◌, OnOk, OnErr, IfErr};
+    ghost use Rattle.gimli_line.specs.Header.{Header, with_file};
+    ghost use Rattle.gimli_line.specs.Instruction.{file_seen};
+
+    /// What the header says.
+    ghost meaning: { Self → Header };
+
+    /// Whether a file is added, or the list is complete.
+    ghost appends: { Bool };
+
+    /// The header.
+    fn header(&self) -> &LineProgramHeader<R>
+        ensures { result.now.meaning ≡ meaning self.now };
+
+    /// Adds a file that the program defines, where the list of files isn't complete. Refused by `OutOfMemory`
+    /// alone; nothing is changed then.
+    fn add_file(&mut self, file: FileEntry<R>) -> Result<()>
+        ensures ok { OnOk result (meaning self.new ≡ (if appends then with_file (meaning self.old) (file_seen R.bytes R.Offset.number file) else meaning self.old)) }
+        ensures err { OnErr result (meaning self.new ≡ meaning self.old) }
+        ensures memory { IfErr result (λ e. (e ≡ Error.OutOfMemory) × (appends ≡ true)) };
+}
 
 /// A line program that was not run yet, so that files may still be defined.
 #[derive(Clone, Debug, PartialEq, Eq, Drop)]
@@ -38,5 +63,88 @@ where
         ensures { result.now ≡ self.now }
     {
         &self.header
+    }
+}
+
+impl<R: Reader> LineProgram<R> for IncompleteLineProgram<R> {
+    ghost use Rattle.std.specs.Prelude.{◌≡◌, true, OnOk, OnErr, IfErr};
+    ghost use Rattle.gimli_line.specs.Header.{with_file};
+    ghost use Rattle.gimli_line.specs.Instruction.{file_seen};
+
+    ghost meaning = { λ p. p.meaning };
+
+    ghost appends = { true };
+
+    fn header(&self) -> &LineProgramHeader<R> {
+        &self.header
+    }
+
+    fn add_file(&mut self, file: FileEntry<R>) -> Result<()>
+        ensures ok { OnOk result (self.new.meaning ≡ with_file self.old.meaning (file_seen R.bytes R.Offset.number file)) }
+        ensures err { OnErr result (self.new.meaning ≡ self.old.meaning) }
+        ensures memory { IfErr result (λ e. (e ≡ Error.OutOfMemory) × (true ≡ true)) }
+    {
+        self.header.add_file(file)
+    }
+}
+
+/// A line program of which all files are known, so that its sequences can be run one by one.
+#[derive(Clone, Debug, PartialEq, Eq, Drop)]
+pub struct CompleteLineProgram<R, Offset = <R as Reader>::Offset>
+where
+    R: Reader<Offset = Offset>,
+    Offset: ReaderOffset,
+{
+    pub(crate) header: LineProgramHeader<R, Offset>,
+}
+
+impl<R, Offset> Model for CompleteLineProgram<R, Offset>
+where
+    R: Reader<Offset = Offset>,
+    Offset: ReaderOffset,
+{
+    ghost use Rattle.gimli_line.specs.Header.{SeenHeader};
+
+    ghost Value = { SeenHeader R Offset R.Endian };
+
+    ghost view = { λ a. a.header };
+
+    ghost inverse = { λ v. record { header = v } };
+}
+
+impl<R, Offset> CompleteLineProgram<R, Offset>
+where
+    R: Reader<Offset = Offset>,
+    Offset: ReaderOffset,
+{
+    ghost use Rattle.std.specs.Prelude.{◌≡◌};
+
+    /// The header, with all files.
+    pub fn header(&self) -> &LineProgramHeader<R, Offset>
+        ensures { result.now ≡ self.now }
+    {
+        &self.header
+    }
+}
+
+impl<'program, R: Reader> LineProgram<R> for &'program CompleteLineProgram<R> {
+    ghost use Rattle.std.specs.Prelude.{◌≡◌, true, false, IsOk, OnOk, OnErr, IfErr};
+
+    ghost meaning = { λ p. p.now.meaning };
+
+    ghost appends = { false };
+
+    fn header(&self) -> &LineProgramHeader<R> {
+        &self.header
+    }
+
+    /// Adds nothing: the file is there. Never refused.
+    fn add_file(&mut self, _file: FileEntry<R>) -> Result<()>
+        ensures ok { OnOk result (self.new.now.meaning ≡ self.old.now.meaning) }
+        ensures err { OnErr result (self.new.now.meaning ≡ self.old.now.meaning) }
+        ensures memory { IfErr result (λ e. (e ≡ Error.OutOfMemory) × (false ≡ true)) }
+        ensures only { IsOk result }
+    {
+        Ok(())
     }
 }

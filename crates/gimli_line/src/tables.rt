@@ -1,6 +1,6 @@
 //! The tables of directories and files.
 
-ghost use Rattle.std.specs.Prelude.{◌≡◌, [], ◌∷◌, ◌++◌, map, IfErr, OnOk};
+ghost use Rattle.std.specs.Prelude.{◌≡◌, [], ◌∷◌, ◌++◌, map, IfErr, OnErr, OnOk};
 ghost use Rattle.gimli_core.specs.Reading.{seen, times_at};
 ghost use Rattle.gimli_core.specs.Values.{value_seen};
 ghost use Rattle.gimli_core.specs.declared.attribute_value.AttributeValue.TheVariants.{String};
@@ -16,10 +16,11 @@ use gimli_core::{
 };
 use std::alloc::Global;
 
-/// Adds an item at the end. Refused by `OutOfMemory` alone; the list may then have lost nothing.
+/// Adds an item at the end. Refused by `OutOfMemory` alone; the list is then as it was.
 pub(crate) fn push<T: Drop>(list: &mut Vec<T>, item: T) -> Result<()>
     ensures ok { OnOk result (list.new.items ≡ list.old.items ++ item ∷ []) }
     ensures err { IfErr result (λ e. e ≡ Error.OutOfMemory) }
+    ensures kept { OnErr result (list.new.items ≡ list.old.items) }
 {
     match list.push(item) {
         Ok(()) => Ok(()),
