@@ -37,7 +37,7 @@ turned true false = refl
 turned false d = refl
 
 -- an instruction that gives no event
-goes_on : (h : Rules) (past : List Ins) (i : Ins) → overflows h past i ≡ false → makes_row i ≡ false → stepped h i (registers h past) ≡ registers h (i ∷ past)
+pub goes_on : (h : Rules) (past : List Ins) (i : Ins) → overflows h past i ≡ false → makes_row i ≡ false → stepped h i (registers h past) ≡ registers h (i ∷ past)
 goes_on h past (Special o) fits quiet = absurd cc
 goes_on h past Copy fits quiet = absurd cc
 goes_on h past EndSequence fits quiet = absurd cc
@@ -61,14 +61,14 @@ goes_on h past (SetDiscriminator n) fits quiet = refl
 goes_on h past (UnknownExtended o r) fits quiet = refl
 
 -- after a row
-starts_anew : (h : Rules) (past : List Ins) (i : Ins) → makes_row i ≡ true → reset_row h (stepped h i (registers h past)) ≡ registers h (i ∷ past)
+pub starts_anew : (h : Rules) (past : List Ins) (i : Ins) → makes_row i ≡ true → reset_row h (stepped h i (registers h past)) ≡ registers h (i ∷ past)
 starts_anew h past (Special o) loud = refl
 starts_anew h past Copy loud = refl
 starts_anew h past EndSequence loud = refl
 starts_anew h past i loud = absurd cc
 
 -- after an overflow
-goes_past : (h : Rules) (past : List Ins) (i : Ins) → overflows h past i ≡ true → reset_row h (stepped h i (registers h past)) ≡ registers h (i ∷ past)
+pub goes_past : (h : Rules) (past : List Ins) (i : Ins) → overflows h past i ≡ true → reset_row h (stepped h i (registers h past)) ≡ registers h (i ∷ past)
 goes_past h past (Special o) large = refl
 goes_past h past (AdvancePc n) large = rw large refl
 goes_past h past ConstAddPc large = rw large refl
@@ -76,7 +76,7 @@ goes_past h past (FixedAddPc n) large = rw large refl
 goes_past h past i large = absurd cc
 
 -- the row that the machine makes where it isn't hidden
-row_is : (h : Rules) (past : List Ins) (i : Ins) → makes_row i ≡ true → is_hidden h past ≡ false → stepped h i (registers h past) ≡ row_at h past i
+pub row_is : (h : Rules) (past : List Ins) (i : Ins) → makes_row i ≡ true → is_hidden h past ≡ false → stepped h i (registers h past) ≡ row_at h past i
 row_is h past (Special o) loud seen = rw seen refl
 row_is h past Copy loud seen = rw seen refl
 row_is h past EndSequence loud seen = rw seen refl

@@ -12,3 +12,5 @@ pub mod Entries
 pub mod Opened
 pub mod LookUps
 pub mod Operands
+pub mod Runs
+pub mod ToldLaws

@@ -73,13 +73,18 @@ has_content content formats = list_any (λ f. nat_eq f.content_type.0 content) f
 
 -- ---- files that a program defines
 
-abbrev pub with_file : Header → File → Header
-with_file h f = record h { files = h.files ++ f ∷ [] }
+-- a header apart from its files, which alone change in a run
+abbrev pub bare : Header → Header
+bare h = record h { files = [] }
 
--- what a header says behind an instruction; a list of files that is complete isn't added to
-abbrev pub defined_by : Bool → Ins → Header → Header
-defined_by appends (DefineFile f) h = if appends then with_file h f else h
-defined_by appends i h = h
+-- a file behind the others; a list that is complete has it already
+abbrev pub added : Bool → File → List File → List File
+added appends f files = if appends then files ++ f ∷ [] else files
+
+-- the files behind an instruction
+abbrev pub files_behind : Bool → Ins → List File → List File
+files_behind appends (DefineFile f) files = added appends f files
+files_behind appends i files = files
 
 -- ---- how contracts see a header
 

@@ -16,3 +16,6 @@ pub mod Pointer
 pub mod Events
 pub mod Machine
 pub mod Columns
+pub mod Told
+pub mod Left
+pub mod Rows

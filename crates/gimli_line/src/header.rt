@@ -1,15 +1,15 @@
 ghost use Rattle.std.specs.Prelude.{◌≡◌, ◌≢◌, ◌-◌, IfErr, IfOk, IsTrue, OnErr, OnOk, map, nat_le, option_map, slice_get, ◌||◌};
 ghost use Rattle.gimli_core.specs.Numbers.{is_address_size};
 ghost use Rattle.gimli_core.specs.Values.{value_seen};
-ghost use Rattle.std.specs.Prelude.{◌<◌, slice_index};
+ghost use Rattle.std.specs.Prelude.{◌<◌, [], ◌∷◌, ◌++◌, slice_index};
 
 use crate::file_entry::{FileEntry, FileEntryFormat};
 use crate::instruction::LineInstructions;
 use crate::parse::{Opening, parse_opening, parse_parameters};
 use crate::tables::{parse_directory_table, parse_file_table, push};
 use gimli_core::{
-    AttributeValue, DebugLineOffset, DwLnct, DwLns, Encoding, Error, Format, LineEncoding, Reader, ReaderOffset,
-    Result, constants,
+    AttributeValue, DebugLineOffset, DwLnct, DwLns, Encoding, Error, Format, LineEncoding, Reader,
+    ReaderOffset, Result, constants,
 };
 use std::alloc::Global;
 use std::marker::Model;
@@ -122,7 +122,7 @@ where
     Offset: ReaderOffset,
 {
     ghost use Rattle.gimli_line.specs.Gives.{Answers};
-    ghost use Rattle.gimli_line.specs.Header.{plain_file, directory_of, file_of, has_content, with_file};
+    ghost use Rattle.gimli_line.specs.Header.{plain_file, directory_of, file_of, has_content};
     ghost use Rattle.gimli_line.specs.HeaderGrammar.{taken};
     ghost use Rattle.gimli_line.specs.HeaderReading.{fields_at, header_at};
     ghost use Rattle.gimli_line.specs.Instruction.{file_seen};
@@ -343,7 +343,7 @@ where
 
     /// Adds a file behind the others. Refused by `OutOfMemory` alone; nothing is changed then.
     pub(crate) fn add_file(&mut self, file: FileEntry<R, Offset>) -> Result<()>
-        ensures ok { OnOk result (self.new.meaning ≡ with_file self.old.meaning (file_seen R.bytes Offset.number file)) }
+        ensures ok { OnOk result (self.new.meaning ≡ record self.old.meaning { files = self.old.meaning.files ++ file_seen R.bytes Offset.number file ∷ [] }) }
         ensures err { OnErr result (self.new.meaning ≡ self.old.meaning) }
         ensures memory { IfErr result (λ e. e ≡ Error.OutOfMemory) }
         ensures notation { self.new.notation ≡ self.old.notation }

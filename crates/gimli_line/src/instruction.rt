@@ -280,7 +280,7 @@ impl<R: Reader> LineInstructions<R> {
         ensures next { IfOk result (λ next. MatchOption next
             ((self.old.bytes ≡ []) × (self.new.bytes ≡ []))
             (λ i. (front : List ℕ) × (self.old.bytes ≡ front ++ self.new.bytes)
-                × SpellsInstruction self.old.notation header.now.meaning front (ins_seen R.bytes R.Offset.number i))) }
+            × SpellsInstruction self.old.notation header.now.meaning front (ins_seen R.bytes R.Offset.number i))) }
         ensures refusal { IfErr result (λ e. (self.old.bytes ≢ []) × (self.new.bytes ≡ [])
             × (instruction_line self.old.notation header.now.meaning).Fault self.old.bytes e) }
         ensures allowed { IfOk result (λ next. IfSome next (λ i. IsAllowed header.now.meaning.rules (ins_seen R.bytes R.Offset.number i))) }

@@ -10,6 +10,7 @@ pub mod laws;
 mod parse;
 mod program;
 mod row;
+mod rows;
 mod tables;
 
 pub use debug_line::DebugLine;
@@ -18,3 +19,4 @@ pub use header::LineProgramHeader;
 pub use instruction::{LineInstruction, LineInstructions};
 pub use program::{CompleteLineProgram, IncompleteLineProgram, LineProgram};
 pub use row::{ColumnType, LineRow};
+pub use rows::{LineRows, OneShotLineRows, ResumedLineRows};

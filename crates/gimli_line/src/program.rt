@@ -5,8 +5,8 @@ use std::marker::Model;
 
 /// What has the header of a line program, and takes the files that the program defines.
 pub trait LineProgram<R: Reader> {
-    ghost use Rattle.std.specs.Prelude.{◌≡◌, Bool, true, if◌then◌else◌, OnOk, OnErr, IfErr};
-    ghost use Rattle.gimli_line.specs.Header.{Header, with_file};
+    ghost use Rattle.std.specs.Prelude.{◌≡◌, Bool, true, OnOk, OnErr, IfErr};
+    ghost use Rattle.gimli_line.specs.Header.{Header, added};
     ghost use Rattle.gimli_line.specs.Instruction.{file_seen};
 
     /// What the header says.
@@ -22,7 +22,7 @@ pub trait LineProgram<R: Reader> {
     /// Adds a file that the program defines, where the list of files isn't complete. Refused by `OutOfMemory`
     /// alone; nothing is changed then.
     fn add_file(&mut self, file: FileEntry<R>) -> Result<()>
-        ensures ok { OnOk result (meaning self.new ≡ (if appends then with_file (meaning self.old) (file_seen R.bytes R.Offset.number file) else meaning self.old)) }
+        ensures ok { OnOk result (meaning self.new ≡ record (meaning self.old) { files = added appends (file_seen R.bytes R.Offset.number file) (meaning self.old).files }) }
         ensures err { OnErr result (meaning self.new ≡ meaning self.old) }
         ensures memory { IfErr result (λ e. (e ≡ Error.OutOfMemory) × (appends ≡ true)) };
 }
@@ -67,8 +67,7 @@ where
 }
 
 impl<R: Reader> LineProgram<R> for IncompleteLineProgram<R> {
-    ghost use Rattle.std.specs.Prelude.{◌≡◌, true, OnOk, OnErr, IfErr};
-    ghost use Rattle.gimli_line.specs.Header.{with_file};
+    ghost use Rattle.std.specs.Prelude.{◌≡◌, true, [], ◌∷◌, ◌++◌, OnOk, OnErr, IfErr};
     ghost use Rattle.gimli_line.specs.Instruction.{file_seen};
 
     ghost meaning = { λ p. p.meaning };
@@ -80,7 +79,7 @@ impl<R: Reader> LineProgram<R> for IncompleteLineProgram<R> {
     }
 
     fn add_file(&mut self, file: FileEntry<R>) -> Result<()>
-        ensures ok { OnOk result (self.new.meaning ≡ with_file self.old.meaning (file_seen R.bytes R.Offset.number file)) }
+        ensures ok { OnOk result (self.new.meaning ≡ record self.old.meaning { files = self.old.meaning.files ++ file_seen R.bytes R.Offset.number file ∷ [] }) }
         ensures err { OnErr result (self.new.meaning ≡ self.old.meaning) }
         ensures memory { IfErr result (λ e. (e ≡ Error.OutOfMemory) × (true ≡ true)) }
     {

@@ -37,7 +37,7 @@ pub enum ColumnType {
 }
 
 impl LineRow {
-    ghost use Rattle.gimli_line.specs.Header.{defined_by, file_of};
+    ghost use Rattle.gimli_line.specs.Header.{files_behind, file_of};
     ghost use Rattle.gimli_line.specs.Instruction.{ins_seen, file_seen, makes_row, defines_file};
     ghost use Rattle.gimli_line.specs.Machine.{initial, reset_row, rebased, IsAllowed, is_refused, stepped, with_register};
     ghost use Rattle.gimli_line.specs.Pointer.{exceeds};
@@ -162,6 +162,13 @@ impl LineRow {
         self.discriminator
     }
 
+    /// Whether the row is hidden.
+    pub(crate) fn is_hidden(&self) -> bool
+        ensures { result ≡ self.now.tombstone }
+    {
+        self.tombstone
+    }
+
     /// Executes an instruction, and says whether it makes a row, which may be hidden. A file that it defines is
     /// added to the program. Refused by `AddressOverflow` where the address would pass the greatest one of its
     /// size; the address stays then, and line and op_index go on. Refused by `OutOfMemory` where a file can't be
@@ -175,7 +182,7 @@ impl LineRow {
         ensures made { IfOk result (λ made. made ≡ makes_row (ins_seen R.bytes R.Offset.number instruction)) }
         ensures step { OnOk result (self.new ≡ stepped (P.meaning program.old).rules (ins_seen R.bytes R.Offset.number instruction) self.old) }
         ensures fits { OnOk result (is_refused (P.meaning program.old).rules (ins_seen R.bytes R.Offset.number instruction) self.old ≡ false) }
-        ensures files { OnOk result (P.meaning program.new ≡ defined_by P.appends (ins_seen R.bytes R.Offset.number instruction) (P.meaning program.old)) }
+        ensures files { OnOk result (P.meaning program.new ≡ record (P.meaning program.old) { files = files_behind P.appends (ins_seen R.bytes R.Offset.number instruction) (P.meaning program.old).files }) }
         ensures overflow { IfErr result (λ e. e ≡ Error.AddressOverflow →
             (is_refused (P.meaning program.old).rules (ins_seen R.bytes R.Offset.number instruction) self.old ≡ true)
             × (self.new ≡ stepped (P.meaning program.old).rules (ins_seen R.bytes R.Offset.number instruction) self.old)) }

@@ -1,4 +1,4 @@
-use Rattle.std.proofs.Common.{◌≡◌, ◌∙◌, sym, ap, List, Option}
+use Rattle.std.proofs.Common.{◌∙◌, sym, ap, List, Option}
 use Rattle.gimli_core.specs.declared.error.Error.{Error}
 use Rattle.gimli_line.specs.Instruction.{Ins}
 use Rattle.gimli_line.proofs.InstructionLaws.{cuts, one_cut}

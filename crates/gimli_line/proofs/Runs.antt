@@ -1,0 +1,138 @@
+-- What one instruction does to the events that are still to come.
+use Rattle.std.proofs.Common.{◌≡◌, ◌≢◌, ℕ, ◌<◌, Bool, true, false, List, [], ◌∷◌, ◌++◌, length, Option, Some, None, refl, sym, ap, ◌∙◌, append_assoc, arith, ◌⊎◌, inl, inr}
+use Rattle.std.proofs.lemmas.List.{length-append}
+use Rattle.gimli_core.specs.Notation.{Notation}
+use Rattle.gimli_core.specs.Line.{Each}
+use Rattle.gimli_core.specs.declared.error.Error.{Error}
+use Rattle.gimli_core.specs.declared.error.Error.TheVariants.{AddressOverflow, OutOfMemory}
+use Rattle.gimli_line.specs.declared.row.LineRow.{LineRow}
+use Rattle.gimli_line.specs.declared.instruction.LineInstruction.TheVariants.{Special, Copy, EndSequence, DefineFile}
+use Rattle.gimli_line.specs.Rules.{Rules}
+use Rattle.gimli_line.specs.Header.{Header, bare, files_behind}
+use Rattle.gimli_line.specs.Instruction.{Ins, File, makes_row}
+use Rattle.gimli_line.specs.InstructionGrammar.{SpellsInstruction, instruction_line, IsEnd, Cuts}
+use Rattle.gimli_line.specs.InstructionReading.{cut_upto, cut_at}
+use Rattle.gimli_line.specs.Events.{Event, row, fault}
+use Rattle.gimli_line.specs.Machine.{stepped, reset_row, is_refused}
+use Rattle.gimli_line.specs.Told.{Told}
+use Rattle.gimli_line.specs.Source.{Source}
+use Rattle.gimli_line.specs.Left.{Left}
+use Rattle.gimli_line.specs.Rows.{live_events, events_left}
+use Rattle.gimli_line.proofs.InstructionLaws.{cuts, one_cut, takes_bytes}
+
+-- ---- what a program is cut into, by its front
+
+module _ (notation : Notation) (h : Header) (bytes : List ℕ) where
+  pub cut_none : bytes ≡ [] → cut_at notation h bytes ≡ ([], None)
+  unfolding cut_upto
+  cut_none e = rw e refl
+
+  pub cut_fault : (e : Error) → bytes ≢ [] → (instruction_line notation h).Fault bytes e → cut_at notation h bytes ≡ ([], Some e)
+  cut_fault e some f = sym (one_cut notation h bytes [] (Some e) (record { front = []; rest = bytes; parts = refl; spelled = refl; ended = (some, f) }))
+
+  pub cut_some : (i : Ins) (front rest : List ℕ) → bytes ≡ front ++ rest → SpellsInstruction notation h front i
+      → cut_at notation h bytes ≡ (i ∷ (cut_at notation h rest).0, (cut_at notation h rest).1)
+  cut_some i front rest parts s =
+      let c = cuts notation h rest in
+      sym (one_cut notation h bytes (i ∷ (cut_at notation h rest).0) (cut_at notation h rest).1 (record {
+        front = front ++ c.front;
+        rest = c.rest;
+        parts = parts ∙ ap (λ (xs : List ℕ). front ++ xs) c.parts ∙ sym (append_assoc front c.front c.rest);
+        spelled = (front, c.front, refl, s, c.spelled);
+        ended = c.ended;
+      }))
+
+-- the files of a header mean nothing to its program
+pub bare_cuts : (notation : Notation) (h : Header) (bytes : List ℕ) (list : List Ins) (end : Option Error) → Cuts notation (bare h) bytes list end → Cuts notation h bytes list end
+bare_cuts notation h bytes list end c = record { front = c.front; rest = c.rest; parts = c.parts; spelled = each c.front list c.spelled; ended = end_is end c.ended }
+  where
+    each : (front : List ℕ) (list : List Ins) → Each (SpellsInstruction notation (bare h)) front list → Each (SpellsInstruction notation h) front list
+    each front [] s = s
+    each front (i ∷ list) s = (s.0, s.1, s.2, s.3, each s.1 list s.4)
+
+    end_is : (end : Option Error) → IsEnd notation (bare h) c.rest end → IsEnd notation h c.rest end
+    end_is None e = e
+    end_is (Some d) e = e
+
+-- ---- instructions that make a row or are refused
+
+-- such an instruction hides what was hidden before it
+special_hidden : (h : Rules) (o : ℕ) (r : LineRow) → (stepped h (Special o) r).tombstone ≡ r.tombstone
+special_hidden h o r = refl
+
+pub keeps_hidden : (h : Rules) (i : Ins) (r : LineRow) → makes_row i ≡ true → (stepped h i r).tombstone ≡ r.tombstone
+keeps_hidden h (Special o) r made = special_hidden h o r
+keeps_hidden h Copy r made = refl
+keeps_hidden h EndSequence r made = refl
+keeps_hidden h i r made = absurd cc
+
+-- and defines no file
+pub no_file_at_row : (a : Bool) (i : Ins) (files : List File) → makes_row i ≡ true → files_behind a i files ≡ files
+no_file_at_row a (DefineFile f) files made = absurd cc
+no_file_at_row a i files made = refl
+
+pub no_file_at_refusal : (a : Bool) (h : Rules) (i : Ins) (r : LineRow) (files : List File) → is_refused h i r ≡ true → files_behind a i files ≡ files
+no_file_at_refusal a h (DefineFile f) r files large = absurd cc
+no_file_at_refusal a h i r files large = refl
+
+-- ---- a state of an iterator, whose program has the header h
+
+abbrev pub state : Bool → Header → LineRow → Source → Left
+state a h r s = record { fixed = bare h; files = h.files; appends = a; row = r; source = s }
+
+abbrev pub told : Event → Header → Told
+told e h = record { event = e; files = h.files }
+
+-- where no bytes are left
+pub none_left : (a : Left) → a.source.bytes ≡ [] → live_events a ≡ []
+none_left a e = rw (cut_none a.source.notation a.fixed a.source.bytes e) refl
+
+pub none_to_come : (a : Left) → a.source.bytes ≡ [] → events_left a ≡ []
+none_to_come a e = none_left (record a { row = reset_row a.fixed.rules a.row }) e
+
+-- k is the header that was lent, s2 what was left of the instructions
+module _ (a : Bool) (h k : Header) (same : k ≡ h) (r : LineRow) (s s2 : Source) where
+  pub after_fault : (e : Error) → s.bytes ≢ [] → s2.bytes ≡ [] → (instruction_line s.notation k).Fault s.bytes e → (r2 : LineRow)
+      → live_events (state a h r s) ≡ told (fault e) h ∷ events_left (state a h r2 s2)
+  after_fault e some empty f r2 =
+      rw (cut_fault s.notation (bare h) s.bytes e some (rw same at f), none_to_come (state a h r2 s2) empty) refl
+
+  module _ (notation : s2.notation ≡ s.notation) (i : Ins) (front : List ℕ) (parts : s.bytes ≡ front ++ s2.bytes) (spelled : SpellsInstruction s.notation k front i) where
+    cut_is : cut_at s.notation (bare h) s.bytes ≡ (i ∷ (cut_at s.notation (bare h) s2.bytes).0, (cut_at s.notation (bare h) s2.bytes).1)
+    cut_is = cut_some s.notation (bare h) s.bytes i front s2.bytes parts (rw same at spelled)
+
+    pub is_shorter : length s2.bytes < length s.bytes
+    is_shorter = omega (arith, takes_bytes s.notation k front i spelled, length-append front s2.bytes, ap length parts)
+
+    module _ (h2 : Header) (r2 : LineRow) where
+      pub after_quiet : h2 ≡ record h { files = files_behind a i h.files } → is_refused h.rules i r ≡ false → makes_row i ≡ false → r2 ≡ stepped h.rules i r
+          → live_events (state a h r s) ≡ live_events (state a h2 r2 s2)
+      after_quiet behind fits made row_is = rw (cut_is, behind, row_is, notation, fits, made) refl
+
+      pub after_hidden : h2 ≡ record h { files = files_behind a i h.files } → is_refused h.rules i r ≡ false → makes_row i ≡ true → (stepped h.rules i r).tombstone ≡ true
+          → r2 ≡ reset_row h.rules (stepped h.rules i r) → live_events (state a h r s) ≡ live_events (state a h2 r2 s2)
+      after_hidden behind fits made hidden row_is =
+          let was : r.tombstone ≡ true = sym (keeps_hidden h.rules i r made) ∙ hidden in
+          rw (cut_is, behind, row_is, notation, fits, made, was) refl
+
+      pub after_seen : h2 ≡ record h { files = files_behind a i h.files } → is_refused h.rules i r ≡ false → makes_row i ≡ true → (stepped h.rules i r).tombstone ≡ false
+          → r2 ≡ stepped h.rules i r → live_events (state a h r s) ≡ told (row r2) h2 ∷ events_left (state a h2 r2 s2)
+      after_seen behind fits made hidden row_is =
+          let was : r.tombstone ≡ false = sym (keeps_hidden h.rules i r made) ∙ hidden in
+          let files : files_behind a i h.files ≡ h.files = no_file_at_row a i h.files made in
+          rw (cut_is, behind, row_is, notation, fits, made, was, files) refl
+
+      pub after_overflow : h2 ≡ h → is_refused h.rules i r ≡ true → r2 ≡ stepped h.rules i r
+          → live_events (state a h r s) ≡ told (fault AddressOverflow) h2 ∷ events_left (state a h2 r2 s2)
+      after_overflow kept large row_is =
+          let files : files_behind a i h.files ≡ h.files = no_file_at_refusal a h.rules i r h.files large in
+          rw (cut_is, kept, row_is, notation, large, files) refl
+
+-- ---- errors
+
+is_overflow : (e : Error) → (e ≡ AddressOverflow) ⊎ (e ≢ AddressOverflow)
+is_overflow AddressOverflow = inl refl
+is_overflow e = inr (λ p. absurd cc)
+
+pub only_overflow : (e : Error) → (e ≢ OutOfMemory) → ((e ≢ AddressOverflow) → e ≡ OutOfMemory) → e ≡ AddressOverflow
+only_overflow e other is = elim (is_overflow e) [ inl p ↦ p | inr n ↦ absurd (other (is n)) ]

@@ -1,0 +1,17 @@
+-- What a row iterator is, for its callers.
+use Rattle.std.specs.Prelude.{Bool, List}
+use Rattle.gimli_line.specs.declared.row.LineRow.{LineRow}
+use Rattle.gimli_line.specs.Header.{Header}
+use Rattle.gimli_line.specs.Instruction.{File}
+use Rattle.gimli_line.specs.Source.{Source}
+
+pub record Left : Type 0 where
+  -- the header without its files, and these
+  pub fixed : Header
+  pub files : List File
+  -- whether files are added
+  pub appends : Bool
+  -- the registers
+  pub row : LineRow
+  -- the instructions to come
+  pub source : Source

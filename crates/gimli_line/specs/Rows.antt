@@ -1,0 +1,39 @@
+-- What a row iterator still gives.
+use Rattle.std.specs.Prelude.{◌≡◌, ◌⊎◌, ◌<◌, Bool, true, List, [], ◌∷◌, length}
+use Rattle.gimli_core.specs.declared.error.Error.{Error}
+use Rattle.gimli_core.specs.declared.error.Error.TheVariants.{OutOfMemory}
+use Rattle.gimli_line.specs.declared.rows.Step.{Step}
+use Rattle.gimli_line.specs.declared.rows.Step.TheVariants.{Done, Made, More}
+use Rattle.gimli_line.specs.Header.{Header, bare}
+use Rattle.gimli_line.specs.InstructionReading.{cut_at}
+use Rattle.gimli_line.specs.Events.{Event, row, fault}
+use Rattle.gimli_line.specs.Machine.{initial, reset_row}
+use Rattle.gimli_line.specs.Source.{Source}
+use Rattle.gimli_line.specs.Left.{Left}
+use Rattle.gimli_line.specs.Told.{Told, told_from}
+
+-- what is still to come where the registers were reset
+abbrev pub live_events : Left → List Told
+live_events a = let c = cut_at a.source.notation a.fixed a.source.bytes in told_from a.appends a.fixed.rules a.row a.files c.0 c.1
+
+-- what is still to come: rows and faults, each with the files of the header at its place
+abbrev pub events_left : Left → List Told
+events_left a = live_events (record a { row = reset_row a.fixed.rules a.row })
+
+-- an event, and the files that the header has then
+abbrev pub event_of : Event → Left → Told
+event_of e a = record { event = e; files = a.files }
+
+-- rows at the start of a sequence
+abbrev pub started : Bool → Header → Source → Left
+started appends h source = record { fixed = bare h; files = h.files; appends = appends; row = initial h.rules; source = source }
+
+-- what one instruction did
+abbrev pub StepIs : Left → Left → Step → Type 0
+StepIs old new Done = (live_events old ≡ []) × (new.source.bytes ≡ [])
+StepIs old new Made = live_events old ≡ event_of (row new.row) new ∷ events_left new
+StepIs old new More = (live_events old ≡ live_events new) × (length new.source.bytes < length old.source.bytes)
+
+-- a refusal: a fault, which came first; or want of memory for a file, behind which nothing comes
+abbrev pub FaultIs : List Told → Left → Error → Type 0
+FaultIs before new e = ((e ≡ OutOfMemory) × (new.appends ≡ true) × (events_left new ≡ [])) ⊎ (before ≡ event_of (fault e) new ∷ events_left new)
