@@ -1,6 +1,6 @@
 -- What one instruction does to the events that are still to come.
-use Rattle.std.proofs.Common.{◌≡◌, ◌≢◌, ℕ, ◌<◌, Bool, true, false, List, [], ◌∷◌, ◌++◌, length, Option, Some, None, refl, sym, ap, ◌∙◌, append_assoc, arith, ◌⊎◌, inl, inr}
-use Rattle.std.proofs.lemmas.List.{length-append}
+use Rattle.std.proofs.Common.{not, if◌then◌else◌, ◌≡◌, ◌≢◌, ℕ, ◌<◌, Bool, true, false, List, [], ◌∷◌, ◌++◌, length, Option, Some, None, refl, sym, ap, ◌∙◌, append_assoc, arith, ◌⊎◌, inl, inr}
+use Rattle.std.proofs.lemmas.List.{length-append, append-nil}
 use Rattle.gimli_core.specs.Notation.{Notation}
 use Rattle.gimli_core.specs.Line.{Each}
 use Rattle.gimli_core.specs.declared.error.Error.{Error}
@@ -14,9 +14,10 @@ use Rattle.gimli_line.specs.InstructionGrammar.{SpellsInstruction, instruction_l
 use Rattle.gimli_line.specs.InstructionReading.{cut_upto, cut_at}
 use Rattle.gimli_line.specs.Events.{Event, row, fault}
 use Rattle.gimli_line.specs.Machine.{stepped, reset_row, is_refused}
-use Rattle.gimli_line.specs.Told.{Told}
+use Rattle.gimli_line.specs.Told.{Told, told_from, step_events, next_registers}
 use Rattle.gimli_line.specs.Source.{Source}
 use Rattle.gimli_line.specs.Left.{Left}
+use Rattle.gimli_line.specs.Passed.{Passes, ready, events_from, registers_behind, files_from}
 use Rattle.gimli_line.specs.Rows.{live_events, events_left}
 use Rattle.gimli_line.proofs.InstructionLaws.{cuts, one_cut, takes_bytes}
 
@@ -83,12 +84,15 @@ state a h r s = record { fixed = bare h; files = h.files; appends = a; row = r; 
 abbrev pub told : Event → Header → Told
 told e h = record { event = e; files = h.files }
 
+pub source_same : (s t : Source) → s.bytes ≡ t.bytes → s.notation ≡ t.notation → s ≡ t
+source_same s t b n = ap (λ (xs : List ℕ). let u : Source = record { bytes = xs; notation = s.notation } in u) b ∙ ap (λ (m : Notation). let u : Source = record { bytes = t.bytes; notation = m } in u) n
+
 -- where no bytes are left
 pub none_left : (a : Left) → a.source.bytes ≡ [] → live_events a ≡ []
 none_left a e = rw (cut_none a.source.notation a.fixed a.source.bytes e) refl
 
 pub none_to_come : (a : Left) → a.source.bytes ≡ [] → events_left a ≡ []
-none_to_come a e = none_left (record a { row = reset_row a.fixed.rules a.row }) e
+none_to_come a e = none_left (ready a) e
 
 -- k is the header that was lent, s2 what was left of the instructions
 module _ (a : Bool) (h k : Header) (same : k ≡ h) (r : LineRow) (s s2 : Source) where
@@ -103,6 +107,40 @@ module _ (a : Bool) (h k : Header) (same : k ≡ h) (r : LineRow) (s s2 : Source
 
     pub is_shorter : length s2.bytes < length s.bytes
     is_shorter = omega (arith, takes_bytes s.notation k front i spelled, length-append front s2.bytes, ap length parts)
+
+    -- one instruction is passed over
+    pub passes_one : (h2 : Header) (r2 : LineRow) (events : List Event) → h2 ≡ record h { files = files_behind a i h.files } → step_events h.rules i r ≡ events
+        → r2 ≡ next_registers h.rules i r → Passes (state a h r s) (state a h2 r2 s2) events
+    passes_one h2 r2 events behind given next = record {
+      list = i ∷ [];
+      front = front;
+      parts = parts;
+      spelled = (front, [], sym (append-nil front), rw same at spelled, refl);
+      notation = notation;
+      fixed = ap bare behind;
+      appends = refl;
+      given = append-nil (step_events h.rules i r) ∙ given;
+      registers = next;
+      files = ap (λ (k : Header). k.files) behind;
+    }
+
+    module _ (h2 : Header) (r2 : LineRow) (behind : h2 ≡ record h { files = files_behind a i h.files }) (fits : is_refused h.rules i r ≡ false) where
+      pub passes_quiet : makes_row i ≡ false → r2 ≡ stepped h.rules i r → Passes (state a h r s) (state a h2 r2 s2) []
+      passes_quiet made row_is = passes_one h2 r2 [] behind (rw (fits, made) refl) (rw (fits, made) row_is)
+
+      pub passes_hidden : makes_row i ≡ true → (stepped h.rules i r).tombstone ≡ true → r2 ≡ reset_row h.rules (stepped h.rules i r) → Passes (state a h r s) (state a h2 r2 s2) []
+      passes_hidden made hidden row_is =
+          let was : r.tombstone ≡ true = sym (keeps_hidden h.rules i r made) ∙ hidden in
+          passes_one h2 r2 [] behind (rw (fits, made, was) refl) (rw (fits, made) row_is)
+
+      pub passes_seen : makes_row i ≡ true → (stepped h.rules i r).tombstone ≡ false → r2 ≡ stepped h.rules i r
+          → Passes (state a h r s) (ready (state a h2 r2 s2)) (row r2 ∷ [])
+      passes_seen made seen row_is =
+          let was : r.tombstone ≡ false = sym (keeps_hidden h.rules i r made) ∙ seen in
+          let rules : h2.rules ≡ h.rules = ap (λ (k : Header). k.rules) behind in
+          let given : step_events h.rules i r ≡ row r2 ∷ [] =
+          rw (fits, made) (ap (λ (b : Bool). if not b then row (stepped h.rules i r) ∷ [] else []) was ∙ ap (λ (q : LineRow). row q ∷ []) (sym row_is)) in
+          passes_one h2 (reset_row h2.rules r2) (row r2 ∷ []) behind given (rw (fits, made, rules, row_is) refl)
 
     module _ (h2 : Header) (r2 : LineRow) where
       pub after_quiet : h2 ≡ record h { files = files_behind a i h.files } → is_refused h.rules i r ≡ false → makes_row i ≡ false → r2 ≡ stepped h.rules i r
@@ -136,3 +174,57 @@ is_overflow e = inr (λ p. absurd cc)
 
 pub only_overflow : (e : Error) → (e ≢ OutOfMemory) → ((e ≢ AddressOverflow) → e ≡ OutOfMemory) → e ≡ AddressOverflow
 only_overflow e other is = elim (is_overflow e) [ inl p ↦ p | inr n ↦ absurd (other (is n)) ]
+
+-- ---- passing over several instructions
+
+-- where nothing was taken
+pub passes_none : (a b : Left) → b ≡ a → Passes a b []
+passes_none a b same = record {
+  list = [];
+  front = [];
+  parts = ap (λ (c : Left). c.source.bytes) (sym same);
+  spelled = refl;
+  notation = ap (λ (c : Left). c.source.notation) same;
+  fixed = ap (λ (c : Left). c.fixed) same;
+  appends = ap (λ (c : Left). c.appends) same;
+  given = refl;
+  registers = ap (λ (c : Left). c.row) same;
+  files = ap (λ (c : Left). c.files) same;
+}
+
+each_joined : (n : Notation) (h : Header) (front behind : List ℕ) (list more : List Ins) → Each (SpellsInstruction n h) front list → Each (SpellsInstruction n h) behind more
+    → Each (SpellsInstruction n h) (front ++ behind) (list ++ more)
+each_joined n h front behind [] more s t = rw s t
+each_joined n h front behind (i ∷ list) more s t =
+    (s.0, s.1 ++ behind, ap (λ (xs : List ℕ). xs ++ behind) s.2 ∙ append_assoc s.0 s.1 behind, s.3, each_joined n h s.1 behind list more s.4 t)
+
+events_joined : (h : Rules) (r : LineRow) (list more : List Ins) → events_from h r (list ++ more) ≡ events_from h r list ++ events_from h (registers_behind h r list) more
+events_joined h r [] more = refl
+events_joined h r (i ∷ list) more =
+    ap (λ (es : List Event). step_events h i r ++ es) (events_joined h (next_registers h i r) list more)
+    ∙ sym (append_assoc (step_events h i r) (events_from h (next_registers h i r) list) (events_from h (registers_behind h (next_registers h i r) list) more))
+
+registers_joined : (h : Rules) (r : LineRow) (list more : List Ins) → registers_behind h r (list ++ more) ≡ registers_behind h (registers_behind h r list) more
+registers_joined h r [] more = refl
+registers_joined h r (i ∷ list) more = registers_joined h (next_registers h i r) list more
+
+files_joined : (a : Bool) (files : List File) (list more : List Ins) → files_from a files (list ++ more) ≡ files_from a (files_from a files list) more
+files_joined a files [] more = refl
+files_joined a files (i ∷ list) more = files_joined a (files_behind a i files) list more
+
+pub passes_both : (a b c : Left) (es fs : List Event) → Passes a b es → Passes b c fs → Passes a c (es ++ fs)
+passes_both a b c es fs p q = record {
+  list = p.list ++ q.list;
+  front = p.front ++ q.front;
+  parts = p.parts ∙ ap (λ (xs : List ℕ). p.front ++ xs) q.parts ∙ sym (append_assoc p.front q.front c.source.bytes);
+  spelled = each_joined a.source.notation a.fixed p.front q.front p.list q.list p.spelled (rw (p.notation, p.fixed) at q.spelled);
+  notation = q.notation ∙ p.notation;
+  fixed = q.fixed ∙ p.fixed;
+  appends = q.appends ∙ p.appends;
+  given =
+      events_joined a.fixed.rules a.row p.list q.list
+      ∙ ap (λ (xs : List Event). xs ++ events_from a.fixed.rules (registers_behind a.fixed.rules a.row p.list) q.list) p.given
+      ∙ ap (λ (xs : List Event). es ++ xs) (rw (p.fixed, p.registers) at q.given);
+  registers = rw (p.fixed, p.registers) at q.registers ∙ sym (registers_joined a.fixed.rules a.row p.list q.list);
+  files = rw (p.appends, p.files) at q.files ∙ sym (files_joined a.appends a.files p.list q.list);
+}

@@ -18,4 +18,5 @@ pub mod Machine
 pub mod Columns
 pub mod Told
 pub mod Left
+pub mod Passed
 pub mod Rows

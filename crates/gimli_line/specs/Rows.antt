@@ -7,10 +7,11 @@ use Rattle.gimli_line.specs.declared.rows.Step.TheVariants.{Done, Made, More}
 use Rattle.gimli_line.specs.Header.{Header, bare}
 use Rattle.gimli_line.specs.InstructionReading.{cut_at}
 use Rattle.gimli_line.specs.Events.{Event, row, fault}
-use Rattle.gimli_line.specs.Machine.{initial, reset_row}
+use Rattle.gimli_line.specs.Machine.{initial}
 use Rattle.gimli_line.specs.Source.{Source}
 use Rattle.gimli_line.specs.Left.{Left}
 use Rattle.gimli_line.specs.Told.{Told, told_from}
+use Rattle.gimli_line.specs.Passed.{ready, Passes}
 
 -- what is still to come where the registers were reset
 abbrev pub live_events : Left → List Told
@@ -18,7 +19,7 @@ live_events a = let c = cut_at a.source.notation a.fixed a.source.bytes in told_
 
 -- what is still to come: rows and faults, each with the files of the header at its place
 abbrev pub events_left : Left → List Told
-events_left a = live_events (record a { row = reset_row a.fixed.rules a.row })
+events_left a = live_events (ready a)
 
 -- an event, and the files that the header has then
 abbrev pub event_of : Event → Left → Told
@@ -30,9 +31,9 @@ started appends h source = record { fixed = bare h; files = h.files; appends = a
 
 -- what one instruction did
 abbrev pub StepIs : Left → Left → Step → Type 0
-StepIs old new Done = (live_events old ≡ []) × (new.source.bytes ≡ [])
-StepIs old new Made = live_events old ≡ event_of (row new.row) new ∷ events_left new
-StepIs old new More = (live_events old ≡ live_events new) × (length new.source.bytes < length old.source.bytes)
+StepIs old new Done = (live_events old ≡ []) × (new.source.bytes ≡ []) × Passes old new []
+StepIs old new Made = (live_events old ≡ event_of (row new.row) new ∷ events_left new) × Passes old (ready new) (row new.row ∷ [])
+StepIs old new More = (live_events old ≡ live_events new) × (length new.source.bytes < length old.source.bytes) × Passes old new []
 
 -- a refusal: a fault, which came first; or want of memory for a file, behind which nothing comes
 abbrev pub FaultIs : List Told → Left → Error → Type 0

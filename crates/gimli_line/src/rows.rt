@@ -63,6 +63,7 @@ impl<R: Reader, P: LineProgram<R>> LineRows<R, P> {
     ghost use Rattle.std.specs.Io.BufRead.{Rests};
     ghost use Rattle.gimli_line.specs.Events.{row as row_event};
     ghost use Rattle.gimli_line.specs.Header.{bare};
+    ghost use Rattle.gimli_line.specs.Passed.{ready, Passes};
     ghost use Rattle.gimli_line.specs.Rows.{events_left, live_events, event_of, started, StepIs, FaultIs};
 
     /// The rows of these instructions of a program, from the start of a sequence on.
@@ -111,6 +112,9 @@ impl<R: Reader, P: LineProgram<R>> LineRows<R, P> {
             ((events_left self.old ≡ []) × (events_left self.new ≡ []))) }
         ensures err { IfErr result (FaultIs (events_left self.old) self.new) }
         ensures fixed { self.new.fixed ≡ self.old.fixed }
+        ensures passes { IfOk result (λ found. MatchBool found
+            (Passes (ready self.old) (ready self.new) (row_event self.new.row ∷ []))
+            ((self.new.source.bytes ≡ []) × Passes (ready self.old) self.new [])) }
     {
         self.row.reset(self.program.header());
         'instructions: loop {

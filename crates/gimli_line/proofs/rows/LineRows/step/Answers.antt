@@ -1,8 +1,8 @@
-use Rattle.std.proofs.Common.{inl, inr, refl, sym, ap, ◌∙◌}
+use Rattle.std.proofs.Common.{◌≡◌, inl, inr, refl, sym, ap, ◌∙◌}
 use Rattle.gimli_line.specs.Header.{Header}
 use Rattle.gimli_line.specs.Machine.{reset_row}
 use Rattle.gimli_line.specs.Source.{Source}
-use Rattle.gimli_line.proofs.Runs.{state, none_left, none_to_come, after_fault, after_quiet, after_hidden, after_seen, after_overflow, is_shorter, only_overflow}
+use Rattle.gimli_line.proofs.Runs.{state, none_left, none_to_come, after_fault, after_quiet, after_hidden, after_seen, after_overflow, is_shorter, only_overflow, passes_none, passes_quiet, passes_hidden, passes_seen, source_same}
 use Rattle.gimli_line.proofs.rows.LineRows.step.Goals as goal
 
 pub returns-in-Err-clause-err : goal.returns-in-Err-clause-err
@@ -13,7 +13,11 @@ returns-in-Err-clause-err g c =
 pub returns-in-Ok-None-clause-ok : goal.returns-in-Ok-None-clause-ok
 returns-in-Ok-None-clause-ok g c =
     let n = rw c.in-Ok-None.field-0-is at c.in-Ok-None.ensures.next in
-    rw (← c.self.view_is) (none_left _ n.0, n.1)
+    let before = state g.P.LineProgram.appends (g.P.LineProgram.meaning c.self.inside.program) c.self.inside.row c.self.inside.instructions in
+    let after = state g.P.LineProgram.appends (g.P.LineProgram.meaning c.self.inside.program) c.self.inside.row c.next_instruction.new.self in
+    let nothing : c.next_instruction.new.self ≡ c.self.inside.instructions =
+    source_same _ _ (n.1 ∙ sym n.0) c.in-Ok-None.ensures.notation in
+    rw (← c.self.view_is) (none_left _ n.0, n.1, passes_none before after (ap (λ (s : Source). state g.P.LineProgram.appends (g.P.LineProgram.meaning c.self.inside.program) c.self.inside.row s) nothing))
 
 pub returns-then-not-made-clause-ok : goal.returns-then-not-made-clause-ok
 returns-then-not-made-clause-ok g c =
@@ -21,13 +25,17 @@ returns-then-not-made-clause-ok g c =
     rw (← c.self.view_is) (
       after_quiet g.P.LineProgram.appends _ _ c.header.ensures _ _ _ c.in-Ok-Some.ensures.notation _ n.0 n.1 n.2 _ _ c.in-Ok.ensures.files c.in-Ok.ensures.fits (sym c.in-Ok.ensures.made ∙ c.if-not-made.true) c.in-Ok.ensures.step,
       is_shorter g.P.LineProgram.appends _ _ c.header.ensures c.self.inside.row _ _ c.in-Ok-Some.ensures.notation _ n.0 n.1 n.2,
+      passes_quiet g.P.LineProgram.appends _ _ c.header.ensures _ _ _ c.in-Ok-Some.ensures.notation _ n.0 n.1 n.2 _ _ c.in-Ok.ensures.files c.in-Ok.ensures.fits (sym c.in-Ok.ensures.made ∙ c.if-not-made.true) c.in-Ok.ensures.step,
     )
 
 pub returns-then-not-is_hidden-clause-ok : goal.returns-then-not-is_hidden-clause-ok
 returns-then-not-is_hidden-clause-ok g c =
     let n = rw c.in-Ok-Some.field-0-is at c.in-Ok-Some.ensures.next in
     let seen = rw c.in-Ok.ensures.step at (sym c.is_hidden.ensures ∙ c.if-not-is_hidden.true) in
-    rw (← c.self.view_is) (after_seen g.P.LineProgram.appends _ _ c.header.ensures _ _ _ c.in-Ok-Some.ensures.notation _ n.0 n.1 n.2 _ _ c.in-Ok.ensures.files c.in-Ok.ensures.fits (sym c.in-Ok.ensures.made ∙ c.if-not-made.false) seen c.in-Ok.ensures.step)
+    rw (← c.self.view_is) (
+      after_seen g.P.LineProgram.appends _ _ c.header.ensures _ _ _ c.in-Ok-Some.ensures.notation _ n.0 n.1 n.2 _ _ c.in-Ok.ensures.files c.in-Ok.ensures.fits (sym c.in-Ok.ensures.made ∙ c.if-not-made.false) seen c.in-Ok.ensures.step,
+      passes_seen g.P.LineProgram.appends _ _ c.header.ensures _ _ _ c.in-Ok-Some.ensures.notation _ n.0 n.1 n.2 _ _ c.in-Ok.ensures.files c.in-Ok.ensures.fits (sym c.in-Ok.ensures.made ∙ c.if-not-made.false) seen c.in-Ok.ensures.step,
+    )
 
 pub returns-clause-ok : goal.returns-clause-ok
 returns-clause-ok g c =
@@ -37,6 +45,7 @@ returns-clause-ok g c =
     rw (← c.self.view_is) (
       after_hidden g.P.LineProgram.appends _ _ c.header.ensures _ _ _ c.in-Ok-Some.ensures.notation _ n.0 n.1 n.2 _ _ c.in-Ok.ensures.files c.in-Ok.ensures.fits (sym c.in-Ok.ensures.made ∙ c.if-not-made.false) hidden again,
       is_shorter g.P.LineProgram.appends _ _ c.header.ensures c.self.inside.row _ _ c.in-Ok-Some.ensures.notation _ n.0 n.1 n.2,
+      passes_hidden g.P.LineProgram.appends _ _ c.header.ensures _ _ _ c.in-Ok-Some.ensures.notation _ n.0 n.1 n.2 _ _ c.in-Ok.ensures.files c.in-Ok.ensures.fits (sym c.in-Ok.ensures.made ∙ c.if-not-made.false) hidden again,
     )
 
 pub returns-in-OutOfMemory-clause-err : goal.returns-in-OutOfMemory-clause-err
