@@ -14,3 +14,4 @@ pub mod LookUps
 pub mod Operands
 pub mod Runs
 pub mod ToldLaws
+pub mod SequenceLaws

@@ -14,7 +14,7 @@ use Rattle.gimli_line.specs.InstructionGrammar.{SpellsInstruction, instruction_l
 use Rattle.gimli_line.specs.InstructionReading.{cut_upto, cut_at}
 use Rattle.gimli_line.specs.Events.{Event, row, fault}
 use Rattle.gimli_line.specs.Machine.{stepped, reset_row, is_refused}
-use Rattle.gimli_line.specs.Told.{Told, told_from, step_events, next_registers}
+use Rattle.gimli_line.specs.Told.{Told, step_events, next_registers}
 use Rattle.gimli_line.specs.Source.{Source}
 use Rattle.gimli_line.specs.Left.{Left}
 use Rattle.gimli_line.specs.Passed.{Passes, ready, events_from, registers_behind, files_from}
@@ -198,7 +198,7 @@ each_joined n h front behind [] more s t = rw s t
 each_joined n h front behind (i ∷ list) more s t =
     (s.0, s.1 ++ behind, ap (λ (xs : List ℕ). xs ++ behind) s.2 ∙ append_assoc s.0 s.1 behind, s.3, each_joined n h s.1 behind list more s.4 t)
 
-events_joined : (h : Rules) (r : LineRow) (list more : List Ins) → events_from h r (list ++ more) ≡ events_from h r list ++ events_from h (registers_behind h r list) more
+pub events_joined : (h : Rules) (r : LineRow) (list more : List Ins) → events_from h r (list ++ more) ≡ events_from h r list ++ events_from h (registers_behind h r list) more
 events_joined h r [] more = refl
 events_joined h r (i ∷ list) more =
     ap (λ (es : List Event). step_events h i r ++ es) (events_joined h (next_registers h i r) list more)

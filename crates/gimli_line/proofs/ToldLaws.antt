@@ -18,7 +18,7 @@ given_row : (h : Rules) (past : List Ins) (i : Ins) → makes_row i ≡ true →
 given_row h past i loud true hides = refl
 given_row h past i loud false seen = ap (λ r. row r ∷ []) (row_is h past i loud seen)
 
-gives : (h : Rules) (past : List Ins) (i : Ins) (o m : Bool) → overflows h past i ≡ o → makes_row i ≡ m
+pub gives : (h : Rules) (past : List Ins) (i : Ins) (o m : Bool) → overflows h past i ≡ o → makes_row i ≡ m
     → step_events h i (registers h past) ≡ events_at h past i
 gives h past i true m large loud = rw large refl
 gives h past i false true fits loud = rw (fits, loud) (given_row h past i loud (is_hidden h past) refl)
@@ -28,7 +28,7 @@ gives h past i false false fits quiet = rw (fits, quiet) refl
 goes_to : (h : Rules) (i : Ins) (r : LineRow) (b : Bool) → (is_refused h i r || makes_row i) ≡ b → next_registers h i r ≡ (if b then reset_row h (stepped h i r) else stepped h i r)
 goes_to h i r b is = ap (λ (b : Bool). if b then reset_row h (stepped h i r) else stepped h i r) is
 
-goes : (h : Rules) (past : List Ins) (i : Ins) (o m : Bool) → overflows h past i ≡ o → makes_row i ≡ m → next_registers h i (registers h past) ≡ registers h (i ∷ past)
+pub goes : (h : Rules) (past : List Ins) (i : Ins) (o m : Bool) → overflows h past i ≡ o → makes_row i ≡ m → next_registers h i (registers h past) ≡ registers h (i ∷ past)
 goes h past i true m large loud = goes_to h i (registers h past) true (rw large refl) ∙ goes_past h past i large
 goes h past i false true fits loud = goes_to h i (registers h past) true (rw (fits, loud) refl) ∙ starts_anew h past i loud
 goes h past i false false fits quiet = goes_to h i (registers h past) false (rw (fits, quiet) refl) ∙ goes_on h past i fits quiet

@@ -20,3 +20,5 @@ pub mod Told
 pub mod Left
 pub mod Passed
 pub mod Rows
+pub mod Sequences
+pub mod Cutter

@@ -245,8 +245,10 @@ impl<R: Reader> Model for LineInstructions<R> {
 impl<R: Reader> LineInstructions<R> {
     ghost use Rattle.std.specs.Prelude.{◌≡◌, ◌≢◌, [], ◌++◌, List, ℕ, IfOk, IfErr, MatchOption};
     ghost use Rattle.gimli_line.specs.Instruction.{ins_seen};
+    ghost use Rattle.std.specs.Prelude.{Ok};
     ghost use Rattle.gimli_line.specs.InstructionGrammar.{SpellsInstruction, instruction_line};
     ghost use Rattle.gimli_line.specs.Machine.{IsAllowed};
+    ghost use Rattle.gimli_line.specs.Source.{in_front};
 
     /// The instructions of these bytes.
     pub(crate) fn new(input: R) -> Self
@@ -267,6 +269,17 @@ impl<R: Reader> LineInstructions<R> {
         ensures { self.new ≡ record self.old { bytes = [] } }
     {
         self.input.empty();
+    }
+
+    /// The instructions in front of a rest of these.
+    pub(crate) fn remove_trailing(&self, rest: &LineInstructions<R>) -> Result<LineInstructions<R>>
+        requires { (front : List ℕ) × (self.now.bytes ≡ front ++ rest.now.bytes) }
+        ensures { result ≡ Ok (in_front self.now rest.now) }
+    {
+        let len = rest.input.offset_from(&self.input);
+        let mut input = self.input;
+        input.truncate(len)?;
+        Ok(LineInstructions { input })
     }
 
     /// Takes the next instruction, by the header of its program; None where no bytes are left. Refused as the

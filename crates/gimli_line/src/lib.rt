@@ -11,6 +11,7 @@ mod parse;
 mod program;
 mod row;
 mod rows;
+mod sequences;
 mod tables;
 
 pub use debug_line::DebugLine;
@@ -20,3 +21,4 @@ pub use instruction::{LineInstruction, LineInstructions};
 pub use program::{CompleteLineProgram, IncompleteLineProgram, LineProgram};
 pub use row::{ColumnType, LineRow};
 pub use rows::{LineRows, OneShotLineRows, ResumedLineRows};
+pub use sequences::LineSequence;

@@ -105,8 +105,30 @@ impl<R: Reader, P: LineProgram<R>> LineRows<R, P> {
         }
     }
 
+    /// The row, as it is.
+    pub(crate) fn row(&self) -> &LineRow
+        ensures { result.now ≡ self.now.row }
+    {
+        &self.row
+    }
+
+    /// The instructions to come.
+    pub(crate) fn instructions(&self) -> &LineInstructions<R>
+        ensures { result.now ≡ self.now.source }
+    {
+        &self.instructions
+    }
+
+    /// The program, with the files that were defined so far.
+    pub(crate) fn into_program(self) -> P
+        ensures header { bare (P.meaning result) ≡ self.fixed }
+        ensures files { (P.meaning result).files ≡ self.files }
+    {
+        self.program
+    }
+
     /// Executes instructions up to the next row that isn't hidden, and says whether there is one.
-    fn advance(&mut self) -> Result<bool>
+    pub(crate) fn advance(&mut self) -> Result<bool>
         ensures row { IfOk result (λ found. MatchBool found
             (events_left self.old ≡ event_of (row_event self.new.row) self.new ∷ events_left self.new)
             ((events_left self.old ≡ []) × (events_left self.new ≡ []))) }
@@ -184,13 +206,14 @@ impl<'program, R: Reader> LineRows<R, &'program CompleteLineProgram<R>> {
 }
 
 impl<R: Reader> IncompleteLineProgram<R> {
-    ghost use Rattle.std.specs.Prelude.{true};
-    ghost use Rattle.gimli_line.specs.Rows.{events_left};
+    ghost use Rattle.std.specs.Prelude.{◌≡◌, true};
+    ghost use Rattle.gimli_line.specs.Rows.{events_left, started};
     ghost use Rattle.gimli_line.specs.Told.{Tells};
 
     /// The rows of the program, from its start to its end.
     pub fn rows(self) -> OneShotLineRows<R>
-        ensures { Tells self.notation true self.meaning self.meaning.program (events_left result) }
+        ensures told { Tells self.notation true self.meaning self.meaning.program (events_left result) }
+        ensures start { result ≡ started true self.meaning (record { bytes = self.meaning.program; notation = self.notation }) }
     {
         let instructions = self.header.instructions();
         LineRows::start(self, instructions)

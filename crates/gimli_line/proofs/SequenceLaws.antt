@@ -1,0 +1,344 @@
+-- Cutting a program into sequences gives its rows through the last end.
+use Rattle.std.proofs.Common.{◌<◌, ◌≡◌, ℕ, ◌-◌, Bool, true, false, if◌then◌else◌, ◌||◌, List, [], ◌∷◌, ◌++◌, length, take, map, Option, Some, None, refl, sym, ap, ◌∙◌, subst, append_assoc, arith}
+use Rattle.std.specs.List.{AllByRecursion, list_any, flat_map}
+use Rattle.std.specs.Option.{unwrap_or}
+use Rattle.std.proofs.lemmas.List.{length-append, append-nil, map-append, take_at}
+use Rattle.gimli_core.specs.Notation.{Notation}
+use Rattle.gimli_core.specs.Line.{Each}
+use Rattle.gimli_core.specs.declared.error.Error.{Error}
+use Rattle.gimli_line.specs.declared.row.LineRow.{LineRow}
+use Rattle.gimli_line.specs.declared.instruction.LineInstruction.TheVariants.{DefineFile}
+use Rattle.gimli_line.specs.Rules.{Rules}
+use Rattle.gimli_line.specs.Header.{Header, bare, files_behind}
+use Rattle.gimli_line.specs.Instruction.{Ins, File, makes_row}
+use Rattle.gimli_line.specs.InstructionGrammar.{SpellsInstruction}
+use Rattle.gimli_line.specs.InstructionReading.{cut_at}
+use Rattle.gimli_line.specs.Pointer.{overflows}
+use Rattle.gimli_line.specs.Events.{Event, row, fault, events_at, events_behind, end_events, program_events, defined_files, ends_sequence, through_last_end}
+use Rattle.gimli_line.specs.Machine.{initial, reset_row}
+use Rattle.gimli_line.specs.Told.{Told, told_at, told_from, step_events, next_registers}
+use Rattle.gimli_line.specs.Source.{Source, in_front}
+use Rattle.gimli_line.specs.Left.{Left}
+use Rattle.gimli_line.specs.Passed.{Passes, ready, events_from, registers_behind, files_from}
+use Rattle.gimli_line.specs.Rows.{live_events, events_left, started, event_of}
+use Rattle.gimli_line.specs.Sequences.{Part, events_of, resumed, first_address, IsSequence, behind, AreSequences, HasFirstFault}
+use Rattle.gimli_line.specs.Cutter.{Cut, with_row}
+use Rattle.gimli_line.proofs.Backwards.{registers}
+use Rattle.gimli_line.proofs.ToldLaws.{gives, goes}
+use Rattle.gimli_line.proofs.InstructionLaws.{cuts, one_cut, takes_bytes}
+use Rattle.gimli_line.proofs.Runs.{cut_some, bare_cuts, passes_none, passes_both, events_joined}
+
+-- ---- events alone
+
+events_of_at : (files : List File) (es : List Event) → events_of (told_at files es) ≡ es
+events_of_at files [] = refl
+events_of_at files (e ∷ es) = ap (λ (xs : List Event). e ∷ xs) (events_of_at files es)
+
+pub events_told : (a : Bool) (h : Rules) (r : LineRow) (files : List File) (list : List Ins) (end : Option Error)
+    → events_of (told_from a h r files list end) ≡ events_from h r list ++ end_events end
+events_told a h r files [] end = events_of_at files (end_events end)
+events_told a h r files (i ∷ list) end =
+    map-append (λ (t : Told). t.event) (told_at files (step_events h i r)) (told_from a h (next_registers h i r) (files_behind a i files) list end)
+    ∙ ap (λ (xs : List Event). xs ++ events_of (told_from a h (next_registers h i r) (files_behind a i files) list end)) (events_of_at files (step_events h i r))
+    ∙ ap (λ (xs : List Event). step_events h i r ++ xs) (events_told a h (next_registers h i r) (files_behind a i files) list end)
+    ∙ sym (append_assoc (step_events h i r) (events_from h (next_registers h i r) list) (end_events end))
+
+-- the machine's events are those found by looking back
+from_registers : (h : Rules) (past list : List Ins) → events_from h (registers h past) list ≡ events_behind h past list
+from_registers h past [] = refl
+from_registers h past (i ∷ list) =
+    rw (gives h past i (overflows h past i) (makes_row i) refl refl, goes h past i (overflows h past i) (makes_row i) refl refl)
+    (ap (λ (xs : List Event). events_at h past i ++ xs) (from_registers h (i ∷ past) list))
+
+pub from_start : (h : Rules) (list : List Ins) → events_from h (initial h) list ≡ events_behind h [] list
+from_start h list = from_registers h [] list
+
+-- the files at the end of a program
+files_on : (files : List File) (past : List Ins) (i : Ins) → files_behind true i (defined_files files past) ≡ defined_files files (i ∷ past)
+files_on files past (DefineFile f) = refl
+files_on files past i = refl
+
+files_at_end : (files : List File) (past list : List Ins) → files_from true (defined_files files past) list ≡ defined_files files (behind past list)
+files_at_end files past [] = refl
+files_at_end files past (i ∷ list) = rw (files_on files past i) (files_at_end files (i ∷ past) list)
+
+-- ---- through the last end
+
+abbrev AreOpen : List LineRow → Type 0
+AreOpen rows = AllByRecursion (λ r. r.end_sequence ≡ false) rows
+
+none_ends : (rows : List LineRow) → AreOpen rows → list_any ends_sequence (map row rows) ≡ false
+none_ends [] o = refl
+none_ends (r ∷ rows) o = rw o.0 (none_ends rows o.1)
+
+through_none : (events : List Event) → list_any ends_sequence events ≡ false → through_last_end events ≡ []
+through_none [] none = refl
+through_none (e ∷ events) none = rw none refl
+
+one_ends : (rows : List LineRow) (last : LineRow) (behind : List Event) → last.end_sequence ≡ true
+    → list_any ends_sequence ((map row rows ++ row last ∷ []) ++ behind) ≡ true
+one_ends [] last behind closed = rw closed refl
+one_ends (r ∷ rows) last behind closed = at_test r.end_sequence (one_ends rows last behind closed)
+  where
+    at_test : (b : Bool) → {c : Bool} → c ≡ true → (b || c) ≡ true
+    at_test true e = refl
+    at_test false e = e
+
+through_one : (rows : List LineRow) (last : LineRow) (behind : List Event) → last.end_sequence ≡ true
+    → through_last_end ((map row rows ++ row last ∷ []) ++ behind) ≡ (map row rows ++ row last ∷ []) ++ through_last_end behind
+through_one [] last behind closed = rw (one_ends [] last behind closed) refl
+through_one (r ∷ rows) last behind closed =
+    rw (one_ends (r ∷ rows) last behind closed) (ap (λ (xs : List Event). row r ∷ xs) (through_one rows last behind closed))
+
+-- ---- sequences that are closed
+
+-- a sequence whose instructions give these events
+record Closed (h : Header) (s : Part) (events : List Event) : Type 0 where
+  list : List Ins
+  cut : cut_at s.source.notation (bare h) s.source.bytes ≡ (list, None)
+  given : events_from h.rules (initial h.rules) list ≡ events
+  is : IsSequence events s.start s.end
+
+abbrev AllClosed : Header → List Part → List Event → Type 0
+AllClosed h [] joined = joined ≡ []
+AllClosed h (s ∷ parts) joined = (events : List Event) × (rest : List Event) × (joined ≡ events ++ rest) × Closed h s events × AllClosed h parts rest
+
+closed_push : (h : Header) (parts : List Part) (joined : List Event) (s : Part) (events : List Event) → AllClosed h parts joined → Closed h s events
+    → AllClosed h (parts ++ s ∷ []) (joined ++ events)
+closed_push h [] joined s events all one = (events, [], rw all (sym (append-nil events)), one, refl)
+closed_push h (t ∷ parts) joined s events all one =
+    (all.0, all.1 ++ events, ap (λ (xs : List Event). xs ++ events) all.2 ∙ append_assoc all.0 all.1 events, all.3, closed_push h parts all.1 s events all.4 one)
+
+through_events : (events : List Event) (start end : ℕ) → IsSequence events start end → (behind : List Event) → through_last_end (events ++ behind) ≡ events ++ through_last_end behind
+through_events events start end is behind = rw is.given (through_one is.rows is.last behind is.ended)
+
+through_closed : (h : Header) (parts : List Part) (joined : List Event) → AllClosed h parts joined → (behind : List Event)
+    → through_last_end (joined ++ behind) ≡ joined ++ through_last_end behind
+through_closed h [] joined all behind = rw all refl
+through_closed h (s ∷ parts) joined all behind =
+    ap (λ (xs : List Event). through_last_end (xs ++ behind)) all.2
+    ∙ ap through_last_end (append_assoc all.0 all.1 behind)
+    ∙ through_events all.0 s.start s.end all.3.is (all.1 ++ behind)
+    ∙ ap (λ (xs : List Event). all.0 ++ xs) (through_closed h parts all.1 all.4 behind)
+    ∙ sym (append_assoc all.0 all.1 (through_last_end behind))
+    ∙ ap (λ (xs : List Event). xs ++ through_last_end behind) (sym all.2)
+
+-- what is resumed over the header with whatever files
+module _ (h c : Header) (files : List File) (c_is : c ≡ record h { files = files }) where
+  resumed_is : (s : Part) (events : List Event) → Closed h s events → resumed c s ≡ events
+  resumed_is s events one =
+      rw (c_is, one.cut) (events_told false h.rules (initial h.rules) files one.list None ∙ append-nil (events_from h.rules (initial h.rules) one.list) ∙ one.given)
+
+  all_sequences : (parts : List Part) (joined : List Event) → AllClosed h parts joined → AllByRecursion (λ s. IsSequence (resumed c s) s.start s.end) parts
+  all_sequences [] joined all = tt
+  all_sequences (s ∷ parts) joined all =
+      (subst (λ (es : List Event). IsSequence es s.start s.end) (sym (resumed_is s all.0 all.3)) all.3.is, all_sequences parts all.1 all.4)
+
+  all_joined : (parts : List Part) (joined : List Event) → AllClosed h parts joined → flat_map (resumed c) parts ≡ joined
+  all_joined [] joined all = sym all
+  all_joined (s ∷ parts) joined all = rw (resumed_is s all.0 all.3, all_joined parts all.1 all.4) (sym all.2)
+
+-- ---- the state of cutting behind some rows
+
+abbrev pub first_of : List LineRow → Option ℕ
+first_of [] = None
+first_of (r ∷ rows) = Some r.address
+
+abbrev began : Header → List File → Source → Left
+began h files source = record { fixed = bare h; files = files; appends = true; row = initial h.rules; source = source }
+
+pub record Cutting (h : Header) (k : Cut) (done : List LineRow) (place : Left) : Type 0 where
+  joined : List Event
+  rows : List LineRow
+  files : List File
+  done_is : map row done ≡ joined ++ map row rows
+  closed : AllClosed h k.parts joined
+  unended : AreOpen rows
+  start_is : k.start ≡ first_of rows
+  passes : Passes (began h files k.source) place (map row rows)
+
+pub starts_cutting : (h : Header) (source : Source) → Cutting h (record { parts = []; source = source; start = None }) [] (ready (started true h source))
+starts_cutting h source = record {
+  joined = [];
+  rows = [];
+  files = h.files;
+  done_is = refl;
+  closed = refl;
+  unended = tt;
+  start_is = refl;
+  passes = passes_none (began h h.files source) (ready (started true h source)) refl;
+}
+
+open_push : (rows : List LineRow) (r : LineRow) → AreOpen rows → r.end_sequence ≡ false → AreOpen (rows ++ r ∷ [])
+open_push [] r o e = (e, tt)
+open_push (q ∷ rows) r o e = (o.0, open_push rows r o.1 e)
+
+first_push : (rows : List LineRow) (r : LineRow) (start : Option ℕ) → start ≡ first_of rows → Some (unwrap_or start r.address) ≡ first_of (rows ++ r ∷ [])
+first_push [] r start is = rw is refl
+first_push (q ∷ rows) r start is = rw is refl
+
+first_is : (rows : List LineRow) (start : Option ℕ) → start ≡ first_of rows → unwrap_or start 0 ≡ first_address rows
+first_is [] start is = rw is refl
+first_is (q ∷ rows) start is = rw is refl
+
+anew_at_end : (rules : Rules) (r : LineRow) → r.end_sequence ≡ true → reset_row rules r ≡ initial rules
+anew_at_end rules r e = rw e refl
+
+left_same : (a b : Left) → a.fixed ≡ b.fixed → a.files ≡ b.files → a.appends ≡ b.appends → a.row ≡ b.row → a.source ≡ b.source → a ≡ b
+left_same a b f fs p r s =
+    ap (λ (x : Header). let l : Left = record a { fixed = x } in l) f
+    ∙ ap (λ (x : List File). let l : Left = record a { fixed = b.fixed; files = x } in l) fs
+    ∙ ap (λ (x : Bool). let l : Left = record { fixed = b.fixed; files = b.files; appends = x; row = a.row; source = a.source } in l) p
+    ∙ ap (λ (x : LineRow). let l : Left = record { fixed = b.fixed; files = b.files; appends = b.appends; row = x; source = a.source } in l) r
+    ∙ ap (λ (x : Source). let l : Left = record { fixed = b.fixed; files = b.files; appends = b.appends; row = b.row; source = x } in l) s
+
+front_at : (bytes front rest : List ℕ) → bytes ≡ front ++ rest → take (length bytes - length rest) bytes ≡ front
+front_at bytes front rest parts = rw parts (take_at front rest (length (front ++ rest) - length rest) (omega (arith, length-append front rest)))
+
+module _ (h : Header) (k : Cut) (done : List LineRow) (place next : Left) (c : Cutting h k done place) (p : Passes place (ready next) (row next.row ∷ [])) where
+  whole : Passes (began h c.files k.source) (ready next) (map row c.rows ++ row next.row ∷ [])
+  whole = passes_both (began h c.files k.source) place (ready next) (map row c.rows) (row next.row ∷ []) c.passes p
+
+  more_done : map row (done ++ next.row ∷ []) ≡ c.joined ++ (map row c.rows ++ row next.row ∷ [])
+  more_done =
+      map-append row done (next.row ∷ []) ∙ ap (λ (xs : List Event). xs ++ row next.row ∷ []) c.done_is ∙ append_assoc c.joined (map row c.rows) (row next.row ∷ [])
+
+  goes_open : next.row.end_sequence ≡ false → Cutting h (record k { start = Some (unwrap_or k.start next.row.address) }) (done ++ next.row ∷ []) (ready next)
+  goes_open e = record {
+    joined = c.joined;
+    rows = c.rows ++ next.row ∷ [];
+    files = c.files;
+    done_is = more_done ∙ ap (λ (xs : List Event). c.joined ++ xs) (sym (map-append row c.rows (next.row ∷ [])));
+    closed = c.closed;
+    unended = open_push c.rows next.row c.unended e;
+    start_is = first_push c.rows next.row k.start c.start_is;
+    passes = subst (λ (es : List Event). Passes (began h c.files k.source) (ready next) es) (sym (map-append row c.rows (next.row ∷ []))) whole;
+  }
+
+  abbrev ended : Part
+  ended = record { start = unwrap_or k.start 0; end = next.row.address; source = in_front k.source next.source }
+
+  front_is : take (length k.source.bytes - length next.source.bytes) k.source.bytes ≡ whole.front
+  front_is = front_at k.source.bytes whole.front next.source.bytes whole.parts
+
+  closes : next.row.end_sequence ≡ true → Closed h ended (map row c.rows ++ row next.row ∷ [])
+  closes e = record {
+    list = whole.list;
+    cut = rw front_is (sym (one_cut k.source.notation (bare h) whole.front whole.list None (record { front = whole.front; rest = []; parts = sym (append-nil whole.front); spelled = whole.spelled; ended = refl })));
+    given = whole.given;
+    is = record {
+      rows = c.rows;
+      last = next.row;
+      given = refl;
+      unended = c.unended;
+      ended = e;
+      start_is = first_is c.rows k.start c.start_is;
+      end_is = refl;
+    };
+  }
+
+  goes_closed : next.row.end_sequence ≡ true → Cutting h (record { parts = k.parts ++ ended ∷ []; source = next.source; start = None }) (done ++ next.row ∷ []) (ready next)
+  goes_closed e = record {
+    joined = c.joined ++ (map row c.rows ++ row next.row ∷ []);
+    rows = [];
+    files = next.files;
+    done_is = more_done ∙ sym (append-nil (c.joined ++ (map row c.rows ++ row next.row ∷ [])));
+    closed = closed_push h k.parts c.joined ended (map row c.rows ++ row next.row ∷ []) c.closed (closes e);
+    unended = tt;
+    start_is = refl;
+    passes = passes_none (began h next.files next.source) (ready next) (left_same (ready next) (began h next.files next.source) whole.fixed refl whole.appends
+        (anew_at_end next.fixed.rules next.row e ∙ ap (λ (x : Header). initial x.rules) whole.fixed) refl);
+  }
+
+  pub goes_cutting : Cutting h (with_row next.row next.source k) (done ++ next.row ∷ []) (ready next)
+  goes_cutting = at_test next.row.end_sequence refl
+    where
+      at_test : (b : Bool) → next.row.end_sequence ≡ b → Cutting h (if b then record { parts = k.parts ++ ended ∷ []; source = next.source; start = None }
+          else record k { start = Some (unwrap_or k.start next.row.address) }) (done ++ next.row ∷ []) (ready next)
+      at_test true e = goes_closed e
+      at_test false e = goes_open e
+
+  -- what is cut off stands in front of the rest
+  pub has_front : (front : List ℕ) × (k.source.bytes ≡ front ++ next.source.bytes)
+  has_front = (whole.front, whole.parts)
+
+-- a row takes bytes
+pub row_takes : (a b : Left) (e : Event) (es : List Event) → Passes a b (e ∷ es) → length b.source.bytes < length a.source.bytes
+row_takes a b e es p = at_list p.list p.front p.parts p.spelled p.given
+  where
+    at_list : (list : List Ins) (front : List ℕ) → a.source.bytes ≡ front ++ b.source.bytes → Each (SpellsInstruction a.source.notation a.fixed) front list
+        → events_from a.fixed.rules a.row list ≡ e ∷ es → length b.source.bytes < length a.source.bytes
+    at_list [] front parts s given = absurd cc
+    at_list (i ∷ list) front parts s given =
+        omega (arith, takes_bytes a.source.notation a.fixed s.0 i s.3, length-append s.0 s.1, ap length s.2, length-append front b.source.bytes, ap length parts)
+
+-- ---- the end of a run without a fault
+
+module _ (n : Notation) (h c : Header) (k : Cut) (done : List LineRow) (place last : Left) where
+  abbrev whole_program : Source
+  whole_program = record { bytes = h.program; notation = n }
+
+  pub are_sequences : Cutting h k done place → Passes (ready (started true h whole_program)) last (map row done) → last.source.bytes ≡ [] → bare c ≡ last.fixed → c.files ≡ last.files
+      → AreSequences n h c k.parts
+  are_sequences cutting p empty fixed files = record {
+    list = p.list;
+    cut = bare_cuts n h h.program p.list None (record { front = p.front; rest = []; parts = p.parts ∙ ap (λ (xs : List ℕ). p.front ++ xs) empty; spelled = p.spelled; ended = refl });
+    rows = done;
+    given = given;
+    files = c_is;
+    each = all_sequences h c (defined_files h.files (behind [] p.list)) c_is k.parts cutting.joined cutting.closed;
+    joined =
+        all_joined h c (defined_files h.files (behind [] p.list)) c_is k.parts cutting.joined cutting.closed
+        ∙ sym (ap through_last_end (given ∙ cutting.done_is) ∙ through_closed h k.parts cutting.joined cutting.closed (map row cutting.rows)
+        ∙ ap (λ (xs : List Event). cutting.joined ++ xs) (through_none (map row cutting.rows) (none_ends cutting.rows cutting.unended)) ∙ append-nil cutting.joined);
+  }
+    where
+      given : program_events h.rules p.list None ≡ map row done
+      given = append-nil (events_behind h.rules [] p.list) ∙ sym (from_start h.rules p.list) ∙ p.given
+
+      c_is : c ≡ record h { files = defined_files h.files (behind [] p.list) }
+      c_is =
+          ap (λ (b : Header). let k : Header = record b { files = c.files } in k) (fixed ∙ p.fixed)
+          ∙ ap (λ (fs : List File). let k : Header = record h { files = fs } in k) (files ∙ p.files ∙ files_at_end h.files [] p.list)
+
+-- ---- a fault
+
+cuts_on : (n : Notation) (h : Header) (bytes : List ℕ) (list : List Ins) (front rest : List ℕ) → bytes ≡ front ++ rest → Each (SpellsInstruction n h) front list
+    → cut_at n h bytes ≡ (list ++ (cut_at n h rest).0, (cut_at n h rest).1)
+cuts_on n h bytes [] front rest parts s = ap (cut_at n h) (parts ∙ ap (λ (xs : List ℕ). xs ++ rest) s)
+cuts_on n h bytes (i ∷ list) front rest parts s =
+    let whole : bytes ≡ s.0 ++ (s.1 ++ rest) = parts ∙ ap (λ (xs : List ℕ). xs ++ rest) s.2 ∙ append_assoc s.0 s.1 rest in
+    cut_some n h bytes i s.0 (s.1 ++ rest) whole s.3 ∙ ap (λ (c : List Ins × Option Error). (i ∷ c.0, c.1)) (cuts_on n h (s.1 ++ rest) list s.1 rest refl s.4)
+
+events_live : (a : Left) → events_of (live_events a)
+    ≡ events_from a.fixed.rules a.row (cut_at a.source.notation a.fixed a.source.bytes).0 ++ end_events (cut_at a.source.notation a.fixed a.source.bytes).1
+events_live a = let c = cut_at a.source.notation a.fixed a.source.bytes in events_told a.appends a.fixed.rules a.row a.files c.0 c.1
+
+pub passes_left : (a b : Left) (es : List Event) → Passes a b es → events_of (live_events a) ≡ es ++ events_of (live_events b)
+passes_left a b es p =
+    let c = cut_at a.source.notation a.fixed b.source.bytes in
+    let there : events_of (live_events b) ≡ events_from a.fixed.rules (registers_behind a.fixed.rules a.row p.list) c.0 ++ end_events c.1 =
+    events_live b ∙ rw (p.notation, p.fixed, p.registers) refl in
+    events_live a
+    ∙ ap (λ (d : List Ins × Option Error). events_from a.fixed.rules a.row d.0 ++ end_events d.1) (cuts_on a.source.notation a.fixed a.source.bytes p.list p.front b.source.bytes p.parts p.spelled)
+    ∙ ap (λ (xs : List Event). xs ++ end_events c.1) (events_joined a.fixed.rules a.row p.list c.0)
+    ∙ append_assoc (events_from a.fixed.rules a.row p.list) (events_from a.fixed.rules (registers_behind a.fixed.rules a.row p.list) c.0) (end_events c.1)
+    ∙ ap (λ (xs : List Event). xs ++ (events_from a.fixed.rules (registers_behind a.fixed.rules a.row p.list) c.0 ++ end_events c.1)) p.given
+    ∙ ap (λ (xs : List Event). es ++ xs) (sym there)
+
+pub has_first_fault : (n : Notation) (h : Header) (done : List LineRow) (old new : Left) (e : Error) → Passes (ready (started true h (record { bytes = h.program; notation = n }))) (ready old) (map row done)
+    → events_left old ≡ event_of (fault e) new ∷ events_left new → HasFirstFault n h e
+has_first_fault n h done old new e p is =
+    let c = cut_at n (bare h) h.program in
+    record {
+      list = c.0;
+      end = c.1;
+      cut = bare_cuts n h h.program c.0 c.1 (cuts n (bare h) h.program);
+      rows = done;
+      rest = events_of (events_left new);
+      given =
+          ap (λ (xs : List Event). xs ++ end_events c.1) (sym (from_start h.rules c.0))
+          ∙ sym (events_live (ready (started true h (record { bytes = h.program; notation = n }))))
+          ∙ passes_left (ready (started true h (record { bytes = h.program; notation = n }))) (ready old) (map row done) p
+          ∙ ap (λ (t : List Told). map row done ++ events_of t) is;
+    }

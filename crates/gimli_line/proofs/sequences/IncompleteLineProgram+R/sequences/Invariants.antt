@@ -1,0 +1,16 @@
+use Rattle.std.proofs.Common.{true, List, length, map}
+use Rattle.gimli_line.specs.declared.row.LineRow.{LineRow}
+use Rattle.gimli_line.specs.Events.{row}
+use Rattle.gimli_line.specs.Passed.{Passes, ready}
+use Rattle.gimli_line.specs.Rows.{started}
+use Rattle.gimli_line.proofs.SequenceLaws.{Cutting}
+use Rattle.gimli_line.proofs.sequences.IncompleteLineProgram+R.sequences.Given as goal
+
+abbrev pub invariant-rows : goal.invariant-rows
+invariant-rows g l = record {
+  behind : (done : List LineRow) × Cutting l.fn.self.meaning l.cutter done (ready l.rows)
+      × Passes (ready (started true l.fn.self.meaning (record { bytes = l.fn.self.meaning.program; notation = l.fn.self.notation }))) (ready l.rows) (map row done);
+}
+
+abbrev pub decreases-rows : goal.decreases-rows
+decreases-rows g l = length l.rows.source.bytes
