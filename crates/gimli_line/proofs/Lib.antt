@@ -15,3 +15,4 @@ pub mod Operands
 pub mod Runs
 pub mod ToldLaws
 pub mod SequenceLaws
+pub mod RisingLaws

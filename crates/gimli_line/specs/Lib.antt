@@ -22,3 +22,4 @@ pub mod Passed
 pub mod Rows
 pub mod Sequences
 pub mod Cutter
+pub mod Rising

@@ -6,8 +6,11 @@ ghost use Rattle.gimli_core.specs.declared.common.Format.{Format};
 ghost use Rattle.gimli_core.specs.declared.error.Error.{Error};
 ghost use Rattle.gimli_line.specs.Header.{Header, Given};
 ghost use Rattle.gimli_line.specs.HeaderGrammar.{Entry, SpellsUnit, HasHeaderFault, SpellsEntries};
+ghost use Rattle.gimli_line.specs.Events.{events_behind};
 ghost use Rattle.gimli_line.specs.Instruction.{Ins};
 ghost use Rattle.gimli_line.specs.InstructionGrammar.{Cuts};
+ghost use Rattle.gimli_line.specs.Rising.{AreOneSequence, NeverBelow};
+ghost use Rattle.gimli_line.specs.Rules.{Rules};
 ghost use Rattle.gimli_line.specs.declared.file_entry.FileEntryFormat.{FileEntryFormat};
 
 /// Bytes begin with a unit, or they have a refusal.
@@ -45,4 +48,10 @@ pub fn entries_are_bounded()
     ensures { (notation : Notation) (format : Format) (formats : List FileEntryFormat) → formats ≢ [] →
         (bytes : List ℕ) (entries : List Entry) → SpellsEntries notation format formats bytes entries →
         (count : List ℕ) × (behind : List ℕ) × (bytes ≡ count ++ behind) × (length entries ≤ length behind) }
+{}
+
+/// Between two ends of sequences, whether their rows are hidden or not, and from the start to the first, the addresses
+/// of rows never go down.
+pub fn addresses_never_go_down()
+    ensures { (rules : Rules) (past list : List Ins) → AreOneSequence list → NeverBelow 0 (events_behind rules past list) }
 {}
