@@ -78,8 +78,8 @@ no_file_at_refusal a h i r files large = refl
 
 -- ---- a state of an iterator, whose program has the header h
 
-abbrev pub state : Bool → Header → LineRow → Source → Left
-state a h r s = record { fixed = bare h; files = h.files; appends = a; row = r; source = s }
+abbrev pub state : Bool → Header → Notation → LineRow → Source → Left
+state a h o r s = record { fixed = bare h; files = h.files; appends = a; notation = o; row = r; source = s }
 
 abbrev pub told : Event → Header → Told
 told e h = record { event = e; files = h.files }
@@ -95,11 +95,11 @@ pub none_to_come : (a : Left) → a.source.bytes ≡ [] → events_left a ≡ []
 none_to_come a e = none_left (ready a) e
 
 -- k is the header that was lent, s2 what was left of the instructions
-module _ (a : Bool) (h k : Header) (same : k ≡ h) (r : LineRow) (s s2 : Source) where
+module _ (a : Bool) (h k : Header) (same : k ≡ h) (o o2 : Notation) (r : LineRow) (s s2 : Source) where
   pub after_fault : (e : Error) → s.bytes ≢ [] → s2.bytes ≡ [] → (instruction_line s.notation k).Fault s.bytes e → (r2 : LineRow)
-      → live_events (state a h r s) ≡ told (fault e) h ∷ events_left (state a h r2 s2)
+      → live_events (state a h o r s) ≡ told (fault e) h ∷ events_left (state a h o2 r2 s2)
   after_fault e some empty f r2 =
-      rw (cut_fault s.notation (bare h) s.bytes e some (rw same at f), none_to_come (state a h r2 s2) empty) refl
+      rw (cut_fault s.notation (bare h) s.bytes e some (rw same at f), none_to_come (state a h o2 r2 s2) empty) refl
 
   module _ (notation : s2.notation ≡ s.notation) (i : Ins) (front : List ℕ) (parts : s.bytes ≡ front ++ s2.bytes) (spelled : SpellsInstruction s.notation k front i) where
     cut_is : cut_at s.notation (bare h) s.bytes ≡ (i ∷ (cut_at s.notation (bare h) s2.bytes).0, (cut_at s.notation (bare h) s2.bytes).1)
@@ -110,7 +110,7 @@ module _ (a : Bool) (h k : Header) (same : k ≡ h) (r : LineRow) (s s2 : Source
 
     -- one instruction is passed over
     pub passes_one : (h2 : Header) (r2 : LineRow) (events : List Event) → h2 ≡ record h { files = files_behind a i h.files } → step_events h.rules i r ≡ events
-        → r2 ≡ next_registers h.rules i r → Passes (state a h r s) (state a h2 r2 s2) events
+        → r2 ≡ next_registers h.rules i r → Passes (state a h o r s) (state a h2 o2 r2 s2) events
     passes_one h2 r2 events behind given next = record {
       list = i ∷ [];
       front = front;
@@ -125,16 +125,16 @@ module _ (a : Bool) (h k : Header) (same : k ≡ h) (r : LineRow) (s s2 : Source
     }
 
     module _ (h2 : Header) (r2 : LineRow) (behind : h2 ≡ record h { files = files_behind a i h.files }) (fits : is_refused h.rules i r ≡ false) where
-      pub passes_quiet : makes_row i ≡ false → r2 ≡ stepped h.rules i r → Passes (state a h r s) (state a h2 r2 s2) []
+      pub passes_quiet : makes_row i ≡ false → r2 ≡ stepped h.rules i r → Passes (state a h o r s) (state a h2 o2 r2 s2) []
       passes_quiet made row_is = passes_one h2 r2 [] behind (rw (fits, made) refl) (rw (fits, made) row_is)
 
-      pub passes_hidden : makes_row i ≡ true → (stepped h.rules i r).tombstone ≡ true → r2 ≡ reset_row h.rules (stepped h.rules i r) → Passes (state a h r s) (state a h2 r2 s2) []
+      pub passes_hidden : makes_row i ≡ true → (stepped h.rules i r).tombstone ≡ true → r2 ≡ reset_row h.rules (stepped h.rules i r) → Passes (state a h o r s) (state a h2 o2 r2 s2) []
       passes_hidden made hidden row_is =
           let was : r.tombstone ≡ true = sym (keeps_hidden h.rules i r made) ∙ hidden in
           passes_one h2 r2 [] behind (rw (fits, made, was) refl) (rw (fits, made) row_is)
 
       pub passes_seen : makes_row i ≡ true → (stepped h.rules i r).tombstone ≡ false → r2 ≡ stepped h.rules i r
-          → Passes (state a h r s) (ready (state a h2 r2 s2)) (row r2 ∷ [])
+          → Passes (state a h o r s) (ready (state a h2 o2 r2 s2)) (row r2 ∷ [])
       passes_seen made seen row_is =
           let was : r.tombstone ≡ false = sym (keeps_hidden h.rules i r made) ∙ seen in
           let rules : h2.rules ≡ h.rules = ap (λ (k : Header). k.rules) behind in
@@ -144,24 +144,24 @@ module _ (a : Bool) (h k : Header) (same : k ≡ h) (r : LineRow) (s s2 : Source
 
     module _ (h2 : Header) (r2 : LineRow) where
       pub after_quiet : h2 ≡ record h { files = files_behind a i h.files } → is_refused h.rules i r ≡ false → makes_row i ≡ false → r2 ≡ stepped h.rules i r
-          → live_events (state a h r s) ≡ live_events (state a h2 r2 s2)
+          → live_events (state a h o r s) ≡ live_events (state a h2 o2 r2 s2)
       after_quiet behind fits made row_is = rw (cut_is, behind, row_is, notation, fits, made) refl
 
       pub after_hidden : h2 ≡ record h { files = files_behind a i h.files } → is_refused h.rules i r ≡ false → makes_row i ≡ true → (stepped h.rules i r).tombstone ≡ true
-          → r2 ≡ reset_row h.rules (stepped h.rules i r) → live_events (state a h r s) ≡ live_events (state a h2 r2 s2)
+          → r2 ≡ reset_row h.rules (stepped h.rules i r) → live_events (state a h o r s) ≡ live_events (state a h2 o2 r2 s2)
       after_hidden behind fits made hidden row_is =
           let was : r.tombstone ≡ true = sym (keeps_hidden h.rules i r made) ∙ hidden in
           rw (cut_is, behind, row_is, notation, fits, made, was) refl
 
       pub after_seen : h2 ≡ record h { files = files_behind a i h.files } → is_refused h.rules i r ≡ false → makes_row i ≡ true → (stepped h.rules i r).tombstone ≡ false
-          → r2 ≡ stepped h.rules i r → live_events (state a h r s) ≡ told (row r2) h2 ∷ events_left (state a h2 r2 s2)
+          → r2 ≡ stepped h.rules i r → live_events (state a h o r s) ≡ told (row r2) h2 ∷ events_left (state a h2 o2 r2 s2)
       after_seen behind fits made hidden row_is =
           let was : r.tombstone ≡ false = sym (keeps_hidden h.rules i r made) ∙ hidden in
           let files : files_behind a i h.files ≡ h.files = no_file_at_row a i h.files made in
           rw (cut_is, behind, row_is, notation, fits, made, was, files) refl
 
       pub after_overflow : h2 ≡ h → is_refused h.rules i r ≡ true → r2 ≡ stepped h.rules i r
-          → live_events (state a h r s) ≡ told (fault AddressOverflow) h2 ∷ events_left (state a h2 r2 s2)
+          → live_events (state a h o r s) ≡ told (fault AddressOverflow) h2 ∷ events_left (state a h2 o2 r2 s2)
       after_overflow kept large row_is =
           let files : files_behind a i h.files ≡ h.files = no_file_at_refusal a h.rules i r h.files large in
           rw (cut_is, kept, row_is, notation, large, files) refl

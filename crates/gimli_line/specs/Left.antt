@@ -1,5 +1,6 @@
 -- What a row iterator is, for its callers.
 use Rattle.std.specs.Prelude.{Bool, List}
+use Rattle.gimli_core.specs.Notation.{Notation}
 use Rattle.gimli_line.specs.declared.row.LineRow.{LineRow}
 use Rattle.gimli_line.specs.Header.{Header}
 use Rattle.gimli_line.specs.Instruction.{File}
@@ -11,6 +12,8 @@ pub record Left : Type 0 where
   pub files : List File
   -- whether files are added
   pub appends : Bool
+  -- the notation of the header's program
+  pub notation : Notation
   -- the registers
   pub row : LineRow
   -- the instructions to come

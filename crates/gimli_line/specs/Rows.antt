@@ -2,6 +2,7 @@
 use Rattle.std.specs.Prelude.{◌≡◌, ◌⊎◌, ◌<◌, Bool, true, List, [], ◌∷◌, length}
 use Rattle.gimli_core.specs.declared.error.Error.{Error}
 use Rattle.gimli_core.specs.declared.error.Error.TheVariants.{OutOfMemory}
+use Rattle.gimli_core.specs.Notation.{Notation}
 use Rattle.gimli_line.specs.declared.rows.Step.{Step}
 use Rattle.gimli_line.specs.declared.rows.Step.TheVariants.{Done, Made, More}
 use Rattle.gimli_line.specs.Header.{Header, bare}
@@ -26,8 +27,8 @@ abbrev pub event_of : Event → Left → Told
 event_of e a = record { event = e; files = a.files }
 
 -- rows at the start of a sequence
-abbrev pub started : Bool → Header → Source → Left
-started appends h source = record { fixed = bare h; files = h.files; appends = appends; row = initial h.rules; source = source }
+abbrev pub started : Bool → Header → Notation → Source → Left
+started appends h notation source = record { fixed = bare h; files = h.files; appends = appends; notation = notation; row = initial h.rules; source = source }
 
 -- what one instruction did
 abbrev pub StepIs : Left → Left → Step → Type 0

@@ -28,7 +28,7 @@ events_of told = map (λ t. t.event) told
 
 -- what a sequence gives that is resumed over a header
 abbrev pub resumed : Header → Part → List Event
-resumed h s = events_of (events_left (started false h s.source))
+resumed h s = events_of (events_left (started false h s.source.notation s.source))
 
 -- the address of the first row; 0 where there is none
 abbrev pub first_address : List LineRow → ℕ

@@ -6,25 +6,31 @@ use std::marker::Model;
 /// What has the header of a line program, and takes the files that the program defines.
 pub trait LineProgram<R: Reader> {
     ghost use Rattle.std.specs.Prelude.{◌≡◌, Bool, true, OnOk, OnErr, IfErr};
+    ghost use Rattle.gimli_core.specs.Notation.{Notation};
     ghost use Rattle.gimli_line.specs.Header.{Header, added};
     ghost use Rattle.gimli_line.specs.Instruction.{file_seen};
 
     /// What the header says.
     ghost meaning: { Self → Header };
 
+    /// The notation of the program.
+    ghost notation: { Self → Notation };
+
     /// Whether a file is added, or the list is complete.
     ghost appends: { Bool };
 
     /// The header.
     fn header(&self) -> &LineProgramHeader<R>
-        ensures { result.now.meaning ≡ meaning self.now };
+        ensures meaning { result.now.meaning ≡ meaning self.now }
+        ensures notation { result.now.notation ≡ notation self.now };
 
     /// Adds a file that the program defines, where the list of files isn't complete. Refused by `OutOfMemory`
     /// alone; nothing is changed then.
     fn add_file(&mut self, file: FileEntry<R>) -> Result<()>
         ensures ok { OnOk result (meaning self.new ≡ record (meaning self.old) { files = added appends (file_seen R.bytes R.Offset.number file) (meaning self.old).files }) }
         ensures err { OnErr result (meaning self.new ≡ meaning self.old) }
-        ensures memory { IfErr result (λ e. (e ≡ Error.OutOfMemory) × (appends ≡ true)) };
+        ensures memory { IfErr result (λ e. (e ≡ Error.OutOfMemory) × (appends ≡ true)) }
+        ensures notation { notation self.new ≡ notation self.old };
 }
 
 /// A line program that was not run yet, so that files may still be defined.
@@ -72,6 +78,8 @@ impl<R: Reader> LineProgram<R> for IncompleteLineProgram<R> {
 
     ghost meaning = { λ p. p.meaning };
 
+    ghost notation = { λ p. p.notation };
+
     ghost appends = { true };
 
     fn header(&self) -> &LineProgramHeader<R> {
@@ -82,6 +90,7 @@ impl<R: Reader> LineProgram<R> for IncompleteLineProgram<R> {
         ensures ok { OnOk result (self.new.meaning ≡ record self.old.meaning { files = self.old.meaning.files ++ file_seen R.bytes R.Offset.number file ∷ [] }) }
         ensures err { OnErr result (self.new.meaning ≡ self.old.meaning) }
         ensures memory { IfErr result (λ e. (e ≡ Error.OutOfMemory) × (true ≡ true)) }
+        ensures notation { self.new.notation ≡ self.old.notation }
     {
         self.header.add_file(file)
     }
@@ -131,6 +140,8 @@ impl<'program, R: Reader> LineProgram<R> for &'program CompleteLineProgram<R> {
 
     ghost meaning = { λ p. p.now.meaning };
 
+    ghost notation = { λ p. p.now.notation };
+
     ghost appends = { false };
 
     fn header(&self) -> &LineProgramHeader<R> {
@@ -142,6 +153,7 @@ impl<'program, R: Reader> LineProgram<R> for &'program CompleteLineProgram<R> {
         ensures ok { OnOk result (self.new.now.meaning ≡ self.old.now.meaning) }
         ensures err { OnErr result (self.new.now.meaning ≡ self.old.now.meaning) }
         ensures memory { IfErr result (λ e. (e ≡ Error.OutOfMemory) × (false ≡ true)) }
+        ensures notation { self.new.now.notation ≡ self.old.now.notation }
         ensures only { IsOk result }
     {
         Ok(())

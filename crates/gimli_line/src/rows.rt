@@ -39,6 +39,7 @@ impl<R: Reader, P: LineProgram<R>> Model for LineRows<R, P> {
       fixed = bare (P.meaning a.program);
       files = (P.meaning a.program).files;
       appends = P.appends;
+      notation = P.notation a.program;
       row = a.row;
       source = a.instructions;
     } };
@@ -68,7 +69,7 @@ impl<R: Reader, P: LineProgram<R>> LineRows<R, P> {
 
     /// The rows of these instructions of a program, from the start of a sequence on.
     pub(crate) fn start(program: P, instructions: LineInstructions<R>) -> Self
-        ensures { result ≡ started P.appends (P.meaning program) instructions }
+        ensures { result ≡ started P.appends (P.meaning program) (P.notation program) instructions }
     {
         let row = LineRow::new(program.header());
         LineRows {
@@ -82,6 +83,7 @@ impl<R: Reader, P: LineProgram<R>> LineRows<R, P> {
     pub fn header(&self) -> &LineProgramHeader<R>
         ensures header { bare result.now.meaning ≡ self.now.fixed }
         ensures files { result.now.meaning.files ≡ self.now.files }
+        ensures notation { result.now.notation ≡ self.now.notation }
     {
         self.program.header()
     }
@@ -96,7 +98,7 @@ impl<R: Reader, P: LineProgram<R>> LineRows<R, P> {
             ((events_left self.old ≡ []) × (events_left new ≡ []))
             (λ pair. events_left self.old ≡ record { event = row_event pair.1.now; files = pair.0.now.meaning.files } ∷ events_left new))
             (FaultIs (events_left self.old) new))) }
-        ensures header { IfOk result (λ found. MatchOption found ⊤ (λ pair. bare pair.0.now.meaning ≡ self.old.fixed)) }
+        ensures header { IfOk result (λ found. MatchOption found ⊤ (λ pair. (bare pair.0.now.meaning ≡ self.old.fixed) × (pair.0.now.notation ≡ self.old.notation))) }
     {
         match self.advance() {
             Err(e) => Err(e),
@@ -123,6 +125,7 @@ impl<R: Reader, P: LineProgram<R>> LineRows<R, P> {
     pub(crate) fn into_program(self) -> P
         ensures header { bare (P.meaning result) ≡ self.fixed }
         ensures files { (P.meaning result).files ≡ self.files }
+        ensures notation { P.notation result ≡ self.notation }
     {
         self.program
     }
@@ -134,6 +137,7 @@ impl<R: Reader, P: LineProgram<R>> LineRows<R, P> {
             ((events_left self.old ≡ []) × (events_left self.new ≡ []))) }
         ensures err { IfErr result (FaultIs (events_left self.old) self.new) }
         ensures fixed { self.new.fixed ≡ self.old.fixed }
+        ensures notation { self.new.notation ≡ self.old.notation }
         ensures passes { IfOk result (λ found. MatchBool found
             (Passes (ready self.old) (ready self.new) (row_event self.new.row ∷ []))
             ((self.new.source.bytes ≡ []) × Passes (ready self.old) self.new [])) }
@@ -154,6 +158,7 @@ impl<R: Reader, P: LineProgram<R>> LineRows<R, P> {
         ensures ok { IfOk result (StepIs self.old self.new) }
         ensures err { IfErr result (FaultIs (live_events self.old) self.new) }
         ensures fixed { self.new.fixed ≡ self.old.fixed }
+        ensures notation { self.new.notation ≡ self.old.notation }
     {
         let instruction = match self.instructions.next_instruction(self.program.header()) {
             Err(e) => return Err(e),
@@ -184,6 +189,7 @@ impl<R: Reader, P: LineProgram<R>> LineRows<R, P> {
     fn current(&self) -> (&LineProgramHeader<R>, &LineRow)
         ensures header { bare result.0.now.meaning ≡ self.now.fixed }
         ensures files { result.0.now.meaning.files ≡ self.now.files }
+        ensures notation { result.0.now.notation ≡ self.now.notation }
         ensures row { result.1.now ≡ self.now.row }
     {
         (self.program.header(), &self.row)
@@ -213,7 +219,7 @@ impl<R: Reader> IncompleteLineProgram<R> {
     /// The rows of the program, from its start to its end.
     pub fn rows(self) -> OneShotLineRows<R>
         ensures told { Tells self.notation true self.meaning self.meaning.program (events_left result) }
-        ensures start { result ≡ started true self.meaning (record { bytes = self.meaning.program; notation = self.notation }) }
+        ensures start { result ≡ started true self.meaning self.notation (record { bytes = self.meaning.program; notation = self.notation }) }
     {
         let instructions = self.header.instructions();
         LineRows::start(self, instructions)

@@ -99,7 +99,7 @@ impl<R: Reader> Cutter<R> {
 }
 
 impl<R: Reader> IncompleteLineProgram<R> {
-    ghost use Rattle.std.specs.Prelude.{◌≢◌, map, IfErr, IfOk};
+    ghost use Rattle.std.specs.Prelude.{◌≡◌, ◌≢◌, map, IfErr, IfOk};
     ghost use Rattle.gimli_line.specs.Sequences.{part_of, AreSequences, HasFirstFault};
 
     /// Runs the whole program, and cuts it into its sequences, so that each can be run by itself. Rows behind the
@@ -107,6 +107,7 @@ impl<R: Reader> IncompleteLineProgram<R> {
     /// `OutOfMemory`.
     pub fn sequences(self, alloc: Global) -> Result<(CompleteLineProgram<R>, Vec<LineSequence<R>>)>
         ensures ok { IfOk result (λ found. AreSequences self.notation self.meaning found.0.meaning (map part_of found.1.items)) }
+        ensures notation { IfOk result (λ found. found.0.notation ≡ self.notation) }
         ensures err { IfErr result (λ e. e ≢ Error.OutOfMemory → HasFirstFault self.notation self.meaning e) }
     {
         let mut rows = self.rows();
@@ -128,7 +129,7 @@ impl<R: Reader> CompleteLineProgram<R> {
         &'program self,
         sequence: &LineSequence<R>,
     ) -> ResumedLineRows<'program, R>
-        ensures { result ≡ started false self.now.meaning sequence.now.instructions }
+        ensures { result ≡ started false self.now.meaning self.now.notation sequence.now.instructions }
     {
         LineRows::start(self, sequence.instructions.clone())
     }

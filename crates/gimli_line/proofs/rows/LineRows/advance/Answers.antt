@@ -10,11 +10,12 @@ use Rattle.gimli_line.proofs.rows.LineRows.advance.Goals as goal
 pub instructions-init : goal.instructions-init
 instructions-init g c =
     let h = g.P.LineProgram.meaning c.self.inside.program in
-    let at_row = λ (r : LineRow). state g.P.LineProgram.appends h r c.self.inside.instructions in
+    let at_row = λ (r : LineRow). state g.P.LineProgram.appends h (g.P.LineProgram.notation c.self.inside.program) r c.self.inside.instructions in
     record {
       events = search rules;
       fixed = search rules;
-      passes = rw (← c.self.view_is) (passes_none (ready (at_row c.self.inside.row)) (at_row c.reset.new.self) (ap at_row (c.reset.ensures ∙ ap (λ (k : Header). reset_row k.rules c.self.inside.row) c.header.ensures)));
+      notation = search rules;
+      passes = rw (← c.self.view_is) (passes_none (ready (at_row c.self.inside.row)) (at_row c.reset.new.self) (ap at_row (c.reset.ensures ∙ ap (λ (k : Header). reset_row k.rules c.self.inside.row) c.header.ensures.meaning)));
     }
 
 pub returns-in-Ok-Done-clause-row : goal.returns-in-Ok-Done-clause-row
@@ -38,5 +39,6 @@ instructions-preserved g c =
     record {
       events = c.instructions.invariant.events ∙ m.0;
       fixed = c.in-Ok-More.ensures.fixed ∙ c.instructions.invariant.fixed;
+      notation = c.in-Ok-More.ensures.notation ∙ c.instructions.invariant.notation;
       passes = passes_both (ready c.args.self.now) c.instructions.self c.step.new.self [] [] c.instructions.invariant.passes m.2;
     }

@@ -14,13 +14,14 @@ pub rows-init : goal.rows-init
 rows-init g c =
     let h = c.args.self.meaning in
     let source : Source = record { bytes = h.program; notation = c.args.self.notation } in
-    let first = ready (started true h source) in
+    let first = ready (started true h c.args.self.notation source) in
     record {
       behind = (
         [],
-        rw (c.new-cutter.ensures, c.clone.ensures ∙ c.instructions.ensures, c.rows-rows.ensures.start) (starts_cutting h source),
+        rw (c.new-cutter.ensures, c.clone.ensures ∙ c.instructions.ensures, c.rows-rows.ensures.start) (starts_cutting h c.args.self.notation source),
         rw c.rows-rows.ensures.start (passes_none first first refl),
       );
+      notation = rw c.rows-rows.ensures.start refl;
     }
 
 pub returns-in_err-advance-clause-err : goal.returns-in_err-advance-clause-err
@@ -54,9 +55,10 @@ rows-preserved g c =
       behind = (
         b.0 ++ next.row ∷ [],
         rw (c.in_ok-row.ensures.ok, c.row.ensures, c.instructions-in-rows.ensures) (goes_cutting h c.rows.cutter b.0 (ready c.rows.rows) next b.1 m),
-        subst (λ (es : List Event). Passes (ready (started true h source)) (ready next) es) (sym (map-append row b.0 (next.row ∷ [])))
-            (passes_both (ready (started true h source)) (ready c.rows.rows) (ready next) (map row b.0) (row next.row ∷ []) b.2 m),
+        subst (λ (es : List Event). Passes (ready (started true h c.args.self.notation source)) (ready next) es) (sym (map-append row b.0 (next.row ∷ [])))
+            (passes_both (ready (started true h c.args.self.notation source)) (ready c.rows.rows) (ready next) (map row b.0) (row next.row ∷ []) b.2 m),
       );
+      notation = c.in_ok-advance.ensures.notation ∙ c.rows.invariant.notation;
     }
 
 pub returns-clause-ok : goal.returns-clause-ok
@@ -66,7 +68,10 @@ returns-clause-ok g c =
     let m = rw c.if-branch.false at c.in_ok-advance.ensures.passes in
     let b = c.rows.invariant.behind in
     let last = c.advance.new.self in
-    let whole = subst (λ (es : List Event). Passes (ready (started true h source)) last es) (append-nil (map row b.0))
-    (passes_both (ready (started true h source)) (ready c.rows.rows) last (map row b.0) [] b.2 m.1) in
+    let whole = subst (λ (es : List Event). Passes (ready (started true h c.args.self.notation source)) last es) (append-nil (map row b.0))
+    (passes_both (ready (started true h c.args.self.notation source)) (ready c.rows.rows) last (map row b.0) [] b.2 m.1) in
     rw c.into_sequences.ensures (are_sequences c.args.self.notation h c.header.inside.header.meaning c.rows.cutter b.0 (ready c.rows.rows) last b.1 whole m.0
     (ap (λ v. bare v.meaning) c.header.view_is ∙ c.into_program.ensures.header) (ap (λ v. v.meaning.files) c.header.view_is ∙ c.into_program.ensures.files))
+
+pub returns-clause-notation : goal.returns-clause-notation
+returns-clause-notation g c = ap (λ v. v.notation) c.header.view_is ∙ c.into_program.ensures.notation ∙ c.in_ok-advance.ensures.notation ∙ c.rows.invariant.notation

@@ -1,4 +1,4 @@
-use Rattle.std.proofs.Common.{true, List, length, map}
+use Rattle.std.proofs.Common.{◌≡◌, true, List, length, map}
 use Rattle.gimli_line.specs.declared.row.LineRow.{LineRow}
 use Rattle.gimli_line.specs.Events.{row}
 use Rattle.gimli_line.specs.Passed.{Passes, ready}
@@ -9,7 +9,8 @@ use Rattle.gimli_line.proofs.sequences.IncompleteLineProgram+R.sequences.Given a
 abbrev pub invariant-rows : goal.invariant-rows
 invariant-rows g l = record {
   behind : (done : List LineRow) × Cutting l.fn.self.meaning l.cutter done (ready l.rows)
-      × Passes (ready (started true l.fn.self.meaning (record { bytes = l.fn.self.meaning.program; notation = l.fn.self.notation }))) (ready l.rows) (map row done);
+      × Passes (ready (started true l.fn.self.meaning l.fn.self.notation (record { bytes = l.fn.self.meaning.program; notation = l.fn.self.notation }))) (ready l.rows) (map row done);
+  notation : l.rows.notation ≡ l.fn.self.notation;
 }
 
 abbrev pub decreases-rows : goal.decreases-rows
