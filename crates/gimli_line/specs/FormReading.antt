@@ -1,5 +1,5 @@
 -- What is taken of the values of tables of version 5, and what is left.
-use Rattle.std.specs.Prelude.{ℕ, List, Some, None, Ok, Err}
+use Rattle.std.specs.Prelude.{ℕ, List, drop, Some, None, Ok, Err}
 use Rattle.gimli_core.specs.Notation.{Notation}
 use Rattle.gimli_core.specs.Values.{Value}
 use Rattle.gimli_core.specs.Reading.{Read, ◌>>=◌, split_at, text_at, number_at, unsigned_at, signed_at, word_at, offset_of}
@@ -35,3 +35,24 @@ module _ (notation : Notation) (format : Format) where
     | Some shape ↦ shape_at shape bytes
     | None ↦ (Err (UnknownForm (record { 0 = form })), bytes)
   ]
+
+  -- ---- the forms in parts, each behind the one before
+
+  -- a value in a form among so many
+  abbrev pub among_at : List (ℕ × Shape) → ℕ → List ℕ → Read Value
+  among_at rows form bytes = elim (shape_among form rows) [
+    | Some shape ↦ shape_at shape bytes
+    | None ↦ (Err (UnknownForm (record { 0 = form })), bytes)
+  ]
+
+  -- the forms behind the blocks
+  unfoldable pub number_form_at : ℕ → List ℕ → Read Value
+  number_form_at form bytes = among_at (drop 5 shapes) form bytes
+
+  -- the forms behind the numbers
+  unfoldable pub word_form_at : ℕ → List ℕ → Read Value
+  word_form_at form bytes = among_at (drop 12 shapes) form bytes
+
+  -- the forms behind words and texts
+  unfoldable pub index_form_at : ℕ → List ℕ → Read Value
+  index_form_at form bytes = among_at (drop 18 shapes) form bytes

@@ -127,6 +127,29 @@ where
     ghost use Rattle.gimli_line.specs.HeaderReading.{fields_at, header_at};
     ghost use Rattle.gimli_line.specs.Instruction.{file_seen};
 
+    /// A copy, which says what the header says. Refused by `OutOfMemory` alone.
+    pub fn clone(&self) -> Result<Self>
+        ensures meaning { IfOk result (λ copy. copy.meaning ≡ self.now.meaning) }
+        ensures notation { IfOk result (λ copy. copy.notation ≡ self.now.notation) }
+        ensures offset { IfOk result (λ copy. copy.offset ≡ self.now.offset) }
+        ensures err { IfErr result (λ e. e ≡ Error.OutOfMemory) }
+    {
+        Ok(LineProgramHeader {
+            parameters: self.parameters,
+            offset: self.offset,
+            unit_length: self.unit_length,
+            header_length: self.header_length,
+            standard_opcode_lengths: self.standard_opcode_lengths,
+            directory_entry_format: copied(&self.directory_entry_format)?,
+            include_directories: copied(&self.include_directories)?,
+            file_name_entry_format: copied(&self.file_name_entry_format)?,
+            file_names: copied(&self.file_names)?,
+            program_buf: self.program_buf,
+            comp_dir: self.comp_dir,
+            comp_file: self.comp_file,
+        })
+    }
+
     /// The offset of the header in the section `.debug_line`, as it was handed in.
     pub fn offset(&self) -> DebugLineOffset<Offset>
         ensures { result ≡ self.now.offset }
@@ -472,4 +495,15 @@ fn entry<T>(entries: &[T], index: u64) -> Option<&T>
 {
     let index = usize::try_from(index).ok()?;
     entries.get(index)
+}
+
+/// A list of copies. Refused by `OutOfMemory` alone.
+fn copied<T: Copy>(items: &Vec<T>) -> Result<Vec<T>>
+    ensures items { IfOk result (λ copy. copy.items ≡ items.now.items) }
+    ensures err { IfErr result (λ e. e ≡ Error.OutOfMemory) }
+{
+    match Vec::from_slice(*items.allocator(), items) {
+        Ok(copy) => Ok(copy),
+        Err(_) => Err(Error::OutOfMemory),
+    }
 }

@@ -62,7 +62,19 @@ where
     R: Reader<Offset = Offset>,
     Offset: ReaderOffset,
 {
-    ghost use Rattle.std.specs.Prelude.{◌≡◌};
+    ghost use Rattle.std.specs.Prelude.{◌≡◌, IfErr, IfOk};
+
+    /// A copy, which says what the program says. Refused by `OutOfMemory` alone.
+    pub fn clone(&self) -> Result<Self>
+        ensures meaning { IfOk result (λ copy. copy.meaning ≡ self.now.meaning) }
+        ensures notation { IfOk result (λ copy. copy.notation ≡ self.now.notation) }
+        ensures offset { IfOk result (λ copy. copy.offset ≡ self.now.offset) }
+        ensures err { IfErr result (λ e. e ≡ Error.OutOfMemory) }
+    {
+        Ok(IncompleteLineProgram {
+            header: self.header.clone()?,
+        })
+    }
 
     /// The header, with the files that were defined so far.
     pub fn header(&self) -> &LineProgramHeader<R, Offset>
@@ -125,7 +137,19 @@ where
     R: Reader<Offset = Offset>,
     Offset: ReaderOffset,
 {
-    ghost use Rattle.std.specs.Prelude.{◌≡◌};
+    ghost use Rattle.std.specs.Prelude.{◌≡◌, IfErr, IfOk};
+
+    /// A copy, which says what the program says. Refused by `OutOfMemory` alone.
+    pub fn clone(&self) -> Result<Self>
+        ensures meaning { IfOk result (λ copy. copy.meaning ≡ self.now.meaning) }
+        ensures notation { IfOk result (λ copy. copy.notation ≡ self.now.notation) }
+        ensures offset { IfOk result (λ copy. copy.offset ≡ self.now.offset) }
+        ensures err { IfErr result (λ e. e ≡ Error.OutOfMemory) }
+    {
+        Ok(CompleteLineProgram {
+            header: self.header.clone()?,
+        })
+    }
 
     /// The header, with all files.
     pub fn header(&self) -> &LineProgramHeader<R, Offset>
