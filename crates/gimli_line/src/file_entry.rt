@@ -1,9 +1,10 @@
-ghost use Rattle.std.specs.Prelude.{◌≡◌, ◌++◌, ◌∷◌, [], List, map, count_by, IfErr, OnOk};
+ghost use Rattle.std.specs.Prelude.{◌≡◌, ◌++◌, ◌∷◌, [], List, map, count_by, option_map, IfErr, OnOk};
 ghost use Rattle.gimli_core.specs.Reading.{seen};
 ghost use Rattle.gimli_core.specs.Values.{value_seen};
 ghost use Rattle.gimli_line.specs.HeaderGrammar.{digest};
 
 use crate::forms::parse_attribute;
+use crate::header::LineProgramHeader;
 use gimli_core::{
     AttributeValue, DwForm, DwLnct, Error, Format, Reader, ReaderOffset, Result, constants,
 };
@@ -39,7 +40,7 @@ where
     Offset: ReaderOffset,
 {
     ghost use Rattle.gimli_line.specs.Instruction.{file_seen};
-    ghost use Rattle.gimli_line.specs.Header.{plain_file};
+    ghost use Rattle.gimli_line.specs.Header.{plain_file, directory_of};
     ghost use Rattle.gimli_line.specs.HeaderReading.{plain_file_at};
     ghost use Rattle.gimli_line.specs.EntryReading.{file_with};
 
@@ -121,6 +122,16 @@ where
         ensures { result ≡ self.now.directory_index }
     {
         self.directory_index
+    }
+
+    /// The file's directory, as far as the header has it.
+    pub fn directory(
+        &self,
+        header: &LineProgramHeader<R, Offset>,
+    ) -> Option<AttributeValue<R, Offset>>
+        ensures { option_map (value_seen R.bytes Offset.number) result ≡ directory_of header.now.meaning self.now.directory_index }
+    {
+        header.directory(self.directory_index)
     }
 
     /// When the file was last changed, in a measure of the producer's own; 0 where it isn't known.

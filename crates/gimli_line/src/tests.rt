@@ -3,7 +3,9 @@
 mod forms;
 mod narrow;
 mod parts;
+mod programs;
 mod refusals;
+mod sequences;
 mod units;
 
 use crate::{DebugLine, IncompleteLineProgram, LineProgramHeader};
