@@ -1,0 +1,2 @@
+pub mod FileNumber
+pub mod Rows

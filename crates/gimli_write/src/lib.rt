@@ -1,0 +1,15 @@
+//! Line number programs of DWARF, versions 2 to 5, as they are built and written.
+//!
+//! A program means lists: its directories, its files, and the set addresses, rows and ends in the order in
+//! which they were built. Nothing of their encoding is kept.
+#![tactic(auto)]
+
+mod files;
+mod row;
+
+pub use files::{DirectoryId, FileId};
+pub use gimli_bytes::{
+    Address, DebugLine, DebugLineStr, DebugStr, EndianVec, Error, InitialLengthOffset, Leb128,
+    LineStringId, LineStringTable, Result, StringId, StringTable, Writer, laws,
+};
+pub use row::LineRow;
