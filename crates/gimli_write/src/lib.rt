@@ -4,7 +4,9 @@
 //! which they were built. Nothing of their encoding is kept.
 #![tactic(auto)]
 
+mod encode;
 mod files;
+mod instruction;
 mod row;
 
 pub use files::{DirectoryId, FileId};
