@@ -226,3 +226,6 @@ fn line_advance(from: u64, to: u64) -> i64
 {
     to as i64 - from as i64
 }
+
+#[cfg(test)]
+mod tests;

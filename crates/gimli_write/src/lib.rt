@@ -7,11 +7,12 @@
 mod encode;
 mod files;
 mod instruction;
+pub mod laws;
 mod row;
 
 pub use files::{DirectoryId, FileId};
 pub use gimli_bytes::{
     Address, DebugLine, DebugLineStr, DebugStr, EndianVec, Error, InitialLengthOffset, Leb128,
-    LineStringId, LineStringTable, Result, StringId, StringTable, Writer, laws,
+    LineStringId, LineStringTable, Result, StringId, StringTable, Writer,
 };
 pub use row::LineRow;
