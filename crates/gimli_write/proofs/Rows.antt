@@ -1,11 +1,11 @@
 -- The machine over the instructions of a row, and of an end.
-use Rattle.std.proofs.Common.{◌≡◌, ℕ, zero, suc, ◌+◌, ◌-◌, ◌*◌, ◌/◌, ◌%◌, ◌^◌, ◌<◌, ◌≤◌, Bool, true, false, not, List, [], ◌∷◌, ◌++◌, refl, sym, ap, ◌∙◌, arith, nat_eq, nat_le, if◌then◌else◌, ℤ, pos, negsuc, ◌+ℤ◌, ◌-ℤ◌, ◌<ℤ◌, ◌≤ℤ◌, nat_lt, add-zero, append_assoc, lit<}
+use Rattle.std.proofs.Common.{◌≡◌, ℕ, ◌+◌, ◌-◌, ◌*◌, ◌/◌, ◌%◌, ◌^◌, ◌<◌, ◌≤◌, Bool, true, false, not, List, [], ◌∷◌, ◌++◌, refl, sym, ap, ◌∙◌, arith, nat_eq, nat_le, if◌then◌else◌, ℤ, pos, negsuc, ◌+ℤ◌, ◌-ℤ◌, ◌<ℤ◌, ◌≤ℤ◌, nat_lt, add-zero, append_assoc, lit<}
 use Rattle.std.specs.Prelude.{unsigned_abs, IsTrue}
 use Rattle.std.specs.Int.Signed.{lt_z, le_z}
 use Rattle.std.proofs.Math.Nat.{mod-eq_of_lt, div-eq_of_lt, div-one, div-mul-le_self, mod-lt, mod-le, pow-le-pow_right, add-mul-div_right, add-mul-mod_self_right, mul-add, mul-le-mul_left}
 use Rattle.std.proofs.lemmas.Nat.{div-add-mod', le-div}
 use Rattle.std.proofs.lemmas.Int.{ints}
-use Rattle.std.proofs.lemmas.Bool.{cases_lt, and_parts, lt-leb, le-leb, le-ltb}
+use Rattle.std.proofs.lemmas.Bool.{and_parts, lt-leb, le-leb, le-ltb}
 use Rattle.std.proofs.lemmas.Bool.Decides.{nat_tests}
 use Rattle.gimli_core.specs.Numbers.{is_address_size}
 use Rattle.gimli_core.specs.declared.common.Encoding.{Encoding}
@@ -16,7 +16,7 @@ use Rattle.gimli_line.specs.Rules.{Rules}
 use Rattle.gimli_line.specs.Instruction.{Ins}
 use Rattle.gimli_line.specs.Registers.{advanced_line}
 use Rattle.gimli_line.specs.Pointer.{Pointer, operations_on, exceeds, address_limit}
-use Rattle.gimli_line.specs.Events.{Event, row}
+use Rattle.gimli_line.specs.Events.{row}
 use Rattle.gimli_line.specs.Machine.{run, initial, reset_row, pointer_of, at_pointer}
 use Rattle.gimli_write.specs.declared.row.LineRow.{LineRow}
 use Rattle.gimli_write.specs.Advance.{CanEncode, IsPlace, CanFollow, operations}

@@ -1,7 +1,6 @@
 -- The instructions that a built row or end is written as, from the row before it (DWARF 5, section 6.2.5). The
 -- opcode base is 13.
-use Rattle.std.specs.Prelude.{ℕ, ◌+◌, ◌-◌, ◌*◌, ◌/◌, Bool, true, false, not, ◌&&◌, nat_eq, nat_le, if◌then◌else◌, List, [], ◌∷◌, ◌++◌, ℤ, pos, ◌+ℤ◌, ◌-ℤ◌, unsigned_abs}
-use Rattle.std.specs.Int.Signed.{lt_z, le_z}
+use Rattle.std.specs.Prelude.{ℕ, ◌+◌, ◌-◌, ◌*◌, ◌/◌, Bool, true, false, not, ◌&&◌, nat_eq, nat_le, if◌then◌else◌, List, [], ◌∷◌, ◌++◌, ℤ, pos, ◌+ℤ◌, ◌-ℤ◌, unsigned_abs, int_le, int_lt}
 use Rattle.gimli_core.specs.declared.common.LineEncoding.{LineEncoding}
 use Rattle.gimli_line.specs.declared.instruction.LineInstruction.TheVariants.{Special, Copy, AdvancePc, AdvanceLine, SetFile, SetColumn, NegateStatement, SetBasicBlock, ConstAddPc, SetPrologueEnd, SetEpilogueBegin, SetIsa, EndSequence, SetDiscriminator}
 use Rattle.gimli_line.specs.Instruction.{Ins}
@@ -43,7 +42,7 @@ still_opcode e = 13 + unsigned_abs e.line_base
 
 -- special opcodes have this line advance
 abbrev pub is_special_advance : LineEncoding → ℤ → Bool
-is_special_advance e d = le_z e.line_base d && lt_z d (e.line_base +ℤ pos e.line_range)
+is_special_advance e d = int_le e.line_base d && int_lt d (e.line_base +ℤ pos e.line_range)
 
 -- the special opcode that is due for a line advance: that advance, where special opcodes have it, and no operation
 abbrev pub line_opcode : LineEncoding → ℤ → ℕ

@@ -5,3 +5,4 @@ pub mod Encode
 pub mod ReadAs
 pub mod InstructionBytes
 pub mod SameRow
+pub mod Sizes

@@ -1,18 +1,27 @@
-//! Laws of what is written: its instructions, run by the machine of the reading half, give what was built.
+//! Laws of what is written: the instructions of rows and ends, run by the machine of the reading half, give what was
+//! built; their bytes spell them; and they are few.
 
-ghost use Rattle.std.specs.Prelude.{◌≡◌, ℕ, ◌+◌, ◌-◌, ◌*◌, ◌<◌, ◌≤◌, ◌^◌, List, ◌∷◌, ◌++◌, IsTrue};
+ghost use Rattle.std.specs.Prelude.{◌≡◌, ℕ, ◌+◌, ◌-◌, ◌*◌, ◌<◌, ◌≤◌, ◌^◌, List, ◌∷◌, ◌++◌, length, IsTrue, Ok, Some, pos, ◌-ℤ◌};
 ghost use Rattle.gimli_core.specs.Numbers.{is_address_size};
+ghost use Rattle.gimli_core.specs.Notation.{Notation};
+ghost use Rattle.gimli_core.specs.Line.{Each};
 ghost use Rattle.gimli_core.specs.declared.common.Encoding.{Encoding};
 ghost use Rattle.gimli_core.specs.declared.common.LineEncoding.{LineEncoding};
+ghost use Rattle.gimli_bytes.specs.declared.address.Address.TheVariants.{Constant};
+ghost use Rattle.gimli_line.specs.Header.{Header};
 ghost use Rattle.gimli_line.specs.Instruction.{Ins};
+ghost use Rattle.gimli_line.specs.InstructionGrammar.{SpellsInstruction};
 ghost use Rattle.gimli_line.specs.Events.{row};
 ghost use Rattle.gimli_line.specs.Machine.{run, initial};
-ghost use Rattle.gimli_line.specs.declared.instruction.LineInstruction.TheVariants.{SetAddress};
+ghost use Rattle.gimli_line.specs.Pointer.{operation_advance};
+ghost use Rattle.gimli_line.specs.declared.instruction.LineInstruction.TheVariants.{SetAddress, ConstAddPc};
 ghost use Rattle.gimli_write.specs.declared.row.LineRow.{LineRow};
-ghost use Rattle.gimli_write.specs.Advance.{CanEncode, IsPlace, CanFollow};
+ghost use Rattle.gimli_write.specs.Advance.{CanEncode, IsPlace, CanFollow, operations};
 ghost use Rattle.gimli_write.specs.Encode.{row_instructions, end_instructions};
+ghost use Rattle.gimli_write.specs.InstructionBytes.{instruction_bytes, instructions_bytes, set_address_bytes, IsWritten, FitsInstructions};
 ghost use Rattle.gimli_write.specs.Rows.{initial_row};
 ghost use Rattle.gimli_write.specs.SameRow.{built_rules, read_row, behind_row, read_end};
+ghost use Rattle.gimli_write.specs.Sizes.{HasSpecial, OnlyMoves};
 
 pub use gimli_bytes::laws::{
     sleb_is_shortest, table_bytes_length, text_at_offset, uleb_is_shortest, with_text_are_texts,
@@ -52,4 +61,54 @@ pub fn set_address_runs()
 pub fn start_is_initial()
     ensures { (encoding : Encoding) (e : LineEncoding) → encoding.version ≤ 5 →
         initial (built_rules encoding e) ≡ behind_row encoding.version 0 (initial_row encoding.version e.default_is_stmt) }
+{}
+
+/// The bytes of an instruction of a row or an end spell it, in each unit with the opcode base 13 whose reader
+/// has offsets that hold the length of the longest.
+pub fn instruction_is_spelled()
+    ensures { (notation : Notation) (h : Header) (i : Ins) → h.rules.opcode_base ≡ 13 → 11 < notation.limit → IsWritten i →
+        SpellsInstruction notation h (instruction_bytes i) i }
+{}
+
+/// So do those of a set address, whose size is the unit's.
+pub fn set_address_is_spelled()
+    ensures { (notation : Notation) (h : Header) (address : ℕ) (bytes : List ℕ) → h.rules.opcode_base ≡ 13 → 11 < notation.limit →
+        set_address_bytes notation.big (Constant address) h.rules.encoding.address_size ≡ Ok bytes →
+        SpellsInstruction notation h bytes (SetAddress address) }
+{}
+
+/// The bytes of a row are the spellings of its instructions, one after the other.
+pub fn row_is_spelled()
+    ensures { (notation : Notation) (h : Header) (version : ℕ) (e : LineEncoding) (previous built : LineRow) →
+        h.rules.opcode_base ≡ 13 → 11 < notation.limit → CanEncode e →
+        CanFollow e previous.address_offset previous.op_index built.address_offset built.op_index →
+        previous.line < 2 ^ 63 → FitsInstructions version built →
+        Each (SpellsInstruction notation h) (instructions_bytes (row_instructions version e previous built)) (row_instructions version e previous built) }
+{}
+
+/// So are those of an end.
+pub fn end_is_spelled()
+    ensures { (notation : Notation) (h : Header) (e : LineEncoding) (previous : LineRow) (offset op_index : ℕ) →
+        h.rules.opcode_base ≡ 13 → 11 < notation.limit → CanFollow e previous.address_offset previous.op_index offset op_index →
+        Each (SpellsInstruction notation h) (instructions_bytes (end_instructions e previous offset op_index)) (end_instructions e previous offset op_index) }
+{}
+
+/// A row is written as at most eleven instructions.
+pub fn rows_are_short()
+    ensures { (version : ℕ) (e : LineEncoding) (previous built : LineRow) → length (row_instructions version e previous built) ≤ 11 }
+{}
+
+/// A row that differs from the one before it in its place and its line alone is one byte, where a special opcode
+/// has both its line advance and its operation advance; and two bytes at most, where a special opcode has them
+/// with the advance of const_add_pc taken off.
+pub fn moving_rows_are_short()
+    ensures one { (encoding : Encoding) (e : LineEncoding) (previous built : LineRow) → CanEncode e → OnlyMoves previous built →
+        HasSpecial (built_rules encoding e) (pos built.line -ℤ pos previous.line)
+        (operations e previous.address_offset previous.op_index built.address_offset built.op_index) →
+        length (instructions_bytes (row_instructions encoding.version e previous built)) ≡ 1 }
+    ensures two { (encoding : Encoding) (e : LineEncoding) (previous built : LineRow) (constant : ℕ) → CanEncode e → OnlyMoves previous built →
+        operation_advance (built_rules encoding e) ConstAddPc ≡ Some constant →
+        HasSpecial (built_rules encoding e) (pos built.line -ℤ pos previous.line)
+        (operations e previous.address_offset previous.op_index built.address_offset built.op_index - constant) →
+        length (instructions_bytes (row_instructions encoding.version e previous built)) ≤ 2 }
 {}

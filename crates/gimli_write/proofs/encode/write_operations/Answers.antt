@@ -1,4 +1,4 @@
-use Rattle.std.proofs.Common.{◌≡◌, ℕ, ◌-◌, ◌/◌, ◌<◌, ◌≤◌, IsTrue, arith}
+use Rattle.std.proofs.Common.{◌-◌, ◌/◌, ◌<◌, ◌≤◌, arith}
 use Rattle.std.proofs.lemmas.Int.{ints}
 use Rattle.gimli_line.specs.declared.instruction.LineInstruction.TheVariants.{AdvancePc}
 use Rattle.gimli_write.specs.Encode.{row_maker, operation_part, constant_advance}

@@ -1,4 +1,4 @@
-use Rattle.std.proofs.Common.{◌≡◌, ℕ, ◌++◌, List, IsTrue, arith, to_z, of_z, w64, pos, ◌-ℤ◌, ◌∙◌}
+use Rattle.std.proofs.Common.{◌≡◌, arith, to_z, of_z, w64, pos, ◌-ℤ◌, ◌∙◌}
 use Rattle.std.proofs.lemmas.Int.{ints}
 use Rattle.gimli_write.specs.Advance.{operations}
 use Rattle.gimli_write.specs.Encode.{marks, changes, line_part, line_opcode, operation_part}
