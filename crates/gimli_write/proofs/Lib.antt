@@ -1,5 +1,5 @@
 pub mod Joins
 pub mod Steps
-pub mod Rows
+pub mod RowRuns
 pub mod Spellings
 pub mod RowSizes

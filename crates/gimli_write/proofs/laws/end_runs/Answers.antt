@@ -1,4 +1,4 @@
-use Rattle.gimli_write.proofs.Rows.{end-runs}
+use Rattle.gimli_write.proofs.RowRuns.{end-runs}
 use Rattle.gimli_write.proofs.laws.end_runs.Goals as goal
 
 pub returns : goal.returns

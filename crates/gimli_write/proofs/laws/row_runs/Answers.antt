@@ -1,4 +1,4 @@
-use Rattle.gimli_write.proofs.Rows.{row-runs}
+use Rattle.gimli_write.proofs.RowRuns.{row-runs}
 use Rattle.gimli_write.proofs.laws.row_runs.Goals as goal
 
 pub returns : goal.returns

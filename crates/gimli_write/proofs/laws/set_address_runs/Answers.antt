@@ -1,4 +1,4 @@
-use Rattle.gimli_write.proofs.Rows.{set-address-runs}
+use Rattle.gimli_write.proofs.RowRuns.{set-address-runs}
 use Rattle.gimli_write.proofs.laws.set_address_runs.Goals as goal
 
 pub returns : goal.returns

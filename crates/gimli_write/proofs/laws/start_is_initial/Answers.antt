@@ -1,4 +1,4 @@
-use Rattle.gimli_write.proofs.Rows.{start-is}
+use Rattle.gimli_write.proofs.RowRuns.{start-is}
 use Rattle.gimli_write.proofs.laws.start_is_initial.Goals as goal
 
 pub returns : goal.returns
