@@ -1,2 +1,3 @@
 pub mod FileNumber
 pub mod Rows
+pub mod LineText

@@ -5,6 +5,7 @@
 #![tactic(auto)]
 
 mod files;
+mod line_string;
 mod row;
 
 pub use files::{DirectoryId, FileId};
@@ -12,4 +13,5 @@ pub use gimli_bytes::{
     Address, DebugLine, DebugLineStr, DebugStr, EndianVec, Error, InitialLengthOffset, Leb128,
     LineStringId, LineStringTable, Result, StringId, StringTable, Writer, laws,
 };
+pub use line_string::LineString;
 pub use row::LineRow;
