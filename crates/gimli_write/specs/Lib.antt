@@ -1,3 +1,6 @@
 pub mod FileNumber
 pub mod Rows
 pub mod LineText
+pub mod Tables
+pub mod TablesInside
+pub mod LentDetails

@@ -8,7 +8,7 @@ mod files;
 mod line_string;
 mod row;
 
-pub use files::{DirectoryId, FileId};
+pub use files::{DirectoryId, FileId, FileInfo};
 pub use gimli_bytes::{
     Address, DebugLine, DebugLineStr, DebugStr, EndianVec, Error, InitialLengthOffset, Leb128,
     LineStringId, LineStringTable, Result, StringId, StringTable, Writer, laws,

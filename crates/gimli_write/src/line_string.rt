@@ -2,9 +2,10 @@ ghost use Rattle.std.specs.Prelude.{◌≡◌, ◌≢◌, ℕ, IfOk, IfErr, OnOk
 
 use gimli_bytes::{Error, LineStringId, LineStringTable, Result, StringId, StringTable};
 use gimli_core::Encoding;
+use std::alloc::AllocError;
 
 /// A text of a line program: the name of a directory or a file, or a file's source.
-#[derive(Clone, Debug, PartialEq, Eq, Hash, Drop)]
+#[derive(Debug, PartialEq, Eq, Hash, Drop)]
 pub enum LineString {
     /// A text in the line program itself.
     String(Vec<u8>),
@@ -54,6 +55,20 @@ impl LineString {
             LineString::String(text) => text.as_slice(),
             LineString::StringRef(id) => strings.get(*id),
             LineString::LineStringRef(id) => line_strings.get(*id),
+        }
+    }
+}
+
+impl Clone for LineString {
+    ghost use Rattle.gimli_write.specs.LineText.{line_text};
+
+    ghost is_clone = { λ text copy. line_text copy ≡ line_text text };
+
+    fn clone(&self) -> std::result::Result<LineString, AllocError> {
+        match self {
+            LineString::String(text) => Ok(LineString::String(text.clone()?)),
+            LineString::StringRef(id) => Ok(LineString::StringRef(*id)),
+            LineString::LineStringRef(id) => Ok(LineString::LineStringRef(*id)),
         }
     }
 }
