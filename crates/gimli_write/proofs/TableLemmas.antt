@@ -1,8 +1,8 @@
 -- The tables of directories and files, seen as lists.
 use Rattle.std.proofs.Common.{◌≡◌, ◌≢◌, ℕ, zero, suc, ◌+◌, ◌<◌, Bool, true, false, cond, not, ◌||◌, ◌&&◌, List, [], ◌∷◌, ◌++◌, map, length, refl, sym, ap, subst, ◌∙◌, if◌then◌else◌, slice_get, get_or, drop, Option, Some, None, position, nat_lt, option_map, true≢false, arith, length-append}
 use native.Mathlib.Nat.{suc-add as suc_add}
-use Rattle.std.specs.Prelude.{All, nat_eq, is_some}
-use Rattle.std.specs.List.{list_any, position_or_len, prefix_len}
+use Rattle.std.specs.Prelude.{All, nat_eq, is_some, unwrap_or}
+use Rattle.std.specs.List.{list_any, position_or_len, AllZip}
 use Rattle.std.proofs.lemmas.Cmp.{nat_eq_equiv}
 use Rattle.std.proofs.lemmas.List.{map-append}
 use Rattle.std.proofs.lemmas.List.Elements.{All-push}
@@ -188,3 +188,29 @@ pub numbered_more : (es : List ((LineString × ℕ) × FileInfo)) (i j : ℕ) (e
 numbered_more [] i j e h = cc
 numbered_more (x ∷ xs) zero j e h = let s : x ≡ e = cc in ap (λ (k : (LineString × ℕ) × FileInfo). (j, line_text k.0.0, k.0.1) ∷ numbered (j + 1) (files_of xs)) s
 numbered_more (x ∷ xs) (suc n) j e h = rw suc_add (numbered_more xs n j e h)
+
+-- ---- clones
+
+-- clones of directories are the same directories
+pub directories_cloned : (ks ls : List LineString) → AllZip (λ k l. line_text l ≡ line_text k) ks ls → directories_of ls ≡ directories_of ks
+directories_cloned [] [] z = refl
+directories_cloned [] (l ∷ ls) z = absurd z
+directories_cloned (k ∷ ks) [] z = absurd z
+directories_cloned (k ∷ ks) (l ∷ ls) z = λ i. z.0 i ∷ directories_cloned ks ls z.1 i
+
+-- and clones of files the same files
+pub files_cloned : (es fs : List ((LineString × ℕ) × FileInfo)) → AllZip (λ e f. ((line_text f.0.0 ≡ line_text e.0.0) × (f.0.1 ≡ e.0.1)) × (details f.1 ≡ details e.1)) es fs → files_of fs ≡ files_of es
+files_cloned [] [] z = refl
+files_cloned [] (f ∷ fs) z = absurd z
+files_cloned (e ∷ es) [] z = absurd z
+files_cloned (e ∷ es) (f ∷ fs) z = λ i. ((z.0.0.0 i, z.0.0.1 i), z.0.1 i) ∷ files_cloned es fs z.1 i
+
+-- ---- the keys of files
+
+pub keys-with_file : (files : List File) (k : FileKey) (given : Option Details) → keys_of (with_file files k given) ≡ (if has_file files k then keys_of files else keys_of files ++ k ∷ [])
+keys-with_file files k given = by (has_file files k) given
+  where
+    by : (b : Bool) (given : Option Details) → keys_of (if b then (elim given [ Some d ↦ with_details files (place_of_file files k) d | None ↦ files ]) else files ++ (k, unwrap_or given no_details) ∷ []) ≡ (if b then keys_of files else keys_of files ++ k ∷ [])
+    by true (Some d) = keys-with_details files (place_of_file files k) d
+    by true None = refl
+    by false given = map-append (λ (f : File). f.0) files ((k, unwrap_or given no_details) ∷ [])

@@ -4,3 +4,9 @@ pub mod LineText
 pub mod Tables
 pub mod TablesInside
 pub mod LentDetails
+pub mod Advance
+pub mod FirstTables
+pub mod Built
+pub mod Conditions
+pub mod BuiltInside
+pub mod LentRow

@@ -1,5 +1,6 @@
 -- The fields of the tables of a line program, as lists.
 use Rattle.std.specs.Prelude.{ℕ, List, map, option_map, drop}
+use Rattle.std.specs.Borrow.{Bor}
 use Rattle.gimli_write.specs.LineText.{LineText, line_text}
 use Rattle.gimli_write.specs.Tables.{FileKey, Details, File, Tables}
 use Rattle.gimli_write.specs.declared.line_string.LineString.{LineString}
@@ -16,3 +17,7 @@ directories_of keys = map line_text keys
 
 abbrev pub files_of : List ((LineString × ℕ) × FileInfo) → List File
 files_of entries = map (λ e. (key e.0, details e.1)) entries
+
+-- what an iterator of files gives
+abbrev pub file_seen : ℕ × Bor LineString × ℕ → ℕ × LineText × ℕ
+file_seen f = (f.0, line_text f.1.now, f.2)

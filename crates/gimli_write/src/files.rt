@@ -1,4 +1,4 @@
-ghost use Rattle.std.specs.Prelude.{◌≡◌, ℕ, ◌<◌, List, [], length, replicate, option_map, IfOk, IfErr, OnOk, OnErr, Some, None, slice_get};
+ghost use Rattle.std.specs.Prelude.{◌≡◌, ℕ, ◌<◌, List, [], length, replicate, option_map, IfOk, IfErr, OnOk, OnErr, IfSome, Some, None, slice_get};
 ghost use Rattle.gimli_write.specs.FileNumber.{file_number, initial_file};
 
 use crate::line_string::LineString;
@@ -19,6 +19,15 @@ impl Model for DirectoryId {
     ghost view = { λ id. id.0 };
 
     ghost inverse = { λ n. record { 0 = n } };
+}
+
+impl DirectoryId {
+    /// The id of the working directory.
+    pub(crate) fn working() -> DirectoryId
+        ensures { result ≡ 0 }
+    {
+        DirectoryId(0)
+    }
 }
 
 /// The index of a file in its line program, from 0 on.
@@ -131,8 +140,9 @@ impl Model for FileTable {
 impl FileTable {
     ghost use Rattle.std.specs.Borrow.{sem};
     ghost use Rattle.gimli_write.specs.LineText.{line_text, HasNoZero};
-    ghost use Rattle.gimli_write.specs.Tables.{AreTables, with_directory, place_of_directory, with_file, place_of_file};
+    ghost use Rattle.gimli_write.specs.Tables.{AreTables, with_directory, place_of_directory, with_file, place_of_file, numbered};
     ghost use Rattle.gimli_write.specs.TablesInside.{details};
+    ghost use Rattle.gimli_write.specs.FirstTables.{first_directories, first_files};
     ghost use Rattle.gimli_write.specs.LentDetails.{lends_details};
 
     /// No directory and no file.
@@ -143,6 +153,38 @@ impl FileTable {
             directories: IndexSet::new(alloc),
             files: IndexMap::new(alloc),
         }
+    }
+
+    /// The tables of a new program. Refused for want of memory alone.
+    pub(crate) fn start(
+        alloc: Global,
+        version: u16,
+        working_dir: LineString,
+        source_dir: Option<LineString>,
+        source_file: LineString,
+        source_file_info: Option<FileInfo>,
+    ) -> Result<FileTable>
+        requires working_dir_ends { HasNoZero (line_text working_dir) }
+        requires source_dir_ends { IfSome source_dir (λ dir. HasNoZero (line_text dir)) }
+        requires source_file_ends { HasNoZero (line_text source_file) }
+        ensures directories { IfOk result (λ tables. tables.directories
+            ≡ first_directories version (line_text working_dir) (option_map line_text source_dir)) }
+        ensures files { IfOk result (λ tables. tables.files
+            ≡ first_files version (line_text working_dir) (option_map line_text source_dir)
+            (line_text source_file) (option_map details source_file_info)) }
+        ensures memory { IfErr result (λ e. e ≡ Error.OutOfMemory) }
+    {
+        let mut tables = FileTable::new(alloc);
+        let working_dir = tables.add_directory(working_dir)?;
+        if version <= 4 {
+            return Ok(tables);
+        }
+        let directory = match source_dir {
+            Some(source_dir) => tables.add_directory(source_dir)?,
+            None => working_dir,
+        };
+        tables.add_file(source_file, directory, source_file_info)?;
+        Ok(tables)
     }
 
     /// Puts a directory last, and answers its id; one that is there has its old id, and nothing changes.
@@ -225,6 +267,16 @@ impl FileTable {
         }
     }
 
+    /// The files in order.
+    pub(crate) fn files(&self) -> Files<'_>
+        ensures { result ≡ numbered 0 self.now.files }
+    {
+        Files {
+            table: self,
+            next: 0,
+        }
+    }
+
     /// The path and the directory of a file.
     pub(crate) fn get_file(&self, id: FileId) -> (&LineString, DirectoryId)
         requires { id < length self.now.files }
@@ -250,5 +302,57 @@ impl FileTable {
         ensures value { option_map (λ f. f.1) (slice_get self.old.files id) ≡ Some (details result.now) }
     {
         self.files.get_index_mut(id.0).unwrap()
+    }
+}
+
+impl Clone for FileTable {
+    ghost use Rattle.std.specs.Prelude.{◌≡◌};
+
+    ghost is_clone = { λ table copy. copy ≡ table };
+
+    fn clone(&self) -> std::result::Result<FileTable, AllocError> {
+        Ok(FileTable {
+            directories: self.directories.clone()?,
+            files: self.files.clone()?,
+        })
+    }
+}
+
+/// The files of a line program in order, each with its id, its path and its directory.
+#[derive(Debug, Drop)]
+pub struct Files<'a> {
+    table: &'a FileTable,
+    next: usize,
+}
+
+impl<'a> Model for Files<'a> {
+    ghost use Rattle.std.specs.Prelude.{ℕ, List, drop};
+    ghost use Rattle.gimli_write.specs.LineText.{LineText};
+    ghost use Rattle.gimli_write.specs.Tables.{numbered};
+
+    ghost Value = { List (ℕ × LineText × ℕ) };
+
+    ghost view = { λ files. numbered files.next (drop files.next files.table.now.files) };
+}
+
+impl<'a> Iterator for Files<'a> {
+    ghost use Rattle.std.specs.Iterator.{YieldsFirstBy, item_count};
+    ghost use Rattle.gimli_write.specs.TablesInside.{file_seen};
+
+    type Item = (FileId, &'a LineString, DirectoryId);
+
+    ghost next_gives = { YieldsFirstBy file_seen (λ files. files) };
+
+    ghost remaining = { item_count (λ files. files) };
+
+    fn next(&mut self) -> Option<(FileId, &'a LineString, DirectoryId)> {
+        let table = self.table;
+        if self.next >= table.files.len() {
+            return None;
+        }
+        let (key, _) = table.files.get_index(self.next)?;
+        let id = FileId(self.next);
+        self.next += 1;
+        Some((id, &key.0, key.1))
     }
 }

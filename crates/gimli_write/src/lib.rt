@@ -5,13 +5,17 @@
 #![tactic(auto)]
 
 mod files;
+mod items;
+mod line_program;
 mod line_string;
 mod row;
 
-pub use files::{DirectoryId, FileId, FileInfo};
+pub use files::{DirectoryId, FileId, FileInfo, Files};
 pub use gimli_bytes::{
     Address, DebugLine, DebugLineStr, DebugStr, EndianVec, Error, InitialLengthOffset, Leb128,
     LineStringId, LineStringTable, Result, StringId, StringTable, Writer, laws,
 };
+pub use items::{BuiltItem, BuiltItems};
+pub use line_program::LineProgram;
 pub use line_string::LineString;
 pub use row::LineRow;
