@@ -1,9 +1,10 @@
 -- The tables of directories and files, seen as lists.
 use Rattle.std.proofs.Common.{◌≡◌, ◌≢◌, ℕ, zero, suc, ◌+◌, ◌<◌, Bool, true, false, cond, not, ◌||◌, ◌&&◌, List, [], ◌∷◌, ◌++◌, map, length, refl, sym, ap, subst, ◌∙◌, if◌then◌else◌, slice_get, get_or, drop, Option, Some, None, position, nat_lt, option_map, true≢false, arith, length-append}
 use native.Mathlib.Nat.{suc-add as suc_add}
-use Rattle.std.specs.Prelude.{All, nat_eq, is_some, unwrap_or}
+use Rattle.std.specs.Prelude.{nat_eq, is_some, unwrap_or}
 use Rattle.std.specs.List.{list_any, position_or_len, AllZip}
 use Rattle.std.proofs.lemmas.Cmp.{nat_eq_equiv}
+use Rattle.std.proofs.lemmas.Bool.Decides.{nat_tests}
 use Rattle.std.proofs.lemmas.List.{map-append}
 use Rattle.std.proofs.lemmas.List.Elements.{All-push}
 use Rattle.std.proofs.lemmas.List.Folds.{list_any_at}
@@ -18,7 +19,7 @@ use Rattle.gimli_write.specs.declared.line_string.LineString.TheVariants.{String
 use Rattle.gimli_write.specs.declared.files.FileInfo.{FileInfo}
 use Rattle.gimli_write.specs.contracts.line_string.LineStringPartialEq.TheImpl.{ghosts}
 use Rattle.gimli_write.specs.LineText.{LineText, Inline, InStrings, InLineStrings, line_text, line_text_eq, HasNoZero}
-use Rattle.gimli_write.specs.Tables.{with_directory, place_of_directory, FileKey, Details, no_details, File, key_eq, has_file, place_of_file, with_details, with_file, keys_of, AreTables, numbered}
+use Rattle.gimli_write.specs.Tables.{with_directory, place_of_directory, FileKey, Details, no_details, File, key_eq, has_file, place_of_file, with_details, with_file, keys_of, Keeps, AreTables, numbered}
 use Rattle.gimli_write.specs.TablesInside.{details, key, directories_of, files_of}
 
 -- ---- texts
@@ -42,6 +43,13 @@ line_text_eq-self (InLineStrings i) = nat_eq_equiv.refl i
 
 line_text_eq-same : (s t : LineText) → s ≡ t → line_text_eq t s ≡ true
 line_text_eq-same s t e = subst (λ (x : LineText). line_text_eq t x ≡ true) (sym e) (line_text_eq-self t)
+
+nat_eq-tells : (i j : ℕ) → nat_eq i j ≡ true → i ≡ j
+nat_eq-tells i j h = grind (arith, nat_tests)
+
+and_true : (a b : Bool) → (a && b) ≡ true → (a ≡ true) × (b ≡ true)
+and_true true b h = (refl, h)
+and_true false b h = absurd (true≢false (sym h))
 
 -- ---- a search in a list
 
@@ -214,3 +222,98 @@ keys-with_file files k given = by (has_file files k) given
     by true (Some d) = keys-with_details files (place_of_file files k) d
     by true None = refl
     by false given = map-append (λ (f : File). f.0) files ((k, unwrap_or given no_details) ∷ [])
+
+-- ---- what was added is found
+
+line_text_eq-tells : (s t : LineText) → line_text_eq s t ≡ true → s ≡ t
+line_text_eq-tells (Inline a) (Inline b) h = ap Inline ((bytes_eq-Decides a b).0 h)
+line_text_eq-tells (Inline a) (InStrings j) h = cc
+line_text_eq-tells (Inline a) (InLineStrings j) h = cc
+line_text_eq-tells (InStrings i) (Inline b) h = cc
+line_text_eq-tells (InStrings i) (InStrings j) h = ap InStrings (nat_eq-tells i j h)
+line_text_eq-tells (InStrings i) (InLineStrings j) h = cc
+line_text_eq-tells (InLineStrings i) (Inline b) h = cc
+line_text_eq-tells (InLineStrings i) (InStrings j) h = cc
+line_text_eq-tells (InLineStrings i) (InLineStrings j) h = ap InLineStrings (nat_eq-tells i j h)
+
+key_eq-tells : (k l : FileKey) → key_eq k l ≡ true → k ≡ l
+key_eq-tells k l h =
+    let both = and_true (line_text_eq k.0 l.0) (nat_eq k.1 l.1) h in
+    λ i. (line_text_eq-tells k.0 l.0 both.0 i, nat_eq-tells k.1 l.1 both.1 i)
+
+found_there : {A : Type 0} (eq : A → A → Bool) → ((x y : A) → eq x y ≡ true → x ≡ y) → (xs : List A) (x : A) → list_any (eq x) xs ≡ true → slice_get xs (position_or_len (eq x) xs) ≡ Some x
+found_there eq tells [] x h = cc
+found_there eq tells (y ∷ xs) x h = at (eq x y) refl (found_there eq tells xs x) h
+  where
+    at : (b : Bool) → eq x y ≡ b → (list_any (eq x) xs ≡ true → slice_get xs (position_or_len (eq x) xs) ≡ Some x) → (b || list_any (eq x) xs) ≡ true
+        → slice_get (y ∷ xs) (cond (not b) (1 + position_or_len (eq x) xs) 0) ≡ Some x
+    at true e rest h = ap Some (sym (tells x y e))
+    at false e rest h =
+        let one : 1 + position_or_len (eq x) xs ≡ suc (position_or_len (eq x) xs) = omega arith in
+        ap (slice_get (y ∷ xs)) one ∙ rest h
+
+found_new : {A : Type 0} (eq : A → A → Bool) (xs : List A) (x : A) → list_any (eq x) xs ≡ false → slice_get (xs ++ x ∷ []) (position_or_len (eq x) xs) ≡ Some x
+found_new eq [] x h = refl
+found_new eq (y ∷ xs) x h = at (eq x y) (found_new eq xs x) h
+  where
+    at : (b : Bool) → (list_any (eq x) xs ≡ false → slice_get (xs ++ x ∷ []) (position_or_len (eq x) xs) ≡ Some x) → (b || list_any (eq x) xs) ≡ false
+        → slice_get (y ∷ xs ++ x ∷ []) (cond (not b) (1 + position_or_len (eq x) xs) 0) ≡ Some x
+    at true rest h = cc
+    at false rest h =
+        let one : 1 + position_or_len (eq x) xs ≡ suc (position_or_len (eq x) xs) = omega arith in
+        ap (slice_get (y ∷ xs ++ x ∷ [])) one ∙ rest h
+
+found : {A : Type 0} (eq : A → A → Bool) → ((x y : A) → eq x y ≡ true → x ≡ y) → (xs : List A) (x : A) → slice_get (if list_any (eq x) xs then xs else xs ++ x ∷ []) (position_or_len (eq x) xs) ≡ Some x
+found eq tells xs x = by (list_any (eq x) xs) refl
+  where
+    by : (b : Bool) → list_any (eq x) xs ≡ b → slice_get (if b then xs else xs ++ x ∷ []) (position_or_len (eq x) xs) ≡ Some x
+    by true h = found_there eq tells xs x h
+    by false h = found_new eq xs x h
+
+pub directory_found : (ds : List LineText) (t : LineText) → slice_get (with_directory ds t) (place_of_directory ds t) ≡ Some t
+directory_found ds t = found line_text_eq line_text_eq-tells ds t
+
+place_of_key : (files : List File) (k : FileKey) → place_of_file files k ≡ position_or_len (key_eq k) (keys_of files)
+place_of_key [] k = refl
+place_of_key (f ∷ files) k = ap (λ n. cond (not (key_eq k f.0)) (1 + n) 0) (place_of_key files k)
+
+pub file_found_at : (files : List File) (k : FileKey) (given : Option Details) → slice_get (keys_of (with_file files k given)) (place_of_file files k) ≡ Some k
+file_found_at files k given =
+    rw (keys-with_file files k given, place_of_key files k, ← any-map (key_eq k) (λ (f : File). f.0) files) (found key_eq key_eq-tells (keys_of files) k)
+
+pub some_within : {A : Type 0} (xs : List A) (i : ℕ) (x : A) → slice_get xs i ≡ Some x → i < length xs
+some_within [] i x h = absurd cc
+some_within (y ∷ xs) zero x h = omega arith
+some_within (y ∷ xs) (suc i) x h = let short = some_within xs i x h in omega arith
+
+-- ---- what was there stays
+
+slice_get-kept : {A : Type 0} (xs ys : List A) (i : ℕ) → i < length xs → slice_get (xs ++ ys) i ≡ slice_get xs i
+slice_get-kept [] ys i h = absurd (omega arith)
+slice_get-kept (x ∷ xs) ys zero h = refl
+slice_get-kept (x ∷ xs) ys (suc i) h = slice_get-kept xs ys i (omega arith)
+
+kept : {A : Type 0} (b : Bool) (xs : List A) (x : A) → Keeps xs (if b then xs else xs ++ x ∷ [])
+kept true xs x = record { grows = omega arith; stays = λ i h. refl }
+kept false xs x = record { grows = omega (arith, length-append xs (x ∷ [])); stays = slice_get-kept xs (x ∷ []) }
+
+pub directory_keeps : (ds : List LineText) (t : LineText) → Keeps ds (with_directory ds t)
+directory_keeps ds t = kept (list_any (line_text_eq t) ds) ds t
+
+pub file_keeps : (files : List File) (k : FileKey) (given : Option Details) → Keeps (keys_of files) (keys_of (with_file files k given))
+file_keeps files k given = rw (keys-with_file files k given) (kept (has_file files k) (keys_of files) k)
+
+with_details-others : (files : List File) (n : ℕ) (d : Details) (i : ℕ) → i ≢ n → slice_get (with_details files n d) i ≡ slice_get files i
+with_details-others [] n d i h = refl
+with_details-others (f ∷ files) zero d zero h = absurd (h refl)
+with_details-others (f ∷ files) zero d (suc i) h = refl
+with_details-others (f ∷ files) (suc n) d zero h = refl
+with_details-others (f ∷ files) (suc n) d (suc i) h = with_details-others files n d i (λ e. h (ap suc e))
+
+pub file_others : (files : List File) (k : FileKey) (given : Option Details) (i : ℕ) → i < length files → i ≢ place_of_file files k → slice_get (with_file files k given) i ≡ slice_get files i
+file_others files k given i short other = by (has_file files k) given
+  where
+    by : (b : Bool) (given : Option Details) → slice_get (if b then (elim given [ Some d ↦ with_details files (place_of_file files k) d | None ↦ files ]) else files ++ (k, unwrap_or given no_details) ∷ []) i ≡ slice_get files i
+    by true (Some d) = with_details-others files (place_of_file files k) d i other
+    by true None = refl
+    by false given = slice_get-kept files ((k, unwrap_or given no_details) ∷ []) i short

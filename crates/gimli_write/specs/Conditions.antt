@@ -4,7 +4,7 @@ use Rattle.gimli_core.specs.Numbers.{is_address_size}
 use Rattle.gimli_core.specs.declared.common.Encoding.{Encoding}
 use Rattle.gimli_core.specs.declared.common.Format.TheVariants.{Dwarf32}
 use Rattle.gimli_core.specs.declared.common.LineEncoding.{LineEncoding}
-use Rattle.gimli_write.specs.LineText.{LineText, Inline, HasNoZero, IsNotEmpty}
+use Rattle.gimli_write.specs.LineText.{LineText, Inline, IsNotEmpty}
 use Rattle.gimli_write.specs.Tables.{FileKey, AreTables, keys_of}
 use Rattle.gimli_write.specs.Advance.{CanEncode, CanFollow}
 use Rattle.gimli_write.specs.Built.{Built, place_after, previous_place}
@@ -21,12 +21,13 @@ IsInline (Inline bytes) = Unit {0}
 IsInline t = ⊥
 
 -- the programs that can be made so far
-pub record IsSupported (encoding : Encoding) (line_encoding : LineEncoding) (working_dir source_file : LineText) : Type 0 where
+pub record IsSupported (encoding : Encoding) (line_encoding : LineEncoding) (working_dir : LineText) (source_dir : Option LineText) (source_file : LineText) : Type 0 where
   pub from : 2 ≤ encoding.version
   pub to : encoding.version ≤ 4
   pub format : encoding.format ≡ Dwarf32
   pub operations : line_encoding.maximum_operations_per_instruction ≡ 1
   pub working_dir_inline : IsInline working_dir
+  pub source_dir_inline : IfSome source_dir IsInline
   pub source_file_inline : IsInline source_file
 
 -- ---- items
@@ -58,6 +59,3 @@ pub record IsProgram (is_none : Bool) (encoding : Encoding) (e : LineEncoding) (
   pub directories_not_empty : encoding.version ≤ 4 → All IsNotEmpty (drop 1 directories)
   pub paths_not_empty : encoding.version ≤ 4 → All (λ k. IsNotEmpty k.0) keys
   pub items_built : AreBuilt e (0, 0) items
-
-abbrev pub IsWhole : Built → Type 0
-IsWhole p = AreTables p.directories (keys_of p.files) × IsProgram p.is_none p.encoding p.line_encoding p.directories (keys_of p.files) p.items

@@ -1,5 +1,5 @@
 -- Texts of a line program, without where they lie in memory.
-use Rattle.std.specs.Prelude.{◌≢◌, ℕ, ◌<◌, ◌≤◌, Bool, false, List, [], length, slice_get, unwrap_or, bytes_eq, nat_eq, nat_le, if◌then◌else◌, All}
+use Rattle.std.specs.Prelude.{◌≢◌, ℕ, ◌<◌, Bool, false, List, [], length, slice_get, unwrap_or, bytes_eq, nat_eq, nat_le, if◌then◌else◌, All}
 use Rattle.gimli_bytes.specs.Texts.{with_text, place_of_text}
 use Rattle.gimli_write.specs.declared.line_string.LineString.{LineString}
 use Rattle.gimli_write.specs.declared.line_string.LineString.TheVariants.{String, StringRef, LineStringRef}

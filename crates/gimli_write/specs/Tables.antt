@@ -1,5 +1,5 @@
 -- The directories and the files of a line program, as lists.
-use Rattle.std.specs.Prelude.{◌≡◌, ◌≢◌, ℕ, suc, zero, ◌+◌, ◌<◌, Bool, ◌&&◌, List, [], ◌∷◌, ◌++◌, length, map, replicate, nat_eq, if◌then◌else◌, Option, Some, None, unwrap_or, All, AllPairs}
+use Rattle.std.specs.Prelude.{◌≡◌, ◌≢◌, ℕ, suc, zero, ◌+◌, ◌<◌, ◌≤◌, Bool, ◌&&◌, List, [], ◌∷◌, ◌++◌, length, slice_get, map, replicate, nat_eq, if◌then◌else◌, Option, Some, None, unwrap_or, All, AllPairs}
 use Rattle.std.specs.List.{list_any, position_or_len}
 use Rattle.gimli_write.specs.LineText.{LineText, line_text_eq, HasNoZero}
 
@@ -64,6 +64,11 @@ pub record Tables : Type 0 where
 
 abbrev pub keys_of : List File → List FileKey
 keys_of files = map (λ f. f.0) files
+
+-- each element that was there keeps its index
+pub record Keeps {A : Type 0} (old new : List A) : Type 0 where
+  pub grows : length old ≤ length new
+  pub stays : (i : ℕ) → i < length old → slice_get new i ≡ slice_get old i
 
 -- no directory is twice there, nor is a file; a text in the program has no zero byte; the directory of each file is
 -- there

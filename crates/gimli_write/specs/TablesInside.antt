@@ -1,8 +1,8 @@
 -- The fields of the tables of a line program, as lists.
-use Rattle.std.specs.Prelude.{ℕ, List, map, option_map, drop}
+use Rattle.std.specs.Prelude.{ℕ, List, map, option_map}
 use Rattle.std.specs.Borrow.{Bor}
 use Rattle.gimli_write.specs.LineText.{LineText, line_text}
-use Rattle.gimli_write.specs.Tables.{FileKey, Details, File, Tables}
+use Rattle.gimli_write.specs.Tables.{FileKey, Details, File}
 use Rattle.gimli_write.specs.declared.line_string.LineString.{LineString}
 use Rattle.gimli_write.specs.declared.files.FileInfo.{FileInfo}
 

@@ -140,7 +140,7 @@ impl Model for FileTable {
 impl FileTable {
     ghost use Rattle.std.specs.Borrow.{sem};
     ghost use Rattle.gimli_write.specs.LineText.{line_text, HasNoZero};
-    ghost use Rattle.gimli_write.specs.Tables.{AreTables, with_directory, place_of_directory, with_file, place_of_file, numbered};
+    ghost use Rattle.gimli_write.specs.Tables.{AreTables, with_directory, place_of_directory, with_file, place_of_file, numbered, keys_of};
     ghost use Rattle.gimli_write.specs.TablesInside.{details};
     ghost use Rattle.gimli_write.specs.FirstTables.{first_directories, first_files};
     ghost use Rattle.gimli_write.specs.LentDetails.{lends_details};
@@ -192,7 +192,8 @@ impl FileTable {
     pub(crate) fn add_directory(&mut self, directory: LineString) -> Result<DirectoryId>
         requires { HasNoZero (line_text directory) }
         ensures ok { OnOk result (self.new ≡ record self.old {
-            directories = with_directory self.old.directories (line_text directory) }) }
+          directories = with_directory self.old.directories (line_text directory);
+        }) }
         ensures id { IfOk result (λ id. id ≡ place_of_directory self.old.directories (line_text directory)) }
         ensures err { OnErr result (self.new ≡ self.old) }
         ensures memory { IfErr result (λ e. e ≡ Error.OutOfMemory) }
@@ -211,11 +212,17 @@ impl FileTable {
 
     /// Puts a file last, with what is known of it, and answers its id; one that is there has its old id,
     /// and takes what is known now. Refused for want of memory alone; then nothing changes.
-    fn set_file(&mut self, path: LineString, directory: DirectoryId, info: FileInfo) -> Result<FileId>
+    fn set_file(
+        &mut self,
+        path: LineString,
+        directory: DirectoryId,
+        info: FileInfo,
+    ) -> Result<FileId>
         requires text { HasNoZero (line_text path) }
         requires within { directory < length self.old.directories }
         ensures ok { OnOk result (self.new ≡ record self.old {
-            files = with_file self.old.files (line_text path, directory) (Some (details info)) }) }
+          files = with_file self.old.files (line_text path, directory) (Some (details info));
+        }) }
         ensures id { IfOk result (λ id. id ≡ place_of_file self.old.files (line_text path, directory)) }
         ensures err { OnErr result (self.new ≡ self.old) }
         ensures memory { IfErr result (λ e. e ≡ Error.OutOfMemory) }
@@ -231,7 +238,8 @@ impl FileTable {
         requires text { HasNoZero (line_text path) }
         requires within { directory < length self.old.directories }
         ensures ok { OnOk result (self.new ≡ record self.old {
-            files = with_file self.old.files (line_text path, directory) None }) }
+          files = with_file self.old.files (line_text path, directory) None;
+        }) }
         ensures id { IfOk result (λ id. id ≡ place_of_file self.old.files (line_text path, directory)) }
         ensures err { OnErr result (self.new ≡ self.old) }
         ensures memory { IfErr result (λ e. e ≡ Error.OutOfMemory) }
@@ -256,7 +264,8 @@ impl FileTable {
         requires text { HasNoZero (line_text path) }
         requires within { directory < length self.old.directories }
         ensures ok { OnOk result (self.new ≡ record self.old {
-            files = with_file self.old.files (line_text path, directory) (option_map details info) }) }
+          files = with_file self.old.files (line_text path, directory) (option_map details info);
+        }) }
         ensures id { IfOk result (λ id. id ≡ place_of_file self.old.files (line_text path, directory)) }
         ensures err { OnErr result (self.new ≡ self.old) }
         ensures memory { IfErr result (λ e. e ≡ Error.OutOfMemory) }
@@ -269,8 +278,10 @@ impl FileTable {
 
     /// The files in order.
     pub(crate) fn files(&self) -> Files<'_>
-        ensures { result ≡ numbered 0 self.now.files }
+        ensures files { result ≡ numbered 0 self.now.files }
+        ensures tables { AreTables self.now.directories (keys_of self.now.files) }
     {
+        let _files = &self.files;
         Files {
             table: self,
             next: 0,

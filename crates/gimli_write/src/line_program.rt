@@ -1,4 +1,4 @@
-ghost use Rattle.std.specs.Prelude.{◌≡◌, ℕ, ◌+◌, ◌<◌, ◌≤◌, ◌^◌, Bool, true, false, List, [], ◌∷◌, ◌++◌, length, option_map, slice_get, IfOk, IfErr, OnOk, OnErr, IfSome, Some, None, IsTrue, ◌↔◌};
+ghost use Rattle.std.specs.Prelude.{◌≡◌, ◌≢◌, ℕ, ◌+◌, ◌<◌, ◌≤◌, ◌^◌, Bool, true, false, List, [], ◌∷◌, ◌++◌, length, option_map, slice_get, IfOk, IfErr, OnOk, OnErr, IfSome, Some, None, IsTrue, ◌↔◌};
 ghost use Rattle.std.specs.Option.{option_to_list};
 ghost use Rattle.gimli_core.specs.Numbers.{is_address_size};
 ghost use Rattle.gimli_write.specs.Advance.{CanEncode, CanFollow};
@@ -76,7 +76,8 @@ impl LineProgram {
         source_file_info: Option<FileInfo>,
     ) -> Result<LineProgram>
         requires accepts { Accepts encoding line_encoding }
-        requires supported { IsSupported encoding line_encoding (line_text working_dir) (line_text source_file) }
+        requires supported { IsSupported encoding line_encoding (line_text working_dir)
+            (option_map line_text source_dir) (line_text source_file) }
         requires working_dir_ends { HasNoZero (line_text working_dir) }
         requires source_dir_ends { IfSome source_dir (λ dir. HasNoZero (line_text dir)) }
         requires source_file_ends { HasNoZero (line_text source_file) }
@@ -143,7 +144,9 @@ impl LineProgram {
 
     /// What the numbers of the program are encoded by.
     pub fn encoding(&self) -> Encoding
-        ensures { result ≡ self.now.encoding }
+        ensures encoding { result ≡ self.now.encoding }
+        ensures accepted { self.now.is_none ≡ false →
+            Accepts self.now.encoding self.now.line_encoding }
     {
         self.encoding
     }
@@ -173,9 +176,8 @@ impl LineProgram {
 impl LineProgram {
     ghost use Rattle.std.specs.Borrow.{sem};
     ghost use Rattle.gimli_write.specs.LineText.{line_text, HasNoZero, IsNotEmpty};
-    ghost use Rattle.gimli_write.specs.Tables.{with_directory, place_of_directory, with_file, place_of_file, numbered};
+    ghost use Rattle.gimli_write.specs.Tables.{with_directory, place_of_directory, with_file, place_of_file, numbered, keys_of, Keeps, AreTables};
     ghost use Rattle.gimli_write.specs.TablesInside.{details};
-    ghost use Rattle.gimli_write.specs.Conditions.{IsWhole};
     ghost use Rattle.gimli_write.specs.LentRow.{lends_info};
 
     /// The id of the working directory, 0.
@@ -195,8 +197,12 @@ impl LineProgram {
         requires text { HasNoZero (line_text directory) }
         requires not_empty { self.old.encoding.version ≤ 4 → IsNotEmpty (line_text directory) }
         ensures ok { OnOk result (self.new ≡ record self.old {
-            directories = with_directory self.old.directories (line_text directory) }) }
+          directories = with_directory self.old.directories (line_text directory);
+        }) }
         ensures id { IfOk result (λ id. id ≡ place_of_directory self.old.directories (line_text directory)) }
+        ensures within { IfOk result (λ id. id < length self.new.directories) }
+        ensures found { IfOk result (λ id. slice_get self.new.directories id ≡ Some (line_text directory)) }
+        ensures keeps { OnOk result (Keeps self.old.directories self.new.directories) }
         ensures err { OnErr result (self.new ≡ self.old) }
         ensures memory { IfErr result (λ e. e ≡ Error.OutOfMemory) }
     {
@@ -227,8 +233,15 @@ impl LineProgram {
         requires not_empty { self.old.encoding.version ≤ 4 → IsNotEmpty (line_text file) }
         requires within { directory < length self.old.directories }
         ensures ok { OnOk result (self.new ≡ record self.old {
-            files = with_file self.old.files (line_text file, directory) (option_map details info) }) }
+          files = with_file self.old.files (line_text file, directory) (option_map details info);
+        }) }
         ensures id { IfOk result (λ id. id ≡ place_of_file self.old.files (line_text file, directory)) }
+        ensures within { IfOk result (λ id. id < length self.new.files) }
+        ensures found { IfOk result (λ id.
+            slice_get (keys_of self.new.files) id ≡ Some (line_text file, directory)) }
+        ensures keeps { OnOk result (Keeps (keys_of self.old.files) (keys_of self.new.files)) }
+        ensures others { IfOk result (λ id. (i : ℕ) → i < length self.old.files → i ≢ id →
+            slice_get self.new.files i ≡ slice_get self.old.files i) }
         ensures err { OnErr result (self.new ≡ self.old) }
         ensures memory { IfErr result (λ e. e ≡ Error.OutOfMemory) }
     {
@@ -238,7 +251,8 @@ impl LineProgram {
 
     /// The files in order, each with its id, its path and its directory.
     pub fn files(&self) -> Files<'_>
-        ensures { result ≡ numbered 0 self.now.files }
+        ensures files { result ≡ numbered 0 self.now.files }
+        ensures tables { AreTables self.now.directories (keys_of self.now.files) }
     {
         self.tables.files()
     }
@@ -276,7 +290,7 @@ impl LineProgram {
     ghost use Rattle.gimli_write.specs.Rows.{initial_row};
     ghost use Rattle.gimli_write.specs.Rows.{cleared, restarted};
     ghost use Rattle.gimli_write.specs.Built.{previous_place};
-    ghost use Rattle.gimli_write.specs.Conditions.{CanGenerateRow, CanEndSequence, IsWhole};
+    ghost use Rattle.gimli_write.specs.Conditions.{CanGenerateRow, CanEndSequence, AreBuilt};
     ghost use Rattle.gimli_write.specs.LentRow.{lends_row};
 
     /// Begins a sequence, and sets its address, if one is given. The current row stays. Asks a program that
@@ -285,8 +299,9 @@ impl LineProgram {
         requires program { self.old.is_none ≡ false }
         requires outside { self.old.in_sequence ≡ false }
         ensures ok { OnOk result (self.new ≡ record self.old {
-            items = self.old.items ++ option_to_list (option_map BuiltItem.SetAddress address);
-            in_sequence = true }) }
+          items = self.old.items ++ option_to_list (option_map BuiltItem.SetAddress address);
+          in_sequence = true;
+        }) }
         ensures err { OnErr result (self.new ≡ self.old) }
         ensures memory { IfErr result (λ e. e ≡ Error.OutOfMemory) }
     {
@@ -306,9 +321,10 @@ impl LineProgram {
     pub fn set_address(&mut self, address: Address) -> Result<()>
         requires { self.old.is_none ≡ false }
         ensures ok { OnOk result (self.new ≡ record self.old {
-            items = self.old.items ++ BuiltItem.SetAddress address ∷ [];
-            row = restarted self.old.in_sequence self.old.row;
-            in_sequence = true }) }
+          items = self.old.items ++ BuiltItem.SetAddress address ∷ [];
+          row = restarted self.old.in_sequence self.old.row;
+          in_sequence = true;
+        }) }
         ensures err { OnErr result (self.new ≡ self.old) }
         ensures memory { IfErr result (λ e. e ≡ Error.OutOfMemory) }
     {
@@ -344,8 +360,13 @@ impl LineProgram {
     {
         let (offset, op_index) = self.previous_place();
         let row = self.row;
-        can_follow(self.line_encoding, offset, op_index, row.address_offset, row.op_index)
-            && row.line <= i64::MAX as u64
+        can_follow(
+            self.line_encoding,
+            offset,
+            op_index,
+            row.address_offset,
+            row.op_index,
+        ) && row.line <= i64::MAX as u64
     }
 
     /// Builds the current row, and begins a sequence if none has. Then its discriminator, `basic_block`,
@@ -355,9 +376,10 @@ impl LineProgram {
         requires program { self.old.is_none ≡ false }
         requires can { CanGenerateRow self.old }
         ensures ok { OnOk result (self.new ≡ record self.old {
-            items = self.old.items ++ BuiltItem.Row self.old.row ∷ [];
-            row = cleared self.old.row;
-            in_sequence = true }) }
+          items = self.old.items ++ BuiltItem.Row self.old.row ∷ [];
+          row = cleared self.old.row;
+          in_sequence = true;
+        }) }
         ensures err { OnErr result (self.new ≡ self.old) }
         ensures memory { IfErr result (λ e. e ≡ Error.OutOfMemory) }
     {
@@ -373,7 +395,13 @@ impl LineProgram {
         ensures { IsTrue result ↔ CanEndSequence self.now address_offset }
     {
         let (offset, op_index) = self.previous_place();
-        can_follow(self.line_encoding, offset, op_index, address_offset, self.row.op_index)
+        can_follow(
+            self.line_encoding,
+            offset,
+            op_index,
+            address_offset,
+            self.row.op_index,
+        )
     }
 
     /// Ends a sequence at this offset, in bytes, and the current op_index; the current row becomes the
@@ -383,9 +411,10 @@ impl LineProgram {
         requires program { self.old.is_none ≡ false }
         requires can { CanEndSequence self.old address_offset }
         ensures ok { OnOk result (self.new ≡ record self.old {
-            items = self.old.items ++ BuiltItem.End address_offset self.old.row.op_index ∷ [];
-            row = initial_row self.old.encoding.version self.old.line_encoding.default_is_stmt;
-            in_sequence = false }) }
+          items = self.old.items ++ BuiltItem.End address_offset self.old.row.op_index ∷ [];
+          row = initial_row self.old.encoding.version self.old.line_encoding.default_is_stmt;
+          in_sequence = false;
+        }) }
         ensures err { OnErr result (self.new ≡ self.old) }
         ensures memory { IfErr result (λ e. e ≡ Error.OutOfMemory) }
     {
@@ -415,7 +444,8 @@ impl LineProgram {
 
     /// What was built, in order.
     pub fn items(&self) -> BuiltItems<'_>
-        ensures { result ≡ self.now.items }
+        ensures items { result ≡ self.now.items }
+        ensures built { AreBuilt self.now.line_encoding (0, 0) self.now.items }
     {
         BuiltItems::new(self.items.as_slice())
     }

@@ -1,6 +1,6 @@
-use Rattle.std.proofs.Common.{rules, ◌≡◌, List, ◌∙◌, ap}
+use Rattle.std.proofs.Common.{List, ◌∙◌, ap}
 use Rattle.gimli_write.specs.LineText.{LineText, line_text}
-use Rattle.gimli_write.specs.Tables.{with_directory, keys_of}
+use Rattle.gimli_write.specs.Tables.{keys_of}
 use Rattle.gimli_write.specs.TablesInside.{directories_of, files_of}
 use Rattle.gimli_write.proofs.TableLemmas.{directories_insert, directory_place, with_directory-AreTables}
 use Rattle.gimli_write.proofs.files.FileTable.add_directory.Goals as goal

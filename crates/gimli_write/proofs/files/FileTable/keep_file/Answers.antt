@@ -1,6 +1,5 @@
-use Rattle.std.proofs.Common.{rules, ◌≡◌, ◌<◌, List, ◌∙◌, ap, Some, None, true, false, sym, refl, length, subst}
+use Rattle.std.proofs.Common.{◌<◌, List, ◌∙◌, ap, Some, true, false, sym, length, subst}
 use Rattle.gimli_write.specs.declared.files.FileInfo.{FileInfo}
-use Rattle.gimli_write.specs.LineText.{line_text}
 use Rattle.gimli_write.specs.Tables.{File, Tables, with_file}
 use Rattle.gimli_write.specs.TablesInside.{details, key, directories_of, files_of}
 use Rattle.gimli_write.proofs.TableLemmas.{files_insert, file_place, place_found, pair_eq, file_found, with_file-AreTables, with_file-kept, with_file-new}

@@ -1,6 +1,5 @@
-use Rattle.std.proofs.Common.{rules, ◌≡◌, ◌<◌, List, ◌∙◌, ap, length, sym, subst}
-use Rattle.gimli_write.specs.LineText.{line_text}
-use Rattle.gimli_write.specs.Tables.{File, Tables, keys_of}
+use Rattle.std.proofs.Common.{◌<◌, List, ◌∙◌, ap, length, sym, subst}
+use Rattle.gimli_write.specs.Tables.{File, Tables}
 use Rattle.gimli_write.specs.TablesInside.{details, key, directories_of, files_of}
 use Rattle.gimli_write.proofs.TableLemmas.{files_insert, file_place, with_file-AreTables}
 use Rattle.gimli_write.proofs.files.FileTable.set_file.Goals as goal

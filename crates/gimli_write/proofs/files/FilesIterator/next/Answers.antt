@@ -1,4 +1,4 @@
-use Rattle.std.proofs.Common.{rules, ◌≡◌, sym, ap, ◌∙◌, arith, length}
+use Rattle.std.proofs.Common.{rules, sym, ap, length}
 use Rattle.gimli_write.proofs.TableLemmas.{numbered_more}
 use Rattle.gimli_write.proofs.files.FilesIterator.next.Goals as goal
 

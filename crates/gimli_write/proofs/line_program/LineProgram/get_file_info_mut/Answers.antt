@@ -1,4 +1,3 @@
-use Rattle.std.proofs.Common.{rules}
 use Rattle.gimli_write.specs.TablesInside.{details}
 use Rattle.gimli_write.proofs.BuiltLemmas.{details_written}
 use Rattle.gimli_write.proofs.line_program.LineProgram.get_file_info_mut.Goals as goal

@@ -1,4 +1,3 @@
-use Rattle.std.proofs.Common.{rules}
 use Rattle.gimli_write.specs.declared.items.BuiltItem.TheVariants.{SetAddress}
 use Rattle.gimli_write.proofs.BuiltLemmas.{item_pushed}
 use Rattle.gimli_write.proofs.line_program.LineProgram.set_address.Goals as goal
