@@ -5,7 +5,7 @@ use Rattle.gimli_core.specs.declared.common.Encoding.{Encoding}
 use Rattle.gimli_core.specs.declared.common.Format.TheVariants.{Dwarf32}
 use Rattle.gimli_core.specs.declared.common.LineEncoding.{LineEncoding}
 use Rattle.gimli_write.specs.LineText.{LineText, Inline, IsNotEmpty}
-use Rattle.gimli_write.specs.Tables.{FileKey, AreTables, keys_of}
+use Rattle.gimli_write.specs.Tables.{FileKey}
 use Rattle.gimli_write.specs.Advance.{CanEncode, CanFollow}
 use Rattle.gimli_write.specs.Built.{Built, place_after, previous_place}
 use Rattle.gimli_write.specs.declared.items.BuiltItem.{BuiltItem}

@@ -72,3 +72,6 @@ impl Clone for LineString {
         }
     }
 }
+
+#[cfg(test)]
+mod tests;

@@ -1,4 +1,4 @@
-use Rattle.std.proofs.Common.{◌≡◌, ◌≤◌, sym, subst, ap, ◌∙◌, option_map, slice_get, arith, length}
+use Rattle.std.proofs.Common.{◌≤◌, sym, subst, ap, ◌∙◌, option_map, slice_get, arith}
 use Rattle.std.proofs.lemmas.List.{length-map}
 use Rattle.gimli_write.specs.LineText.{line_text, IsNotEmpty}
 use Rattle.gimli_write.specs.Tables.{File, FileKey, Tables, keys_of, Keeps, with_file}
@@ -37,5 +37,5 @@ pub returns-clause-others : goal.returns-clause-others
 returns-clause-others c =
     rw (← c.self.view_is)
     (λ i short other.
-        ap (λ (t : Tables). slice_get t.files i) c.in_ok-id.ensures.ok
-        ∙ file_others c.self.inside.tables.files (line_text c.args.file, c.args.directory) (option_map details c.args.info) i short (λ e. other (e ∙ sym c.in_ok-id.ensures.id)))
+    ap (λ (t : Tables). slice_get t.files i) c.in_ok-id.ensures.ok
+    ∙ file_others c.self.inside.tables.files (line_text c.args.file, c.args.directory) (option_map details c.args.info) i short (λ e. other (e ∙ sym c.in_ok-id.ensures.id)))
