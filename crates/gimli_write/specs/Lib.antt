@@ -6,3 +6,12 @@ pub mod ReadAs
 pub mod InstructionBytes
 pub mod SameRow
 pub mod Sizes
+pub mod LineText
+pub mod Tables
+pub mod TablesInside
+pub mod LentDetails
+pub mod FirstTables
+pub mod Built
+pub mod Conditions
+pub mod BuiltInside
+pub mod LentRow

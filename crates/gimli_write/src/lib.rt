@@ -8,11 +8,17 @@ mod encode;
 mod files;
 mod instruction;
 pub mod laws;
+mod items;
+mod line_program;
+mod line_string;
 mod row;
 
-pub use files::{DirectoryId, FileId};
+pub use files::{DirectoryId, FileId, FileInfo, Files};
 pub use gimli_bytes::{
     Address, DebugLine, DebugLineStr, DebugStr, EndianVec, Error, InitialLengthOffset, Leb128,
     LineStringId, LineStringTable, Result, StringId, StringTable, Writer,
 };
+pub use items::{BuiltItem, BuiltItems};
+pub use line_program::LineProgram;
+pub use line_string::LineString;
 pub use row::LineRow;

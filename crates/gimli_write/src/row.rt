@@ -1,5 +1,5 @@
 ghost use Rattle.std.specs.Prelude.{◌≡◌};
-ghost use Rattle.gimli_write.specs.Rows.{initial_row};
+ghost use Rattle.gimli_write.specs.Rows.{initial_row, cleared, restarted};
 
 use crate::files::FileId;
 use gimli_core::{Encoding, LineEncoding};
@@ -49,6 +49,34 @@ impl LineRow {
             prologue_end: false,
             epilogue_begin: false,
             isa: 0,
+        }
+    }
+
+    /// The row once it was built: what stands for one row alone is cleared.
+    pub(crate) fn cleared(self) -> LineRow
+        ensures { result ≡ cleared self }
+    {
+        LineRow {
+            discriminator: 0,
+            basic_block: false,
+            prologue_end: false,
+            epilogue_begin: false,
+            ..self
+        }
+    }
+
+    /// The row where an address was set: in a sequence its offset and op_index count from there.
+    pub(crate) fn restarted(self, in_sequence: bool) -> LineRow
+        ensures { result ≡ restarted in_sequence self }
+    {
+        if in_sequence {
+            LineRow {
+                address_offset: 0,
+                op_index: 0,
+                ..self
+            }
+        } else {
+            self
         }
     }
 }
