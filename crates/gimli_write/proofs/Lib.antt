@@ -3,5 +3,7 @@ pub mod Steps
 pub mod RowRuns
 pub mod Spellings
 pub mod RowSizes
+pub mod ItemRuns
+pub mod ItemsWritten
 mod TableLemmas
 mod BuiltLemmas

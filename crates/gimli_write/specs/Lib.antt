@@ -5,6 +5,7 @@ pub mod Encode
 pub mod ReadAs
 pub mod InstructionBytes
 pub mod SameRow
+pub mod Items
 pub mod Sizes
 pub mod LineText
 pub mod Tables

@@ -1,19 +1,102 @@
 //! Rows and ends as instructions. Each instruction is written at once; none is kept.
 
-ghost use Rattle.std.specs.Prelude.{◌≡◌, ◌+◌, ◌<◌, ◌≤◌, ◌^◌, IsTrue, IfOk, IfErr, OnOk, Ok, pos, ◌-ℤ◌, ◌≤ℤ◌, ◌<ℤ◌, unsigned_abs};
+ghost use Rattle.std.specs.Prelude.{◌≡◌, ◌⊎◌, Err, ◌+◌, ◌<◌, ◌≤◌, ◌^◌, IsTrue, IfOk, IfErr, OnOk, Ok, pos, ◌-ℤ◌, ◌≤ℤ◌, ◌<ℤ◌, unsigned_abs};
 ghost use Rattle.gimli_bytes.specs.Written.{Begins, Appends, Refuses};
+ghost use Rattle.gimli_bytes.specs.declared.error.Error.TheVariants.{OutOfMemory};
+ghost use Rattle.gimli_write.specs.Conditions.{CanBuild, AreBuilt};
+ghost use Rattle.gimli_write.specs.Items.{next_previous, item_bytes, items_bytes};
+ghost use Rattle.gimli_write.specs.Rows.{initial_row};
 ghost use Rattle.gimli_write.specs.Advance.{CanEncode, IsPlace, CanFollow, operations};
 ghost use Rattle.gimli_write.specs.Encode.{marks, changes, is_special_advance, line_opcode, line_part, row_maker, operation_part, row_instructions, end_instructions};
 ghost use Rattle.gimli_write.specs.InstructionBytes.{instructions_bytes};
 ghost use Rattle.gimli_write.specs.ReadAs.{read_as};
 
-use crate::instruction::{LineInstruction, write_if, write_instruction};
+use crate::instruction::{LineInstruction, write_if, write_instruction, write_set_address};
+use crate::items::BuiltItem;
 use crate::row::LineRow;
 use gimli_bytes::{Result, Writer};
 use gimli_core::{Encoding, LineEncoding};
 
 /// The first special opcode: as many standard opcodes as DWARF names stand below it.
 pub(crate) const OPCODE_BASE: u8 = 13;
+
+/// Appends the instructions of a program's items, each at once. A refusal is that of the first set address that
+/// has one, or the writer's.
+pub(crate) fn write_items<W: Writer>(
+    w: &mut W,
+    encoding: Encoding,
+    line_encoding: LineEncoding,
+    items: &[BuiltItem],
+) -> Result<()>
+    requires can { CanEncode line_encoding }
+    requires built { AreBuilt line_encoding (0, 0) items.now }
+    ensures keeps { Begins (W.contents w.old) (W.contents w.new) }
+    ensures ordered { W.big w.new ≡ W.big w.old }
+    ensures ok { IsTrue W.plain → OnOk result
+        (Appends (items_bytes (W.big w.old) encoding line_encoding
+        (initial_row encoding.version line_encoding.default_is_stmt) items.now)
+        (W.contents w.old) (W.contents w.new)) }
+    ensures err { IsTrue W.plain → IsTrue W.steady → IfErr result
+        (λ e. (e ≡ OutOfMemory) ⊎ (items_bytes (W.big w.old) encoding line_encoding
+        (initial_row encoding.version line_encoding.default_is_stmt) items.now ≡ Err e)) }
+{
+    let mut previous = LineRow::initial(encoding, line_encoding);
+    for item in items {
+        write_item(w, encoding, line_encoding, &previous, item)?;
+        previous = behind_item(encoding, line_encoding, &previous, item);
+    }
+    Ok(())
+}
+
+/// Appends the instructions of one item that follows `previous`.
+fn write_item<W: Writer>(
+    w: &mut W,
+    encoding: Encoding,
+    line_encoding: LineEncoding,
+    previous: &LineRow,
+    item: &BuiltItem,
+) -> Result<()>
+    requires can { CanEncode line_encoding }
+    requires place { IsPlace line_encoding previous.now.address_offset previous.now.op_index }
+    requires previous_line { previous.now.line < 2 ^ 63 }
+    requires built { CanBuild line_encoding (previous.now.address_offset, previous.now.op_index) item.now }
+    ensures keeps { Begins (W.contents w.old) (W.contents w.new) }
+    ensures ordered { W.big w.new ≡ W.big w.old }
+    ensures ok { IsTrue W.plain → OnOk result
+        (Appends (item_bytes (W.big w.old) encoding line_encoding previous.now item.now)
+        (W.contents w.old) (W.contents w.new)) }
+    ensures err { IsTrue W.steady → IfErr result (λ e. (e ≡ OutOfMemory)
+        ⊎ (item_bytes (W.big w.old) encoding line_encoding previous.now item.now ≡ Err e)) }
+{
+    match item {
+        BuiltItem::SetAddress(address) => write_set_address(w, *address, encoding.address_size),
+        BuiltItem::Row(row) => write_row(w, encoding, line_encoding, previous, row),
+        BuiltItem::End {
+            address_offset,
+            op_index,
+        } => write_end(w, line_encoding, previous, *address_offset, *op_index),
+    }
+}
+
+/// The row that the item behind this one follows.
+fn behind_item(
+    encoding: Encoding,
+    line_encoding: LineEncoding,
+    previous: &LineRow,
+    item: &BuiltItem,
+) -> LineRow
+    ensures { result ≡ next_previous encoding.version line_encoding.default_is_stmt previous.now item.now }
+{
+    match item {
+        BuiltItem::SetAddress(_) => LineRow {
+            address_offset: 0,
+            op_index: 0,
+            ..*previous
+        },
+        BuiltItem::Row(row) => *row,
+        BuiltItem::End { .. } => LineRow::initial(encoding, line_encoding),
+    }
+}
 
 /// Appends the instructions of a row that follows `previous`. At the start of a sequence, and behind a
 /// set address in one, `previous` has offset and op_index 0.

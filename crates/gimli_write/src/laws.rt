@@ -1,7 +1,7 @@
 //! Laws of what is written: the instructions of rows and ends, run by the machine of the reading half, give what was
 //! built; their bytes spell them; and they are few.
 
-ghost use Rattle.std.specs.Prelude.{◌≡◌, ℕ, ◌+◌, ◌-◌, ◌*◌, ◌<◌, ◌≤◌, ◌^◌, List, ◌∷◌, ◌++◌, length, IsTrue, Ok, Some, pos, ◌-ℤ◌};
+ghost use Rattle.std.specs.Prelude.{◌≡◌, ℕ, ◌+◌, ◌-◌, ◌*◌, ◌<◌, ◌≤◌, ◌^◌, List, ◌∷◌, ◌++◌, length, map, IsTrue, Ok, Some, pos, ◌-ℤ◌};
 ghost use Rattle.gimli_core.specs.Numbers.{is_address_size};
 ghost use Rattle.gimli_core.specs.Notation.{Notation};
 ghost use Rattle.gimli_core.specs.Line.{Each};
@@ -16,9 +16,12 @@ ghost use Rattle.gimli_line.specs.Machine.{run, initial};
 ghost use Rattle.gimli_line.specs.Pointer.{operation_advance};
 ghost use Rattle.gimli_line.specs.declared.instruction.LineInstruction.TheVariants.{SetAddress, ConstAddPc};
 ghost use Rattle.gimli_write.specs.declared.row.LineRow.{LineRow};
+ghost use Rattle.gimli_write.specs.declared.items.BuiltItem.{BuiltItem};
 ghost use Rattle.gimli_write.specs.Advance.{CanEncode, IsPlace, CanFollow, operations};
 ghost use Rattle.gimli_write.specs.Encode.{row_instructions, end_instructions};
 ghost use Rattle.gimli_write.specs.InstructionBytes.{instruction_bytes, instructions_bytes, set_address_bytes, IsWritten, FitsInstructions};
+ghost use Rattle.gimli_write.specs.Conditions.{AreBuilt};
+ghost use Rattle.gimli_write.specs.Items.{items_instructions, items_rows, AreHeld};
 ghost use Rattle.gimli_write.specs.Rows.{initial_row};
 ghost use Rattle.gimli_write.specs.SameRow.{built_rules, read_row, behind_row, read_end};
 ghost use Rattle.gimli_write.specs.Sizes.{HasSpecial, OnlyMoves};
@@ -111,4 +114,26 @@ pub fn moving_rows_are_short()
         HasSpecial (built_rules encoding e) (pos built.line -ℤ pos previous.line)
         (operations e previous.address_offset previous.op_index built.address_offset built.op_index - constant) →
         length (instructions_bytes (row_instructions encoding.version e previous built)) ≤ 2 }
+{}
+
+/// The instructions of built items, run from the registers behind the row before them, give one row for each row
+/// and each end, in order, and no fault, where addresses hold them and no set address hides.
+pub fn items_run()
+    ensures { (encoding : Encoding) (e : LineEncoding) (base : ℕ) (previous : LineRow) (items : List BuiltItem) →
+        IsTrue (is_address_size encoding.address_size) → CanEncode e → encoding.version ≤ 5 →
+        IsPlace e previous.address_offset previous.op_index → previous.line < 2 ^ 63 →
+        AreBuilt e (previous.address_offset, previous.op_index) items →
+        AreHeld encoding.address_size base (previous.address_offset, previous.op_index) items →
+        run (built_rules encoding e) (behind_row encoding.version base previous) (items_instructions encoding.version e previous items)
+        ≡ map row (items_rows encoding.version e base previous items) }
+{}
+
+/// So do those of a program's items, from its start.
+pub fn program_runs()
+    ensures { (encoding : Encoding) (e : LineEncoding) (items : List BuiltItem) →
+        IsTrue (is_address_size encoding.address_size) → CanEncode e → encoding.version ≤ 5 →
+        AreBuilt e (0, 0) items → AreHeld encoding.address_size 0 (0, 0) items →
+        run (built_rules encoding e) (initial (built_rules encoding e))
+        (items_instructions encoding.version e (initial_row encoding.version e.default_is_stmt) items)
+        ≡ map row (items_rows encoding.version e 0 (initial_row encoding.version e.default_is_stmt) items) }
 {}

@@ -7,8 +7,8 @@
 mod encode;
 mod files;
 mod instruction;
-pub mod laws;
 mod items;
+pub mod laws;
 mod line_program;
 mod line_string;
 mod row;
