@@ -5,5 +5,6 @@ pub mod Spellings
 pub mod RowSizes
 pub mod ItemRuns
 pub mod ItemsWritten
+pub mod ItemSpellings
 mod TableLemmas
 mod BuiltLemmas

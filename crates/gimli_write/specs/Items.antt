@@ -12,7 +12,7 @@ use Rattle.gimli_write.specs.declared.items.BuiltItem.TheVariants.{SetAddress, R
 use Rattle.gimli_write.specs.Built.{address_value, place_after}
 use Rattle.gimli_write.specs.Rows.{initial_row}
 use Rattle.gimli_write.specs.Encode.{row_instructions, end_instructions}
-use Rattle.gimli_write.specs.InstructionBytes.{instructions_bytes, set_address_bytes}
+use Rattle.gimli_write.specs.InstructionBytes.{instructions_bytes, set_address_bytes, FitsInstructions}
 use Rattle.gimli_write.specs.SameRow.{read_row, read_end}
 
 -- the row that the next item follows: behind a set address offsets count anew, behind an end a sequence starts
@@ -65,3 +65,9 @@ abbrev pub items_bytes : Bool → Encoding → LineEncoding → LineRow → List
 items_bytes big encoding e previous [] = Ok []
 items_bytes big encoding e previous (item ∷ items) =
     joined (item_bytes big encoding e previous item) (items_bytes big encoding e (next_previous encoding.version e.default_is_stmt previous item) items)
+
+-- 64 bits hold the numbers of the rows, as they do in any program
+abbrev pub AreFit : ℕ → List BuiltItem → Type 0
+AreFit version [] = Unit {0}
+AreFit version (Row r ∷ items) = FitsInstructions version r × AreFit version items
+AreFit version (item ∷ items) = AreFit version items

@@ -21,7 +21,7 @@ ghost use Rattle.gimli_write.specs.Advance.{CanEncode, IsPlace, CanFollow, opera
 ghost use Rattle.gimli_write.specs.Encode.{row_instructions, end_instructions};
 ghost use Rattle.gimli_write.specs.InstructionBytes.{instruction_bytes, instructions_bytes, set_address_bytes, IsWritten, FitsInstructions};
 ghost use Rattle.gimli_write.specs.Conditions.{AreBuilt};
-ghost use Rattle.gimli_write.specs.Items.{items_instructions, items_rows, AreHeld};
+ghost use Rattle.gimli_write.specs.Items.{items_instructions, items_rows, items_bytes, AreHeld, AreFit};
 ghost use Rattle.gimli_write.specs.Rows.{initial_row};
 ghost use Rattle.gimli_write.specs.SameRow.{built_rules, read_row, behind_row, read_end};
 ghost use Rattle.gimli_write.specs.Sizes.{HasSpecial, OnlyMoves};
@@ -136,4 +136,13 @@ pub fn program_runs()
         run (built_rules encoding e) (initial (built_rules encoding e))
         (items_instructions encoding.version e (initial_row encoding.version e.default_is_stmt) items)
         ≡ map row (items_rows encoding.version e 0 (initial_row encoding.version e.default_is_stmt) items) }
+{}
+
+/// The bytes of built items, where they are written, are the spellings of their instructions, one after the other.
+pub fn items_are_spelled()
+    ensures { (notation : Notation) (h : Header) (e : LineEncoding) (previous : LineRow) (items : List BuiltItem) (bytes : List ℕ) →
+        h.rules.opcode_base ≡ 13 → 11 < notation.limit → CanEncode e → previous.line < 2 ^ 63 →
+        AreBuilt e (previous.address_offset, previous.op_index) items → AreFit h.rules.encoding.version items →
+        items_bytes notation.big h.rules.encoding e previous items ≡ Ok bytes →
+        Each (SpellsInstruction notation h) bytes (items_instructions h.rules.encoding.version e previous items) }
 {}
