@@ -1,9 +1,10 @@
 ghost use Rattle.std.specs.Prelude.{◌≡◌, ◌<◌, ◌^◌, negsuc, true};
 ghost use Rattle.gimli_write.specs.Advance.{CanEncode, IsPlace, CanFollow};
 
-use super::{write_end, write_row};
+use super::{write_end, write_items, write_row};
 use crate::files::FileId;
 use crate::instruction::write_set_address;
+use crate::items::BuiltItem;
 use crate::row::LineRow;
 use gimli_bytes::{Address, EndianVec, Error, Result};
 use gimli_core::{BigEndian, Encoding, Format, LineEncoding, LittleEndian};
@@ -315,6 +316,43 @@ fn set_addresses(rt: HostRuntime) -> std::result::Result<(), Fail> {
     assert_eq!(rt;
         write_set_address(&mut w, Address::Constant(0x100), 1),
         Err(Error::ValueTooLarge)
+    );
+    Ok(())
+}
+
+/// A set address in a sequence: offset and op_index count anew.
+#[test]
+fn address_in_a_sequence(rt: HostRuntime) -> std::result::Result<(), Fail> {
+    let items = [
+        BuiltItem::Row(row_at(2, 2, 1)),
+        BuiltItem::SetAddress(Address::Constant(0x20)),
+        BuiltItem::Row(row_at(0, 0, 1)),
+    ];
+    let mut w = EndianVec::new(rt.alloc(), LittleEndian);
+    write_items(&mut w, encoding(4), several(), &items)?;
+    assert_eq!(rt;
+        w.slice(),
+        [0x4c, 0x00, 0x05, 0x02, 0x20, 0x00, 0x00, 0x00, 0x01].as_slice()
+    );
+    Ok(())
+}
+
+/// Behind an end all registers start anew.
+#[test]
+fn row_behind_an_end(rt: HostRuntime) -> std::result::Result<(), Fail> {
+    let items = [
+        BuiltItem::Row(row_at(0, 0, 4)),
+        BuiltItem::End {
+            address_offset: 4,
+            op_index: 0,
+        },
+        BuiltItem::Row(row_at(0, 0, 4)),
+    ];
+    let mut w = EndianVec::new(rt.alloc(), LittleEndian);
+    write_items(&mut w, encoding(4), several(), &items)?;
+    assert_eq!(rt;
+        w.slice(),
+        [0x13, 0x02, 0x06, 0x00, 0x01, 0x01, 0x13].as_slice()
     );
     Ok(())
 }
