@@ -1,5 +1,5 @@
 -- The machine over the instructions of built items.
-use Rattle.std.proofs.Common.{◌≡◌, ℕ, ◌+◌, ◌*◌, ◌%◌, ◌^◌, ◌<◌, ◌≤◌, List, [], ◌∷◌, ◌++◌, refl, ap, ◌∙◌, arith, lit<, map}
+use Rattle.std.proofs.Common.{◌≡◌, ℕ, ◌^◌, ◌<◌, ◌≤◌, List, [], ◌∷◌, refl, ap, ◌∙◌, arith, lit<, map}
 use Rattle.std.specs.Prelude.{IsTrue}
 use Rattle.std.proofs.Math.Nat.{mod-eq_of_lt}
 use Rattle.gimli_core.specs.Numbers.{is_address_size}
@@ -16,7 +16,7 @@ use Rattle.gimli_write.specs.Built.{address_value}
 use Rattle.gimli_write.specs.Conditions.{AreBuilt}
 use Rattle.gimli_write.specs.Rows.{initial_row}
 use Rattle.gimli_write.specs.SameRow.{built_rules, behind_row, read_row, read_end}
-use Rattle.gimli_write.specs.Items.{items_instructions, items_rows, next_previous, AreHeld}
+use Rattle.gimli_write.specs.Items.{items_instructions, items_rows, AreHeld}
 use Rattle.gimli_write.proofs.RowRuns.{row-runs, end-runs, set-address-runs, start-is}
 
 -- where offsets begin to count

@@ -19,7 +19,7 @@ use Rattle.gimli_write.specs.Conditions.{AreBuilt}
 use Rattle.gimli_write.specs.Rows.{initial_row}
 use Rattle.gimli_write.specs.Encode.{row_instructions, end_instructions}
 use Rattle.gimli_write.specs.InstructionBytes.{instructions_bytes}
-use Rattle.gimli_write.specs.Items.{joined, item_bytes, items_bytes, items_instructions, item_instructions, next_previous, AreFit}
+use Rattle.gimli_write.specs.Items.{joined, item_bytes, items_bytes, items_instructions, AreFit}
 use Rattle.gimli_write.proofs.Spellings.{each-spelled, all_row, all_end, address-spelled}
 
 -- both parts were written

@@ -11,8 +11,7 @@ use Rattle.gimli_write.specs.declared.row.LineRow.{LineRow}
 use Rattle.gimli_write.specs.declared.items.BuiltItem.{BuiltItem}
 use Rattle.gimli_write.specs.declared.items.BuiltItem.TheVariants.{SetAddress, Row, End}
 use Rattle.gimli_write.specs.Advance.{CanEncode, IsPlace}
-use Rattle.gimli_write.specs.Built.{place_after}
-use Rattle.gimli_write.specs.Conditions.{CanBuild, AreBuilt}
+use Rattle.gimli_write.specs.Conditions.{AreBuilt}
 use Rattle.gimli_write.specs.Items.{joined, item_bytes, items_bytes, next_previous}
 use Rattle.gimli_write.proofs.ItemRuns.{start_place}
 

@@ -1,4 +1,4 @@
-use Rattle.std.proofs.Common.{◌≡◌, List, ap, ◌∙◌, lit<}
+use Rattle.std.proofs.Common.{ap, ◌∙◌, lit<}
 use Rattle.gimli_line.specs.declared.row.LineRow.{LineRow as ReadRow}
 use Rattle.gimli_line.specs.Machine.{run}
 use Rattle.gimli_write.specs.Rows.{initial_row}
