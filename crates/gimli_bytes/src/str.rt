@@ -216,6 +216,11 @@ impl LineStringTable {
         }
     }
 
+    /// What the table takes its memory from.
+    pub fn allocator(&self) -> &Global {
+        self.texts.strings.allocator()
+    }
+
     /// Puts a text without zero bytes last, and answers its id; a text that is there has its old id, and
     /// nothing changes. Refused for want of memory alone, as is a table of more bytes than `usize` can count;
     /// then the table is as it was.

@@ -1,0 +1,66 @@
+-- How many operations one place is behind another.
+use Rattle.std.proofs.Common.{◌≡◌, ℕ, zero, suc, ◌+◌, ◌-◌, ◌*◌, ◌/◌, ◌%◌, ◌<◌, ◌≤◌, arith, ap, ◌∙◌, inl, inr, refl}
+use Rattle.std.proofs.Math.Nat.{mul-le-mul_right, mod-eq_of_lt, div-eq_of_lt, mul-div_cancel, add-mul-div_right, add-mul-mod_self_right, add-mul, mul_comm, div-mul-le_self}
+use Rattle.std.proofs.lemmas.Nat.{div-add-mod', le-div}
+use Rattle.std.proofs.lemmas.Bool.{cases_lt}
+
+-- two multiples of m that differ are at least m apart
+apart_by : (m p o : ℕ) → p % m ≡ 0 → o % m ≡ 0 → p < o → m ≤ o - p
+apart_by m p o hp ho lt =
+    let ep = div-add-mod' p m in
+    let eo = div-add-mod' o m in
+    elim (cases_lt (p / m) (o / m)) [
+      | inl below ↦ (let h : (p / m + 1) * m ≤ o / m * m = mul-le-mul_right m (omega arith) in omega (arith, ep, eo, h))
+      | inr above ↦ (let h : o / m * m ≤ p / m * m = mul-le-mul_right m above in omega (arith, ep, eo, h))
+    ]
+
+-- the operations from a place to a later one aren't fewer than those of the first in its own instruction
+pub operations_above : (m k p j o i : ℕ) → 0 < m → p % m ≡ 0 → o % m ≡ 0 → p ≤ o → (o ≡ p → j ≤ i) → j < k → j ≤ (o - p) / m * k + i
+operations_above m k p j o i pm hp ho le same jk =
+    elim (cases_lt p o) [
+      | inl below ↦
+          (let h0 = apart_by m p o hp ho below in
+          let one : 1 ≤ (o - p) / m = le-div 1 (o - p) m pm (omega (arith, h0)) in
+          let h : 1 * k ≤ (o - p) / m * k = mul-le-mul_right k one in omega (arith, h))
+      | inr above ↦ (let h = same (omega arith) in omega (arith, h))
+    ]
+
+-- whole instructions between two places
+pub whole_steps : (m p o : ℕ) → 1 ≤ m → p % m ≡ 0 → o % m ≡ 0 → p ≤ o → m * ((o - p) / m) + p ≡ o
+whole_steps m p o pm hp ho le =
+    let ep = div-add-mod' p m in
+    let eo = div-add-mod' o m in
+    let t = o / m - p / m in
+    let below = div-mul-le_self p m in
+    let up : p / m ≤ o / m = le-div (p / m) o m pm (omega (arith, below)) in
+    let so : o / m ≡ p / m + t = omega arith in
+    let parts : (p / m + t) * m ≡ p / m * m + t * m = add-mul (p / m) t m in
+    let step0 : o / m * m ≡ p / m * m + t * m = ap (λ (x : ℕ). x * m) so ∙ parts in
+    let diff : o - p ≡ t * m = omega (arith, ep, eo, step0) in
+    let quotient : (o - p) / m ≡ t = rw diff (mul-div_cancel t (omega arith)) in
+    rw quotient (let c = mul_comm m t in omega (arith, c, diff))
+
+-- the operations of whole instructions and a part of one, taken apart again
+pub taken_apart : (k t i : ℕ) → i < k → ((t * k + i) / k ≡ t) × ((t * k + i) % k ≡ i)
+taken_apart k t i lt =
+    let turned : t * k + i ≡ i + t * k = omega arith in
+    (rw turned (add-mul-div_right i t (omega arith) ∙ (let z = div-eq_of_lt lt in omega (arith, z))), rw turned (add-mul-mod_self_right i t k ∙ mod-eq_of_lt lt))
+
+-- a special opcode by its parts
+pub special_parts : (g u n : ℕ) → 1 ≤ g → u < g → ((13 + u + n * g - 13) % g ≡ u) × ((13 + u + n * g - 13) / g ≡ n)
+special_parts g u n pg lt =
+    let off : 13 + u + n * g - 13 ≡ u + n * g = omega arith in
+    (rw off (add-mul-mod_self_right u n g ∙ mod-eq_of_lt lt), rw off (add-mul-div_right u n (omega arith) ∙ (let z = div-eq_of_lt lt in omega (arith, z))))
+
+-- where one special opcode doesn't do, there are as many operations as const_add_pc has
+pub enough_of : (g u n q : ℕ) → 1 ≤ g → u < g → 255 < 13 + u + n * g → q * g ≤ 242 → q ≤ n
+enough_of g u n q pg lt over le =
+    elim (cases_lt n q) [
+      | inl below ↦ absurd (let up : (n + 1) * g ≤ q * g = mul-le-mul_right g (omega arith) in let d = add-mul n 1 g in omega (arith, up, d))
+      | inr above ↦ above
+    ]
+
+-- the special opcode that advances nothing is no sum of a line advance and operations
+pub none_of : (n u g b : ℕ) → u + n * g ≡ b → b < g → n ≡ 0
+none_of zero u g b h lt = refl
+none_of (suc n) u g b h lt = absurd (let d = add-mul n 1 g in omega (arith, d))
