@@ -1,0 +1,5 @@
+//! Each command, over a reader and two writers in memory.
+
+mod memory;
+mod rows;
+mod units;
