@@ -1,6 +1,7 @@
 //! Why a command ends before its end, and what it says then.
 
 ghost use Rattle.std.specs.Prelude.{◌≡◌, ◌≢◌};
+ghost use Rattle.std.specs.IoError.{error_kind};
 
 use gimli_core::Error;
 use std::io;
@@ -25,7 +26,10 @@ pub enum Refusal {
 
 impl Refusal {
     /// The refusal of reading the file.
-    pub fn of_reading(error: &io::Error) -> Refusal {
+    pub fn of_reading(error: &io::Error) -> Refusal
+        ensures memory { error_kind error.now ≡ ErrorKind.OutOfMemory → result ≡ Refusal.Memory }
+        ensures file { error_kind error.now ≢ ErrorKind.OutOfMemory → result ≡ Refusal.File }
+    {
         match error.kind() {
             ErrorKind::OutOfMemory => Refusal::Memory,
             _ => Refusal::File,

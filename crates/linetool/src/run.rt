@@ -1,7 +1,8 @@
 //! What the program does, over its words, a reader in the place of the file, and writers in the place of standard
 //! output and standard error.
 
-ghost use Rattle.std.specs.Prelude.{◌≡◌};
+ghost use Rattle.std.specs.Prelude.{◌≡◌, ◌≢◌, ◌≤◌, Err, IfErr, IsNone, map};
+ghost use Rattle.linetool.specs.Words.{IsCommand};
 
 use crate::print::RowLine;
 use crate::refusal::Refusal;
@@ -19,7 +20,11 @@ pub fn run<F: Read + Drop, O: Write, E: Write>(
     file: Option<F>,
     out: &mut O,
     err: &mut E,
-) -> u8 {
+) -> u8
+    ensures usage { ((command : Command) → IsCommand (map (λ word. word.now) words.now) command → ⊥) → result ≡ 2 }
+    ensures command { (command : Command) → IsCommand (map (λ word. word.now) words.now) command → result ≤ 1 }
+    ensures no_file { (command : Command) → IsCommand (map (λ word. word.now) words.now) command → IsNone file → result ≡ 1 }
+{
     match perform(alloc, words, file, out) {
         Ok(()) => 0,
         Err(refusal) => refusal.report(err),
@@ -32,7 +37,11 @@ fn perform<F: Read + Drop, O: Write>(
     words: &[&str],
     file: Option<F>,
     out: &mut O,
-) -> Result<(), Refusal> {
+) -> Result<(), Refusal>
+    ensures usage { ((command : Command) → IsCommand (map (λ word. word.now) words.now) command → ⊥) → result ≡ Err Refusal.Usage }
+    ensures command { (command : Command) → IsCommand (map (λ word. word.now) words.now) command → result ≢ Err Refusal.Usage }
+    ensures no_file { (command : Command) → IsCommand (map (λ word. word.now) words.now) command → IsNone file → result ≡ Err Refusal.File }
+{
     match Command::parse(words).ok_or(Refusal::Usage)? {
         Command::Rows(place) => {
             let section = read_section(alloc, file)?;
@@ -42,7 +51,10 @@ fn perform<F: Read + Drop, O: Write>(
 }
 
 /// The bytes of the file.
-fn read_section<F: Read + Drop>(alloc: Global, file: Option<F>) -> Result<Vec<u8>, Refusal> {
+fn read_section<F: Read + Drop>(alloc: Global, file: Option<F>) -> Result<Vec<u8>, Refusal>
+    ensures no_file { IsNone file → result ≡ Err Refusal.File }
+    ensures refusal { IfErr result (λ r. r ≢ Refusal.Usage) }
+{
     let mut section = Vec::new(alloc);
     match file.ok_or(Refusal::File)?.read_to_end(&mut section) {
         Ok(_) => Ok(section),
@@ -56,7 +68,9 @@ fn print_unit<O: Write>(
     section: &[u8],
     place: Place,
     out: &mut O,
-) -> Result<(), Refusal> {
+) -> Result<(), Refusal>
+    ensures refusal { IfErr result (λ r. r ≢ Refusal.Usage) }
+{
     let program = program_at(alloc, section, place)?;
     let outcome = print_rows(program.rows(), out);
     match out.flush() {
@@ -69,7 +83,9 @@ fn print_unit<O: Write>(
 fn print_rows<R: Reader, P: LineProgram<R> + Drop, O: Write>(
     rows: LineRows<R, P>,
     out: &mut O,
-) -> Result<(), Refusal> {
+) -> Result<(), Refusal>
+    ensures refusal { IfErr result (λ r. r ≢ Refusal.Usage) }
+{
     let mut rows = rows;
     'rows: loop {
         let row = match rows.next_row() {
@@ -82,7 +98,9 @@ fn print_rows<R: Reader, P: LineProgram<R> + Drop, O: Write>(
 }
 
 /// Prints the line of a row.
-fn print_row<O: Write>(row: LineRow, out: &mut O) -> Result<(), Refusal> {
+fn print_row<O: Write>(row: LineRow, out: &mut O) -> Result<(), Refusal>
+    ensures refusal { IfErr result (λ r. r ≡ Refusal.Output) }
+{
     let line = RowLine(row);
     match writeln!(out, "{line}") {
         Ok(()) => Ok(()),
@@ -95,7 +113,9 @@ fn program_at<'i>(
     alloc: Global,
     section: &'i [u8],
     place: Place,
-) -> Result<IncompleteLineProgram<EndianSlice<'i, RunTimeEndian>>, Refusal> {
+) -> Result<IncompleteLineProgram<EndianSlice<'i, RunTimeEndian>>, Refusal>
+    ensures refusal { IfErr result (λ r. r ≢ Refusal.Usage) }
+{
     let section = DebugLine::new(section, place.order);
     let offset = DebugLineOffset(place.offset);
     section

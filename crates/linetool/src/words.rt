@@ -48,8 +48,14 @@ impl AddressSize {
 }
 
 impl Command {
+    ghost use Rattle.std.specs.Prelude.{map};
+    ghost use Rattle.linetool.specs.Words.{IsCommand};
+
     /// What the words ask for; None where they are no command.
-    pub fn parse(words: &[&str]) -> Option<Command> {
+    pub fn parse(words: &[&str]) -> Option<Command>
+        ensures command { IfSome result (IsCommand (map (λ word. word.now) words.now)) }
+        ensures only { (command : Command) → IsCommand (map (λ word. word.now) words.now) command → result ≡ Some command }
+    {
         match words {
             ["rows", _file, order, size, offset] => {
                 Some(Command::Rows(Place::parse(order, size, offset)?))
@@ -60,8 +66,13 @@ impl Command {
 }
 
 impl Place {
+    ghost use Rattle.linetool.specs.Words.{NamesPlace};
+
     /// The place that three words name.
-    fn parse(order: &str, size: &str, offset: &str) -> Option<Place> {
+    fn parse(order: &str, size: &str, offset: &str) -> Option<Place>
+        ensures named { IfSome result (NamesPlace order.now size.now offset.now) }
+        ensures only { (place : Place) → NamesPlace order.now size.now offset.now place → result ≡ Some place }
+    {
         let order = parse_order(order)?;
         let address_size = parse_size(size)?;
         let offset = parse_offset(offset)?;
