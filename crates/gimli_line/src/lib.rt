@@ -12,6 +12,8 @@ mod program;
 mod row;
 mod rows;
 mod tables;
+#[cfg(test)]
+mod tests;
 
 pub use debug_line::DebugLine;
 pub use file_entry::{FileEntry, FileEntryFormat};
