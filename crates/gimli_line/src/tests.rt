@@ -1,10 +1,13 @@
-//! Headers from outside: units worked out by hand from the tables of the format, and those of gimli's own tests.
+//! Headers, instructions, rows and sequences from outside: units worked out by hand from the tables of the format,
+//! and those of gimli's own tests.
 
 mod forms;
+mod instructions;
 mod narrow;
 mod parts;
 mod programs;
 mod refusals;
+mod rows;
 mod sequences;
 mod units;
 

@@ -1,0 +1,305 @@
+//! The rows of whole programs, with their faults in order.
+
+use super::programs::{
+    Slice, flags, header_3, header_13, header_of_three_operations, numbers, program, unit,
+};
+use crate::{LineRow, OneShotLineRows};
+use gimli_core::{AttributeValue, EndianSlice, Error, LittleEndian};
+use std::test::Fail;
+
+/// What `next_row` answers.
+#[derive(Clone, Copy, Debug, PartialEq, Eq)]
+enum Event {
+    /// A row, by its address, op_index and line.
+    Row(u64, u64, u64),
+    /// The same of the end of a sequence.
+    End(u64, u64, u64),
+    /// The address overflows.
+    Overflow,
+    /// Bytes are wanting.
+    Eof,
+    /// Memory was refused.
+    Memory,
+    /// Any other refusal.
+    Other,
+    /// There is nothing more.
+    Done,
+}
+
+use Event::{Done, End, Eof, Memory, Other, Overflow, Row};
+
+/// A row by its pointer and its line.
+fn event_of(row: &LineRow) -> Event {
+    let line = match row.line() {
+        Some(line) => line.get(),
+        None => 0,
+    };
+    if row.end_sequence() {
+        End(row.address(), row.op_index(), line)
+    } else {
+        Row(row.address(), row.op_index(), line)
+    }
+}
+
+/// The next event of a run.
+fn next<'i>(rows: &mut OneShotLineRows<Slice<'i>>) -> Event {
+    match rows.next_row() {
+        Ok(Some((_, row))) => event_of(row),
+        Ok(None) => Done,
+        Err(Error::AddressOverflow) => Overflow,
+        Err(Error::UnexpectedEof(_)) => Eof,
+        Err(Error::OutOfMemory) => Memory,
+        Err(_) => Other,
+    }
+}
+
+/// Whether a run gives these events, and nothing behind them.
+fn gives<'i>(rows: &mut OneShotLineRows<Slice<'i>>, events: &[Event]) -> bool {
+    for event in events {
+        if next(rows) != *event {
+            return false;
+        }
+    }
+    next(rows) == Done && next(rows) == Done
+}
+
+/// A program and its events.
+#[derive(Clone, Copy)]
+struct Case {
+    name: &'static str,
+    header: &'static [u8],
+    size: u8,
+    program: &'static [u8],
+    events: &'static [Event],
+}
+
+fn cases() -> [Case; 14] {
+    [
+        Case {
+            name: "empty extended instruction",
+            header: header_13(),
+            size: 4,
+            program: &[0, 0, 1],
+            events: &[Eof],
+        },
+        Case {
+            name: "overflow at one byte",
+            header: header_13(),
+            size: 1,
+            program: &[2, 0xff, 1, 2, 1, 1],
+            events: &[Overflow, Row(255, 0, 1)],
+        },
+        Case {
+            name: "overflow in a special opcode",
+            header: header_13(),
+            size: 1,
+            program: &[2, 0xff, 1, 0x21, 1],
+            events: &[Overflow, Row(255, 0, 2)],
+        },
+        Case {
+            name: "line stops at zero",
+            header: header_13(),
+            size: 4,
+            program: &[
+                3, 0x80, 0x80, 0x80, 0x80, 0x80, 0x80, 0x80, 0x80, 0x80, 0x7f, 1,
+            ],
+            events: &[Row(0, 0, 0)],
+        },
+        Case {
+            name: "low opcode base",
+            header: header_3(),
+            size: 4,
+            program: &[5, 0, 1, 1],
+            events: &[Row(2, 0, 1), End(2, 0, 1)],
+        },
+        Case {
+            name: "end with surplus bytes",
+            header: header_13(),
+            size: 4,
+            program: &[0, 3, 1, 0xaa, 0xbb],
+            events: &[End(0, 0, 1)],
+        },
+        Case {
+            name: "tombstone in a sequence",
+            header: header_3(),
+            size: 4,
+            program: &[
+                0, 5, 2, 1, 0, 0, 0, 1, 0, 5, 2, 0xff, 0xff, 0xff, 0xff, 0, 1, 1, 1, 0, 1, 1,
+            ],
+            events: &[Row(1, 0, 1), Row(0, 0, 1), End(0, 0, 1)],
+        },
+        Case {
+            name: "tombstone between sequences",
+            header: header_3(),
+            size: 4,
+            program: &[
+                0, 5, 2, 1, 0, 0, 0, 1, 2, 1, 1, 2, 2, 0, 1, 1, 0, 5, 2, 0xff, 0xff, 0xff, 0xff, 1,
+                2, 1, 1, 2, 2, 0, 1, 1, 0, 5, 2, 0x0b, 0, 0, 0, 1, 2, 1, 1, 2, 2, 0, 1, 1,
+            ],
+            events: &[
+                Row(1, 0, 1),
+                Row(2, 0, 1),
+                End(4, 0, 1),
+                Row(11, 0, 1),
+                Row(12, 0, 1),
+                End(14, 0, 1),
+            ],
+        },
+        Case {
+            name: "operations carried over",
+            header: header_of_three_operations(),
+            size: 4,
+            program: &[2, 4, 1, 2, 1, 1, 0, 1, 1],
+            events: &[Row(1, 1, 1), Row(1, 2, 1), End(1, 2, 1)],
+        },
+        Case {
+            name: "fixed advance",
+            header: header_of_three_operations(),
+            size: 4,
+            program: &[2, 4, 9, 5, 0, 1, 0, 1, 1],
+            events: &[Row(6, 0, 1), End(6, 0, 1)],
+        },
+        Case {
+            name: "address that goes back",
+            header: header_13(),
+            size: 4,
+            program: &[
+                0, 5, 2, 0x10, 0, 0, 0, 1, 0, 5, 2, 8, 0, 0, 0, 3, 2, 1, 2, 9, 0, 5, 2, 0x20, 0, 0,
+                0, 1, 0, 1, 1,
+            ],
+            events: &[Row(16, 0, 1), Row(32, 0, 3), End(32, 0, 3)],
+        },
+        Case {
+            name: "equal address",
+            header: header_13(),
+            size: 4,
+            program: &[
+                0, 5, 2, 0x10, 0, 0, 0, 1, 0, 5, 2, 0x10, 0, 0, 0, 1, 0, 1, 1,
+            ],
+            events: &[Row(16, 0, 1), Row(16, 0, 1), End(16, 0, 1)],
+        },
+        Case {
+            name: "demo unit, and a row behind its end",
+            header: header_13(),
+            size: 4,
+            program: &[0, 5, 2, 0, 0x10, 0, 0, 1, 0x4c, 2, 4, 0, 1, 1, 3, 9, 1],
+            events: &[
+                Row(0x1000, 0, 1),
+                Row(0x1004, 0, 3),
+                End(0x1008, 0, 3),
+                Row(0, 0, 10),
+            ],
+        },
+        Case {
+            name: "fault in the third instruction",
+            header: header_13(),
+            size: 4,
+            program: &[1, 0x21, 2, 0x80],
+            events: &[Row(0, 0, 1), Row(1, 0, 2), Eof],
+        },
+    ]
+}
+
+#[test]
+fn rows_and_faults_in_order(rt: HostRuntime) -> Result<(), Fail> {
+    for case in cases() {
+        let name = case.name;
+        let unit = unit(rt.alloc(), case.header, case.program)?;
+        let mut rows = program(rt.alloc(), &unit, case.size)?.rows();
+        assert!(rt; gives(&mut rows, case.events), "at {name}");
+    }
+    Ok(())
+}
+
+/// The numbers and the flags of the next row; zeros where there is none.
+fn whole<'i>(rows: &mut OneShotLineRows<Slice<'i>>) -> ([u64; 7], [bool; 5]) {
+    match rows.next_row() {
+        Ok(Some((_, row))) => (numbers(row), flags(row)),
+        _ => ([0; 7], [false; 5]),
+    }
+}
+
+/// Discriminator and three flags hold for one row; file, line, column, isa and is_stmt stay; an end sets all anew.
+#[test]
+fn registers_from_row_to_row(rt: HostRuntime) -> Result<(), Fail> {
+    let program_bytes: &[u8] = &[
+        4, 7, 3, 9, 5, 3, 6, 7, 10, 11, 12, 5, 0, 2, 4, 9, 1, 1, 0, 1, 1, 1,
+    ];
+    let expected = [
+        ([0, 0, 7, 10, 3, 5, 9], [false, true, false, true, true]),
+        ([0, 0, 7, 10, 3, 5, 0], [false, false, false, false, false]),
+        ([0, 0, 7, 10, 3, 5, 0], [false, false, true, false, false]),
+        ([0, 0, 1, 1, 0, 0, 0], [true, false, false, false, false]),
+    ];
+    let unit = unit(rt.alloc(), header_13(), program_bytes)?;
+    let mut rows = program(rt.alloc(), &unit, 4)?.rows();
+    for row in expected {
+        assert_eq!(rt; whole(&mut rows), row);
+    }
+    assert_eq!(rt; next(&mut rows), Done);
+    Ok(())
+}
+
+/// How many files the header has at the next row, and the path of the row's file.
+fn file_of_next<'i>(
+    rows: &mut OneShotLineRows<Slice<'i>>,
+) -> (usize, Option<AttributeValue<Slice<'i>>>) {
+    match rows.next_row() {
+        Ok(Some((header, row))) => (
+            header.file_names().len(),
+            row.file(header).map(|file| file.path_name()),
+        ),
+        _ => (0, None),
+    }
+}
+
+/// A row in file 2, then file 2 is defined, then a row, an end.
+fn defines_behind_a_row() -> &'static [u8] {
+    b"\x04\x02\x01\0\x08\x03b.c\0\0\0\0\x01\0\x01\x01"
+}
+
+#[test]
+fn file_defined_after_its_row(rt: HostRuntime) -> Result<(), Fail> {
+    let path = AttributeValue::String(EndianSlice::new(b"b.c", LittleEndian));
+    let unit = unit(rt.alloc(), header_13(), defines_behind_a_row())?;
+    let mut rows = program(rt.alloc(), &unit, 4)?.rows();
+    assert_eq!(rt; rows.header().file_names().len(), 1);
+    assert_eq!(rt; file_of_next(&mut rows), (1, None));
+    assert_eq!(rt; rows.header().file_names().len(), 1);
+    assert_eq!(rt; file_of_next(&mut rows), (2, Some(path)));
+    assert_eq!(rt; file_of_next(&mut rows), (2, Some(path)));
+    assert_eq!(rt; next(&mut rows), Done);
+    assert_eq!(rt; rows.header().file_names().len(), 2);
+    Ok(())
+}
+
+/// Where the growth for a defined file is refused, nothing comes behind it. Holds also where no allocation is.
+#[test]
+fn each_growth_refused(rt: HostRuntime) {
+    let unit = unit_that_defines();
+    match program(rt.alloc(), &unit, 4) {
+        Ok(program) => {
+            let mut rows = program.rows();
+            assert_eq!(rt; next(&mut rows), Row(0, 0, 1));
+            match next(&mut rows) {
+                Memory => {}
+                event => {
+                    assert_eq!(rt; event, Row(0, 0, 1));
+                    assert_eq!(rt; next(&mut rows), End(0, 0, 1));
+                }
+            }
+            assert_eq!(rt; next(&mut rows), Done);
+            assert_eq!(rt; next(&mut rows), Done);
+        }
+        Err(e) => assert_eq!(rt; e, Error::OutOfMemory),
+    }
+}
+
+/// The unit of the program above.
+fn unit_that_defines() -> [u8; 54] {
+    [
+        0x32, 0, 0, 0, 4, 0, 0x1b, 0, 0, 0, 1, 1, 1, 0xfb, 0x0e, 0x0d, 0, 1, 1, 1, 1, 0, 0, 0, 1,
+        0, 0, 1, 0, 0x61, 0x2e, 0x63, 0, 0, 0, 0, 0, 4, 2, 1, 0, 8, 3, 0x62, 0x2e, 0x63, 0, 0, 0,
+        0, 1, 0, 1, 1,
+    ]
+}

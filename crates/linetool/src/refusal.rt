@@ -1,0 +1,74 @@
+//! Why a command ends before its end, and what it says then.
+
+ghost use Rattle.std.specs.Prelude.{◌≡◌, ◌≢◌};
+ghost use Rattle.std.specs.IoError.{error_kind};
+
+use gimli_core::Error;
+use std::io;
+use std::io::{ErrorKind, Write};
+
+/// Why a command ends before its end.
+#[derive(Clone, Copy, Debug, PartialEq, Eq)]
+pub enum Refusal {
+    /// The words are no command.
+    Usage,
+    /// The file can't be read.
+    File,
+    /// A fault in the header of the unit.
+    Header,
+    /// A fault in the rows of the unit.
+    Rows,
+    /// Memory was refused.
+    Memory,
+    /// Standard output takes no more.
+    Output,
+}
+
+impl Refusal {
+    /// The refusal of reading the file.
+    pub fn of_reading(error: &io::Error) -> Refusal
+        ensures memory { error_kind error.now ≡ ErrorKind.OutOfMemory → result ≡ Refusal.Memory }
+        ensures file { error_kind error.now ≢ ErrorKind.OutOfMemory → result ≡ Refusal.File }
+    {
+        match error.kind() {
+            ErrorKind::OutOfMemory => Refusal::Memory,
+            _ => Refusal::File,
+        }
+    }
+
+    /// The refusal of reading a unit, whose faults are told by `fault`.
+    pub fn of_unit(error: Error, fault: Refusal) -> Refusal
+        ensures memory { error ≡ Error.OutOfMemory → result ≡ Refusal.Memory }
+        ensures fault { error ≢ Error.OutOfMemory → result ≡ fault }
+    {
+        match error {
+            Error::OutOfMemory => Refusal::Memory,
+            _ => fault,
+        }
+    }
+
+    /// Says on standard error why the command ends, and answers the status of the program. Nothing is said where
+    /// standard output takes no more.
+    pub fn report<E: Write>(self, err: &mut E) -> u8
+        ensures usage { self ≡ Refusal.Usage → result ≡ 2 }
+        ensures refused { self ≢ Refusal.Usage → result ≡ 1 }
+    {
+        let _ = err.write_all(self.text().as_bytes());
+        match self {
+            Refusal::Usage => 2,
+            _ => 1,
+        }
+    }
+
+    /// The line on standard error.
+    fn text(self) -> &'static str {
+        match self {
+            Refusal::Usage => "usage\n",
+            Refusal::File => "refused: file\n",
+            Refusal::Header => "refused: header\n",
+            Refusal::Rows => "refused: rows\n",
+            Refusal::Memory => "refused: memory\n",
+            Refusal::Output => "",
+        }
+    }
+}
