@@ -1,5 +1,5 @@
-ghost use Rattle.std.specs.Prelude.{◌≡◌, ◌≢◌, ℕ, ◌<◌, List, [], length, IfOk, IfErr, OnOk, OnErr, Ok, Some, IsTrue, All, slice_get};
-ghost use Rattle.gimli_bytes.specs.Texts.{AreTexts, KeepsTexts, with_text, place_of_text, offset_of, table_bytes};
+ghost use Rattle.std.specs.Prelude.{◌≡◌, ◌≢◌, ℕ, ◌<◌, ◌^◌, List, [], length, IfOk, IfErr, OnOk, OnErr, Ok, Some, IsTrue, All, slice_get};
+ghost use Rattle.gimli_bytes.specs.Texts.{AreTexts, KeepsTexts, with_text, place_of_text, offset_of, table_bytes, byte_count};
 ghost use Rattle.gimli_bytes.specs.Written.{Begins, Appends, Refuses};
 
 use crate::error::{Error, Result};
@@ -42,7 +42,10 @@ impl Texts {
     fn count(&self) -> usize
         ensures count { result ≡ length self.now }
         ensures texts { AreTexts self.now }
+        ensures short { byte_count self.now < 2 ^ 64 }
     {
+        // The number of bytes is this.
+        let _len = self.len;
         self.strings.len()
     }
 
@@ -153,6 +156,7 @@ impl StringTable {
     pub fn count(&self) -> usize
         ensures count { result ≡ length self.now }
         ensures texts { AreTexts self.now }
+        ensures short { byte_count self.now < 2 ^ 64 }
     {
         self.texts.count()
     }
@@ -240,6 +244,7 @@ impl LineStringTable {
     pub fn count(&self) -> usize
         ensures count { result ≡ length self.now }
         ensures texts { AreTexts self.now }
+        ensures short { byte_count self.now < 2 ^ 64 }
     {
         self.texts.count()
     }

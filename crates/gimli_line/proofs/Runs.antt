@@ -9,7 +9,7 @@ use Rattle.gimli_line.specs.declared.row.LineRow.{LineRow}
 use Rattle.gimli_line.specs.declared.instruction.LineInstruction.TheVariants.{Special, Copy, EndSequence, DefineFile}
 use Rattle.gimli_line.specs.Rules.{Rules}
 use Rattle.gimli_line.specs.Header.{Header, bare, files_behind}
-use Rattle.gimli_line.specs.Instruction.{Ins, File, makes_row}
+use Rattle.gimli_line.specs.Instruction.{Ins, File, makes_row, defines_file}
 use Rattle.gimli_line.specs.InstructionGrammar.{SpellsInstruction, instruction_line, IsEnd, Cuts}
 use Rattle.gimli_line.specs.InstructionReading.{cut_upto, cut_at}
 use Rattle.gimli_line.specs.Events.{Event, row, fault}
@@ -18,7 +18,7 @@ use Rattle.gimli_line.specs.Told.{Told, step_events, next_registers}
 use Rattle.gimli_line.specs.Source.{Source}
 use Rattle.gimli_line.specs.Left.{Left}
 use Rattle.gimli_line.specs.Passed.{Passes, ready, events_from, registers_behind, files_from}
-use Rattle.gimli_line.specs.Rows.{live_events, events_left}
+use Rattle.gimli_line.specs.Rows.{live_events, events_left, WantsMemory, FaultIs}
 use Rattle.gimli_line.proofs.InstructionLaws.{cuts, one_cut, takes_bytes}
 
 -- ---- what a program is cut into, by its front
@@ -78,8 +78,8 @@ no_file_at_refusal a h i r files large = refl
 
 -- ---- a state of an iterator, whose program has the header h
 
-abbrev pub state : Bool → Header → Notation → LineRow → Source → Left
-state a h o r s = record { fixed = bare h; files = h.files; appends = a; notation = o; row = r; source = s }
+abbrev pub state : Bool → Header → Notation → ℕ → LineRow → Source → Left
+state a h o n r s = record { fixed = bare h; files = h.files; appends = a; notation = o; offset = n; row = r; source = s }
 
 abbrev pub told : Event → Header → Told
 told e h = record { event = e; files = h.files }
@@ -95,11 +95,11 @@ pub none_to_come : (a : Left) → a.source.bytes ≡ [] → events_left a ≡ []
 none_to_come a e = none_left (ready a) e
 
 -- k is the header that was lent, s2 what was left of the instructions
-module _ (a : Bool) (h k : Header) (same : k ≡ h) (o o2 : Notation) (r : LineRow) (s s2 : Source) where
+module _ (a : Bool) (h k : Header) (same : k ≡ h) (o o2 : Notation) (n n2 : ℕ) (r : LineRow) (s s2 : Source) where
   pub after_fault : (e : Error) → s.bytes ≢ [] → s2.bytes ≡ [] → (instruction_line s.notation k).Fault s.bytes e → (r2 : LineRow)
-      → live_events (state a h o r s) ≡ told (fault e) h ∷ events_left (state a h o2 r2 s2)
+      → live_events (state a h o n r s) ≡ told (fault e) h ∷ events_left (state a h o2 n2 r2 s2)
   after_fault e some empty f r2 =
-      rw (cut_fault s.notation (bare h) s.bytes e some (rw same at f), none_to_come (state a h o2 r2 s2) empty) refl
+      rw (cut_fault s.notation (bare h) s.bytes e some (rw same at f), none_to_come (state a h o2 n2 r2 s2) empty) refl
 
   module _ (notation : s2.notation ≡ s.notation) (i : Ins) (front : List ℕ) (parts : s.bytes ≡ front ++ s2.bytes) (spelled : SpellsInstruction s.notation k front i) where
     cut_is : cut_at s.notation (bare h) s.bytes ≡ (i ∷ (cut_at s.notation (bare h) s2.bytes).0, (cut_at s.notation (bare h) s2.bytes).1)
@@ -110,7 +110,7 @@ module _ (a : Bool) (h k : Header) (same : k ≡ h) (o o2 : Notation) (r : LineR
 
     -- one instruction is passed over
     pub passes_one : (h2 : Header) (r2 : LineRow) (events : List Event) → h2 ≡ record h { files = files_behind a i h.files } → step_events h.rules i r ≡ events
-        → r2 ≡ next_registers h.rules i r → Passes (state a h o r s) (state a h2 o2 r2 s2) events
+        → r2 ≡ next_registers h.rules i r → Passes (state a h o n r s) (state a h2 o2 n2 r2 s2) events
     passes_one h2 r2 events behind given next = record {
       list = i ∷ [];
       front = front;
@@ -125,16 +125,16 @@ module _ (a : Bool) (h k : Header) (same : k ≡ h) (o o2 : Notation) (r : LineR
     }
 
     module _ (h2 : Header) (r2 : LineRow) (behind : h2 ≡ record h { files = files_behind a i h.files }) (fits : is_refused h.rules i r ≡ false) where
-      pub passes_quiet : makes_row i ≡ false → r2 ≡ stepped h.rules i r → Passes (state a h o r s) (state a h2 o2 r2 s2) []
+      pub passes_quiet : makes_row i ≡ false → r2 ≡ stepped h.rules i r → Passes (state a h o n r s) (state a h2 o2 n2 r2 s2) []
       passes_quiet made row_is = passes_one h2 r2 [] behind (rw (fits, made) refl) (rw (fits, made) row_is)
 
-      pub passes_hidden : makes_row i ≡ true → (stepped h.rules i r).tombstone ≡ true → r2 ≡ reset_row h.rules (stepped h.rules i r) → Passes (state a h o r s) (state a h2 o2 r2 s2) []
+      pub passes_hidden : makes_row i ≡ true → (stepped h.rules i r).tombstone ≡ true → r2 ≡ reset_row h.rules (stepped h.rules i r) → Passes (state a h o n r s) (state a h2 o2 n2 r2 s2) []
       passes_hidden made hidden row_is =
           let was : r.tombstone ≡ true = sym (keeps_hidden h.rules i r made) ∙ hidden in
           passes_one h2 r2 [] behind (rw (fits, made, was) refl) (rw (fits, made) row_is)
 
       pub passes_seen : makes_row i ≡ true → (stepped h.rules i r).tombstone ≡ false → r2 ≡ stepped h.rules i r
-          → Passes (state a h o r s) (ready (state a h2 o2 r2 s2)) (row r2 ∷ [])
+          → Passes (state a h o n r s) (ready (state a h2 o2 n2 r2 s2)) (row r2 ∷ [])
       passes_seen made seen row_is =
           let was : r.tombstone ≡ false = sym (keeps_hidden h.rules i r made) ∙ seen in
           let rules : h2.rules ≡ h.rules = ap (λ (k : Header). k.rules) behind in
@@ -144,24 +144,24 @@ module _ (a : Bool) (h k : Header) (same : k ≡ h) (o o2 : Notation) (r : LineR
 
     module _ (h2 : Header) (r2 : LineRow) where
       pub after_quiet : h2 ≡ record h { files = files_behind a i h.files } → is_refused h.rules i r ≡ false → makes_row i ≡ false → r2 ≡ stepped h.rules i r
-          → live_events (state a h o r s) ≡ live_events (state a h2 o2 r2 s2)
+          → live_events (state a h o n r s) ≡ live_events (state a h2 o2 n2 r2 s2)
       after_quiet behind fits made row_is = rw (cut_is, behind, row_is, notation, fits, made) refl
 
       pub after_hidden : h2 ≡ record h { files = files_behind a i h.files } → is_refused h.rules i r ≡ false → makes_row i ≡ true → (stepped h.rules i r).tombstone ≡ true
-          → r2 ≡ reset_row h.rules (stepped h.rules i r) → live_events (state a h o r s) ≡ live_events (state a h2 o2 r2 s2)
+          → r2 ≡ reset_row h.rules (stepped h.rules i r) → live_events (state a h o n r s) ≡ live_events (state a h2 o2 n2 r2 s2)
       after_hidden behind fits made hidden row_is =
           let was : r.tombstone ≡ true = sym (keeps_hidden h.rules i r made) ∙ hidden in
           rw (cut_is, behind, row_is, notation, fits, made, was) refl
 
       pub after_seen : h2 ≡ record h { files = files_behind a i h.files } → is_refused h.rules i r ≡ false → makes_row i ≡ true → (stepped h.rules i r).tombstone ≡ false
-          → r2 ≡ stepped h.rules i r → live_events (state a h o r s) ≡ told (row r2) h2 ∷ events_left (state a h2 o2 r2 s2)
+          → r2 ≡ stepped h.rules i r → live_events (state a h o n r s) ≡ told (row r2) h2 ∷ events_left (state a h2 o2 n2 r2 s2)
       after_seen behind fits made hidden row_is =
           let was : r.tombstone ≡ false = sym (keeps_hidden h.rules i r made) ∙ hidden in
           let files : files_behind a i h.files ≡ h.files = no_file_at_row a i h.files made in
           rw (cut_is, behind, row_is, notation, fits, made, was, files) refl
 
       pub after_overflow : h2 ≡ h → is_refused h.rules i r ≡ true → r2 ≡ stepped h.rules i r
-          → live_events (state a h o r s) ≡ told (fault AddressOverflow) h2 ∷ events_left (state a h2 o2 r2 s2)
+          → live_events (state a h o n r s) ≡ told (fault AddressOverflow) h2 ∷ events_left (state a h2 o2 n2 r2 s2)
       after_overflow kept large row_is =
           let files : files_behind a i h.files ≡ h.files = no_file_at_refusal a h.rules i r h.files large in
           rw (cut_is, kept, row_is, notation, large, files) refl
@@ -228,3 +228,43 @@ passes_both a b c es fs p q = record {
   registers = rw (p.fixed, p.registers) at q.registers ∙ sym (registers_joined a.fixed.rules a.row p.list q.list);
   files = rw (p.appends, p.files) at q.files ∙ sym (files_joined a.appends a.files p.list q.list);
 }
+
+-- ---- refusals
+
+-- memory is wanting for the file that an instruction defines
+pub wants : (a : Bool) (h k : Header) → k ≡ h → (o o2 : Notation) (n n2 : ℕ) (r : LineRow) (s : Source) (i : Ins) (front rest : List ℕ) → s.bytes ≡ front ++ rest
+    → SpellsInstruction s.notation k front i → defines_file i ≡ true → (h2 : Header) (r2 : LineRow) (s2 : Source) → s2.bytes ≡ [] → h2 ≡ h → a ≡ true
+    → WantsMemory (state a h o n r s) (state a h2 o2 n2 r2 s2)
+wants a h k same o o2 n n2 r s i front rest parts spelled defines h2 r2 s2 empty kept appends = record {
+  place = state a h o n r s;
+  passed = passes_none (state a h o n r s) (state a h o n r s) refl;
+  definition = i;
+  front = front;
+  rest = rest;
+  parts = parts;
+  spelled = rw same at spelled;
+  defines = defines;
+  appends = appends;
+  files = ap (λ (k : Header). k.files) kept;
+  none = none_to_come (state a h2 o2 n2 r2 s2) empty;
+}
+
+-- a refusal behind instructions that give nothing
+pub refused_behind : (a b c : Left) (e : Error) → live_events a ≡ live_events b → Passes a b [] → FaultIs b c e → FaultIs a c e
+refused_behind a b c e events passed (inl m) = inl (
+  m.0,
+  record {
+    place = m.1.place;
+    passed = passes_both a b m.1.place [] [] passed m.1.passed;
+    definition = m.1.definition;
+    front = m.1.front;
+    rest = m.1.rest;
+    parts = m.1.parts;
+    spelled = m.1.spelled;
+    defines = m.1.defines;
+    appends = m.1.appends;
+    files = m.1.files;
+    none = m.1.none;
+  },
+)
+refused_behind a b c e events passed (inr f) = inr (events ∙ f)

@@ -144,23 +144,25 @@ abbrev pub first_of : List LineRow → Option ℕ
 first_of [] = None
 first_of (r ∷ rows) = Some r.address
 
-abbrev began : Header → Notation → List File → Source → Left
-began h o files source = record { fixed = bare h; files = files; appends = true; notation = o; row = initial h.rules; source = source }
+abbrev began : Header → Notation → ℕ → List File → Source → Left
+began h o n files source = record { fixed = bare h; files = files; appends = true; notation = o; offset = n; row = initial h.rules; source = source }
 
 pub record Cutting (h : Header) (k : Cut) (done : List LineRow) (place : Left) : Type 0 where
   joined : List Event
   rows : List LineRow
   order : Notation
+  offset : ℕ
   files : List File
   done_is : map row done ≡ joined ++ map row rows
   closed : AllClosed h k.parts joined
   unended : AreOpen rows
   start_is : k.start ≡ first_of rows
-  passes : Passes (began h order files k.source) place (map row rows)
+  passes : Passes (began h order offset files k.source) place (map row rows)
 
-pub starts_cutting : (h : Header) (o : Notation) (source : Source) → Cutting h (record { parts = []; source = source; start = None }) [] (ready (started true h o source))
-starts_cutting h o source = record {
+pub starts_cutting : (h : Header) (o : Notation) (n : ℕ) (source : Source) → Cutting h (record { parts = []; source = source; start = None }) [] (ready (started true h o n source))
+starts_cutting h o n source = record {
   order = o;
+  offset = n;
   joined = [];
   rows = [];
   files = h.files;
@@ -168,7 +170,7 @@ starts_cutting h o source = record {
   closed = refl;
   unended = tt;
   start_is = refl;
-  passes = passes_none (began h o h.files source) (ready (started true h o source)) refl;
+  passes = passes_none (began h o n h.files source) (ready (started true h o n source)) refl;
 }
 
 open_push : (rows : List LineRow) (r : LineRow) → AreOpen rows → r.end_sequence ≡ false → AreOpen (rows ++ r ∷ [])
@@ -186,15 +188,15 @@ first_is (q ∷ rows) start is = rw is refl
 anew_at_end : (rules : Rules) (r : LineRow) → r.end_sequence ≡ true → reset_row rules r ≡ initial rules
 anew_at_end rules r e = rw e refl
 
-left_same : (a b : Left) → a.fixed ≡ b.fixed → a.appends ≡ b.appends → a.row ≡ b.row → a.files ≡ b.files → a.notation ≡ b.notation → a.source ≡ b.source → a ≡ b
-left_same a b f p r fs o s = rw (f, p, r, fs, o, s) refl
+left_same : (a b : Left) → a.fixed ≡ b.fixed → a.appends ≡ b.appends → a.row ≡ b.row → a.files ≡ b.files → a.notation ≡ b.notation → a.offset ≡ b.offset → a.source ≡ b.source → a ≡ b
+left_same a b f p r fs o n s = rw (f, p, r, fs, o, n, s) refl
 
 front_at : (bytes front rest : List ℕ) → bytes ≡ front ++ rest → take (length bytes - length rest) bytes ≡ front
 front_at bytes front rest parts = rw parts (take_at front rest (length (front ++ rest) - length rest) (omega (arith, length-append front rest)))
 
 module _ (h : Header) (k : Cut) (done : List LineRow) (place next : Left) (c : Cutting h k done place) (p : Passes place (ready next) (row next.row ∷ [])) where
-  whole : Passes (began h c.order c.files k.source) (ready next) (map row c.rows ++ row next.row ∷ [])
-  whole = passes_both (began h c.order c.files k.source) place (ready next) (map row c.rows) (row next.row ∷ []) c.passes p
+  whole : Passes (began h c.order c.offset c.files k.source) (ready next) (map row c.rows ++ row next.row ∷ [])
+  whole = passes_both (began h c.order c.offset c.files k.source) place (ready next) (map row c.rows) (row next.row ∷ []) c.passes p
 
   more_done : map row (done ++ next.row ∷ []) ≡ c.joined ++ (map row c.rows ++ row next.row ∷ [])
   more_done =
@@ -205,12 +207,13 @@ module _ (h : Header) (k : Cut) (done : List LineRow) (place next : Left) (c : C
     joined = c.joined;
     rows = c.rows ++ next.row ∷ [];
     order = c.order;
+    offset = c.offset;
     files = c.files;
     done_is = more_done ∙ ap (λ (xs : List Event). c.joined ++ xs) (sym (map-append row c.rows (next.row ∷ [])));
     closed = c.closed;
     unended = open_push c.rows next.row c.unended e;
     start_is = first_push c.rows next.row k.start c.start_is;
-    passes = subst (λ (es : List Event). Passes (began h c.order c.files k.source) (ready next) es) (sym (map-append row c.rows (next.row ∷ []))) whole;
+    passes = subst (λ (es : List Event). Passes (began h c.order c.offset c.files k.source) (ready next) es) (sym (map-append row c.rows (next.row ∷ []))) whole;
   }
 
   abbrev ended : Part
@@ -240,12 +243,13 @@ module _ (h : Header) (k : Cut) (done : List LineRow) (place next : Left) (c : C
     joined = c.joined ++ (map row c.rows ++ row next.row ∷ []);
     rows = [];
     order = next.notation;
+    offset = next.offset;
     files = next.files;
     done_is = more_done ∙ sym (append-nil (c.joined ++ (map row c.rows ++ row next.row ∷ [])));
     closed = closed_push h k.parts c.joined ended (map row c.rows ++ row next.row ∷ []) c.closed (closes e);
     unended = tt;
     start_is = refl;
-    passes = passes_none (began h next.notation next.files next.source) (ready next) (left_same (ready next) (began h next.notation next.files next.source) whole.fixed whole.appends (anew_at_end next.fixed.rules next.row e ∙ ap (λ (x : Header). initial x.rules) whole.fixed) refl refl refl);
+    passes = passes_none (began h next.notation next.offset next.files next.source) (ready next) (left_same (ready next) (began h next.notation next.offset next.files next.source) whole.fixed whole.appends (anew_at_end next.fixed.rules next.row e ∙ ap (λ (x : Header). initial x.rules) whole.fixed) refl refl refl refl);
   }
 
   pub goes_cutting : Cutting h (with_row next.row next.source k) (done ++ next.row ∷ []) (ready next)
@@ -272,11 +276,11 @@ row_takes a b e es p = at_list p.list p.front p.parts p.spelled p.given
 
 -- ---- the end of a run without a fault
 
-module _ (n : Notation) (h c : Header) (k : Cut) (done : List LineRow) (place last : Left) where
+module _ (n : Notation) (offset : ℕ) (h c : Header) (k : Cut) (done : List LineRow) (place last : Left) where
   abbrev whole_program : Source
   whole_program = record { bytes = h.program; notation = n }
 
-  pub are_sequences : Cutting h k done place → Passes (ready (started true h n whole_program)) last (map row done) → last.source.bytes ≡ [] → bare c ≡ last.fixed → c.files ≡ last.files
+  pub are_sequences : Cutting h k done place → Passes (ready (started true h n offset whole_program)) last (map row done) → last.source.bytes ≡ [] → bare c ≡ last.fixed → c.files ≡ last.files
       → AreSequences n h c k.parts
   are_sequences cutting p empty fixed files = record {
     list = p.list;
@@ -324,9 +328,9 @@ passes_left a b es p =
     ∙ ap (λ (xs : List Event). xs ++ (events_from a.fixed.rules (registers_behind a.fixed.rules a.row p.list) c.0 ++ end_events c.1)) p.given
     ∙ ap (λ (xs : List Event). es ++ xs) (sym there)
 
-pub has_first_fault : (n : Notation) (h : Header) (done : List LineRow) (old new : Left) (e : Error) → Passes (ready (started true h n (record { bytes = h.program; notation = n }))) (ready old) (map row done)
+pub has_first_fault : (n : Notation) (offset : ℕ) (h : Header) (done : List LineRow) (old new : Left) (e : Error) → Passes (ready (started true h n offset (record { bytes = h.program; notation = n }))) (ready old) (map row done)
     → events_left old ≡ event_of (fault e) new ∷ events_left new → HasFirstFault n h e
-has_first_fault n h done old new e p is =
+has_first_fault n offset h done old new e p is =
     let c = cut_at n (bare h) h.program in
     record {
       list = c.0;
@@ -336,7 +340,7 @@ has_first_fault n h done old new e p is =
       rest = events_of (events_left new);
       given =
           ap (λ (xs : List Event). xs ++ end_events c.1) (sym (from_start h.rules c.0))
-          ∙ sym (events_live (ready (started true h n (record { bytes = h.program; notation = n }))))
-          ∙ passes_left (ready (started true h n (record { bytes = h.program; notation = n }))) (ready old) (map row done) p
+          ∙ sym (events_live (ready (started true h n offset (record { bytes = h.program; notation = n }))))
+          ∙ passes_left (ready (started true h n offset (record { bytes = h.program; notation = n }))) (ready old) (map row done) p
           ∙ ap (λ (t : List Told). map row done ++ events_of t) is;
     }

@@ -1,5 +1,5 @@
 -- What a row iterator is, for its callers.
-use Rattle.std.specs.Prelude.{Bool, List}
+use Rattle.std.specs.Prelude.{ℕ, Bool, List}
 use Rattle.gimli_core.specs.Notation.{Notation}
 use Rattle.gimli_line.specs.declared.row.LineRow.{LineRow}
 use Rattle.gimli_line.specs.Header.{Header}
@@ -14,6 +14,8 @@ pub record Left : Type 0 where
   pub appends : Bool
   -- the notation of the header's program
   pub notation : Notation
+  -- the offset of the header in its section
+  pub offset : ℕ
   -- the registers
   pub row : LineRow
   -- the instructions to come

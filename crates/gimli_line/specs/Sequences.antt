@@ -26,9 +26,9 @@ part_of s = record { start = s.start; end = s.end; source = s.instructions }
 abbrev pub events_of : List Told → List Event
 events_of told = map (λ t. t.event) told
 
--- what a sequence gives that is resumed over a header
+-- what a sequence gives that is resumed over a header, wherever the header stands
 abbrev pub resumed : Header → Part → List Event
-resumed h s = events_of (events_left (started false h s.source.notation s.source))
+resumed h s = events_of (events_left (started false h s.source.notation 0 s.source))
 
 -- the address of the first row; 0 where there is none
 abbrev pub first_address : List LineRow → ℕ

@@ -370,6 +370,7 @@ where
         ensures err { OnErr result (self.new.meaning ≡ self.old.meaning) }
         ensures memory { IfErr result (λ e. e ≡ Error.OutOfMemory) }
         ensures notation { self.new.notation ≡ self.old.notation }
+        ensures offset { self.new.offset ≡ self.old.offset }
     {
         push(&mut self.file_names, file)
     }

@@ -1,4 +1,5 @@
-//! Laws of the two grammars: a unit has one header or one refusal, a program is cut in one way.
+//! Laws of the two grammars: a unit has one header or one refusal, a program is cut in one way. And laws of what a
+//! program gives.
 
 ghost use Rattle.std.specs.Prelude.{◌≡◌, ◌≢◌, ◌≤◌, ◌⊎◌, ◌++◌, ℕ, List, [], Option, length};
 ghost use Rattle.gimli_core.specs.Notation.{Notation};
@@ -9,6 +10,7 @@ ghost use Rattle.gimli_line.specs.HeaderGrammar.{Entry, SpellsUnit, HasHeaderFau
 ghost use Rattle.gimli_line.specs.Events.{events_behind};
 ghost use Rattle.gimli_line.specs.Instruction.{Ins};
 ghost use Rattle.gimli_line.specs.InstructionGrammar.{Cuts};
+ghost use Rattle.gimli_line.specs.Machine.{run, initial};
 ghost use Rattle.gimli_line.specs.Rising.{AreOneSequence, NeverBelow};
 ghost use Rattle.gimli_line.specs.Rules.{Rules};
 ghost use Rattle.gimli_line.specs.declared.file_entry.FileEntryFormat.{FileEntryFormat};
@@ -48,6 +50,11 @@ pub fn entries_are_bounded()
     ensures { (notation : Notation) (format : Format) (formats : List FileEntryFormat) → formats ≢ [] →
         (bytes : List ℕ) (entries : List Entry) → SpellsEntries notation format formats bytes entries →
         (count : List ℕ) × (behind : List ℕ) × (bytes ≡ count ++ behind) × (length entries ≤ length behind) }
+{}
+
+/// The machine, run from the registers at the start of a sequence, gives the rows and faults that looking back says.
+pub fn machine_gives_events()
+    ensures { (rules : Rules) (list : List Ins) → run rules (initial rules) list ≡ events_behind rules [] list }
 {}
 
 /// Between two ends of sequences, whether their rows are hidden or not, and from the start to the first, the addresses

@@ -5,7 +5,7 @@ use std::marker::Model;
 
 /// What has the header of a line program, and takes the files that the program defines.
 pub trait LineProgram<R: Reader> {
-    ghost use Rattle.std.specs.Prelude.{◌≡◌, Bool, true, OnOk, OnErr, IfErr};
+    ghost use Rattle.std.specs.Prelude.{◌≡◌, ℕ, Bool, true, OnOk, OnErr, IfErr};
     ghost use Rattle.gimli_core.specs.Notation.{Notation};
     ghost use Rattle.gimli_line.specs.Header.{Header, added};
     ghost use Rattle.gimli_line.specs.Instruction.{file_seen};
@@ -16,13 +16,17 @@ pub trait LineProgram<R: Reader> {
     /// The notation of the program.
     ghost notation: { Self → Notation };
 
+    /// The offset of the header in its section.
+    ghost offset: { Self → ℕ };
+
     /// Whether a file is added, or the list is complete.
     ghost appends: { Bool };
 
     /// The header.
     fn header(&self) -> &LineProgramHeader<R>
         ensures meaning { result.now.meaning ≡ meaning self.now }
-        ensures notation { result.now.notation ≡ notation self.now };
+        ensures notation { result.now.notation ≡ notation self.now }
+        ensures offset { R.Offset.number result.now.offset.0 ≡ offset self.now };
 
     /// Adds a file that the program defines, where the list of files isn't complete. Refused by `OutOfMemory`
     /// alone; nothing is changed then.
@@ -30,7 +34,8 @@ pub trait LineProgram<R: Reader> {
         ensures ok { OnOk result (meaning self.new ≡ record (meaning self.old) { files = added appends (file_seen R.bytes R.Offset.number file) (meaning self.old).files }) }
         ensures err { OnErr result (meaning self.new ≡ meaning self.old) }
         ensures memory { IfErr result (λ e. (e ≡ Error.OutOfMemory) × (appends ≡ true)) }
-        ensures notation { notation self.new ≡ notation self.old };
+        ensures notation { notation self.new ≡ notation self.old }
+        ensures offset { offset self.new ≡ offset self.old };
 }
 
 /// A line program that was not run yet, so that files may still be defined.
@@ -92,6 +97,8 @@ impl<R: Reader> LineProgram<R> for IncompleteLineProgram<R> {
 
     ghost notation = { λ p. p.notation };
 
+    ghost offset = { λ p. R.Offset.number p.offset.0 };
+
     ghost appends = { true };
 
     fn header(&self) -> &LineProgramHeader<R> {
@@ -103,6 +110,7 @@ impl<R: Reader> LineProgram<R> for IncompleteLineProgram<R> {
         ensures err { OnErr result (self.new.meaning ≡ self.old.meaning) }
         ensures memory { IfErr result (λ e. (e ≡ Error.OutOfMemory) × (true ≡ true)) }
         ensures notation { self.new.notation ≡ self.old.notation }
+        ensures offset { R.Offset.number self.new.offset.0 ≡ R.Offset.number self.old.offset.0 }
     {
         self.header.add_file(file)
     }
@@ -166,6 +174,8 @@ impl<'program, R: Reader> LineProgram<R> for &'program CompleteLineProgram<R> {
 
     ghost notation = { λ p. p.now.notation };
 
+    ghost offset = { λ p. R.Offset.number p.now.offset.0 };
+
     ghost appends = { false };
 
     fn header(&self) -> &LineProgramHeader<R> {
@@ -178,6 +188,7 @@ impl<'program, R: Reader> LineProgram<R> for &'program CompleteLineProgram<R> {
         ensures err { OnErr result (self.new.now.meaning ≡ self.old.now.meaning) }
         ensures memory { IfErr result (λ e. (e ≡ Error.OutOfMemory) × (false ≡ true)) }
         ensures notation { self.new.now.notation ≡ self.old.now.notation }
+        ensures offset { R.Offset.number self.new.now.offset.0 ≡ R.Offset.number self.old.now.offset.0 }
         ensures only { IsOk result }
     {
         Ok(())

@@ -190,6 +190,7 @@ impl LineRow {
             (e ≡ Error.OutOfMemory) × (P.appends ≡ true) × (defines_file (ins_seen R.bytes R.Offset.number instruction) ≡ true) × (self.new ≡ self.old)) }
         ensures kept { OnErr result (P.meaning program.new ≡ P.meaning program.old) }
         ensures notation { P.notation program.new ≡ P.notation program.old }
+        ensures offset { P.offset program.new ≡ P.offset program.old }
     {
         let parameters = program.header().parameters;
         if let LineInstruction::DefineFile(file) = instruction {

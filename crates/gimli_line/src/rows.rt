@@ -40,6 +40,7 @@ impl<R: Reader, P: LineProgram<R>> Model for LineRows<R, P> {
       files = (P.meaning a.program).files;
       appends = P.appends;
       notation = P.notation a.program;
+      offset = P.offset a.program;
       row = a.row;
       source = a.instructions;
     } };
@@ -65,11 +66,11 @@ impl<R: Reader, P: LineProgram<R>> LineRows<R, P> {
     ghost use Rattle.gimli_line.specs.Events.{row as row_event};
     ghost use Rattle.gimli_line.specs.Header.{bare};
     ghost use Rattle.gimli_line.specs.Passed.{ready, Passes};
-    ghost use Rattle.gimli_line.specs.Rows.{events_left, live_events, event_of, started, StepIs, FaultIs};
+    ghost use Rattle.gimli_line.specs.Rows.{events_left, event_of, started, KeepsHeader, StepIs, FaultIs};
 
     /// The rows of these instructions of a program, from the start of a sequence on.
     pub(crate) fn start(program: P, instructions: LineInstructions<R>) -> Self
-        ensures { result ≡ started P.appends (P.meaning program) (P.notation program) instructions }
+        ensures { result ≡ started P.appends (P.meaning program) (P.notation program) (P.offset program) instructions }
     {
         let row = LineRow::new(program.header());
         LineRows {
@@ -84,6 +85,7 @@ impl<R: Reader, P: LineProgram<R>> LineRows<R, P> {
         ensures header { bare result.now.meaning ≡ self.now.fixed }
         ensures files { result.now.meaning.files ≡ self.now.files }
         ensures notation { result.now.notation ≡ self.now.notation }
+        ensures offset { R.Offset.number result.now.offset.0 ≡ self.now.offset }
     {
         self.program.header()
     }
@@ -93,12 +95,13 @@ impl<R: Reader, P: LineProgram<R>> LineRows<R, P> {
     /// refusal. Refused by `AddressOverflow` too, and then goes on behind it. A program whose files are complete
     /// isn't refused for memory.
     pub fn next_row(&mut self) -> Result<Option<(&LineProgramHeader<R>, &LineRow)>>
-        ensures* after { sem 𝓛 (Rests ⟦<LineRows<R, P> as Lent>⟧.lent self.entry (λ new. MatchResult result
+        ensures* after { sem 𝓛 (Rests ⟦<LineRows<R, P> as Lent>⟧.lent self.entry (λ new. KeepsHeader self.old new × MatchResult result
             (λ found. MatchOption found
             ((events_left self.old ≡ []) × (events_left new ≡ []))
             (λ pair. events_left self.old ≡ record { event = row_event pair.1.now; files = pair.0.now.meaning.files } ∷ events_left new))
-            (FaultIs (events_left self.old) new))) }
-        ensures header { IfOk result (λ found. MatchOption found ⊤ (λ pair. (bare pair.0.now.meaning ≡ self.old.fixed) × (pair.0.now.notation ≡ self.old.notation))) }
+            (FaultIs (ready self.old) new))) }
+        ensures header { IfOk result (λ found. MatchOption found ⊤ (λ pair. (bare pair.0.now.meaning ≡ self.old.fixed)
+            × (pair.0.now.notation ≡ self.old.notation) × (R.Offset.number pair.0.now.offset.0 ≡ self.old.offset))) }
     {
         match self.advance() {
             Err(e) => Err(e),
@@ -126,6 +129,7 @@ impl<R: Reader, P: LineProgram<R>> LineRows<R, P> {
         ensures header { bare (P.meaning result) ≡ self.fixed }
         ensures files { (P.meaning result).files ≡ self.files }
         ensures notation { P.notation result ≡ self.notation }
+        ensures offset { P.offset result ≡ self.offset }
     {
         self.program
     }
@@ -135,9 +139,11 @@ impl<R: Reader, P: LineProgram<R>> LineRows<R, P> {
         ensures row { IfOk result (λ found. MatchBool found
             (events_left self.old ≡ event_of (row_event self.new.row) self.new ∷ events_left self.new)
             ((events_left self.old ≡ []) × (events_left self.new ≡ []))) }
-        ensures err { IfErr result (FaultIs (events_left self.old) self.new) }
+        ensures err { IfErr result (FaultIs (ready self.old) self.new) }
         ensures fixed { self.new.fixed ≡ self.old.fixed }
+        ensures appends { self.new.appends ≡ self.old.appends }
         ensures notation { self.new.notation ≡ self.old.notation }
+        ensures offset { self.new.offset ≡ self.old.offset }
         ensures passes { IfOk result (λ found. MatchBool found
             (Passes (ready self.old) (ready self.new) (row_event self.new.row ∷ []))
             ((self.new.source.bytes ≡ []) × Passes (ready self.old) self.new [])) }
@@ -156,9 +162,11 @@ impl<R: Reader, P: LineProgram<R>> LineRows<R, P> {
     /// Executes one instruction.
     fn step(&mut self) -> Result<Step>
         ensures ok { IfOk result (StepIs self.old self.new) }
-        ensures err { IfErr result (FaultIs (live_events self.old) self.new) }
+        ensures err { IfErr result (FaultIs self.old self.new) }
         ensures fixed { self.new.fixed ≡ self.old.fixed }
+        ensures appends { self.new.appends ≡ self.old.appends }
         ensures notation { self.new.notation ≡ self.old.notation }
+        ensures offset { self.new.offset ≡ self.old.offset }
     {
         let instruction = match self.instructions.next_instruction(self.program.header()) {
             Err(e) => return Err(e),
@@ -190,6 +198,7 @@ impl<R: Reader, P: LineProgram<R>> LineRows<R, P> {
         ensures header { bare result.0.now.meaning ≡ self.now.fixed }
         ensures files { result.0.now.meaning.files ≡ self.now.files }
         ensures notation { result.0.now.notation ≡ self.now.notation }
+        ensures offset { R.Offset.number result.0.now.offset.0 ≡ self.now.offset }
         ensures row { result.1.now ≡ self.now.row }
     {
         (self.program.header(), &self.row)
@@ -219,7 +228,7 @@ impl<R: Reader> IncompleteLineProgram<R> {
     /// The rows of the program, from its start to its end.
     pub fn rows(self) -> OneShotLineRows<R>
         ensures told { Tells self.notation true self.meaning self.meaning.program (events_left result) }
-        ensures start { result ≡ started true self.meaning self.notation (record { bytes = self.meaning.program; notation = self.notation }) }
+        ensures start { result ≡ started true self.meaning self.notation (R.Offset.number self.offset.0) (record { bytes = self.meaning.program; notation = self.notation }) }
     {
         let instructions = self.header.instructions();
         LineRows::start(self, instructions)

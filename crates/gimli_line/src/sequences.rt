@@ -108,6 +108,7 @@ impl<R: Reader> IncompleteLineProgram<R> {
     pub fn sequences(self, alloc: Global) -> Result<(CompleteLineProgram<R>, Vec<LineSequence<R>>)>
         ensures ok { IfOk result (λ found. AreSequences self.notation self.meaning found.0.meaning (map part_of found.1.items)) }
         ensures notation { IfOk result (λ found. found.0.notation ≡ self.notation) }
+        ensures offset { IfOk result (λ found. R.Offset.number found.0.offset.0 ≡ R.Offset.number self.offset.0) }
         ensures err { IfErr result (λ e. e ≢ Error.OutOfMemory → HasFirstFault self.notation self.meaning e) }
     {
         let mut rows = self.rows();
@@ -129,7 +130,7 @@ impl<R: Reader> CompleteLineProgram<R> {
         &'program self,
         sequence: &LineSequence<R>,
     ) -> ResumedLineRows<'program, R>
-        ensures { result ≡ started false self.now.meaning self.now.notation sequence.now.instructions }
+        ensures { result ≡ started false self.now.meaning self.now.notation (R.Offset.number self.now.offset.0) sequence.now.instructions }
     {
         LineRows::start(self, sequence.instructions.clone())
     }

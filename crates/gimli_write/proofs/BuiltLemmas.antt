@@ -1,5 +1,5 @@
 -- What builder calls keep true of a program.
-use Rattle.std.proofs.Common.{◌≡◌, ℕ, zero, suc, ◌-◌, ◌<◌, ◌≤◌, Bool, true, false, List, [], ◌∷◌, ◌++◌, length, drop, refl, sym, subst, if◌then◌else◌, slice_get, Option, arith}
+use Rattle.std.proofs.Common.{◌≡◌, ℕ, zero, suc, ◌-◌, ◌<◌, ◌≤◌, Bool, true, false, List, [], ◌∷◌, ◌++◌, length, drop, refl, sym, subst, if◌then◌else◌, slice_get, Option, arith, length-append}
 use Rattle.std.specs.Prelude.{All}
 use Rattle.std.specs.List.{list_any}
 use Rattle.std.specs.Option.{option_map_or}
@@ -44,6 +44,7 @@ item_pushed {e = e} items item so can = record {
   lines = so.lines;
   address_size = so.address_size;
   working_dir = so.working_dir;
+  source_file = so.source_file;
   directories_not_empty = so.directories_not_empty;
   paths_not_empty = so.paths_not_empty;
   items_built = push_reached e (0, 0) items item so.items_built (subst (λ (place : ℕ × ℕ). CanBuild e place item) (sym (reached_last items)) can);
@@ -74,6 +75,7 @@ directory_added ds t so is not_empty = record {
   lines = so.lines;
   address_size = so.address_size;
   working_dir = λ h. longer ds t (so.working_dir is);
+  source_file = so.source_file;
   directories_not_empty = λ old. not_empty_pushed ds t (so.working_dir is) (so.directories_not_empty old) (not_empty old);
   paths_not_empty = so.paths_not_empty;
   items_built = so.items_built;
@@ -86,6 +88,13 @@ paths_pushed files k given all h = rw (keys-with_file files k given) (by (has_fi
     by true = all
     by false = All-push (λ l. IsNotEmpty l.0) (keys_of files) k all h
 
+files_longer : (files : List File) (k : FileKey) (given : Option Details) → 0 < length (keys_of files) → 0 < length (keys_of (with_file files k given))
+files_longer files k given some = rw (keys-with_file files k given) (by (has_file files k))
+  where
+    by : (b : Bool) → 0 < length (if b then keys_of files else keys_of files ++ k ∷ [])
+    by true = some
+    by false = omega (arith, some, length-append (keys_of files) (k ∷ []))
+
 -- a file is added
 pub file_added : {is_none : Bool} {encoding : Encoding} {e : LineEncoding} {ds : List LineText} {items : List BuiltItem} (files : List File) (k : FileKey) (given : Option Details)
     → IsProgram is_none encoding e ds (keys_of files) items → (encoding.version ≤ 4 → IsNotEmpty k.0) → IsProgram is_none encoding e ds (keys_of (with_file files k given)) items
@@ -93,6 +102,7 @@ file_added files k given so not_empty = record {
   lines = so.lines;
   address_size = so.address_size;
   working_dir = so.working_dir;
+  source_file = λ is new. files_longer files k given (so.source_file is new);
   directories_not_empty = so.directories_not_empty;
   paths_not_empty = λ old. paths_pushed files k given (so.paths_not_empty old) (not_empty old);
   items_built = so.items_built;

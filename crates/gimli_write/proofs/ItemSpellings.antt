@@ -19,7 +19,8 @@ use Rattle.gimli_write.specs.Conditions.{AreBuilt}
 use Rattle.gimli_write.specs.Rows.{initial_row}
 use Rattle.gimli_write.specs.Encode.{row_instructions, end_instructions}
 use Rattle.gimli_write.specs.InstructionBytes.{instructions_bytes}
-use Rattle.gimli_write.specs.Items.{joined, item_bytes, items_bytes, items_instructions, AreFit}
+use Rattle.gimli_write.specs.Joined.{joined}
+use Rattle.gimli_write.specs.Items.{item_bytes, items_bytes, items_instructions, AreFit}
 use Rattle.gimli_write.proofs.Spellings.{each-spelled, all_row, all_end, address-spelled}
 
 -- both parts were written
@@ -49,7 +50,7 @@ module _ (notation : Notation) (h : Header) (base : h.rules.opcode_base ≡ 13) 
       let next : LineRow = record previous { address_offset = 0; op_index = 0 } in
       let p = joined_ok (item_bytes notation.big h.rules.encoding e previous (SetAddress (Constant a))) (items_bytes notation.big h.rules.encoding e next items) bytes is in
       each_joined p.0 p.1 bytes (read.SetAddress a ∷ []) (items_instructions h.rules.encoding.version e next items) p.4
-      (p.0, [], sym (append-nil p.0), address-spelled notation h base wide a p.0 p.2, refl) (items-spelled next items p.1 line built.1 fit p.3)
+      (p.0, [], sym (append-nil p.0), address-spelled notation h base wide a p.0 p.2, refl) (items-spelled next items p.1 line built.1 fit.1 p.3)
   items-spelled previous (SetAddress (Symbol s d) ∷ items) bytes line built fit is = absurd cc
   items-spelled previous (Row r ∷ items) bytes line built fit is =
       let version = h.rules.encoding.version in
@@ -63,4 +64,4 @@ module _ (notation : Notation) (h : Header) (base : h.rules.opcode_base ≡ 13) 
       let p = joined_ok (item_bytes notation.big h.rules.encoding e previous (End o i)) (items_bytes notation.big h.rules.encoding e next items) bytes is in
       let own = each-spelled notation h base wide (end_instructions e previous o i) (all_end e previous o i built.0) in
       each_joined p.0 p.1 bytes (end_instructions e previous o i) (items_instructions version e next items) p.4
-      (rw (same_bytes (instructions_bytes (end_instructions e previous o i)) p.0 p.2) own) (items-spelled next items p.1 (lit< tt) built.1 fit p.3)
+      (rw (same_bytes (instructions_bytes (end_instructions e previous o i)) p.0 p.2) own) (items-spelled next items p.1 (lit< tt) built.1 fit.1 p.3)

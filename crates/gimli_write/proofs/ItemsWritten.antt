@@ -1,7 +1,7 @@
 -- Items written one after the other.
-use Rattle.std.proofs.Common.{◌≡◌, ℕ, ◌+◌, ◌<◌, ◌^◌, Bool, List, [], ◌∷◌, ◌++◌, Ok, Err, refl, sym, ap, ◌∙◌, append_assoc, lit<, suc, length, get_or, drop, add-one, drop-cons, take, min, ◌≤◌, arith}
+use Rattle.std.proofs.Common.{◌≡◌, ℕ, ◌+◌, ◌<◌, ◌^◌, Bool, List, [], ◌∷◌, ◌++◌, Ok, Err, refl, sym, ap, ◌∙◌, append_assoc, lit<, length, get_or, add-one, take, min, ◌≤◌, arith}
 use Rattle.std.proofs.lemmas.List.{append-nil, take-take, length-take}
-use Rattle.std.proofs.Math.Seq.{take-length}
+use Rattle.std.proofs.Math.Seq.{take-length, take-suc}
 use Rattle.std.specs.Prelude.{Result}
 use Rattle.gimli_core.specs.declared.common.Encoding.{Encoding}
 use Rattle.gimli_core.specs.declared.common.LineEncoding.{LineEncoding}
@@ -12,17 +12,10 @@ use Rattle.gimli_write.specs.declared.items.BuiltItem.{BuiltItem}
 use Rattle.gimli_write.specs.declared.items.BuiltItem.TheVariants.{SetAddress, Row, End}
 use Rattle.gimli_write.specs.Advance.{CanEncode, IsPlace}
 use Rattle.gimli_write.specs.Conditions.{AreBuilt}
-use Rattle.gimli_write.specs.Items.{joined, item_bytes, items_bytes, next_previous}
+use Rattle.gimli_write.specs.Joined.{joined}
+use Rattle.gimli_write.specs.Items.{item_bytes, items_bytes, next_previous, FitsItem, AreFit}
 use Rattle.gimli_write.proofs.ItemRuns.{start_place}
-
--- what an append left, where it wrote
-pub appended : (r : Result (List ℕ) Error) (old new : List ℕ) → Appends r old new → (bytes : List ℕ) × (r ≡ Ok bytes) × (new ≡ old ++ bytes)
-appended (Ok bytes) old new h = (bytes, refl, h)
-appended (Err e) old new h = absurd h
-
-pub joined-joined : (a b : List ℕ) (r : Result (List ℕ) Error) → joined (Ok a) (joined (Ok b) r) ≡ joined (Ok (a ++ b)) r
-joined-joined a b (Ok c) = ap (λ (l : List ℕ). let s : Result (List ℕ) Error = Ok l in s) (sym (append_assoc a b c))
-joined-joined a b (Err e) = refl
+use Rattle.gimli_write.proofs.Joined.{appended_bytes, joined-joined}
 
 -- these bytes stand for the items so far, and those are left
 pub record Standing (big : Bool) (encoding : Encoding) (e : LineEncoding) (whole : Result (List ℕ) Error) (old new : List ℕ) (previous : LineRow) (left : List BuiltItem) : Type 0 where
@@ -35,7 +28,7 @@ pub standing_more : (big : Bool) (encoding : Encoding) (e : LineEncoding) (whole
     → Standing big encoding e whole old new previous (item ∷ left) → Appends (item_bytes big encoding e previous item) new newer
     → Standing big encoding e whole old newer (next_previous encoding.version e.default_is_stmt previous item) left
 standing_more big encoding e whole old new newer previous item left so more =
-    let a = appended (item_bytes big encoding e previous item) new newer more in
+    let a = appended_bytes (item_bytes big encoding e previous item) new newer more in
     let rest = items_bytes big encoding e (next_previous encoding.version e.default_is_stmt previous item) left in
     record {
       done = so.done ++ a.0;
@@ -75,10 +68,6 @@ way_on version e can previous (SetAddress a) left way = record { place = start_p
 way_on version e can previous (Row r) left way = record { place = way.built.0.0.place; line = way.built.0.1; built = way.built.1 }
 way_on version e can previous (End o i) left way = record { place = start_place e can; line = lit< tt; built = way.built.1 }
 
--- what is left begins with the next item
-pub next_item : {A : Type 0} (xs : List A) (i : ℕ) (x : A) → i < length xs → x ≡ get_or xs i x → drop i xs ≡ x ∷ drop (i + 1) xs
-next_item xs i x lt is = rw add-one (drop-cons xs i x lt ∙ ap (λ y. y ∷ drop (suc i) xs) (sym is))
-
 -- ---- beginnings
 
 pub begins_self : (bytes : List ℕ) → Begins bytes bytes
@@ -89,3 +78,11 @@ begins_then a b c first second =
     let size : min (length a) (length b) ≡ length a = sym (length-take (length a) b) ∙ ap length first in
     let le : length a ≤ length b = omega (arith, size) in
     sym (take-take (length a) (length b) c le) ∙ ap (λ (l : List ℕ). take (length a) l) second ∙ first
+
+pub taken_next : {A : Type 0} (xs : List A) (i : ℕ) (x : A) → i < length xs → x ≡ get_or xs i x → take (i + 1) xs ≡ take i xs ++ x ∷ []
+taken_next xs i x lt is = rw add-one (take-suc xs i x lt ∙ ap (λ y. take i xs ++ y ∷ []) (sym is))
+
+-- one item more fits
+pub fit_more : (version : ℕ) (items : List BuiltItem) (item : BuiltItem) → AreFit version items → FitsItem version item → AreFit version (items ++ item ∷ [])
+fit_more version [] item all one = (one, tt)
+fit_more version (first ∷ items) item all one = (all.0, fit_more version items item all.1 one)

@@ -1,13 +1,13 @@
 -- What the calls of a builder ask.
-use Rattle.std.specs.Prelude.{◌≡◌, ℕ, ◌<◌, ◌≤◌, ◌^◌, Bool, false, List, [], ◌∷◌, length, drop, Option, IsTrue, IfSome, All}
+use Rattle.std.specs.Prelude.{◌≡◌, ℕ, ◌<◌, ◌≤◌, ◌^◌, Bool, true, false, List, [], ◌∷◌, length, drop, IsTrue, IfSome, All}
 use Rattle.gimli_core.specs.Numbers.{is_address_size}
 use Rattle.gimli_core.specs.declared.common.Encoding.{Encoding}
-use Rattle.gimli_core.specs.declared.common.Format.TheVariants.{Dwarf32}
 use Rattle.gimli_core.specs.declared.common.LineEncoding.{LineEncoding}
-use Rattle.gimli_write.specs.LineText.{LineText, Inline, IsNotEmpty}
-use Rattle.gimli_write.specs.Tables.{FileKey}
+use Rattle.gimli_write.specs.LineText.{LineText, IsWithin, HasNoZero, IsNotEmpty}
+use Rattle.gimli_write.specs.Tables.{FileKey, FitsFile, AreTables, keys_of}
 use Rattle.gimli_write.specs.Advance.{CanEncode, CanFollow}
 use Rattle.gimli_write.specs.Built.{Built, place_after, previous_place}
+use Rattle.gimli_write.specs.Items.{AreFit}
 use Rattle.gimli_write.specs.declared.items.BuiltItem.{BuiltItem}
 use Rattle.gimli_write.specs.declared.items.BuiltItem.TheVariants.{SetAddress, Row, End}
 
@@ -15,20 +15,6 @@ use Rattle.gimli_write.specs.declared.items.BuiltItem.TheVariants.{SetAddress, R
 pub record Accepts (encoding : Encoding) (line_encoding : LineEncoding) : Type 0 where
   pub address_size : IsTrue (is_address_size encoding.address_size)
   pub lines : CanEncode line_encoding
-
-abbrev pub IsInline : LineText → Type 0
-IsInline (Inline bytes) = Unit {0}
-IsInline t = ⊥
-
--- the programs that can be made so far
-pub record IsSupported (encoding : Encoding) (line_encoding : LineEncoding) (working_dir : LineText) (source_dir : Option LineText) (source_file : LineText) : Type 0 where
-  pub from : 2 ≤ encoding.version
-  pub to : encoding.version ≤ 4
-  pub format : encoding.format ≡ Dwarf32
-  pub operations : line_encoding.maximum_operations_per_instruction ≡ 1
-  pub working_dir_inline : IsInline working_dir
-  pub source_dir_inline : IfSome source_dir IsInline
-  pub source_file_inline : IsInline source_file
 
 -- ---- items
 
@@ -56,6 +42,24 @@ pub record IsProgram (is_none : Bool) (encoding : Encoding) (e : LineEncoding) (
   pub lines : CanEncode e
   pub address_size : is_none ≡ false → IsTrue (is_address_size encoding.address_size)
   pub working_dir : is_none ≡ false → 0 < length directories
+  -- from version 5 on, where the first file is the source file
+  pub source_file : is_none ≡ false → 5 ≤ encoding.version → 0 < length keys
   pub directories_not_empty : encoding.version ≤ 4 → All IsNotEmpty (drop 1 directories)
   pub paths_not_empty : encoding.version ≤ 4 → All (λ k. IsNotEmpty k.0) keys
   pub items_built : AreBuilt e (0, 0) items
+
+-- the same of a program that isn't none, with what its types say
+pub record IsBuilt (p : Built) : Type 0 where
+  pub is : IsProgram false p.encoding p.line_encoding p.directories (keys_of p.files) p.items
+  pub tables : AreTables p.directories (keys_of p.files)
+  pub items_fit : AreFit p.encoding.version p.items
+  pub files_fit : All FitsFile p.files
+
+-- a program can be written with these tables: each text that it names is there; and a source that is written has no
+-- zero byte, which would end it
+pub record CanWrite (p : Built) (strings line_strings : List (List ℕ)) : Type 0 where
+  pub program : p.is_none ≡ false
+  pub directories : All (IsWithin strings line_strings) p.directories
+  pub paths : All (λ f. IsWithin strings line_strings f.0.0) p.files
+  pub sources : All (λ f. IfSome f.1.source (IsWithin strings line_strings)) p.files
+  pub sources_end : 5 ≤ p.encoding.version → p.file_has_source ≡ true → All (λ f. IfSome f.1.source HasNoZero) p.files

@@ -1,5 +1,5 @@
 -- The instructions of built items, and the rows that they are read as.
-use Rattle.std.specs.Prelude.{ℕ, ◌+◌, ◌-◌, ◌*◌, ◌^◌, ◌<◌, ◌≤◌, Bool, List, [], ◌∷◌, ◌++◌, Result, Ok, Err}
+use Rattle.std.specs.Prelude.{ℕ, ◌+◌, ◌-◌, ◌*◌, ◌^◌, ◌<◌, ◌≤◌, Bool, List, [], ◌∷◌, ◌++◌, Result, Ok}
 use Rattle.gimli_core.specs.declared.common.Encoding.{Encoding}
 use Rattle.gimli_core.specs.declared.common.LineEncoding.{LineEncoding}
 use Rattle.gimli_bytes.specs.declared.error.Error.{Error}
@@ -14,6 +14,7 @@ use Rattle.gimli_write.specs.Rows.{initial_row}
 use Rattle.gimli_write.specs.Encode.{row_instructions, end_instructions}
 use Rattle.gimli_write.specs.InstructionBytes.{instructions_bytes, set_address_bytes, FitsInstructions}
 use Rattle.gimli_write.specs.SameRow.{read_row, read_end}
+use Rattle.gimli_write.specs.Joined.{joined}
 
 -- the row that the next item follows: behind a set address offsets count anew, behind an end a sequence starts
 abbrev pub next_previous : ℕ → Bool → LineRow → BuiltItem → LineRow
@@ -49,12 +50,6 @@ AreHeld size base place (End offset op_index ∷ items) = (base + offset < 2 ^ (
 
 -- ---- their bytes
 
--- one after the other, or the first refusal
-abbrev pub joined : Result (List ℕ) Error → Result (List ℕ) Error → Result (List ℕ) Error
-joined (Ok first) (Ok rest) = Ok (first ++ rest)
-joined (Ok first) (Err e) = Err e
-joined (Err e) rest = Err e
-
 abbrev pub item_bytes : Bool → Encoding → LineEncoding → LineRow → BuiltItem → Result (List ℕ) Error
 item_bytes big encoding e previous (SetAddress a) = set_address_bytes big a encoding.address_size
 item_bytes big encoding e previous (Row r) = Ok (instructions_bytes (row_instructions encoding.version e previous r))
@@ -67,7 +62,10 @@ items_bytes big encoding e previous (item ∷ items) =
     joined (item_bytes big encoding e previous item) (items_bytes big encoding e (next_previous encoding.version e.default_is_stmt previous item) items)
 
 -- 64 bits hold the numbers of the rows, as they do in any program
+abbrev pub FitsItem : ℕ → BuiltItem → Type 0
+FitsItem version (Row r) = FitsInstructions version r
+FitsItem version item = Unit {0}
+
 abbrev pub AreFit : ℕ → List BuiltItem → Type 0
 AreFit version [] = Unit {0}
-AreFit version (Row r ∷ items) = FitsInstructions version r × AreFit version items
-AreFit version (item ∷ items) = AreFit version items
+AreFit version (item ∷ items) = FitsItem version item × AreFit version items

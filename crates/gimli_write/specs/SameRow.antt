@@ -1,11 +1,14 @@
 -- A built row or end as the reading half has it (DWARF 5, section 6.2.2).
-use Rattle.std.specs.Prelude.{ℕ, ◌+◌, true, false}
+use Rattle.std.specs.Prelude.{◌≡◌, ℕ, ◌+◌, true, false, List, [], ◌∷◌}
 use Rattle.gimli_core.specs.declared.common.Encoding.{Encoding}
 use Rattle.gimli_core.specs.declared.common.LineEncoding.{LineEncoding}
 use Rattle.gimli_line.specs.declared.row.LineRow.{LineRow as ReadRow}
 use Rattle.gimli_line.specs.Rules.{Rules}
 use Rattle.gimli_write.specs.declared.row.LineRow.{LineRow}
 use Rattle.gimli_write.specs.FileNumber.{file_number}
+use Rattle.gimli_write.specs.Built.{base_of}
+use Rattle.gimli_write.specs.declared.items.BuiltItem.{BuiltItem}
+use Rattle.gimli_write.specs.declared.items.BuiltItem.TheVariants.{SetAddress, Row, End}
 
 -- what the instructions of a built program are executed by
 abbrev pub built_rules : Encoding → LineEncoding → Rules
@@ -36,3 +39,21 @@ behind_row version base row = record (read_row version base row) { basic_block =
 -- an end at an offset and an operation, behind a row
 abbrev pub read_end : ℕ → ℕ → LineRow → ℕ → ℕ → ReadRow
 read_end version base previous offset op_index = record (behind_row version base previous) { address = base + offset; op_index = op_index; end_sequence = true }
+
+-- a read row says what a built one says, where the address `base` was set before it
+abbrev pub IsSameRow : ℕ → ℕ → LineRow → ReadRow → Type 0
+IsSameRow version base built read = read ≡ read_row version base built
+
+-- a read row is the end at this offset and this operation
+pub record IsSameEnd (base offset op_index : ℕ) (read : ReadRow) : Type 0 where
+  pub address : read.address ≡ base + offset
+  pub operation : read.op_index ≡ op_index
+  pub ends : read.end_sequence ≡ true
+
+-- the rows are the built rows and ends one by one, behind items, the nearest first
+abbrev pub AreSame : ℕ → List BuiltItem → List BuiltItem → List ReadRow → Type 0
+AreSame version past [] rows = rows ≡ []
+AreSame version past (SetAddress a ∷ items) rows = AreSame version (SetAddress a ∷ past) items rows
+AreSame version past (Row r ∷ items) (read ∷ rows) = IsSameRow version (base_of past) r read × AreSame version (Row r ∷ past) items rows
+AreSame version past (End offset op_index ∷ items) (read ∷ rows) = IsSameEnd (base_of past) offset op_index read × AreSame version (End offset op_index ∷ past) items rows
+AreSame version past (item ∷ items) [] = ⊥

@@ -4,11 +4,12 @@ ghost use Rattle.std.specs.Prelude.{◌≡◌, ◌⊎◌, Err, ◌+◌, ◌<◌,
 ghost use Rattle.gimli_bytes.specs.Written.{Begins, Appends, Refuses};
 ghost use Rattle.gimli_bytes.specs.declared.error.Error.TheVariants.{OutOfMemory};
 ghost use Rattle.gimli_write.specs.Conditions.{CanBuild, AreBuilt};
-ghost use Rattle.gimli_write.specs.Items.{next_previous, item_bytes, items_bytes};
+ghost use Rattle.gimli_write.specs.Items.{next_previous, item_bytes, items_bytes, FitsItem, AreFit};
 ghost use Rattle.gimli_write.specs.Rows.{initial_row};
 ghost use Rattle.gimli_write.specs.Advance.{CanEncode, IsPlace, CanFollow, operations};
 ghost use Rattle.gimli_write.specs.Encode.{marks, changes, is_special_advance, line_opcode, line_part, row_maker, operation_part, row_instructions, end_instructions};
-ghost use Rattle.gimli_write.specs.InstructionBytes.{instructions_bytes};
+ghost use Rattle.gimli_write.specs.InstructionBytes.{instructions_bytes, FitsInstructions};
+ghost use Rattle.gimli_write.specs.FileNumber.{file_number};
 ghost use Rattle.gimli_write.specs.ReadAs.{read_as};
 
 use crate::instruction::{LineInstruction, write_if, write_instruction, write_set_address};
@@ -39,6 +40,7 @@ pub(crate) fn write_items<W: Writer>(
     ensures err { IsTrue W.plain → IsTrue W.steady → IfErr result
         (λ e. (e ≡ OutOfMemory) ⊎ (items_bytes (W.big w.old) encoding line_encoding
         (initial_row encoding.version line_encoding.default_is_stmt) items.now ≡ Err e)) }
+    ensures fit { OnOk result (AreFit encoding.version items.now) }
 {
     let mut previous = LineRow::initial(encoding, line_encoding);
     for item in items {
@@ -67,6 +69,7 @@ fn write_item<W: Writer>(
         (W.contents w.old) (W.contents w.new)) }
     ensures err { IsTrue W.steady → IfErr result (λ e. (e ≡ OutOfMemory)
         ⊎ (item_bytes (W.big w.old) encoding line_encoding previous.now item.now ≡ Err e)) }
+    ensures fit { OnOk result (FitsItem encoding.version item.now) }
 {
     match item {
         BuiltItem::SetAddress(address) => write_set_address(w, *address, encoding.address_size),
@@ -122,6 +125,7 @@ pub(crate) fn write_row<W: Writer>(
     ensures err { IsTrue W.steady → IfErr result
         (Refuses (Ok (instructions_bytes
         (row_instructions encoding.version line_encoding previous.now row.now)))) }
+    ensures fit { OnOk result (FitsInstructions encoding.version row.now) }
 {
     write_marks(w, row)?;
     write_changes(w, encoding.version, previous, row)?;
@@ -167,6 +171,7 @@ fn write_marks<W: Writer>(w: &mut W, row: &LineRow) -> Result<()>
         (Appends (Ok (instructions_bytes (marks row.now))) (W.contents w.old) (W.contents w.new)) }
     ensures err { IsTrue W.steady →
         IfErr result (Refuses (Ok (instructions_bytes (marks row.now)))) }
+    ensures fit { OnOk result (row.now.discriminator < 2 ^ 64) }
 {
     let discriminator = LineInstruction::SetDiscriminator(row.discriminator);
     write_if(w, row.discriminator != 0, discriminator)?;
@@ -191,6 +196,8 @@ fn write_changes<W: Writer>(
         (W.contents w.old) (W.contents w.new)) }
     ensures err { IsTrue W.steady →
         IfErr result (Refuses (Ok (instructions_bytes (changes version previous.now row.now)))) }
+    ensures fit { OnOk result ((file_number version row.now.file < 2 ^ 64)
+        × (row.now.column < 2 ^ 64) × (row.now.isa < 2 ^ 64)) }
 {
     let file = LineInstruction::SetFile(row.file.raw(version));
     write_if(

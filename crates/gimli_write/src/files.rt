@@ -1,4 +1,4 @@
-ghost use Rattle.std.specs.Prelude.{◌≡◌, ℕ, ◌<◌, List, [], length, replicate, option_map, IfOk, IfErr, OnOk, OnErr, IfSome, Some, None, slice_get};
+ghost use Rattle.std.specs.Prelude.{◌≡◌, ℕ, ◌<◌, List, [], length, map, replicate, option_map, IfOk, IfErr, OnOk, OnErr, IfSome, Some, None, slice_get};
 ghost use Rattle.gimli_write.specs.FileNumber.{file_number, initial_file};
 
 use crate::line_string::LineString;
@@ -27,6 +27,13 @@ impl DirectoryId {
         ensures { result ≡ 0 }
     {
         DirectoryId(0)
+    }
+
+    /// The index.
+    pub(crate) fn index(self) -> usize
+        ensures { result ≡ self }
+    {
+        self.0
     }
 }
 
@@ -202,6 +209,13 @@ impl FileTable {
         Ok(DirectoryId(index))
     }
 
+    /// The directories in order.
+    pub(crate) fn directories(&self) -> &[LineString]
+        ensures { map line_text result.now ≡ self.now.directories }
+    {
+        self.directories.as_slice()
+    }
+
     /// The directory of an id.
     pub(crate) fn get_directory(&self, id: DirectoryId) -> &LineString
         requires { id < length self.now.directories }
@@ -286,6 +300,24 @@ impl FileTable {
             table: self,
             next: 0,
         }
+    }
+
+    /// The number of files.
+    pub(crate) fn file_count(&self) -> usize
+        ensures count { result ≡ length self.now.files }
+        ensures tables { AreTables self.now.directories (keys_of self.now.files) }
+    {
+        self.files.len()
+    }
+
+    /// The path and the directory of the file of an index, and what else is known of it.
+    pub(crate) fn file(&self, index: usize) -> (&LineString, DirectoryId, &FileInfo)
+        requires { index < length self.now.files }
+        ensures { slice_get self.now.files index
+            ≡ Some ((line_text result.0.now, result.1), details result.2.now) }
+    {
+        let (key, info) = self.files.get_index(index).unwrap();
+        (&key.0, key.1, info)
     }
 
     /// The path and the directory of a file.

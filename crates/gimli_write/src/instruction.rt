@@ -133,7 +133,7 @@ fn write_signed<W: Writer>(w: &mut W, opcode: DwLns, operand: i64) -> Result<()>
 }
 
 /// Appends a byte, which is the same in either order.
-fn write_byte<W: Writer>(w: &mut W, byte: u8) -> Result<()>
+pub(crate) fn write_byte<W: Writer>(w: &mut W, byte: u8) -> Result<()>
     ensures keeps { Begins (W.contents w.old) (W.contents w.new) }
     ensures ordered { W.big w.new ≡ W.big w.old }
     ensures ok { IsTrue W.plain → OnOk result

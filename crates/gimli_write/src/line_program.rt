@@ -53,7 +53,7 @@ impl LineProgram {
     ghost use Rattle.gimli_write.specs.TablesInside.{details};
     ghost use Rattle.gimli_write.specs.Built.{started, no_program};
     ghost use Rattle.gimli_write.specs.FirstTables.{first_directories, first_files};
-    ghost use Rattle.gimli_write.specs.Conditions.{Accepts, IsSupported};
+    ghost use Rattle.gimli_write.specs.Conditions.{Accepts};
 
     /// Whether a program may have these encodings: addresses of 1, 2, 4 or 8 bytes, and numbers by which
     /// rows can be encoded.
@@ -76,8 +76,6 @@ impl LineProgram {
         source_file_info: Option<FileInfo>,
     ) -> Result<LineProgram>
         requires accepts { Accepts encoding line_encoding }
-        requires supported { IsSupported encoding line_encoding (line_text working_dir)
-            (option_map line_text source_dir) (line_text source_file) }
         requires working_dir_ends { HasNoZero (line_text working_dir) }
         requires source_dir_ends { IfSome source_dir (λ dir. HasNoZero (line_text dir)) }
         requires source_file_ends { HasNoZero (line_text source_file) }
@@ -151,6 +149,13 @@ impl LineProgram {
         self.encoding
     }
 
+    /// How lines and operations are encoded.
+    pub(crate) fn line_encoding(&self) -> LineEncoding
+        ensures { result ≡ self.now.line_encoding }
+    {
+        self.line_encoding
+    }
+
     /// The version of DWARF.
     pub fn version(&self) -> u16
         ensures { result ≡ self.now.encoding.version }
@@ -208,6 +213,14 @@ impl LineProgram {
     {
         let id = self.tables.add_directory(directory)?;
         Ok(id)
+    }
+
+    /// The directories and the files.
+    pub(crate) fn tables(&self) -> &FileTable
+        ensures directories { result.now.directories ≡ self.now.directories }
+        ensures files { result.now.files ≡ self.now.files }
+    {
+        &self.tables
     }
 
     /// The directory of an id. Asks an id below the number of directories.
@@ -290,7 +303,8 @@ impl LineProgram {
     ghost use Rattle.gimli_write.specs.Rows.{initial_row};
     ghost use Rattle.gimli_write.specs.Rows.{cleared, restarted};
     ghost use Rattle.gimli_write.specs.Built.{previous_place};
-    ghost use Rattle.gimli_write.specs.Conditions.{CanGenerateRow, CanEndSequence, AreBuilt};
+    ghost use Rattle.gimli_write.specs.Conditions.{CanGenerateRow, CanEndSequence, AreBuilt, IsProgram};
+    ghost use Rattle.gimli_write.specs.Tables.{keys_of, AreTables};
     ghost use Rattle.gimli_write.specs.LentRow.{lends_row};
 
     /// Begins a sequence, and sets its address, if one is given. The current row stays. Asks a program that
@@ -440,6 +454,17 @@ impl LineProgram {
         ensures { IsTrue result ↔ (self.now.items ≡ []) }
     {
         self.items.is_empty()
+    }
+
+    /// What was built, in order, and what is true of every program.
+    pub(crate) fn built_items(&self) -> &[BuiltItem]
+        ensures items { result.now ≡ self.now.items }
+        ensures program { IsProgram self.now.is_none self.now.encoding self.now.line_encoding
+            self.now.directories (keys_of self.now.files) self.now.items }
+        ensures tables { AreTables self.now.directories (keys_of self.now.files) }
+    {
+        let _count = self.tables.file_count();
+        self.items.as_slice()
     }
 
     /// What was built, in order.

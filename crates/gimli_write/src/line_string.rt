@@ -1,7 +1,7 @@
 ghost use Rattle.std.specs.Prelude.{◌≡◌, ◌≢◌, ℕ, IfOk, IfErr, OnOk, OnErr, All};
 
 use gimli_bytes::{Error, LineStringId, LineStringTable, Result, StringId, StringTable};
-use gimli_core::Encoding;
+use gimli_core::{DwForm, Encoding, constants};
 use std::alloc::AllocError;
 
 /// A text of a line program: the name of a directory or a file, or a file's source.
@@ -17,6 +17,7 @@ pub enum LineString {
 
 impl LineString {
     ghost use Rattle.gimli_write.specs.LineText.{line_text, made_text, made_table, IsWithin, bytes_in};
+    ghost use Rattle.gimli_write.specs.NewTables.{text_form};
 
     /// Makes a text of bytes without a zero byte, in the form that is usual for programs of this encoding:
     /// up to version 4 a copy of the bytes, in the later ones a text of the table, to which it is added.
@@ -39,6 +40,17 @@ impl LineString {
             Ok(LineString::String(text.to_vec(alloc)?))
         } else {
             Ok(LineString::LineStringRef(line_strings.add(text)?))
+        }
+    }
+
+    /// The form that the text is written in, in a program of version 5.
+    pub fn form(&self) -> DwForm
+        ensures { result.0 ≡ text_form (line_text self.now) }
+    {
+        match self {
+            LineString::String(_) => constants::DW_FORM_string,
+            LineString::StringRef(_) => constants::DW_FORM_strp,
+            LineString::LineStringRef(_) => constants::DW_FORM_line_strp,
         }
     }
 

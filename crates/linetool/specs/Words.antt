@@ -7,7 +7,7 @@ use Rattle.linetool.specs.declared.words.AddressSize.{AddressSize}
 use Rattle.linetool.specs.declared.words.AddressSize.TheVariants.{One, Two, Four, Eight}
 use Rattle.linetool.specs.declared.words.Place.{Place}
 use Rattle.linetool.specs.declared.words.Command.{Command}
-use Rattle.linetool.specs.declared.words.Command.TheVariants.{Rows, Sequences}
+use Rattle.linetool.specs.declared.words.Command.TheVariants.{Demo, Rows, Sequences}
 
 -- the word of an order
 abbrev pub order_word : RunTimeEndian → List ℕ
@@ -38,7 +38,13 @@ pub record NamesPlace (order size offset : List ℕ) (place : Place) : Type 0 wh
 
 -- these words are a command
 abbrev pub IsCommand : List (List ℕ) → Command → Type 0
+IsCommand words Demo = words ≡ codes "demo" ∷ []
 IsCommand words (Rows place) = (file order size offset : List ℕ)
     × (words ≡ codes "rows" ∷ file ∷ order ∷ size ∷ offset ∷ []) × NamesPlace order size offset place
 IsCommand words (Sequences place) = (file order size offset : List ℕ)
     × (words ≡ codes "sequences" ∷ file ∷ order ∷ size ∷ offset ∷ []) × NamesPlace order size offset place
+
+-- a command that prints what stands in a file
+abbrev pub ReadsFile : Command → Type 0
+ReadsFile Demo = ⊥
+ReadsFile command = Unit {0}

@@ -1,6 +1,7 @@
 //! The program `linetool`: prints what the line programs of a `.debug_line` section hold.
 #![tactic(auto)]
 
+mod demo;
 mod print;
 mod refusal;
 mod run;

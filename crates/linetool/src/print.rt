@@ -45,6 +45,24 @@ impl fmt::Display for SequenceLine {
     }
 }
 
+/// Bytes in two hexadecimal digits each, with a space between.
+#[derive(Clone, Copy)]
+pub struct BytesLine<'a>(pub &'a [u8]);
+
+impl fmt::Display for BytesLine<'_> {
+    fn fmt<W: fmt::Write>(&self, f: &mut fmt::Formatter<W>) -> fmt::Result {
+        let mut first = true;
+        for byte in self.0 {
+            if !first {
+                f.write_char(' ')?;
+            }
+            write!(f, "{byte:02x}")?;
+            first = false;
+        }
+        Ok(())
+    }
+}
+
 /// The line of a row, 0 for none.
 fn line_number(row: &LineRow) -> u64 {
     match row.line() {

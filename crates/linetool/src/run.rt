@@ -2,8 +2,9 @@
 //! output and standard error.
 
 ghost use Rattle.std.specs.Prelude.{◌≡◌, ◌≢◌, ◌≤◌, Err, IfErr, IsNone, map};
-ghost use Rattle.linetool.specs.Words.{IsCommand};
+ghost use Rattle.linetool.specs.Words.{IsCommand, ReadsFile};
 
+use crate::demo::print_demo;
 use crate::print::{RowLine, SequenceLine};
 use crate::refusal::Refusal;
 use crate::words::{Command, Place};
@@ -26,7 +27,7 @@ pub fn run<F: Read + Drop, O: Write, E: Write>(
 ) -> u8
     ensures usage { ((command : Command) → IsCommand (map (λ word. word.now) words.now) command → ⊥) → result ≡ 2 }
     ensures command { (command : Command) → IsCommand (map (λ word. word.now) words.now) command → result ≤ 1 }
-    ensures no_file { (command : Command) → IsCommand (map (λ word. word.now) words.now) command → IsNone file → result ≡ 1 }
+    ensures no_file { (command : Command) → IsCommand (map (λ word. word.now) words.now) command → ReadsFile command → IsNone file → result ≡ 1 }
 {
     match perform(alloc, words, file, out) {
         Ok(()) => 0,
@@ -43,9 +44,10 @@ fn perform<F: Read + Drop, O: Write>(
 ) -> Result<(), Refusal>
     ensures usage { ((command : Command) → IsCommand (map (λ word. word.now) words.now) command → ⊥) → result ≡ Err Refusal.Usage }
     ensures command { (command : Command) → IsCommand (map (λ word. word.now) words.now) command → result ≢ Err Refusal.Usage }
-    ensures no_file { (command : Command) → IsCommand (map (λ word. word.now) words.now) command → IsNone file → result ≡ Err Refusal.File }
+    ensures no_file { (command : Command) → IsCommand (map (λ word. word.now) words.now) command → ReadsFile command → IsNone file → result ≡ Err Refusal.File }
 {
     match Command::parse(words).ok_or(Refusal::Usage)? {
+        Command::Demo => print_demo(alloc, out),
         Command::Rows(place) => {
             let section = read_section(alloc, file)?;
             print_unit(alloc, &section, place, out)
@@ -101,7 +103,7 @@ fn print_sequences<O: Write>(
 }
 
 /// What became of a command whose output is complete.
-fn finished<O: Write>(outcome: Result<(), Refusal>, out: &mut O) -> Result<(), Refusal>
+pub(crate) fn finished<O: Write>(outcome: Result<(), Refusal>, out: &mut O) -> Result<(), Refusal>
     requires { IfErr outcome (λ r. r ≢ Refusal.Usage) }
     ensures refusal { IfErr result (λ r. r ≢ Refusal.Usage) }
 {
@@ -172,7 +174,7 @@ fn print_rows<R: Reader, P: LineProgram<R> + Drop, O: Write>(
 }
 
 /// Prints the line of a row.
-fn print_row<O: Write>(row: LineRow, out: &mut O) -> Result<(), Refusal>
+pub(crate) fn print_row<O: Write>(row: LineRow, out: &mut O) -> Result<(), Refusal>
     ensures refusal { IfErr result (λ r. r ≡ Refusal.Output) }
 {
     let line = RowLine(row);

@@ -9,6 +9,8 @@ use gimli_core::RunTimeEndian;
 /// A command, with what its words say.
 #[derive(Clone, Copy, Debug, PartialEq, Eq)]
 pub enum Command {
+    /// Prints a unit that is built, and its rows.
+    Demo,
     /// Prints the rows of a unit.
     Rows(Place),
     /// Prints the sequences of a unit, each with its rows.
@@ -62,6 +64,7 @@ impl Command {
         ensures only { (command : Command) → IsCommand (map (λ word. word.now) words.now) command → result ≡ Some command }
     {
         match words {
+            ["demo"] => Some(Command::Demo),
             ["rows", _file, order, size, offset] => {
                 Some(Command::Rows(Place::parse(order, size, offset)?))
             }

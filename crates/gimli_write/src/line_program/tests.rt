@@ -1,6 +1,5 @@
 ghost use Rattle.std.specs.Prelude.{◌≡◌, ◌≢◌, ℕ, ◌<◌, List, [], length, false, IfOk, OnOk, All};
 ghost use Rattle.gimli_write.specs.LineText.{line_text, HasNoZero, IsNotEmpty};
-ghost use Rattle.gimli_write.specs.Conditions.{IsInline};
 ghost use Rattle.gimli_write.specs.Advance.{CanEncode};
 
 use crate::{
@@ -18,7 +17,6 @@ fn text(alloc: Global, byte: u8) -> Result<LineString>
     requires { 0 < byte }
     ensures no_zero { IfOk result (λ text. HasNoZero (line_text text)) }
     ensures not_empty { IfOk result (λ text. IsNotEmpty (line_text text)) }
-    ensures inline { IfOk result (λ text. IsInline (line_text text)) }
 {
     let mut bytes = Vec::new(alloc);
     bytes.push(byte)?;

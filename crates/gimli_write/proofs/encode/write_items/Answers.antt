@@ -1,8 +1,9 @@
-use Rattle.std.proofs.Common.{◌+◌, ◌<◌, length, drop, refl, ◌∙◌, arith, lit<}
+use Rattle.std.proofs.Common.{◌+◌, ◌<◌, length, drop, take, refl, ◌∙◌, arith, lit<}
 use Rattle.gimli_write.specs.Rows.{initial_row}
 use Rattle.gimli_write.specs.Items.{items_bytes}
 use Rattle.gimli_write.proofs.ItemRuns.{start_place}
-use Rattle.gimli_write.proofs.ItemsWritten.{next_item, way_on, standing_start, standing_more, begins_self, begins_then}
+use Rattle.gimli_write.proofs.ItemsWritten.{taken_next, fit_more, way_on, standing_start, standing_more, begins_self, begins_then}
+use Rattle.gimli_write.proofs.Joined.{next_left}
 use Rattle.gimli_write.proofs.encode.write_items.Goals as goal
 
 pub loop-item-init : goal.loop-item-init
@@ -12,6 +13,7 @@ loop-item-init g c =
     record {
       keeps = begins_self (g.W.Writer.contents c.args.w.now);
       ordered = refl;
+      fit = tt;
       way = rw c.initial-previous.ensures (record { place = start_place e c.requires.can; line = lit< tt; built = c.requires.built });
       put = λ plain. rw c.initial-previous.ensures (standing_start (g.W.Writer.big c.args.w.now) c.args.encoding e (g.W.Writer.contents c.args.w.now) first c.args.items.now);
     }
@@ -26,11 +28,12 @@ loop-item-preserved g c =
     let contents = g.W.Writer.contents in
     let whole = items_bytes big c.args.encoding e (initial_row c.args.encoding.version e.default_is_stmt) items in
     let lt : i < length items = omega arith in
-    let split = next_item items i item lt c.item-item.is in
+    let split = next_left items i item lt c.item-item.is in
     let way = rw split at c.loop-item.invariant.way in
     record {
       keeps = begins_then (contents c.args.w.now) (contents c.loop-item.w) (contents c.write_item.new.w) c.loop-item.invariant.keeps c.in_ok-write_item.ensures.keeps;
       ordered = c.in_ok-write_item.ensures.ordered ∙ c.loop-item.invariant.ordered;
+      fit = rw (taken_next items i item lt c.item-item.is) (fit_more c.args.encoding.version (take i items) item c.loop-item.invariant.fit c.in_ok-write_item.ensures.fit);
       way = rw c.behind_item-previous.ensures (way_on c.args.encoding.version e c.requires.can c.loop-item.previous item (drop (i + 1) items) way);
       put = λ plain.
           let so = rw split at (c.loop-item.invariant.put plain) in

@@ -9,8 +9,9 @@ use Rattle.gimli_line.proofs.sequences.IncompleteLineProgram+R.sequences.Given a
 abbrev pub invariant-rows : goal.invariant-rows
 invariant-rows g l = record {
   behind : (done : List LineRow) × Cutting l.fn.self.meaning l.cutter done (ready l.rows)
-      × Passes (ready (started true l.fn.self.meaning l.fn.self.notation (record { bytes = l.fn.self.meaning.program; notation = l.fn.self.notation }))) (ready l.rows) (map row done);
+      × Passes (ready (started true l.fn.self.meaning l.fn.self.notation (g.R.Offset.ReaderOffset.number l.fn.self.offset.0) (record { bytes = l.fn.self.meaning.program; notation = l.fn.self.notation }))) (ready l.rows) (map row done);
   notation : l.rows.notation ≡ l.fn.self.notation;
+  offset : l.rows.offset ≡ g.R.Offset.ReaderOffset.number l.fn.self.offset.0;
 }
 
 abbrev pub decreases-rows : goal.decreases-rows

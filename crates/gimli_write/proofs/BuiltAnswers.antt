@@ -1,0 +1,181 @@
+-- What is answered of a unit is what was built.
+use Rattle.std.proofs.Common.{◌≡◌, ℕ, ◌<◌, ◌^◌, Bool, List, [], ◌∷◌, ◌++◌, length, drop, map, refl, sym, ap, ◌∙◌, subst}
+use Rattle.std.specs.Prelude.{Result, Option, Some, None, IfOk, IfErr}
+use Rattle.std.proofs.lemmas.List.{append-nil}
+use Rattle.std.proofs.lemmas.Result.{IfOk-weaker, MatchResult-weaker}
+use Rattle.gimli_core.specs.Notation.{Notation}
+use Rattle.gimli_core.specs.Values.{Value}
+use Rattle.gimli_core.specs.declared.error.Error.{Error}
+use Rattle.gimli_line.specs.Header.{Header, Given}
+use Rattle.gimli_line.specs.HeaderGrammar.{SpellsUnit}
+use Rattle.gimli_line.specs.Instruction.{Ins, File as ReadFile}
+use Rattle.gimli_line.specs.Events.{Event, row, fault, Events, program_events}
+use Rattle.gimli_line.specs.declared.row.LineRow.{LineRow as ReadRow}
+use Rattle.gimli_line.proofs.HeaderLaws.{one_header}
+use Rattle.gimli_line.proofs.InstructionLaws.{one_cut}
+use Rattle.gimli_write.specs.LineText.{bytes_in}
+use Rattle.gimli_write.specs.Tables.{File}
+use Rattle.gimli_write.specs.Built.{Built}
+use Rattle.gimli_write.specs.Stored.{stored}
+use Rattle.gimli_write.specs.Items.{AreHeld}
+use Rattle.gimli_write.specs.SameRow.{AreSame}
+use Rattle.gimli_write.specs.Texts.{Sections, IsText, IsOptionalText, OneByOne}
+use Rattle.gimli_write.specs.ReadsBack.{IsUnit, IsDirectory, IsFile, ReadsBack, directories_from_zero}
+use Rattle.gimli_write.specs.declared.convert_error.ConvertError.{ConvertError}
+use Rattle.gimli_write.specs.declared.convert_error.ConvertError.TheVariants.{Read, OutOfMemory as NoMemory}
+use Rattle.gimli_write.specs.declared.read_back.RoundTrip.{RoundTrip}
+use Rattle.gimli_write.specs.RoundTrip.{FileAnswer, file_answer, built_file, Answers, answers, IsFileAnswer, AreAnswers, AnswersUnit, AnswersProgram, IsUnitOf, IsRunRefusal, RefusesUnit, slice_notation, given_of, sections_of}
+use Rattle.gimli_write.proofs.ReadTexts.{text_there}
+use Rattle.gimli_write.proofs.ReadUnits.{read_back, AreShort}
+
+-- ---- one text
+
+-- a value stands for one text
+text_same : (s : Sections) (v : Value) (text other : List ℕ) → IsText s v text → IsText s v other → other ≡ text
+text_same s v text other is also = let both = sym (text_there s v other also) ∙ text_there s v text is in cc
+
+optional_same : (s : Sections) (v : Option Value) (text other : Option (List ℕ)) → IsOptionalText s v text → IsOptionalText s v other → other ≡ text
+optional_same s (Some v) (Some text) (Some other) is also = ap (λ (t : List ℕ). Some t) (text_same s v text other is also)
+optional_same s None None None is also = refl
+optional_same s (Some v) (Some text) None is also = absurd also
+optional_same s (Some v) None other is also = absurd is
+optional_same s None None (Some other) is also = absurd also
+optional_same s None (Some text) other is also = absurd is
+
+-- ---- one by one
+
+one_by_one_same : {A B C : Type 0} (IsBuilt : A → B → Type 0) (IsAnswered : A → C → Type 0) (f : B → C)
+    → ((x : A) (y : B) (z : C) → IsBuilt x y → IsAnswered x z → z ≡ f y)
+    → (xs : List A) (ys : List B) (zs : List C) → OneByOne IsBuilt xs ys → OneByOne IsAnswered xs zs → zs ≡ map f ys
+one_by_one_same IsBuilt IsAnswered f same [] [] [] built answered = refl
+one_by_one_same IsBuilt IsAnswered f same (x ∷ xs) (y ∷ ys) (z ∷ zs) built answered =
+    ap (λ c. c ∷ zs) (same x y z built.0 answered.0)
+    ∙ ap (λ cs. f y ∷ cs) (one_by_one_same IsBuilt IsAnswered f same xs ys zs built.1 answered.1)
+one_by_one_same IsBuilt IsAnswered f same [] [] (z ∷ zs) built answered = absurd answered
+one_by_one_same IsBuilt IsAnswered f same [] (y ∷ ys) zs built answered = absurd built
+one_by_one_same IsBuilt IsAnswered f same (x ∷ xs) [] zs built answered = absurd built
+one_by_one_same IsBuilt IsAnswered f same (x ∷ xs) (y ∷ ys) [] built answered = absurd answered
+
+-- ---- one file
+
+same_file : (a b : FileAnswer) → a.path ≡ b.path → a.directory_index ≡ b.directory_index → a.timestamp ≡ b.timestamp → a.size ≡ b.size
+    → a.md5 ≡ b.md5 → a.source ≡ b.source → a ≡ b
+same_file a b path directory time size md5 source =
+    ap (λ (x : List ℕ). let f : FileAnswer = record a { path = x } in f) path
+    ∙ ap (λ (x : ℕ). let f : FileAnswer = record a { path = b.path; directory_index = x } in f) directory
+    ∙ ap (λ (x : ℕ). let f : FileAnswer = record b { timestamp = x; size = a.size; md5 = a.md5; source = a.source } in f) time
+    ∙ ap (λ (x : ℕ). let f : FileAnswer = record b { size = x; md5 = a.md5; source = a.source } in f) size
+    ∙ ap (λ (x : List ℕ). let f : FileAnswer = record b { md5 = x; source = a.source } in f) md5
+    ∙ ap (λ (x : Option (List ℕ)). let f : FileAnswer = record b { source = x } in f) source
+
+file_same : (s : Sections) (p : Built) (strings line_strings : List (List ℕ)) (read : ReadFile) (built : File) (answer : FileAnswer)
+    → IsFile s p strings line_strings read built → IsFileAnswer s read answer → answer ≡ built_file p strings line_strings built
+file_same s p strings line_strings read built answer is also =
+    same_file answer (built_file p strings line_strings built)
+    (text_same s read.path_name (bytes_in strings line_strings built.0.0) answer.path is.path also.path)
+    (also.directory_index ∙ is.directory)
+    (also.timestamp ∙ is.timestamp)
+    (also.size ∙ is.size)
+    (also.md5 ∙ is.md5)
+    (optional_same s read.source (stored p strings line_strings built.1).source answer.source is.source also.source)
+
+-- ---- one run
+
+-- a program gives one list of events
+events_same : (notation : Notation) (h : Header) (bytes : List ℕ) (es fs : List Event) → Events notation h bytes es → Events notation h bytes fs → es ≡ fs
+events_same notation h bytes es fs a b =
+    a.given
+    ∙ ap (λ (c : List Ins × Option Error). program_events h.rules c.0 c.1) (one_cut notation h bytes a.list a.end a.cut ∙ sym (one_cut notation h bytes b.list b.end b.cut))
+    ∙ sym b.given
+
+rows_same : (rows others : List ReadRow) → map row rows ≡ map row others → rows ≡ others
+rows_same [] [] is = refl
+rows_same (r ∷ rows) (s ∷ others) is =
+    let first : r ≡ s = cc in
+    let rest : map row rows ≡ map row others = cc in
+    ap (λ x. x ∷ rows) first ∙ ap (λ xs. s ∷ xs) (rows_same rows others rest)
+rows_same [] (s ∷ others) is = absurd cc
+rows_same (r ∷ rows) [] is = absurd cc
+
+-- rows have no fault among them
+no_fault_among : (rows others : List ReadRow) (e : Error) (rest : List Event) → map row rows ≡ map row others ++ fault e ∷ rest → ⊥
+no_fault_among [] [] e rest is = cc
+no_fault_among (r ∷ rows) [] e rest is = cc
+no_fault_among [] (s ∷ others) e rest is = cc
+no_fault_among (r ∷ rows) (s ∷ others) e rest is =
+    let behind : map row rows ≡ map row others ++ fault e ∷ rest = cc in
+    no_fault_among rows others e rest behind
+
+-- a program that gives rows has no first fault, and its rows are answered unless memory is wanting
+rows_refused : (notation : Notation) (h : Header) (rows : List ReadRow) (e : ConvertError) → Events notation h h.program (map row rows) → IsRunRefusal notation h e → e ≡ NoMemory
+rows_refused notation h rows NoMemory given refused = refl
+rows_refused notation h rows (Read e) given refused =
+    let whole : Events notation h h.program (program_events h.rules refused.list refused.end) = record {
+      list = refused.list;
+      end = refused.end;
+      cut = refused.cut;
+      given = refl;
+    } in
+    absurd (no_fault_among rows refused.rows e refused.rest
+    (events_same notation h h.program (map row rows) (program_events h.rules refused.list refused.end) given whole ∙ refused.given))
+rows_refused notation h rows e given refused = absurd refused
+
+-- ---- a unit
+
+module _ (notation : Notation) (given : Given) (sections : Sections) (p : Built) (strings line_strings : List (List ℕ)) (unit : List ℕ)
+    (back : ReadsBack notation given sections p strings line_strings unit) where
+  begins : (h : Header) → IsUnit notation given unit h → SpellsUnit notation given unit h
+  begins h is = (unit, [], sym (append-nil unit), is.spelled)
+
+  header_same : (h : Header) → IsUnit notation given unit h → h ≡ back.header
+  header_same h is = one_header notation given unit h back.header (begins h is) (begins back.header back.is_unit)
+
+  answered : (a : Answers) → AnswersUnit notation given sections unit a → AreAnswers notation sections back.header a
+  answered a is = subst (λ (h : Header). AreAnswers notation sections h a) (header_same is.header is.is_unit) is.answered
+
+  directories_built : (a : Answers) → AnswersUnit notation given sections unit a → a.directories ≡ map (bytes_in strings line_strings) p.directories
+  directories_built a is =
+      one_by_one_same (IsDirectory sections strings line_strings) (IsText sections) (bytes_in strings line_strings)
+      (λ v built text is also. text_same sections v (bytes_in strings line_strings built) text is also)
+      (directories_from_zero back.header) p.directories a.directories back.directories (answered a is).directories
+
+  files_built : (a : Answers) → AnswersUnit notation given sections unit a → a.files ≡ map (built_file p strings line_strings) p.files
+  files_built a is =
+      one_by_one_same (IsFile sections p strings line_strings) (IsFileAnswer sections) (built_file p strings line_strings)
+      (λ read built answer is also. file_same sections p strings line_strings read built answer is also)
+      back.header.files p.files a.files back.files (answered a is).files
+
+  rows_built : (a : Answers) → AnswersUnit notation given sections unit a → AreHeld p.encoding.address_size 0 (0, 0) p.items
+      → AreSame p.encoding.version [] p.items a.rows
+  rows_built a is held =
+      let rows = back.rows held in
+      let same = rows_same rows.0 a.rows (events_same notation back.header back.header.program (map row rows.0) (map row a.rows) rows.1 (answered a is).rows) in
+      subst (λ (xs : List ReadRow). AreSame p.encoding.version [] p.items xs) same rows.2
+
+  refused_for_memory : (e : ConvertError) → AreHeld p.encoding.address_size 0 (0, 0) p.items → RefusesUnit notation given unit e → e ≡ NoMemory
+  refused_for_memory e held refused =
+      let rows = back.rows held in
+      rows_refused notation back.header rows.0 e rows.1
+      (subst (λ (h : Header). IsRunRefusal notation h e) (header_same refused.0 refused.1) refused.2)
+
+-- ---- the unit of a program
+
+module _ (big : Bool) (p : Built) (strings line_strings : List (List ℕ)) (section : List ℕ) (n : ℕ) (whole : IsUnitOf big p strings line_strings (drop n section)) (fits : length section < 2 ^ 64) (held : AreShort strings line_strings) where
+  read_again : ReadsBack (slice_notation big) (given_of p strings line_strings) (sections_of strings line_strings) p strings line_strings (drop n section)
+  read_again = read_back big p strings line_strings section n whole fits held
+
+  pub built_directories : (r : Result RoundTrip ConvertError) → IfOk r (AnswersProgram big p strings line_strings (drop n section))
+      → IfOk r (λ answer. map (λ text. text.items) answer.directories.items ≡ map (bytes_in strings line_strings) p.directories)
+  built_directories r is = IfOk-weaker r _ _ (λ answer a. directories_built _ _ _ p strings line_strings _ read_again (answers answer) a) is
+
+  pub built_files : (r : Result RoundTrip ConvertError) → IfOk r (AnswersProgram big p strings line_strings (drop n section))
+      → IfOk r (λ answer. map file_answer answer.files.items ≡ map (built_file p strings line_strings) p.files)
+  built_files r is = IfOk-weaker r _ _ (λ answer a. files_built _ _ _ p strings line_strings _ read_again (answers answer) a) is
+
+  pub built_rows : (r : Result RoundTrip ConvertError) → IfOk r (AnswersProgram big p strings line_strings (drop n section))
+      → IfOk r (λ answer. AreHeld p.encoding.address_size 0 (0, 0) p.items → AreSame p.encoding.version [] p.items answer.rows.items)
+  built_rows r is = IfOk-weaker r _ _ (λ answer a. rows_built _ _ _ p strings line_strings _ read_again (answers answer) a) is
+
+  pub never_read : (r : Result RoundTrip ConvertError) → IfErr r (RefusesUnit (slice_notation big) (given_of p strings line_strings) (drop n section))
+      → AreHeld p.encoding.address_size 0 (0, 0) p.items → IfErr r (λ e. e ≡ NoMemory)
+  never_read r is held = MatchResult-weaker r is (λ _ u. u) (λ e f. refused_for_memory _ _ _ p strings line_strings _ read_again e held f)

@@ -1,0 +1,22 @@
+use Rattle.std.proofs.Common.{◌<◌, length, arith}
+use Rattle.gimli_line.specs.Instruction.{file_seen}
+use Rattle.gimli_write.specs.TextReading.{HasFileTexts}
+use Rattle.gimli_write.specs.RoundTrip.{IsFileAnswer, file_answer}
+use Rattle.gimli_write.proofs.ReadTexts.{mapped_at, one_by_one_more}
+use Rattle.gimli_write.proofs.read_back.read_files.Goals as goal
+
+pub read_file-requires : goal.read_file-requires
+read_file-requires g c =
+    let seen = file_seen g.R.Reader.bytes g.R.Offset.ReaderOffset.number in
+    let i = c.loop-file.file-index in
+    let lt : i < length c.args.files.now = omega arith in
+    mapped_at (HasFileTexts c.args.sections.now) seen c.args.files.now i c.file-item.result lt c.file-item.is c.requires
+
+pub loop-file-preserved : goal.loop-file-preserved
+loop-file-preserved g c =
+    let seen = file_seen g.R.Reader.bytes g.R.Offset.ReaderOffset.number in
+    let i = c.loop-file.file-index in
+    let lt : i < length c.args.files.now = omega arith in
+    rw c.in_ok-push.ensures.items
+    (one_by_one_more (IsFileAnswer c.args.sections.now) seen file_answer c.args.files.now c.loop-file.answers.items i c.file-item.result c.in_ok-read_file.field-0
+    lt c.file-item.is c.loop-file.invariant c.in_ok-read_file.ensures.ok)

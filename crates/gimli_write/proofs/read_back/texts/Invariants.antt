@@ -1,0 +1,8 @@
+use Rattle.std.proofs.Common.{map, take}
+use Rattle.gimli_core.specs.Values.{value_seen}
+use Rattle.gimli_write.specs.Texts.{IsText, OneByOne}
+use Rattle.gimli_write.proofs.read_back.texts.Given as goal
+
+abbrev pub invariant-loop-value : goal.invariant-loop-value
+invariant-loop-value g l =
+    OneByOne (IsText l.sections) (map (value_seen g.R.Reader.bytes g.R.Offset.ReaderOffset.number) (take l.value-index l.values)) (map (λ text. text.items) l.texts.items)

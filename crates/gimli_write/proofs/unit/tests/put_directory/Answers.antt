@@ -1,0 +1,30 @@
+use Rattle.std.proofs.Common.{Bool, true, false, List, [], ◌∷◌, ◌++◌, ℕ, if◌then◌else◌, sym, subst}
+use Rattle.std.proofs.lemmas.List.Elements.{All-push}
+use Rattle.std.specs.Prelude.{All}
+use Rattle.std.specs.List.{list_any}
+use Rattle.gimli_write.specs.LineText.{LineText, line_text, line_text_eq, IsWithin}
+use Rattle.gimli_write.specs.Tables.{with_directory}
+use Rattle.gimli_write.specs.Built.{Built}
+use Rattle.gimli_write.specs.Conditions.{CanWrite}
+use Rattle.gimli_write.proofs.unit.tests.put_directory.Goals as goal
+
+-- each directory stays in the tables
+all_within : (strings line_strings : List (List ℕ)) (directories : List LineText) (t : LineText) → All (IsWithin strings line_strings) directories → IsWithin strings line_strings t
+    → All (IsWithin strings line_strings) (with_directory directories t)
+all_within strings line_strings directories t all one = by (list_any (line_text_eq t) directories)
+  where
+    by : (b : Bool) → All (IsWithin strings line_strings) (if b then directories else directories ++ t ∷ [])
+    by true = all
+    by false = All-push (IsWithin strings line_strings) directories t all one
+
+pub returns-clause-can : goal.returns-clause-can
+returns-clause-can c =
+    let texts = c.args.texts.now in
+    let can = c.requires.can in
+    subst (λ (p : Built). CanWrite p texts.strings texts.line_strings) (sym c.in_ok-id.ensures.ok) (record {
+      program = can.program;
+      directories = all_within texts.strings texts.line_strings c.args.program.now.directories (line_text c.args.directory) can.directories c.requires.within;
+      paths = can.paths;
+      sources = can.sources;
+      sources_end = can.sources_end;
+    })

@@ -1,0 +1,166 @@
+-- What is answered of a unit that was written and read again.
+use Rattle.std.specs.Prelude.{◌≡◌, ℕ, ◌^◌, List, ◌++◌, map, slice_get, Option, Some, None, option_map, Bool, All}
+use Rattle.gimli_core.specs.Notation.{Notation}
+use Rattle.gimli_line.specs.Header.{Header, Given}
+use Rattle.gimli_line.specs.HeaderGrammar.{SpellsUnit}
+use Rattle.gimli_line.specs.Instruction.{File as ReadFile}
+use Rattle.gimli_line.specs.Events.{Events, row}
+use Rattle.gimli_line.specs.Sequences.{HasFirstFault}
+use Rattle.gimli_line.specs.declared.row.LineRow.{LineRow as ReadRow}
+use Rattle.gimli_bytes.specs.Texts.{table_bytes}
+use Rattle.gimli_bytes.specs.declared.error.Error.{Error}
+use Rattle.gimli_write.specs.LineText.{bytes_in}
+use Rattle.gimli_write.specs.Tables.{File}
+use Rattle.gimli_write.specs.Stored.{stored}
+use Rattle.gimli_write.specs.Texts.{Sections, IsText, IsOptionalText, OneByOne}
+use Rattle.gimli_write.specs.TextReading.{HasText, HasFileTexts}
+use Rattle.gimli_write.specs.ReadsBack.{IsUnit, directories_from_zero, ReadsBack, IsReadWell}
+use Rattle.gimli_write.specs.Built.{Built}
+use Rattle.gimli_write.specs.declared.convert_error.ConvertError.{ConvertError}
+use Rattle.gimli_write.specs.declared.convert_error.ConvertError.TheVariants.{Read, Write, OutOfMemory}
+use Rattle.gimli_write.specs.declared.read_back.RoundTrip.{RoundTrip}
+use Rattle.gimli_write.specs.declared.read_back.RoundTripFile.{RoundTripFile}
+
+-- ---- answers, as lists
+
+pub record FileAnswer : Type 0 where
+  pub path : List ℕ
+  pub directory_index : ℕ
+  pub timestamp : ℕ
+  pub size : ℕ
+  pub md5 : List ℕ
+  pub source : Option (List ℕ)
+
+abbrev pub file_answer : RoundTripFile → FileAnswer
+file_answer f = record {
+  path = f.path.items;
+  directory_index = f.directory_index;
+  timestamp = f.timestamp;
+  size = f.size;
+  md5 = f.md5;
+  source = option_map (λ text. text.items) f.source;
+}
+
+pub record Answers : Type 0 where
+  pub directories : List (List ℕ)
+  pub files : List FileAnswer
+  pub rows : List ReadRow
+
+abbrev pub answers : RoundTrip → Answers
+answers r = record {
+  directories = map (λ text. text.items) r.directories.items;
+  files = map file_answer r.files.items;
+  rows = r.rows.items;
+}
+
+-- ---- what they say
+
+-- a file is answered: its texts, and what else is known of it
+pub record IsFileAnswer (sections : Sections) (read : ReadFile) (answer : FileAnswer) : Type 0 where
+  pub path : IsText sections read.path_name answer.path
+  pub directory_index : answer.directory_index ≡ read.directory_index
+  pub timestamp : answer.timestamp ≡ read.timestamp
+  pub size : answer.size ≡ read.size
+  pub md5 : answer.md5 ≡ read.md5
+  pub source : IsOptionalText sections read.source answer.source
+
+-- a header and its program are answered: the directories from index 0 on, the files, and the rows, which are all that
+-- the program gives
+pub record AreAnswers (notation : Notation) (sections : Sections) (h : Header) (a : Answers) : Type 0 where
+  pub directories : OneByOne (IsText sections) (directories_from_zero h) a.directories
+  pub files : OneByOne (IsFileAnswer sections) h.files a.files
+  pub rows : Events notation h h.program (map row a.rows)
+
+-- the bytes are a unit and nothing else, and what is read of it is answered
+pub record AnswersUnit (notation : Notation) (given : Given) (sections : Sections) (unit : List ℕ) (a : Answers) : Type 0 where
+  pub header : Header
+  pub is_unit : IsUnit notation given unit header
+  pub answered : AreAnswers notation sections header a
+
+-- ---- how a program is read again
+
+-- by a slice in the order of the section
+abbrev pub slice_notation : Bool → Notation
+slice_notation big = record { big = big; limit = 2 ^ 64 }
+
+-- with this address size and working directory, and no name
+abbrev pub given_directory : ℕ → List ℕ → Given
+given_directory size directory = record { address_size = size; directory = Some directory; name = None }
+
+-- with those of the program
+abbrev pub given_of : Built → List (List ℕ) → List (List ℕ) → Given
+given_of p strings line_strings = record {
+  address_size = p.encoding.address_size;
+  directory = option_map (bytes_in strings line_strings) (slice_get p.directories 0);
+  name = None;
+}
+
+-- beside the tables, each in an empty section
+abbrev pub sections_of : List (List ℕ) → List (List ℕ) → Sections
+sections_of strings line_strings = record { strings = table_bytes strings; line_strings = table_bytes line_strings }
+
+-- the bytes are a unit and nothing else, and what is read of it is answered, where it is read as a program's unit is
+abbrev pub AnswersProgram : Bool → Built → List (List ℕ) → List (List ℕ) → List ℕ → RoundTrip → Type 0
+AnswersProgram big p strings line_strings unit answer =
+    AnswersUnit (slice_notation big) (given_of p strings line_strings) (sections_of strings line_strings) unit (answers answer)
+
+-- the bytes are the unit of a program, which is read back however it is read well
+abbrev pub IsUnitOf : Bool → Built → List (List ℕ) → List (List ℕ) → List ℕ → Type 0
+IsUnitOf big p strings line_strings unit = (notation : Notation) (given : Given) (sections : Sections)
+    → IsReadWell notation given sections big p strings line_strings unit
+    → ReadsBack notation given sections p strings line_strings unit
+
+-- ---- what was built
+
+-- a built file, as it is answered with these tables
+abbrev pub built_file : Built → List (List ℕ) → List (List ℕ) → File → FileAnswer
+built_file p strings line_strings f = record {
+  path = bytes_in strings line_strings f.0.0;
+  directory_index = f.0.1;
+  timestamp = (stored p strings line_strings f.1).timestamp;
+  size = (stored p strings line_strings f.1).size;
+  md5 = (stored p strings line_strings f.1).md5;
+  source = (stored p strings line_strings f.1).source;
+}
+
+-- ---- refusals
+
+-- the bytes begin with a unit that has this header
+pub record BeginsUnit (notation : Notation) (given : Given) (bytes : List ℕ) (h : Header) : Type 0 where
+  pub spelled : SpellsUnit notation given bytes h
+
+-- the texts of a header are there
+pub record HasTexts (sections : Sections) (h : Header) : Type 0 where
+  pub directories : All (HasText sections) (directories_from_zero h)
+  pub files : All (HasFileTexts sections) h.files
+
+-- the bytes begin with a unit whose texts are there
+pub record CanRead (notation : Notation) (given : Given) (sections : Sections) (bytes : List ℕ) : Type 0 where
+  pub header : Header
+  pub unit : BeginsUnit notation given bytes header
+  pub texts : HasTexts sections header
+
+-- why the rows of a program aren't answered: its first fault, or want of memory
+abbrev pub IsRunRefusal : Notation → Header → ConvertError → Type 0
+IsRunRefusal notation h OutOfMemory = Unit {0}
+IsRunRefusal notation h (Read fault) = HasFirstFault notation h fault
+IsRunRefusal notation h e = ⊥
+
+-- the bytes are a unit and nothing else, and why its rows aren't answered
+abbrev pub RefusesUnit : Notation → Given → List ℕ → ConvertError → Type 0
+RefusesUnit notation given unit e = (h : Header) × IsUnit notation given unit h × IsRunRefusal notation h e
+
+-- why a program isn't written or not read again: the cause why it can't be written, if there is one; the first fault of
+-- the unit that was appended; or want of memory
+abbrev pub IsRefusal : Bool → Option Error → Given → List ℕ → List ℕ → ConvertError → Type 0
+IsRefusal big cause given old new OutOfMemory = Unit {0}
+IsRefusal big cause given old new (Write e) = cause ≡ Some e
+IsRefusal big cause given old new (Read fault) =
+    (bytes : List ℕ) × (new ≡ old ++ bytes) × RefusesUnit (slice_notation big) given bytes (Read fault)
+IsRefusal big cause given old new e = ⊥
+
+-- why a program isn't written: the cause why it can't be, if there is one, or want of memory
+abbrev pub IsWriteRefusal : Option Error → ConvertError → Type 0
+IsWriteRefusal cause OutOfMemory = Unit {0}
+IsWriteRefusal cause (Write e) = cause ≡ Some e
+IsWriteRefusal cause e = ⊥

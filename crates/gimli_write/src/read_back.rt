@@ -1,0 +1,411 @@
+//! A unit that is written, and read again.
+
+ghost use Rattle.std.specs.Prelude.{◌≡◌, ◌⊎◌, ℕ, ◌<◌, ◌≤◌, ◌^◌, false, List, [], ◌++◌, length, map, drop, option_map, IsTrue, IfOk, IfErr, OnOk, All, Some, None};
+ghost use Rattle.gimli_core.specs.Numbers.{is_address_size};
+ghost use Rattle.gimli_core.specs.Values.{value_seen};
+ghost use Rattle.gimli_bytes.specs.Written.{Begins, Appends};
+ghost use Rattle.gimli_line.specs.Header.{Header};
+ghost use Rattle.gimli_line.specs.Instruction.{file_seen};
+ghost use Rattle.gimli_line.specs.Events.{Events, row};
+ghost use Rattle.gimli_write.specs.LineText.{IsWithin, bytes_in};
+ghost use Rattle.gimli_write.specs.Conditions.{CanWrite};
+ghost use Rattle.gimli_write.specs.Items.{AreHeld};
+ghost use Rattle.gimli_write.specs.SameRow.{AreSame};
+ghost use Rattle.gimli_write.specs.Unit.{unit_bytes};
+ghost use Rattle.gimli_bytes.specs.Texts.{byte_count};
+ghost use Rattle.gimli_write.specs.NewTables.{strings_behind, line_strings_behind};
+ghost use Rattle.gimli_write.specs.Cause.{first_cause};
+ghost use Rattle.gimli_write.specs.Texts.{Sections, IsText, IsOptionalText, OneByOne};
+ghost use Rattle.gimli_write.specs.TextReading.{HasText, HasOptionalText, HasFileTexts};
+ghost use Rattle.gimli_write.specs.ReadsBack.{directories_from_zero};
+
+use crate::convert_error::{ConvertError, ConvertResult, from_read, from_write};
+use crate::line_program::LineProgram;
+use crate::text::{TextSections, text};
+use gimli_bytes::{
+    DebugLine, DebugLineStr, DebugStr, EndianVec, LineStringTable, StringTable, Writer,
+};
+use gimli_core::{
+    AttributeValue, DebugLineOffset, Encoding, EndianSlice, Endianity, Reader, ReaderOffset,
+};
+use gimli_line::{FileEntry, IncompleteLineProgram, LineProgramHeader, LineRow};
+use std::alloc::Global;
+use std::marker::Model;
+
+/// What is read of a unit.
+#[derive(Debug, Drop)]
+pub struct RoundTrip {
+    /// The offset of the unit in its section.
+    pub offset: DebugLineOffset,
+    /// The directories from index 0 on.
+    pub directories: Vec<Vec<u8>>,
+    /// The files of the header.
+    pub files: Vec<RoundTripFile>,
+    /// The rows in order, those included that end a sequence.
+    pub rows: Vec<LineRow>,
+}
+
+/// What is read of a file.
+#[derive(Debug, Drop)]
+pub struct RoundTripFile {
+    /// The path.
+    pub path: Vec<u8>,
+    /// The index of the directory.
+    pub directory_index: u64,
+    /// When the file was last changed; 0 where it isn't known.
+    pub timestamp: u64,
+    /// The size in bytes; 0 where it isn't known.
+    pub size: u64,
+    /// The MD5 digest; zeros where it isn't known.
+    pub md5: [u8; 16],
+    /// The text of the file, where there is one.
+    pub source: Option<Vec<u8>>,
+}
+
+ghost use Rattle.gimli_write.specs.RoundTrip.{answers, file_answer, IsFileAnswer, AreAnswers, HasTexts, slice_notation, given_of, sections_of, IsRunRefusal, RefusesUnit, IsRefusal, IsWriteRefusal, built_file, IsUnitOf, AnswersProgram, given_directory, BeginsUnit, CanRead};
+
+/// The working directory of a program.
+fn working_directory<'a>(
+    program: &'a LineProgram,
+    strings: &'a StringTable,
+    line_strings: &'a LineStringTable,
+) -> &'a [u8]
+    requires program { program.now.is_none ≡ false }
+    requires within { All (IsWithin strings.now line_strings.now) program.now.directories }
+    ensures { Some result.now ≡ (given_of program.now strings.now line_strings.now).directory }
+{
+    let directory = program.default_directory();
+    program.get_directory(directory).get(strings, line_strings)
+}
+
+/// The directories of a header from index 0 on. Refused by `OutOfMemory` alone.
+fn directory_values<R: Reader>(
+    alloc: Global,
+    header: &LineProgramHeader<R>,
+) -> ConvertResult<Vec<AttributeValue<R>>>
+    ensures ok { IfOk result (λ values. map (value_seen R.bytes R.Offset.number) values.items
+        ≡ directories_from_zero header.now.meaning) }
+    ensures err { IfErr result (λ e. e ≡ ConvertError.OutOfMemory) }
+{
+    let mut directories = Vec::new(alloc);
+    if header.version() <= 4 {
+        if let Some(directory) = header.directory(0) {
+            directories.push(directory)?;
+        }
+    }
+    directories.extend_from_slice(header.include_directories())?;
+    Ok(directories)
+}
+
+/// The text that a value stands for. Asks a value that stands for one. Refused by `OutOfMemory` alone.
+fn text_there<R: Reader>(
+    alloc: Global,
+    value: AttributeValue<R>,
+    sections: &TextSections<R>,
+) -> ConvertResult<Vec<u8>>
+    requires { HasText sections.now (value_seen R.bytes R.Offset.number value) }
+    ensures ok { IfOk result (λ text. IsText sections.now (value_seen R.bytes R.Offset.number value) text.items) }
+    ensures err { IfErr result (λ e. e ≡ ConvertError.OutOfMemory) }
+{
+    text(alloc, value, sections)
+}
+
+/// The texts that values stand for. Asks values that stand for texts. Refused by `OutOfMemory` alone.
+fn texts<R: Reader>(
+    alloc: Global,
+    values: &[AttributeValue<R>],
+    sections: &TextSections<R>,
+) -> ConvertResult<Vec<Vec<u8>>>
+    requires { All (HasText sections.now) (map (value_seen R.bytes R.Offset.number) values.now) }
+    ensures ok { IfOk result (λ texts. OneByOne (IsText sections.now)
+        (map (value_seen R.bytes R.Offset.number) values.now) (map (λ text. text.items) texts.items)) }
+    ensures err { IfErr result (λ e. e ≡ ConvertError.OutOfMemory) }
+{
+    let mut texts = Vec::new(alloc);
+    for value in values {
+        texts.push(text_there(alloc, *value, sections)?)?;
+    }
+    Ok(texts)
+}
+
+/// The text of a file, where there is one. Asks a value that stands for a text. Refused by `OutOfMemory` alone.
+fn source_text<R: Reader>(
+    alloc: Global,
+    source: Option<AttributeValue<R>>,
+    sections: &TextSections<R>,
+) -> ConvertResult<Option<Vec<u8>>>
+    requires { HasOptionalText sections.now (option_map (value_seen R.bytes R.Offset.number) source) }
+    ensures ok { IfOk result (λ text. IsOptionalText sections.now
+        (option_map (value_seen R.bytes R.Offset.number) source) (option_map (λ text. text.items) text)) }
+    ensures err { IfErr result (λ e. e ≡ ConvertError.OutOfMemory) }
+{
+    match source {
+        Some(value) => Ok(Some(text_there(alloc, value, sections)?)),
+        None => Ok(None),
+    }
+}
+
+/// What is read of a file. Asks one whose texts are there. Refused by `OutOfMemory` alone.
+fn read_file<R: Reader>(
+    alloc: Global,
+    file: &FileEntry<R>,
+    sections: &TextSections<R>,
+) -> ConvertResult<RoundTripFile>
+    requires { HasFileTexts sections.now (file_seen R.bytes R.Offset.number file.now) }
+    ensures ok { IfOk result (λ answer. IsFileAnswer sections.now
+        (file_seen R.bytes R.Offset.number file.now) (file_answer answer)) }
+    ensures err { IfErr result (λ e. e ≡ ConvertError.OutOfMemory) }
+{
+    let path = text_there(alloc, file.path_name(), sections)?;
+    let source = source_text(alloc, file.source(), sections)?;
+    Ok(RoundTripFile {
+        path,
+        directory_index: file.directory_index(),
+        timestamp: file.timestamp(),
+        size: file.size(),
+        md5: *file.md5(),
+        source,
+    })
+}
+
+/// What is read of files. Asks files whose texts are there. Refused by `OutOfMemory` alone.
+fn read_files<R: Reader>(
+    alloc: Global,
+    files: &[FileEntry<R>],
+    sections: &TextSections<R>,
+) -> ConvertResult<Vec<RoundTripFile>>
+    requires { All (HasFileTexts sections.now) (map (file_seen R.bytes R.Offset.number) files.now) }
+    ensures ok { IfOk result (λ answers. OneByOne (IsFileAnswer sections.now)
+        (map (file_seen R.bytes R.Offset.number) files.now) (map file_answer answers.items)) }
+    ensures err { IfErr result (λ e. e ≡ ConvertError.OutOfMemory) }
+{
+    let mut answers = Vec::new(alloc);
+    for file in files {
+        answers.push(read_file(alloc, file, sections)?)?;
+    }
+    Ok(answers)
+}
+
+/// The rows of a program. Refused by the first fault of its run, or by `OutOfMemory`.
+fn read_rows<R: Reader>(
+    alloc: Global,
+    program: IncompleteLineProgram<R>,
+) -> ConvertResult<Vec<LineRow>>
+    ensures ok { IfOk result (λ rows.
+        Events program.notation program.meaning program.meaning.program (map row rows.items)) }
+    ensures err { IfErr result (IsRunRefusal program.notation program.meaning) }
+{
+    let mut rows = program.rows();
+    let mut answers = Vec::new(alloc);
+    'rows: loop {
+        let row = match rows.next_row() {
+            Ok(Some((_, row))) => *row,
+            Ok(None) => return Ok(answers),
+            Err(e) => return Err(from_read(e)),
+        };
+        answers.push(row)?;
+    }
+}
+
+/// What is read of a program at an offset. Asks texts that are there. Refused by the first fault of its run, or by
+/// `OutOfMemory`.
+fn read_program<R: Reader>(
+    alloc: Global,
+    offset: DebugLineOffset,
+    program: IncompleteLineProgram<R>,
+    sections: &TextSections<R>,
+) -> ConvertResult<RoundTrip>
+    requires { HasTexts sections.now program.meaning }
+    ensures offset { IfOk result (λ answer. answer.offset ≡ offset) }
+    ensures ok { IfOk result (λ answer. AreAnswers program.notation sections.now program.meaning (answers answer)) }
+    ensures err { IfErr result (IsRunRefusal program.notation program.meaning) }
+{
+    let directories = texts(
+        alloc,
+        directory_values(alloc, program.header())?.as_slice(),
+        sections,
+    )?;
+    let files = read_files(alloc, program.header().file_names(), sections)?;
+    let rows = read_rows(alloc, program)?;
+    Ok(RoundTrip {
+        offset,
+        directories,
+        files,
+        rows,
+    })
+}
+
+/// The tables of strings, each as it is written to an empty section.
+#[derive(Drop)]
+struct StringSections {
+    strings: Vec<u8>,
+    line_strings: Vec<u8>,
+}
+
+impl Model for StringSections {
+    ghost use Rattle.gimli_write.specs.Texts.{Sections};
+
+    ghost Value = { Sections };
+
+    ghost view = { λ a. record { strings = a.strings.items; line_strings = a.line_strings.items } };
+}
+
+impl StringSections {
+    /// Writes the tables. Refused by `OutOfMemory` alone.
+    fn new<E: Endianity>(
+        alloc: Global,
+        endian: E,
+        strings: &StringTable,
+        line_strings: &LineStringTable,
+    ) -> ConvertResult<StringSections>
+        ensures ok { IfOk result (λ sections. sections ≡ sections_of strings.now line_strings.now) }
+        ensures err { IfErr result (λ e. e ≡ ConvertError.OutOfMemory) }
+        ensures held { (byte_count strings.now < 2 ^ 64) × (byte_count line_strings.now < 2 ^ 64) }
+    {
+        // Neither table has more bytes than a section holds.
+        let _counts = (strings.count(), line_strings.count());
+        let mut debug_str = DebugStr::from(EndianVec::new(alloc, endian));
+        if strings.write(&mut debug_str).is_err() {
+            return Err(ConvertError::OutOfMemory);
+        }
+        let mut debug_line_str = DebugLineStr::from(EndianVec::new(alloc, endian));
+        if line_strings.write(&mut debug_line_str).is_err() {
+            return Err(ConvertError::OutOfMemory);
+        }
+        Ok(StringSections {
+            strings: debug_str.0.into_vec(),
+            line_strings: debug_line_str.0.into_vec(),
+        })
+    }
+}
+
+/// What is read of the unit at an offset of a section. Asks a unit whose texts are there. Refused by the first fault
+/// of its run, or by `OutOfMemory`.
+fn read_section<'x, E: Endianity>(
+    alloc: Global,
+    section: &'x [u8],
+    endian: E,
+    offset: DebugLineOffset,
+    address_size: u8,
+    directory: &'x [u8],
+    sections: &'x StringSections,
+) -> ConvertResult<RoundTrip>
+    requires size { IsTrue (is_address_size address_size) }
+    requires unit { CanRead (slice_notation (E.big endian)) (given_directory address_size directory.now) sections.now
+        (drop offset.0 section.now) }
+    ensures offset { IfOk result (λ answer. answer.offset ≡ offset) }
+    ensures ok { (h : Header)
+        → BeginsUnit (slice_notation (E.big endian)) (given_directory address_size directory.now) (drop offset.0 section.now) h
+        → IfOk result (λ answer. AreAnswers (slice_notation (E.big endian)) sections.now h (answers answer)) }
+    ensures err { (h : Header)
+        → BeginsUnit (slice_notation (E.big endian)) (given_directory address_size directory.now) (drop offset.0 section.now) h
+        → IfErr result (IsRunRefusal (slice_notation (E.big endian)) h) }
+{
+    let texts = TextSections {
+        strings: EndianSlice::new(sections.strings.as_slice(), endian),
+        line_strings: EndianSlice::new(sections.line_strings.as_slice(), endian),
+    };
+    let directory = EndianSlice::new(directory, endian);
+    let section = gimli_line::DebugLine::new(section, endian);
+    match section.program(alloc, offset, address_size, Some(directory), None) {
+        Ok(program) => read_program(alloc, offset, program, &texts),
+        Err(e) => Err(from_read(e)),
+    }
+}
+
+/// What is read of the unit at an offset, which is a program's. Refused by the first fault of its run, or by
+/// `OutOfMemory`.
+fn read_unit<E: Endianity>(
+    program: &LineProgram,
+    section: &EndianVec<E>,
+    offset: DebugLineOffset,
+    line_strings: &LineStringTable,
+    strings: &StringTable,
+) -> ConvertResult<RoundTrip>
+    requires program { program.now.is_none ≡ false }
+    requires within { All (IsWithin strings.now line_strings.now) program.now.directories }
+    requires unit { IsUnitOf (E.big section.now.endian) program.now strings.now line_strings.now
+        (drop offset.0 section.now.bytes) }
+    ensures offset { IfOk result (λ answer. answer.offset ≡ offset) }
+    ensures ok { IfOk result (AnswersProgram (E.big section.now.endian) program.now strings.now line_strings.now
+        (drop offset.0 section.now.bytes)) }
+    ensures err { IfErr result (RefusesUnit (slice_notation (E.big section.now.endian))
+        (given_of program.now strings.now line_strings.now) (drop offset.0 section.now.bytes)) }
+    ensures directories { IfOk result (λ answer. map (λ text. text.items) answer.directories.items
+        ≡ map (bytes_in strings.now line_strings.now) program.now.directories) }
+    ensures files { IfOk result (λ answer. map file_answer answer.files.items
+        ≡ map (built_file program.now strings.now line_strings.now) program.now.files) }
+    ensures built { IfOk result (λ answer. AreHeld program.now.encoding.address_size 0 (0, 0) program.now.items
+        → AreSame program.now.encoding.version [] program.now.items answer.rows.items) }
+    ensures never_read { AreHeld program.now.encoding.address_size 0 (0, 0) program.now.items
+        → IfErr result (λ e. e ≡ ConvertError.OutOfMemory) }
+{
+    let alloc = *line_strings.allocator();
+    let endian = section.endian();
+    let bytes = section.slice();
+    let sections = StringSections::new(alloc, endian, strings, line_strings)?;
+    read_section(
+        alloc,
+        bytes,
+        endian,
+        offset,
+        program.encoding().address_size,
+        working_directory(program, strings, line_strings),
+        &sections,
+    )
+}
+
+/// Writes a program's unit, as `LineProgram::write` does, and reads it again: from the offset that was answered, in
+/// the same order, with the program's address size and its working directory, and beside the tables, each written to
+/// an empty section. Asks what `write` asks.
+///
+/// What is answered is what the unit says, and what the machine of its program gives: the built directories and files,
+/// and, where each address fits the address size, none is set below the one reached in its sequence, and none is set
+/// that stands for nothing, the built rows and ends one by one.
+///
+/// Refused by `Write` as `write` is, by `Read` for the first fault of the unit's program, which no program with such
+/// addresses has, or by `OutOfMemory`. The old bytes stay a beginning of the section then.
+pub fn round_trip<E: Endianity>(
+    program: &LineProgram,
+    w: &mut DebugLine<EndianVec<E>>,
+    encoding: Encoding,
+    line_strings: &mut LineStringTable,
+    strings: &mut StringTable,
+) -> ConvertResult<RoundTrip>
+    requires { CanWrite program.now strings.old line_strings.old }
+    ensures keeps { Begins w.old.0.bytes w.new.0.bytes }
+    ensures ordered { E.big w.new.0.endian ≡ E.big w.old.0.endian }
+    ensures offset { IfOk result (λ answer. answer.offset.0 ≡ length w.old.0.bytes) }
+    ensures unit { OnOk result (Appends
+        (unit_bytes (E.big w.old.0.endian) encoding program.now strings.old line_strings.old)
+        w.old.0.bytes w.new.0.bytes) }
+    ensures answers { IfOk result (λ answer. (unit : List ℕ) × (w.new.0.bytes ≡ w.old.0.bytes ++ unit)
+        × AnswersProgram (E.big w.old.0.endian) program.now strings.new line_strings.new unit answer) }
+    ensures directories { IfOk result (λ answer. map (λ text. text.items) answer.directories.items
+        ≡ map (bytes_in strings.new line_strings.new) program.now.directories) }
+    ensures files { IfOk result (λ answer. map file_answer answer.files.items
+        ≡ map (built_file program.now strings.new line_strings.new) program.now.files) }
+    ensures built { IfOk result (λ answer. AreHeld program.now.encoding.address_size 0 (0, 0) program.now.items
+        → AreSame program.now.encoding.version [] program.now.items answer.rows.items) }
+    ensures no_cause { OnOk result (first_cause (E.big w.old.0.endian) encoding program.now
+        strings.old line_strings.old ≡ None) }
+    ensures never_read { AreHeld program.now.encoding.address_size 0 (0, 0) program.now.items
+        → IfErr result (IsWriteRefusal (first_cause (E.big w.old.0.endian) encoding program.now
+        strings.old line_strings.old)) }
+    ensures refusal { IfErr result (IsRefusal (E.big w.old.0.endian)
+        (first_cause (E.big w.old.0.endian) encoding program.now strings.old line_strings.old)
+        (given_of program.now strings.new line_strings.new) w.old.0.bytes w.new.0.bytes) }
+    ensures strings { OnOk result (strings.new ≡ strings_behind program.now strings.old) }
+    ensures line_strings { OnOk result (line_strings.new ≡ line_strings_behind program.now line_strings.old) }
+    ensures strings_kept { (strings.new ≡ strings.old) ⊎ (strings.new ≡ strings_behind program.now strings.old) }
+    ensures line_strings_kept { (line_strings.new ≡ line_strings.old)
+        ⊎ (line_strings.new ≡ line_strings_behind program.now line_strings.old) }
+{
+    match program.write(w, encoding, line_strings, strings) {
+        Ok(offset) => read_unit(program, &w.0, offset, line_strings, strings),
+        Err(e) => Err(from_write(e)),
+    }
+}
+
+#[cfg(test)]
+mod tests;
