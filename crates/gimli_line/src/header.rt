@@ -134,16 +134,20 @@ where
         ensures offset { IfOk result (λ copy. copy.offset ≡ self.now.offset) }
         ensures err { IfErr result (λ e. e ≡ Error.OutOfMemory) }
     {
+        let (directory_entry_format, include_directories) =
+            copied_both(&self.directory_entry_format, &self.include_directories)?;
+        let (file_name_entry_format, file_names) =
+            copied_both(&self.file_name_entry_format, &self.file_names)?;
         Ok(LineProgramHeader {
             parameters: self.parameters,
             offset: self.offset,
             unit_length: self.unit_length,
             header_length: self.header_length,
             standard_opcode_lengths: self.standard_opcode_lengths,
-            directory_entry_format: copied(&self.directory_entry_format)?,
-            include_directories: copied(&self.include_directories)?,
-            file_name_entry_format: copied(&self.file_name_entry_format)?,
-            file_names: copied(&self.file_names)?,
+            directory_entry_format,
+            include_directories,
+            file_name_entry_format,
+            file_names,
             program_buf: self.program_buf,
             comp_dir: self.comp_dir,
             comp_file: self.comp_file,
@@ -496,6 +500,15 @@ fn entry<T>(entries: &[T], index: u64) -> Option<&T>
 {
     let index = usize::try_from(index).ok()?;
     entries.get(index)
+}
+
+/// Two lists of copies. Refused by `OutOfMemory` alone.
+fn copied_both<A: Copy, B: Copy>(first: &Vec<A>, second: &Vec<B>) -> Result<(Vec<A>, Vec<B>)>
+    ensures first { IfOk result (λ copies. copies.0.items ≡ first.now.items) }
+    ensures second { IfOk result (λ copies. copies.1.items ≡ second.now.items) }
+    ensures err { IfErr result (λ e. e ≡ Error.OutOfMemory) }
+{
+    Ok((copied(first)?, copied(second)?))
 }
 
 /// A list of copies. Refused by `OutOfMemory` alone.
