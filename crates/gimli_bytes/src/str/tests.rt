@@ -24,27 +24,44 @@ fn check_text(rt: &impl Abort, strings: &StringTable, id: StringId, text: &[u8],
     assert_eq!(rt; strings.offset(id).0, offset);
 }
 
-fn check_written(rt: &impl Abort, alloc: Global, strings: &StringTable) -> Result<()> {
+fn check_count(rt: &impl Abort, strings: &StringTable, count: usize) {
+    assert_eq!(rt; strings.count(), count);
+}
+
+fn check_texts(rt: &impl Abort, strings: &StringTable, ids: [StringId; 3]) {
+    let [one, two, empty] = ids;
+    check_text(rt, strings, one, b"one", 0);
+    check_text(rt, strings, two, b"two", 4);
+    check_text(rt, strings, empty, b"", 8);
+}
+
+fn written(strings: &StringTable, alloc: Global) -> Result<DebugStr<EndianVec<LittleEndian>>> {
     let mut section = DebugStr::from(EndianVec::new(alloc, LittleEndian));
     strings.write(&mut section)?;
-    assert_eq!(rt; section.0.slice(), b"one\0two\0\0".as_slice());
-    assert_eq!(rt; section.offset().0, 9);
-    Ok(())
+    Ok(section)
+}
+
+fn check_section(
+    rt: &impl Abort,
+    section: &DebugStr<EndianVec<LittleEndian>>,
+    bytes: &[u8],
+    offset: usize,
+) {
+    assert_eq!(rt; section.0.slice(), bytes);
+    assert_eq!(rt; section.offset().0, offset);
 }
 
 /// The walk of gimli's own test.
 #[test]
 fn table(rt: HostRuntime) -> std::result::Result<(), Fail> {
     let mut strings = StringTable::default(rt.alloc());
-    assert_eq!(rt; strings.count(), 0);
+    check_count(&rt, &strings, 0);
     let ids = add_three(&mut strings)?;
     assert_eq!(rt; add_three(&mut strings)?, ids);
-    assert_eq!(rt; strings.count(), 3);
-    let [one, two, empty] = ids;
-    check_text(&rt, &strings, one, b"one", 0);
-    check_text(&rt, &strings, two, b"two", 4);
-    check_text(&rt, &strings, empty, b"", 8);
-    check_written(&rt, rt.alloc(), &strings)?;
+    check_count(&rt, &strings, 3);
+    check_texts(&rt, &strings, ids);
+    let section = written(&strings, rt.alloc())?;
+    check_section(&rt, &section, b"one\0two\0\0", 9);
     Ok(())
 }
 
@@ -56,29 +73,52 @@ fn add_two(rt: &impl Abort, strings: &mut LineStringTable) -> Result<[LineString
     Ok([directory, file])
 }
 
-fn check_file(rt: &impl Abort, strings: &LineStringTable, file: LineStringId) {
-    assert!(rt; file.0 < strings.count());
-    assert_eq!(rt; strings.get(file), b"a.c".as_slice());
-    assert_eq!(rt; strings.offset(file).0, 3);
+fn check_line_text(
+    rt: &impl Abort,
+    strings: &LineStringTable,
+    id: LineStringId,
+    text: &[u8],
+    offset: usize,
+) {
+    assert!(rt; id.0 < strings.count());
+    assert_eq!(rt; strings.get(id), text);
+    assert_eq!(rt; strings.offset(id).0, offset);
 }
 
-fn check_written_lines(rt: &impl Abort, alloc: Global, strings: &LineStringTable) -> Result<()> {
+fn check_ids(rt: &impl Abort, strings: &LineStringTable, directory: LineStringId) {
+    assert!(rt; directory.0 < strings.count());
+    assert_eq!(rt; strings.count(), 2);
+}
+
+/// The section holds two bytes before the table is written.
+fn lines_written(
+    strings: &LineStringTable,
+    alloc: Global,
+) -> Result<DebugLineStr<EndianVec<BigEndian>>> {
     let mut section = DebugLineStr::from(EndianVec::new(alloc, BigEndian));
     section.0.write(b"..")?;
     strings.write(&mut section)?;
-    assert_eq!(rt; section.0.slice(), b"../w\0a.c\0".as_slice());
-    assert_eq!(rt; section.offset().0, 9);
-    Ok(())
+    Ok(section)
+}
+
+fn check_line_section(
+    rt: &impl Abort,
+    section: &DebugLineStr<EndianVec<BigEndian>>,
+    bytes: &[u8],
+    offset: usize,
+) {
+    assert_eq!(rt; section.0.slice(), bytes);
+    assert_eq!(rt; section.offset().0, offset);
 }
 
 #[test]
 fn line_table(rt: HostRuntime) -> std::result::Result<(), Fail> {
     let mut strings = LineStringTable::default(rt.alloc());
     let [directory, file] = add_two(&rt, &mut strings)?;
-    assert!(rt; directory.0 < strings.count());
-    check_file(&rt, &strings, file);
-    assert_eq!(rt; strings.count(), 2);
-    check_written_lines(&rt, rt.alloc(), &strings)?;
+    check_ids(&rt, &strings, directory);
+    check_line_text(&rt, &strings, file, b"a.c", 3);
+    let section = lines_written(&strings, rt.alloc())?;
+    check_line_section(&rt, &section, b"../w\0a.c\0", 9);
     Ok(())
 }
 
@@ -133,7 +173,7 @@ fn check_written_again(
 fn refused_growth(rt: HostRuntime) -> std::result::Result<(), Fail> {
     let mut strings = StringTable::default(rt.alloc());
     let refused = add_five(&rt, &mut strings)?;
-    assert_eq!(rt; strings.count(), 5);
+    check_count(&rt, &strings, 5);
     check_written_again(&rt, rt.alloc(), &strings, refused)?;
     Ok(())
 }

@@ -5,6 +5,7 @@ ghost use Rattle.std.specs.Prelude.{true, false};
 use crate::{Address, EndianVec, Error, InitialLengthOffset, Result, Writer};
 use gimli_core::{BigEndian, DwEhPe, Endianity, Format, LittleEndian, RunTimeEndian, SectionId};
 use std::alloc::Global;
+use std::fmt::Debug;
 use std::process::Abort;
 use std::test::Fail;
 
@@ -79,6 +80,17 @@ fn overwrite<W: Writer>(w: &mut W, offset: usize, call: CallAt) -> Result<()> {
     }
 }
 
+fn check<C: Copy + Debug, T: Copy + Debug + PartialEq>(rt: &impl Abort, call: C, got: T, want: T) {
+    assert_eq!(rt; got, want, "{call:?}");
+}
+
+/// These bytes, behind those that a section holds.
+fn behind(alloc: Global, before: &[u8], bytes: &[u8]) -> Result<Vec<u8>> {
+    let mut whole = before.to_vec(alloc)?;
+    whole.extend_from_slice(bytes)?;
+    Ok(whole)
+}
+
 /// The call is made on a section that holds these bytes; then the section holds the wanted bytes behind
 /// them, or the call refused and the section is as it was.
 fn check_append(
@@ -92,14 +104,13 @@ fn check_append(
     let mut w = EndianVec::new(alloc, endian);
     w.write(&before)?;
     let got = append(&mut w, call);
-    let mut whole = before.to_vec(alloc)?;
     let (bytes, answer): (&[u8], Result<()>) = match want {
         Ok(bytes) => (bytes, Ok(())),
         Err(error) => (&[], Err(error)),
     };
-    whole.extend_from_slice(bytes)?;
-    assert_eq!(rt; got, answer, "{call:?}");
-    assert_eq!(rt; w.slice(), whole.as_slice(), "{call:?}");
+    check(rt, call, got, answer);
+    let whole = behind(alloc, &before, bytes)?;
+    check(rt, call, w.slice(), whole.as_slice());
     Ok(())
 }
 
@@ -296,8 +307,8 @@ fn check_overwrite(
         Ok(bytes) => (bytes, Ok(())),
         Err(error) => (before, Err(error)),
     };
-    assert_eq!(rt; got, answer, "{call:?}");
-    assert_eq!(rt; w.slice(), bytes, "{call:?}");
+    check(rt, call, got, answer);
+    check(rt, call, w.slice(), bytes);
     Ok(())
 }
 
@@ -358,7 +369,13 @@ fn numbers_at(rt: HostRuntime) -> std::result::Result<(), Fail> {
         check_between(&rt, rt.alloc(), RunTimeEndian::Big, call, big)?;
         let mut little = big.to_vec(rt.alloc())?;
         little.reverse();
-        check_between(&rt, rt.alloc(), RunTimeEndian::Little, call, little.as_slice())?;
+        check_between(
+            &rt,
+            rt.alloc(),
+            RunTimeEndian::Little,
+            call,
+            little.as_slice(),
+        )?;
     }
     Ok(())
 }
