@@ -375,7 +375,7 @@ fn check_unsigned(rt: &impl Abort, alloc: Global, bytes: &[u8], want: (Result<u6
 
 #[test]
 fn unsigned_numbers(rt: HostRuntime) {
-    for (bytes, answer, left) in UNSIGNED {
+    for &(bytes, answer, left) in &UNSIGNED {
         check_unsigned(&rt, rt.alloc(), bytes, (answer, left));
     }
 }
@@ -393,7 +393,7 @@ fn check_unsigned_16(rt: &impl Abort, alloc: Global, bytes: &[u8], want: (Result
 
 #[test]
 fn unsigned_numbers_of_16_bits(rt: HostRuntime) {
-    for (bytes, answer, left) in UNSIGNED_16 {
+    for &(bytes, answer, left) in &UNSIGNED_16 {
         check_unsigned_16(&rt, rt.alloc(), bytes, (answer, left));
     }
 }
@@ -411,7 +411,7 @@ fn check_signed(rt: &impl Abort, alloc: Global, bytes: &[u8], want: (Result<i64>
 
 #[test]
 fn signed_numbers(rt: HostRuntime) {
-    for (bytes, answer, left) in SIGNED {
+    for &(bytes, answer, left) in &SIGNED {
         check_signed(&rt, rt.alloc(), bytes, (answer, left));
     }
 }

@@ -14,7 +14,7 @@ use std::test::Fail;
 /// Calls a function of a reader at each row of a table, over a slice and over the other reader.
 macro_rules! both {
     ($rt:ident, $alloc:ident; $call:ident, $rows:expr) => {
-        for (bytes, order, answer, left) in $rows {
+        for &(bytes, order, answer, left) in &$rows {
             check($rt, bytes, $call(EndianSlice::new(bytes, order)), (answer, left));
             let narrow = NarrowReader::new($alloc, bytes, order);
             check($rt, bytes, $call(narrow), (answer, left));
