@@ -1,8 +1,11 @@
+//! Each step is a function of its own, so that a proof stays short.
+
 ghost use Rattle.std.specs.Prelude.{true, false};
 
 use crate::{Address, EndianVec, Error, InitialLengthOffset, Result, Writer};
 use gimli_core::{BigEndian, DwEhPe, Endianity, Format, LittleEndian, RunTimeEndian, SectionId};
 use std::alloc::Global;
+use std::fmt::Debug;
 use std::process::Abort;
 use std::test::Fail;
 
@@ -77,6 +80,17 @@ fn overwrite<W: Writer>(w: &mut W, offset: usize, call: CallAt) -> Result<()> {
     }
 }
 
+fn check<C: Copy + Debug, T: Copy + Debug + PartialEq>(rt: &impl Abort, call: C, got: T, want: T) {
+    assert_eq!(rt; got, want, "{call:?}");
+}
+
+/// These bytes, behind those that a section holds.
+fn behind(alloc: Global, before: &[u8], bytes: &[u8]) -> Result<Vec<u8>> {
+    let mut whole = before.to_vec(alloc)?;
+    whole.extend_from_slice(bytes)?;
+    Ok(whole)
+}
+
 /// The call is made on a section that holds these bytes; then the section holds the wanted bytes behind
 /// them, or the call refused and the section is as it was.
 fn check_append(
@@ -90,18 +104,13 @@ fn check_append(
     let mut w = EndianVec::new(alloc, endian);
     w.write(&before)?;
     let got = append(&mut w, call);
-    match want {
-        Ok(bytes) => {
-            assert_eq!(rt; got, Ok(()), "{call:?}");
-            let mut whole = before.to_vec(alloc)?;
-            whole.extend_from_slice(bytes)?;
-            assert_eq!(rt; w.slice(), whole.as_slice(), "{call:?}");
-        }
-        Err(error) => {
-            assert_eq!(rt; got, Err(error), "{call:?}");
-            assert_eq!(rt; w.slice(), before.as_slice(), "{call:?}");
-        }
-    }
+    let (bytes, answer): (&[u8], Result<()>) = match want {
+        Ok(bytes) => (bytes, Ok(())),
+        Err(error) => (&[], Err(error)),
+    };
+    check(rt, call, got, answer);
+    let whole = behind(alloc, &before, bytes)?;
+    check(rt, call, w.slice(), whole.as_slice());
     Ok(())
 }
 
@@ -294,17 +303,37 @@ fn check_overwrite(
     let mut w = EndianVec::new(alloc, endian);
     w.write(before)?;
     let got = overwrite(&mut w, offset, call);
-    match want {
-        Ok(bytes) => {
-            assert_eq!(rt; got, Ok(()), "{call:?}");
-            assert_eq!(rt; w.slice(), bytes, "{call:?}");
-        }
-        Err(error) => {
-            assert_eq!(rt; got, Err(error), "{call:?}");
-            assert_eq!(rt; w.slice(), before, "{call:?}");
-        }
-    }
+    let (bytes, answer) = match want {
+        Ok(bytes) => (bytes, Ok(())),
+        Err(error) => (before, Err(error)),
+    };
+    check(rt, call, got, answer);
+    check(rt, call, w.slice(), bytes);
     Ok(())
+}
+
+/// These bytes, between a byte 5a and a byte a5.
+fn between(alloc: Global, bytes: &[u8]) -> Result<Vec<u8>> {
+    let mut between = vec![in alloc; 0x5a]?;
+    between.extend_from_slice(bytes)?;
+    between.push(0xa5)?;
+    Ok(between)
+}
+
+/// The number is put over as many zeros.
+fn check_between(
+    rt: &impl Abort,
+    alloc: Global,
+    endian: RunTimeEndian,
+    call: CallAt,
+    want: &[u8],
+) -> Result<()> {
+    let zeros = [0; 16];
+    assert!(rt; want.len() <= zeros.len());
+    let before = between(alloc, &zeros[..want.len()])?;
+    let after = between(alloc, want)?;
+    let after = Ok(after.as_slice());
+    check_overwrite(rt, alloc, endian, before.as_slice(), 1, call, after)
 }
 
 /// Each number is put between a byte 5a and a byte a5.
@@ -337,36 +366,15 @@ fn numbers_at(rt: HostRuntime) -> std::result::Result<(), Fail> {
         ),
     ];
     for (call, big) in rows {
-        let mut before = vec![in rt.alloc(); 0x5a]?;
-        let mut want = vec![in rt.alloc(); 0x5a]?;
-        let mut want_little = vec![in rt.alloc(); 0x5a]?;
+        check_between(&rt, rt.alloc(), RunTimeEndian::Big, call, big)?;
         let mut little = big.to_vec(rt.alloc())?;
         little.reverse();
-        for _ in big {
-            before.push(0)?;
-        }
-        want.extend_from_slice(big)?;
-        want_little.extend_from_slice(little.as_slice())?;
-        before.push(0xa5)?;
-        want.push(0xa5)?;
-        want_little.push(0xa5)?;
-        check_overwrite(
-            &rt,
-            rt.alloc(),
-            RunTimeEndian::Big,
-            before.as_slice(),
-            1,
-            call,
-            Ok(want.as_slice()),
-        )?;
-        check_overwrite(
+        check_between(
             &rt,
             rt.alloc(),
             RunTimeEndian::Little,
-            before.as_slice(),
-            1,
             call,
-            Ok(want_little.as_slice()),
+            little.as_slice(),
         )?;
     }
     Ok(())
@@ -423,25 +431,7 @@ fn refused_overwrites(rt: HostRuntime) -> std::result::Result<(), Fail> {
     Ok(())
 }
 
-#[test]
-fn initial_lengths(rt: HostRuntime) -> std::result::Result<(), Fail> {
-    let open: [u8; 12] = [0xff, 0xff, 0xff, 0xff, 0, 0, 0, 0, 0, 0, 0, 0];
-    let alloc = rt.alloc();
-    check_both(
-        &rt,
-        alloc,
-        Call::InitialLength(Format::Dwarf32),
-        &[0, 0, 0, 0],
-        &[0, 0, 0, 0],
-    )?;
-    check_both(
-        &rt,
-        alloc,
-        Call::InitialLength(Format::Dwarf64),
-        &open,
-        &open,
-    )?;
-
+fn check_long_length(rt: &impl Abort, alloc: Global) -> Result<()> {
     let mut w = EndianVec::new(alloc, LittleEndian);
     w.write(b"..")?;
     let offset = w.write_initial_length(Format::Dwarf64)?;
@@ -451,7 +441,10 @@ fn initial_lengths(rt: HostRuntime) -> std::result::Result<(), Fail> {
         w.slice(),
         b"..\xff\xff\xff\xff\x88\x77\x66\x55\x44\x33\x22\x11".as_slice()
     );
+    Ok(())
+}
 
+fn check_short_length(rt: &impl Abort, alloc: Global) -> Result<()> {
     let mut w = EndianVec::new(alloc, BigEndian);
     let offset = w.write_initial_length(Format::Dwarf32)?;
     assert_eq!(rt; offset.0, 0);
@@ -460,10 +453,20 @@ fn initial_lengths(rt: HostRuntime) -> std::result::Result<(), Fail> {
     Ok(())
 }
 
-/// Numbers one behind the other, and others put over them: the walk of gimli's own test.
 #[test]
-fn numbers_in_a_row(rt: HostRuntime) -> std::result::Result<(), Fail> {
-    let mut w = EndianVec::new(rt.alloc(), BigEndian);
+fn initial_lengths(rt: HostRuntime) -> std::result::Result<(), Fail> {
+    let open: [u8; 12] = [0xff, 0xff, 0xff, 0xff, 0, 0, 0, 0, 0, 0, 0, 0];
+    let alloc = rt.alloc();
+    let short = Call::InitialLength(Format::Dwarf32);
+    check_both(&rt, alloc, short, &[0, 0, 0, 0], &[0, 0, 0, 0])?;
+    let long = Call::InitialLength(Format::Dwarf64);
+    check_both(&rt, alloc, long, &open, &open)?;
+    check_long_length(&rt, alloc)?;
+    check_short_length(&rt, alloc)?;
+    Ok(())
+}
+
+fn check_appended(rt: &impl Abort, w: &mut EndianVec<BigEndian>) -> Result<()> {
     for call in [
         Call::U8(0x11),
         Call::U16(0x2233),
@@ -471,13 +474,17 @@ fn numbers_in_a_row(rt: HostRuntime) -> std::result::Result<(), Fail> {
         Call::U64(0x8081_8283_8485_8687),
         Call::U128(1),
     ] {
-        append(&mut w, call)?;
+        append(w, call)?;
     }
-    let first: [u8; 31] = [
+    let want: [u8; 31] = [
         0x11, 0x22, 0x33, 0x44, 0x55, 0x66, 0x77, 0x80, 0x81, 0x82, 0x83, 0x84, 0x85, 0x86, 0x87,
         0, 0, 0, 0, 0, 0, 0, 0, 0, 0, 0, 0, 0, 0, 0, 1,
     ];
-    assert_eq!(rt; w.slice(), first.as_slice());
+    assert_eq!(rt; w.slice(), want.as_slice());
+    Ok(())
+}
+
+fn check_overwritten(rt: &impl Abort, w: &mut EndianVec<BigEndian>) -> Result<()> {
     for (offset, call) in [
         (0x0e, CallAt::U8(0x11)),
         (0x0c, CallAt::U16(0x2233)),
@@ -485,18 +492,31 @@ fn numbers_in_a_row(rt: HostRuntime) -> std::result::Result<(), Fail> {
         (0, CallAt::U64(0x8081_8283_8485_8687)),
         (0x0f, CallAt::U128(2)),
     ] {
-        overwrite(&mut w, offset, call)?;
+        overwrite(w, offset, call)?;
     }
-    let second: [u8; 31] = [
+    let want: [u8; 31] = [
         0x80, 0x81, 0x82, 0x83, 0x84, 0x85, 0x86, 0x87, 0x44, 0x55, 0x66, 0x77, 0x22, 0x33, 0x11,
         0, 0, 0, 0, 0, 0, 0, 0, 0, 0, 0, 0, 0, 0, 0, 2,
     ];
-    assert_eq!(rt; w.slice(), second.as_slice());
+    assert_eq!(rt; w.slice(), want.as_slice());
+    Ok(())
+}
 
-    let mut w = EndianVec::new(rt.alloc(), LittleEndian);
+fn check_address_and_offset(rt: &impl Abort, alloc: Global) -> Result<()> {
+    let mut w = EndianVec::new(alloc, LittleEndian);
     w.write_address(Address::Constant(0x1122_3344), 4)?;
     w.write_offset_at(1, 0x5566, SectionId::DebugInfo, 2)?;
     assert_eq!(rt; w.slice(), b"\x44\x66\x55\x11".as_slice());
+    Ok(())
+}
+
+/// Numbers one behind the other, and others put over them: the walk of gimli's own test.
+#[test]
+fn numbers_in_a_row(rt: HostRuntime) -> std::result::Result<(), Fail> {
+    let mut w = EndianVec::new(rt.alloc(), BigEndian);
+    check_appended(&rt, &mut w)?;
+    check_overwritten(&rt, &mut w)?;
+    check_address_and_offset(&rt, rt.alloc())?;
     Ok(())
 }
 
@@ -595,40 +615,52 @@ fn write_some<W: Writer>(w: &mut W) -> Result<()> {
     w.write_u8_at(0, 9)
 }
 
+fn check_twice(rt: &impl Abort, w: &mut Repeating<BigEndian>) -> Result<()> {
+    write_some(w)?;
+    assert_eq!(rt;
+        w.section.slice(),
+        [9, 2, 1, 2, 0x80, 1, 0x80, 1, 1, 1, 3, 3].as_slice()
+    );
+    Ok(())
+}
+
+fn check_not_at_all(rt: &impl Abort, w: &mut Repeating<BigEndian>) {
+    w.section.take();
+    w.twice = false;
+    assert_eq!(rt; write_some(w), Err(Error::LengthOutOfBounds));
+    assert_eq!(rt; w.section.len(), 0);
+}
+
 #[test]
 fn writer_that_is_not_plain(rt: HostRuntime) -> std::result::Result<(), Fail> {
     let mut w = Repeating {
         section: EndianVec::new(rt.alloc(), BigEndian),
         twice: true,
     };
-    write_some(&mut w)?;
-    assert_eq!(rt;
-        w.section.slice(),
-        [9, 2, 1, 2, 0x80, 1, 0x80, 1, 1, 1, 3, 3].as_slice()
-    );
-    w.section.take();
-
-    w.twice = false;
-    assert_eq!(rt; write_some(&mut w), Err(Error::LengthOutOfBounds));
-    assert_eq!(rt; w.section.len(), 0);
+    check_twice(&rt, &mut w)?;
+    check_not_at_all(&rt, &mut w);
     Ok(())
+}
+
+fn check_tired(rt: &impl Abort, alloc: Global, calls: usize, want: &[u8]) {
+    let mut w = Tired {
+        section: EndianVec::new(alloc, BigEndian),
+        calls,
+    };
+    assert_eq!(rt;
+        write_some(&mut w),
+        Err(Error::MissingBaseAddress),
+        "after {calls}"
+    );
+    assert_eq!(rt; w.section.slice(), want, "after {calls}");
 }
 
 #[test]
 fn writer_that_is_not_steady(rt: HostRuntime) -> std::result::Result<(), Fail> {
     let whole: [u8; 6] = [1, 2, 0x80, 1, 5, 3];
     for (calls, kept) in [(0, 0), (1, 2), (2, 4), (3, 5), (4, 6)] {
-        let mut w = Tired {
-            section: EndianVec::new(rt.alloc(), BigEndian),
-            calls,
-        };
-        assert_eq!(rt;
-            write_some(&mut w),
-            Err(Error::MissingBaseAddress),
-            "after {calls}"
-        );
         assert!(rt; kept <= whole.len());
-        assert_eq!(rt; w.section.slice(), &whole[..kept], "after {calls}");
+        check_tired(&rt, rt.alloc(), calls, &whole[..kept]);
     }
     Ok(())
 }

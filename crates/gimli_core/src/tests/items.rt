@@ -36,7 +36,7 @@ fn sum(address: u64, length: u64, size: u8) -> Result<u64> {
 
 #[test]
 fn sums_at_the_top_of_each_size(rt: HostRuntime) {
-    for (address, length, size, answer) in SUMS {
+    for &(address, length, size, answer) in &SUMS {
         assert_eq!(rt;
             sum(address, length, size),
             answer,
@@ -180,7 +180,7 @@ const VALUES: [(Value, Option<u64>); 13] = [
 
 #[test]
 fn values_as_unsigned_numbers(rt: HostRuntime) {
-    for (value, number) in VALUES {
+    for &(value, number) in &VALUES {
         assert_eq!(rt; value.udata_value(), number, "at {value:?}");
     }
     let block = Value::Block(EndianSlice::new(&[1], LittleEndian));

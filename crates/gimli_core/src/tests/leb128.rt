@@ -1,10 +1,13 @@
 //! LEB128 at every length, and at each boundary of the last byte. The first rows of each table are the standard's
 //! own examples (DWARF 5, section 7.6).
 
+use super::check;
 use super::narrow::NarrowReader;
 use crate::{
     EndianSlice, Error, LittleEndian, Reader, ReaderOffset, ReaderOffsetId, Result, RunTimeEndian,
 };
+use std::alloc::Global;
+use std::process::Abort;
 
 const UNSIGNED: [(&[u8], Result<u64>, u64); 43] = [
     (&[0x02], Ok(2), 0),
@@ -359,41 +362,56 @@ fn signed<R: Reader>(mut reader: R) -> (Result<i64>, u64) {
     (answer, reader.len().into_u64())
 }
 
+fn check_unsigned(rt: &impl Abort, alloc: Global, bytes: &[u8], want: (Result<u64>, u64)) {
+    check(
+        rt,
+        bytes,
+        unsigned(EndianSlice::new(bytes, LittleEndian)),
+        want,
+    );
+    let narrow = NarrowReader::new(alloc, bytes, RunTimeEndian::Big);
+    check(rt, bytes, unsigned(narrow), want);
+}
+
 #[test]
 fn unsigned_numbers(rt: HostRuntime) {
-    for (bytes, answer, left) in UNSIGNED {
-        assert_eq!(rt;
-            unsigned(EndianSlice::new(bytes, LittleEndian)),
-            (answer, left),
-            "at {bytes:?}"
-        );
-        let narrow = NarrowReader::new(rt.alloc(), bytes, RunTimeEndian::Big);
-        assert_eq!(rt; unsigned(narrow), (answer, left), "at {bytes:?}");
+    for &(bytes, answer, left) in &UNSIGNED {
+        check_unsigned(&rt, rt.alloc(), bytes, (answer, left));
     }
+}
+
+fn check_unsigned_16(rt: &impl Abort, alloc: Global, bytes: &[u8], want: (Result<u16>, u64)) {
+    check(
+        rt,
+        bytes,
+        unsigned_16(EndianSlice::new(bytes, LittleEndian)),
+        want,
+    );
+    let narrow = NarrowReader::new(alloc, bytes, RunTimeEndian::Big);
+    check(rt, bytes, unsigned_16(narrow), want);
 }
 
 #[test]
 fn unsigned_numbers_of_16_bits(rt: HostRuntime) {
-    for (bytes, answer, left) in UNSIGNED_16 {
-        assert_eq!(rt;
-            unsigned_16(EndianSlice::new(bytes, LittleEndian)),
-            (answer, left),
-            "at {bytes:?}"
-        );
-        let narrow = NarrowReader::new(rt.alloc(), bytes, RunTimeEndian::Big);
-        assert_eq!(rt; unsigned_16(narrow), (answer, left), "at {bytes:?}");
+    for &(bytes, answer, left) in &UNSIGNED_16 {
+        check_unsigned_16(&rt, rt.alloc(), bytes, (answer, left));
     }
+}
+
+fn check_signed(rt: &impl Abort, alloc: Global, bytes: &[u8], want: (Result<i64>, u64)) {
+    check(
+        rt,
+        bytes,
+        signed(EndianSlice::new(bytes, LittleEndian)),
+        want,
+    );
+    let narrow = NarrowReader::new(alloc, bytes, RunTimeEndian::Big);
+    check(rt, bytes, signed(narrow), want);
 }
 
 #[test]
 fn signed_numbers(rt: HostRuntime) {
-    for (bytes, answer, left) in SIGNED {
-        assert_eq!(rt;
-            signed(EndianSlice::new(bytes, LittleEndian)),
-            (answer, left),
-            "at {bytes:?}"
-        );
-        let narrow = NarrowReader::new(rt.alloc(), bytes, RunTimeEndian::Big);
-        assert_eq!(rt; signed(narrow), (answer, left), "at {bytes:?}");
+    for &(bytes, answer, left) in &SIGNED {
+        check_signed(&rt, rt.alloc(), bytes, (answer, left));
     }
 }

@@ -1,20 +1,23 @@
 //! Each call of a reader, over a slice and over the tests' own reader, which has the default bodies alone.
 
+use super::check;
 use super::narrow::{Narrow, NarrowReader};
 use crate::RunTimeEndian::{Big, Little};
 use crate::{
     EndianSlice, Error, Format, Reader, ReaderOffset, ReaderOffsetId, Result, RunTimeEndian,
 };
+use std::alloc::Global;
 use std::borrow::CowSlice;
+use std::process::Abort;
 use std::test::Fail;
 
 /// Calls a function of a reader at each row of a table, over a slice and over the other reader.
 macro_rules! both {
-    ($rt:ident; $call:ident, $rows:expr) => {
-        for (bytes, order, answer, left) in $rows {
-            assert_eq!($rt; $call(EndianSlice::new(bytes, order)), (answer, left), "at {bytes:?}");
-            let narrow = NarrowReader::new($rt.alloc(), bytes, order);
-            assert_eq!($rt; $call(narrow), (answer, left), "at {bytes:?}");
+    ($rt:ident, $alloc:ident; $call:ident, $rows:expr) => {
+        for &(bytes, order, answer, left) in &$rows {
+            check($rt, bytes, $call(EndianSlice::new(bytes, order)), (answer, left));
+            let narrow = NarrowReader::new($alloc, bytes, order);
+            check($rt, bytes, $call(narrow), (answer, left));
         }
     };
 }
@@ -193,20 +196,52 @@ const SIXTEEN_BYTES: Rows<[u8; 16], 3> = [
     ),
 ];
 
+fn check_bytes(rt: &impl Abort, alloc: Global) {
+    both!(rt, alloc; one_byte, BYTES);
+}
+
+fn check_signed_bytes(rt: &impl Abort, alloc: Global) {
+    both!(rt, alloc; signed_byte, SIGNED_BYTES);
+}
+
+fn check_halves(rt: &impl Abort, alloc: Global) {
+    both!(rt, alloc; two_bytes, HALVES);
+}
+
+fn check_words(rt: &impl Abort, alloc: Global) {
+    both!(rt, alloc; four_bytes, WORDS);
+}
+
+fn check_double_words(rt: &impl Abort, alloc: Global) {
+    both!(rt, alloc; eight_bytes, DOUBLE_WORDS);
+}
+
 #[test]
 fn numbers_in_both_orders(rt: HostRuntime) {
-    both!(rt; one_byte, BYTES);
-    both!(rt; signed_byte, SIGNED_BYTES);
-    both!(rt; two_bytes, HALVES);
-    both!(rt; four_bytes, WORDS);
-    both!(rt; eight_bytes, DOUBLE_WORDS);
+    check_bytes(&rt, rt.alloc());
+    check_signed_bytes(&rt, rt.alloc());
+    check_halves(&rt, rt.alloc());
+    check_words(&rt, rt.alloc());
+    check_double_words(&rt, rt.alloc());
+}
+
+fn check_three_bytes(rt: &impl Abort, alloc: Global) {
+    both!(rt, alloc; three_bytes, THREE_BYTES);
+}
+
+fn check_no_bytes(rt: &impl Abort, alloc: Global) {
+    both!(rt, alloc; no_bytes, NO_BYTES);
+}
+
+fn check_sixteen_bytes(rt: &impl Abort, alloc: Global) {
+    both!(rt, alloc; sixteen_bytes, SIXTEEN_BYTES);
 }
 
 #[test]
 fn numbers_of_other_sizes(rt: HostRuntime) {
-    both!(rt; three_bytes, THREE_BYTES);
-    both!(rt; no_bytes, NO_BYTES);
-    both!(rt; sixteen_bytes, SIXTEEN_BYTES);
+    check_three_bytes(&rt, rt.alloc());
+    check_no_bytes(&rt, rt.alloc());
+    check_sixteen_bytes(&rt, rt.alloc());
 }
 
 // ---- lengths, words and addresses
@@ -376,11 +411,23 @@ const LONG_WORDS: Rows<u64, 2> = [
     ),
 ];
 
+fn check_initial_lengths(rt: &impl Abort, alloc: Global) {
+    both!(rt, alloc; initial_length, INITIAL_LENGTHS);
+}
+
+fn check_short_words(rt: &impl Abort, alloc: Global) {
+    both!(rt, alloc; short_word, SHORT_WORDS);
+}
+
+fn check_long_words(rt: &impl Abort, alloc: Global) {
+    both!(rt, alloc; long_word, LONG_WORDS);
+}
+
 #[test]
 fn lengths_and_words(rt: HostRuntime) {
-    both!(rt; initial_length, INITIAL_LENGTHS);
-    both!(rt; short_word, SHORT_WORDS);
-    both!(rt; long_word, LONG_WORDS);
+    check_initial_lengths(&rt, rt.alloc());
+    check_short_words(&rt, rt.alloc());
+    check_long_words(&rt, rt.alloc());
 }
 
 /// Lengths and offsets that 32 bits don't hold.
@@ -388,19 +435,27 @@ const LARGE_LENGTH: &[u8] = &[0xff, 0xff, 0xff, 0xff, 0, 0, 0, 0, 1, 0, 0, 0, 9]
 
 const LARGE_WORD: &[u8] = &[0, 0, 0, 1, 0, 0, 0, 0, 9];
 
-#[test]
-fn words_that_an_offset_does_not_hold(rt: HostRuntime) {
+fn check_large_length(rt: &impl Abort, alloc: Global) {
     let slice = EndianSlice::new(LARGE_LENGTH, Little);
     assert_eq!(rt;
         initial_length(slice),
         (Ok((0x1_0000_0000, Format::Dwarf64)), 1)
     );
-    let narrow = NarrowReader::new(rt.alloc(), LARGE_LENGTH, Little);
+    let narrow = NarrowReader::new(alloc, LARGE_LENGTH, Little);
     assert_eq!(rt; initial_length(narrow), (Err(Error::UnsupportedOffset), 1));
+}
+
+fn check_large_word(rt: &impl Abort, alloc: Global) {
     let slice = EndianSlice::new(LARGE_WORD, Big);
     assert_eq!(rt; long_word(slice), (Ok(0x1_0000_0000), 1));
-    let narrow = NarrowReader::new(rt.alloc(), LARGE_WORD, Big);
+    let narrow = NarrowReader::new(alloc, LARGE_WORD, Big);
     assert_eq!(rt; long_word(narrow), (Err(Error::UnsupportedOffset), 1));
+}
+
+#[test]
+fn words_that_an_offset_does_not_hold(rt: HostRuntime) {
+    check_large_length(&rt, rt.alloc());
+    check_large_word(&rt, rt.alloc());
 }
 
 #[test]
@@ -469,11 +524,23 @@ const ADDRESSES_1_AND_4: Rows<(u64, u64), 1> = [(
     0,
 )];
 
+fn check_addresses_2(rt: &impl Abort, alloc: Global) {
+    both!(rt, alloc; address_2, ADDRESSES_2);
+}
+
+fn check_addresses_8(rt: &impl Abort, alloc: Global) {
+    both!(rt, alloc; address_8, ADDRESSES_8);
+}
+
+fn check_addresses_1_and_4(rt: &impl Abort, alloc: Global) {
+    both!(rt, alloc; addresses_1_and_4, ADDRESSES_1_AND_4);
+}
+
 #[test]
 fn addresses(rt: HostRuntime) {
-    both!(rt; address_2, ADDRESSES_2);
-    both!(rt; address_8, ADDRESSES_8);
-    both!(rt; addresses_1_and_4, ADDRESSES_1_AND_4);
+    check_addresses_2(&rt, rt.alloc());
+    check_addresses_8(&rt, rt.alloc());
+    check_addresses_1_and_4(&rt, rt.alloc());
 }
 
 // ---- bytes and texts
@@ -490,9 +557,13 @@ const TEXTS: Rows<u64, 4> = [
     (&[], Little, Err(Error::UnexpectedEof(ReaderOffsetId(0))), 0),
 ];
 
+fn check_texts(rt: &impl Abort, alloc: Global) {
+    both!(rt, alloc; text_length, TEXTS);
+}
+
 #[test]
 fn texts(rt: HostRuntime) {
-    both!(rt; text_length, TEXTS);
+    check_texts(&rt, rt.alloc());
 }
 
 /// Takes two bytes, a text, and what is left; says what each has.
