@@ -7,6 +7,7 @@ use gimli_core::{
     Error, Format, LittleEndian, Reader, Result,
 };
 use std::alloc::Global;
+use std::process::Abort;
 use std::test::Fail;
 
 /// A table whose only format is a path in place, and that has no entry.
@@ -309,10 +310,15 @@ fn values_beside_a_path(rt: HostRuntime) -> std::result::Result<(), Fail> {
     let unit = unit_of_tables(rt.alloc(), Format::Dwarf32, directories, files)?;
     let program = program(rt.alloc(), &unit)?;
     let source = AttributeValue::DebugLineStrRef(DebugLineStrOffset(9));
-    assert!(rt; is_directory(program.header(), 0, b"dir"));
-    assert!(rt; is_file(program.header(), 0, b"a", 0));
+    check_paths(&rt, program.header());
     assert!(rt; has_source(program.header(), source));
     Ok(())
+}
+
+/// The paths of its directory and of its file.
+fn check_paths<R: Reader>(rt: &impl Abort, header: &LineProgramHeader<R>) {
+    assert!(rt; is_directory(header, 0, b"dir"));
+    assert!(rt; is_file(header, 0, b"a", 0));
 }
 
 /// The first file has this text.

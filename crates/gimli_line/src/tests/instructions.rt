@@ -1,4 +1,5 @@
-//! Instructions by themselves, as they are taken and as they are executed.
+//! Instructions by themselves, as they are taken and as they are executed. Each step is a function of its own, over
+//! any reader where it can be, so that a proof stays short.
 
 use super::programs::{
     Slice, flags, header_3, header_13, header_of_version_5, header_range_12, numbers, program, unit,
@@ -10,11 +11,12 @@ use crate::LineInstruction::{
 };
 use crate::{
     CompleteLineProgram, FileEntry, IncompleteLineProgram, LineInstruction, LineInstructions,
-    LineRow,
+    LineProgramHeader, LineRow,
 };
 use gimli_core::{
     AttributeValue, DwLne, DwLns, EndianSlice, Error, LittleEndian, Reader, ReaderOffsetId, Result,
 };
+use std::process::Abort;
 use std::test::Fail;
 
 type Instruction<'i> = LineInstruction<Slice<'i>>;
@@ -22,7 +24,10 @@ type Instruction<'i> = LineInstruction<Slice<'i>>;
 // ---- taken
 
 /// Whether this is the first instruction of a program.
-fn begins_with<'i>(program: &IncompleteLineProgram<Slice<'i>>, first: Instruction<'i>) -> bool {
+fn begins_with<R: Reader + PartialEq>(
+    program: &IncompleteLineProgram<R>,
+    first: LineInstruction<R>,
+) -> bool {
     let mut instructions = program.header().instructions();
     match instructions.next_instruction(program.header()) {
         Ok(Some(instruction)) => instruction == first,
@@ -31,7 +36,7 @@ fn begins_with<'i>(program: &IncompleteLineProgram<Slice<'i>>, first: Instructio
 }
 
 /// Whether nothing stands behind the first instruction of a program, or behind its refusal.
-fn ends_behind_first<'i>(program: &IncompleteLineProgram<Slice<'i>>) -> bool {
+fn ends_behind_first<R: Reader>(program: &IncompleteLineProgram<R>) -> bool {
     let mut instructions = program.header().instructions();
     let _ = instructions.next_instruction(program.header());
     let mut behind = instructions.clone();
@@ -39,7 +44,7 @@ fn ends_behind_first<'i>(program: &IncompleteLineProgram<Slice<'i>>) -> bool {
 }
 
 /// Whether the first instruction of a program is refused so.
-fn refuses<'i>(program: &IncompleteLineProgram<Slice<'i>>, error: Error) -> bool {
+fn refuses<R: Reader>(program: &IncompleteLineProgram<R>, error: Error) -> bool {
     let mut instructions = program.header().instructions();
     match instructions.next_instruction(program.header()) {
         Err(e) => e == error,
@@ -225,10 +230,10 @@ fn refused_instruction(rt: HostRuntime) -> std::result::Result<(), Fail> {
 // ---- executed
 
 /// Executes the instructions of a program on a row, up to eight, and answers what the last one answered.
-fn execute_all<'i>(
+fn execute_all<R: Reader>(
     row: &mut LineRow,
-    instructions: &mut LineInstructions<Slice<'i>>,
-    program: &mut IncompleteLineProgram<Slice<'i>>,
+    instructions: &mut LineInstructions<R>,
+    program: &mut IncompleteLineProgram<R>,
 ) -> Result<bool> {
     let mut last = Ok(false);
     for _ in 0..8 {
@@ -239,6 +244,16 @@ fn execute_all<'i>(
         }
     }
     last
+}
+
+/// The last answer of a program, and the numbers and the flags of the row behind it.
+fn executed_by<R: Reader>(
+    program: &mut IncompleteLineProgram<R>,
+) -> (Result<bool>, [u64; 7], [bool; 5]) {
+    let mut instructions = program.header().instructions();
+    let mut row = LineRow::new(program.header());
+    let last = execute_all(&mut row, &mut instructions, program);
+    (last, numbers(&row), flags(&row))
 }
 
 /// Numbers of a new row.
@@ -389,13 +404,25 @@ fn one_instruction_executed(rt: HostRuntime) -> std::result::Result<(), Fail> {
     for (bytes, size, answer, registers, marks) in executed() {
         let unit = unit(rt.alloc(), header_range_12(), bytes)?;
         let mut program = program(rt.alloc(), &unit, size)?;
-        let mut instructions = program.header().instructions();
-        let mut row = LineRow::new(program.header());
-        let last = execute_all(&mut row, &mut instructions, &mut program);
+        let (last, found, found_marks) = executed_by(&mut program);
         assert_eq!(rt; last, answer, "at {bytes:?}");
-        assert_eq!(rt; numbers(&row), registers, "at {bytes:?}");
-        assert_eq!(rt; flags(&row), marks, "at {bytes:?}");
+        assert_eq!(rt; found, registers, "at {bytes:?}");
+        assert_eq!(rt; found_marks, marks, "at {bytes:?}");
     }
+    Ok(())
+}
+
+/// The first instruction of a program makes no row and changes no register.
+fn check_no_change<R: Reader>(
+    rt: &impl Abort,
+    program: &mut IncompleteLineProgram<R>,
+) -> std::result::Result<(), Fail> {
+    let mut row = LineRow::new(program.header());
+    let mut instructions = program.header().instructions();
+    let first = instructions.next_instruction(program.header())?;
+    let instruction = first.ok_or("no instruction")?;
+    assert_eq!(rt; row.execute(instruction, program), Ok(false));
+    assert_eq!(rt; row, LineRow::new(program.header()));
     Ok(())
 }
 
@@ -408,22 +435,19 @@ fn unknown_standard_opcodes_change_nothing(rt: HostRuntime) -> std::result::Resu
             &[0x0d, 0x80, 0, 0x8a, 0, 0x8a, 0],
         )?;
         let mut program = program(rt.alloc(), &unit, 8)?;
-        let mut row = LineRow::new(program.header());
-        let mut instructions = program.header().instructions();
-        let first = instructions.next_instruction(program.header())?;
-        let instruction = first.ok_or("no instruction")?;
-        assert_eq!(rt; row.execute(instruction, &mut program), Ok(false));
-        assert_eq!(rt; row, LineRow::new(program.header()));
+        check_no_change(&rt, &mut program)?;
     }
     Ok(())
 }
 
-/// The path of a file of a row, where the header has it.
-fn path<'i>(
-    row: &LineRow,
-    program: &IncompleteLineProgram<Slice<'i>>,
-) -> Option<AttributeValue<Slice<'i>>> {
-    row.file(program.header()).map(|file| file.path_name())
+/// The path of the file of the row behind a program, where the header has it.
+fn path_behind<R: Reader>(
+    program: &mut IncompleteLineProgram<R>,
+) -> Result<Option<AttributeValue<R>>> {
+    let mut row = LineRow::new(program.header());
+    let mut instructions = program.header().instructions();
+    execute_all(&mut row, &mut instructions, program)?;
+    Ok(row.file(program.header()).map(|file| file.path_name()))
 }
 
 #[test]
@@ -437,10 +461,7 @@ fn files_of_a_row(rt: HostRuntime) -> std::result::Result<(), Fail> {
     for (bytes, expected) in paths {
         let unit = unit(rt.alloc(), header_of_two_files(), bytes)?;
         let mut program = program(rt.alloc(), &unit, 8)?;
-        let mut row = LineRow::new(program.header());
-        let mut instructions = program.header().instructions();
-        execute_all(&mut row, &mut instructions, &mut program)?;
-        let found = path(&row, &program);
+        let found = path_behind(&mut program)?;
         let text = expected.map(|text| AttributeValue::String(EndianSlice::new(
             text,
             LittleEndian,
@@ -457,12 +478,41 @@ fn header_of_two_files() -> &'static [u8] {
 }
 
 /// Defines a file of a program whose files are complete.
-fn execute_on_complete<'i>(
+fn execute_on_complete<R: Reader>(
     row: &mut LineRow,
-    program: &CompleteLineProgram<Slice<'i>>,
+    program: &CompleteLineProgram<R>,
+    file: FileEntry<R>,
 ) -> Result<bool> {
     let mut lent = program;
-    row.execute(DefineFile(foo()), &mut lent)
+    row.execute(DefineFile(file), &mut lent)
+}
+
+/// A file that is defined changes no register.
+fn define_foo<R: Reader>(
+    rt: &impl Abort,
+    row: &mut LineRow,
+    program: &mut IncompleteLineProgram<R>,
+    file: FileEntry<R>,
+) {
+    let fresh = *row;
+    assert_eq!(rt; row.execute(DefineFile(file), program), Ok(false));
+    assert_eq!(rt; *row, fresh);
+}
+
+/// The second file of two is this one.
+fn has_second<R: Reader + PartialEq>(header: &LineProgramHeader<R>, file: FileEntry<R>) -> bool {
+    header.file_names().len() == 2 && header.file(2).copied() == Some(file)
+}
+
+/// A program whose files are complete takes no more, and refuses nothing.
+fn check_complete<R: Reader>(
+    rt: &impl Abort,
+    row: &mut LineRow,
+    complete: &CompleteLineProgram<R>,
+    file: FileEntry<R>,
+) {
+    assert_eq!(rt; execute_on_complete(row, complete, file), Ok(false));
+    assert_eq!(rt; complete.header().file_names().len(), 2);
 }
 
 #[test]
@@ -470,21 +520,69 @@ fn file_defined_by_an_instruction(rt: HostRuntime) -> std::result::Result<(), Fa
     let unit = unit(rt.alloc(), header_13(), defines_foo())?;
     let mut program = program(rt.alloc(), &unit, 4)?;
     let mut row = LineRow::new(program.header());
-    let fresh = row;
-    assert_eq!(rt; row.execute(DefineFile(foo()), &mut program), Ok(false));
-    assert_eq!(rt; row, fresh);
-    assert_eq!(rt; program.header().file_names().len(), 2);
-    assert_eq!(rt; program.header().file(2).copied(), Some(foo()));
-    // A program whose files are complete takes no more, and refuses nothing.
+    define_foo(&rt, &mut row, &mut program, foo());
+    assert!(rt; has_second(program.header(), foo()));
     let complete = CompleteLineProgram {
         header: program.header,
     };
-    assert_eq!(rt; execute_on_complete(&mut row, &complete), Ok(false));
-    assert_eq!(rt; complete.header().file_names().len(), 2);
+    check_complete(&rt, &mut row, &complete, foo());
     Ok(())
 }
 
 // ---- behind a row
+
+/// A row behind a program, before and behind a reset.
+fn check_reset<R: Reader>(
+    rt: &impl Abort,
+    row: &mut LineRow,
+    program: &mut IncompleteLineProgram<R>,
+) -> Result<()> {
+    let mut instructions = program.header().instructions();
+    execute_all(row, &mut instructions, program)?;
+    assert_eq!(rt; numbers(row), [42, 0, 1, 1, 0, 0, 9]);
+    assert_eq!(rt; flags(row), [false, true, false, true, true]);
+    row.reset(program.header());
+    assert_eq!(rt; numbers(row), [42, 0, 1, 1, 0, 0, 0]);
+    assert_eq!(rt; flags(row), [false, false, false, false, false]);
+    Ok(())
+}
+
+/// An address that goes back hides what follows.
+fn check_hidden<R: Reader>(
+    rt: &impl Abort,
+    row: &mut LineRow,
+    program: &mut IncompleteLineProgram<R>,
+) -> Result<()> {
+    row.execute(SetAddress(8), program)?;
+    row.execute(AdvancePc(1), program)?;
+    assert_eq!(rt; row.address(), 42);
+    Ok(())
+}
+
+/// Rebase ends that.
+fn check_rebased<R: Reader>(
+    rt: &impl Abort,
+    row: &mut LineRow,
+    program: &mut IncompleteLineProgram<R>,
+) -> Result<()> {
+    row.rebase();
+    row.execute(AdvancePc(1), program)?;
+    assert_eq!(rt; row.address(), 1);
+    Ok(())
+}
+
+/// An end, and a reset behind it.
+fn check_ended<R: Reader>(
+    rt: &impl Abort,
+    row: &mut LineRow,
+    program: &mut IncompleteLineProgram<R>,
+) -> Result<()> {
+    row.execute(EndSequence, program)?;
+    assert!(rt; row.end_sequence());
+    row.reset(program.header());
+    assert_eq!(rt; *row, LineRow::new(program.header()));
+    Ok(())
+}
 
 #[test]
 fn registers_reset_and_rebased(rt: HostRuntime) -> std::result::Result<(), Fail> {
@@ -492,23 +590,9 @@ fn registers_reset_and_rebased(rt: HostRuntime) -> std::result::Result<(), Fail>
     let unit = unit(rt.alloc(), header_13(), marked)?;
     let mut program = program(rt.alloc(), &unit, 1)?;
     let mut row = LineRow::new(program.header());
-    let mut instructions = program.header().instructions();
-    execute_all(&mut row, &mut instructions, &mut program)?;
-    assert_eq!(rt; numbers(&row), [42, 0, 1, 1, 0, 0, 9]);
-    assert_eq!(rt; flags(&row), [false, true, false, true, true]);
-    row.reset(program.header());
-    assert_eq!(rt; numbers(&row), [42, 0, 1, 1, 0, 0, 0]);
-    assert_eq!(rt; flags(&row), [false, false, false, false, false]);
-    // An address that goes back hides what follows, and rebase ends that.
-    row.execute(SetAddress(8), &mut program)?;
-    row.execute(AdvancePc(1), &mut program)?;
-    assert_eq!(rt; row.address(), 42);
-    row.rebase();
-    row.execute(AdvancePc(1), &mut program)?;
-    assert_eq!(rt; row.address(), 1);
-    row.execute(EndSequence, &mut program)?;
-    assert!(rt; row.end_sequence());
-    row.reset(program.header());
-    assert_eq!(rt; row, LineRow::new(program.header()));
+    check_reset(&rt, &mut row, &mut program)?;
+    check_hidden(&rt, &mut row, &mut program)?;
+    check_rebased(&rt, &mut row, &mut program)?;
+    check_ended(&rt, &mut row, &mut program)?;
     Ok(())
 }

@@ -1,11 +1,16 @@
-//! Look-ups by index, sections over other sections, and what is derived.
+//! Look-ups by index, sections over other sections, and what is derived. Each step is a function of its own, so that
+//! a proof stays short.
 
 use super::{
     Slice, changed, demo_unit, is_directory, named_program, program, unit_of_version_4,
     unit_of_version_5,
 };
 use crate::{DebugLine, IncompleteLineProgram, LineProgramHeader};
-use gimli_core::{DebugLineOffset, EndianSlice, LittleEndian, Reader, Section, SectionId};
+use gimli_core::{
+    DebugLineOffset, EndianSlice, LittleEndian, Reader, ReaderOffset, Result, Section, SectionId,
+};
+use std::alloc::Global;
+use std::process::Abort;
 use std::test::Fail;
 
 /// No directory and no file has such an index.
@@ -44,18 +49,28 @@ fn offsets_past_the_end(rt: HostRuntime) {
     }
 }
 
-#[test]
-fn sections_over_readers_and_vectors(rt: HostRuntime) -> std::result::Result<(), Fail> {
+/// A section over a reader.
+fn check_reader(rt: &impl Abort) {
     let reader = EndianSlice::new(unit_of_version_4(), LittleEndian);
     let section = DebugLine::from(reader);
     assert_eq!(rt; section.reader().slice().len(), 82);
     assert!(rt; <DebugLine<Slice<'_>> as Section<Slice<'_>>>::id() == SectionId::DebugLine);
+}
 
+#[test]
+fn sections_over_readers_and_vectors(rt: HostRuntime) -> std::result::Result<(), Fail> {
+    check_reader(&rt);
     let owned = DebugLine::from(Vec::from_slice(rt.alloc(), unit_of_version_5())?);
     let lent = owned.borrow(|bytes| EndianSlice::new(bytes, LittleEndian));
-    let program = lent.program(rt.alloc(), DebugLineOffset(0), 4, None, None)?;
-    assert!(rt; is_directory(program.header(), 0, b"/w"));
+    assert!(rt; is_in_w(rt.alloc(), &lent)?);
     Ok(())
+}
+
+/// The unit at the front of a section is of the directory `/w`.
+fn is_in_w<R: Reader>(alloc: Global, section: &DebugLine<R>) -> Result<bool> {
+    let offset = DebugLineOffset(R::Offset::from_u8(0));
+    let program = section.program(alloc, offset, 4, None, None)?;
+    Ok(is_directory(program.header(), 0, b"/w"))
 }
 
 /// The headers are equal.
@@ -64,6 +79,13 @@ fn are_equal<R: Reader + PartialEq>(
     other: &LineProgramHeader<R>,
 ) -> bool {
     *one == *other
+}
+
+/// A unit has the header of the version 5 unit.
+fn has_equal_header(alloc: Global, unit: &[u8]) -> Result<bool> {
+    let one = program(alloc, unit_of_version_5())?;
+    let other = program(alloc, unit)?;
+    Ok(are_equal(one.header(), other.header()))
 }
 
 /// A copy of the header is equal to it.
@@ -86,11 +108,9 @@ fn has_equal_program<R: Reader + PartialEq>(program: &IncompleteLineProgram<R>) 
 /// are compared and copied with it.
 #[test]
 fn equal_and_copied_headers(rt: HostRuntime) -> std::result::Result<(), Fail> {
+    assert!(rt; has_equal_header(rt.alloc(), unit_of_version_5())?);
+    assert!(rt; !has_equal_header(rt.alloc(), demo_unit())?);
     let one = program(rt.alloc(), unit_of_version_5())?;
-    let other = program(rt.alloc(), unit_of_version_5())?;
-    assert!(rt; are_equal(one.header(), other.header()));
-    let another = program(rt.alloc(), demo_unit())?;
-    assert!(rt; !are_equal(one.header(), another.header()));
     assert!(rt; has_equal_copy(one.header()) && has_equal_program(&one));
     Ok(())
 }

@@ -1,4 +1,4 @@
-//! Whole units, by every accessor of their headers.
+//! Whole units, by every accessor of their headers. Each step is a function of its own, so that a proof stays short.
 
 use super::{
     Slice, changed, demo_unit, has_bytes, holds, is_directory, is_file, is_text, kinds, lengths,
@@ -8,7 +8,7 @@ use crate::{DebugLine, FileEntryFormat, IncompleteLineProgram, LineProgramHeader
 use gimli_core::{
     BigEndian, DW_FORM_data1, DW_FORM_data16, DW_FORM_string, DW_FORM_udata, DW_LNCT_LLVM_source,
     DW_LNCT_MD5, DW_LNCT_directory_index, DW_LNCT_path, DebugLineOffset, DwForm, DwLnct, Encoding,
-    EndianSlice, Format, LineEncoding, LittleEndian, Reader, Result,
+    EndianSlice, Format, LineEncoding, LittleEndian, Reader, ReaderOffset, Result,
 };
 use std::alloc::Global;
 use std::process::Abort;
@@ -57,6 +57,11 @@ fn ends_at<R: Reader>(header: &LineProgramHeader<R>, directory: u64, file: u64) 
     header.directory(directory).is_none() && header.file(file).is_none()
 }
 
+/// The header stands at this offset.
+fn is_at<R: Reader>(header: &LineProgramHeader<R>, offset: u64) -> bool {
+    header.offset().0.into_u64() == offset
+}
+
 /// What the numbers of a unit and its rows are encoded by.
 fn has_encodings<R: Reader>(
     header: &LineProgramHeader<R>,
@@ -67,6 +72,31 @@ fn has_encodings<R: Reader>(
         && header.line_encoding() == line_encoding
         && header.line_base() == line_encoding.line_base
         && header.default_is_stmt() == line_encoding.default_is_stmt
+}
+
+/// The numbers of a header, the lengths of its tables and the kinds of its values are these.
+fn check_counts<R: Reader>(
+    rt: &impl Abort,
+    header: &LineProgramHeader<R>,
+    expected: [u64; 10],
+    tables: [usize; 4],
+    values: [bool; 4],
+) {
+    assert_eq!(rt; numbers(header), expected);
+    assert_eq!(rt; lengths(header), tables);
+    assert_eq!(rt; kinds(header), values);
+}
+
+/// The operand counts and the program are these bytes, behind this line base.
+fn check_bytes<R: Reader>(
+    rt: &impl Abort,
+    header: &LineProgramHeader<R>,
+    line_base: i8,
+    counts: &[u8],
+    program: &[u8],
+) {
+    assert_eq!(rt; header.line_base(), line_base);
+    assert!(rt; has_bytes(header, counts, program));
 }
 
 const OPERAND_COUNTS: &[u8] = b"\0\x01\x01\x01\x01\0\0\0\x01\0\0\x01";
@@ -85,12 +115,8 @@ fn has_version_5_tables<R: Reader>(header: &LineProgramHeader<R>) -> bool {
         && ends_at(header, 1, 1)
 }
 
-/// A body of `program` that always wants for memory fails here, as at every test that reads a header.
-#[test]
-fn version_5_unit(rt: HostRuntime) -> std::result::Result<(), Fail> {
-    let program = program(rt.alloc(), unit_of_version_5())?;
-    let header = program.header();
-    assert_eq!(rt; numbers(header), [0x2c, 5, 8, 4, 0x24, 1, 1, 1, 14, 13]);
+/// The encodings, the bytes and the tables of the version 5 unit.
+fn check_version_5<R: Reader>(rt: &impl Abort, header: &LineProgramHeader<R>) {
     let encoding = Encoding {
         address_size: 8,
         format: Format::Dwarf32,
@@ -98,9 +124,22 @@ fn version_5_unit(rt: HostRuntime) -> std::result::Result<(), Fail> {
     };
     assert!(rt; has_encodings(header, encoding, LineEncoding::default()));
     assert!(rt; has_bytes(header, OPERAND_COUNTS, b""));
-    assert_eq!(rt; lengths(header), [1, 1, 2, 1]);
-    assert_eq!(rt; kinds(header), [false; 4]);
     assert!(rt; has_version_5_tables(header));
+}
+
+/// A body of `program` that always wants for memory fails here, as at every test that reads a header.
+#[test]
+fn version_5_unit(rt: HostRuntime) -> std::result::Result<(), Fail> {
+    let program = program(rt.alloc(), unit_of_version_5())?;
+    let header = program.header();
+    check_counts(
+        &rt,
+        header,
+        [0x2c, 5, 8, 4, 0x24, 1, 1, 1, 14, 13],
+        [1, 1, 2, 1],
+        [false; 4],
+    );
+    check_version_5(&rt, header);
     Ok(())
 }
 
@@ -112,9 +151,13 @@ fn version_5_with_source(rt: HostRuntime) -> std::result::Result<(), Fail> {
                     \x01\x01\x08\x01/w\0\x03\x01\x08\x02\x0f\x81\x40\x08\x01a.c\0\0\0";
     let program = program(rt.alloc(), section)?;
     let header = program.header();
-    assert_eq!(rt; numbers(header), [0x30, 5, 8, 4, 0x28, 1, 1, 1, 14, 13]);
-    assert_eq!(rt; lengths(header), [1, 1, 3, 1]);
-    assert_eq!(rt; kinds(header), [false, false, false, true]);
+    check_counts(
+        &rt,
+        header,
+        [0x30, 5, 8, 4, 0x28, 1, 1, 1, 14, 13],
+        [1, 1, 3, 1],
+        [false, false, false, true],
+    );
     assert!(rt; is_file(header, 0, b"a.c", 0) && has_contents(header, 0, &[0; 16], b""));
     Ok(())
 }
@@ -132,23 +175,35 @@ fn has_version_4_tables<R: Reader>(header: &LineProgramHeader<R>) -> bool {
         && ends_at(header, 3, 3)
 }
 
+/// What the version 4 unit says where a directory and a name are handed in.
+fn check_named<R: Reader>(rt: &impl Abort, header: &LineProgramHeader<R>) {
+    check_counts(
+        rt,
+        header,
+        [62, 4, 4, 4, 40, 1, 1, 1, 1, 3],
+        [0, 2, 0, 2],
+        [true, true, false, false],
+    );
+    check_bytes(rt, header, 0, b"\x01\x02", &[0; 16]);
+    assert!(rt; has_version_4_tables(header));
+    assert!(rt; is_directory(header, 0, b"/comp_dir"));
+    assert!(rt; is_file(header, 0, b"/comp_name", 0) && is_plain(header, 0));
+}
+
+/// What it says where none is.
+fn check_unnamed<R: Reader>(rt: &impl Abort, header: &LineProgramHeader<R>) {
+    assert!(rt; has_version_4_tables(header));
+    assert!(rt; ends_at(header, 0, 0));
+}
+
 /// The cases of gimli's own test, and the same bytes where no directory and no name is handed in.
 #[test]
 fn version_4_tables(rt: HostRuntime) -> std::result::Result<(), Fail> {
     let named = named_program(rt.alloc(), unit_of_version_4(), b"/comp_dir", b"/comp_name")?;
-    let header = named.header();
-    assert_eq!(rt; header.offset(), DebugLineOffset(0));
-    assert_eq!(rt; numbers(header), [62, 4, 4, 4, 40, 1, 1, 1, 1, 3]);
-    assert_eq!(rt; header.line_base(), 0);
-    assert!(rt; has_bytes(header, b"\x01\x02", &[0; 16]));
-    assert_eq!(rt; lengths(header), [0, 2, 0, 2]);
-    assert_eq!(rt; kinds(header), [true, true, false, false]);
-    assert!(rt; has_version_4_tables(header));
-    assert!(rt; is_directory(header, 0, b"/comp_dir"));
-    assert!(rt; is_file(header, 0, b"/comp_name", 0) && is_plain(header, 0));
+    assert!(rt; is_at(named.header(), 0));
+    check_named(&rt, named.header());
     let unnamed = program(rt.alloc(), unit_of_version_4())?;
-    assert!(rt; has_version_4_tables(unnamed.header()));
-    assert!(rt; ends_at(unnamed.header(), 0, 0));
+    check_unnamed(&rt, unnamed.header());
     Ok(())
 }
 
@@ -199,6 +254,20 @@ fn has_files<R: Reader>(header: &LineProgramHeader<R>) -> bool {
         && ends_at(header, 2, 2)
 }
 
+/// What such a header says, in the format of its numbers.
+fn check_header<R: Reader>(rt: &impl Abort, header: &LineProgramHeader<R>, expected: [u64; 10]) {
+    check_counts(
+        rt,
+        header,
+        expected,
+        [1, 2, 4, 2],
+        [false, false, true, true],
+    );
+    check_bytes(rt, header, 0, b"\x01\x02", b"\0\x01\x02\x03\x04");
+    assert!(rt; has_directories(header));
+    assert!(rt; has_files(header));
+}
+
 /// What a unit of these parts says. The address size, the directory and the name that are handed in mean
 /// nothing.
 fn check_tables(
@@ -215,14 +284,7 @@ fn check_tables(
         handed,
         handed,
     )?;
-    let header = program.header();
-    assert_eq!(rt; numbers(header), expected);
-    assert_eq!(rt; header.line_base(), 0);
-    assert!(rt; has_bytes(header, b"\x01\x02", b"\0\x01\x02\x03\x04"));
-    assert_eq!(rt; lengths(header), [1, 2, 4, 2]);
-    assert_eq!(rt; kinds(header), [false, false, true, true]);
-    assert!(rt; has_directories(header));
-    assert!(rt; has_files(header));
+    check_header(rt, program.header(), expected);
     Ok(())
 }
 
@@ -259,15 +321,18 @@ fn demo_unit_at_an_offset(rt: HostRuntime) -> std::result::Result<(), Fail> {
         directory,
         None,
     )?;
-    let header = program.header();
-    assert_eq!(rt; header.offset(), DebugLineOffset(3));
+    check_demo(&rt, program.header());
+    Ok(())
+}
+
+/// What the header says there.
+fn check_demo<R: Reader>(rt: &impl Abort, header: &LineProgramHeader<R>) {
+    assert!(rt; is_at(header, 3));
     assert_eq!(rt; numbers(header), [0x2f, 4, 8, 4, 0x1b, 1, 1, 1, 14, 13]);
-    assert_eq!(rt; header.line_base(), -5);
     assert!(rt; is_directory(header, 0, b"/w") && is_file(header, 1, b"a.c", 0));
     assert!(rt; ends_at(header, 1, 0));
     let instructions = b"\0\x05\x02\0\x10\0\0\x01\x4c\x02\x04\0\x01\x01";
-    assert!(rt; has_bytes(header, OPERAND_COUNTS, instructions));
-    Ok(())
+    check_bytes(rt, header, -5, OPERAND_COUNTS, instructions);
 }
 
 /// A version 2 unit in 64-bit DWARF and the other order, of no directory and no file.
@@ -282,12 +347,15 @@ fn big_endian_dwarf64(rt: HostRuntime) -> std::result::Result<(), Fail> {
         None,
         None,
     )?;
-    let header = program.header();
-    assert_eq!(rt; numbers(header), [0x1d, 2, 8, 8, 0x13, 1, 1, 1, 14, 13]);
-    assert_eq!(rt; header.line_base(), -5);
-    assert!(rt; has_bytes(header, OPERAND_COUNTS, b""));
-    assert_eq!(rt; lengths(header), [0; 4]);
+    check_big_endian(&rt, program.header());
     Ok(())
+}
+
+/// What the header says there.
+fn check_big_endian<R: Reader>(rt: &impl Abort, header: &LineProgramHeader<R>) {
+    assert_eq!(rt; numbers(header), [0x1d, 2, 8, 8, 0x13, 1, 1, 1, 14, 13]);
+    check_bytes(rt, header, -5, OPERAND_COUNTS, b"");
+    assert_eq!(rt; lengths(header), [0; 4]);
 }
 
 /// Versions 2 and 3 have no maximum of operations, so the bytes behind its place are the next fields.
@@ -300,19 +368,23 @@ fn fields_of_versions_2_and_3(rt: HostRuntime) -> std::result::Result<(), Fail> 
             &[(4, version), (11, 0), (12, 0xff)],
         )?;
         let program = program(rt.alloc(), &bytes)?;
-        let header = program.header();
-        let expected = [0x2f, u64::from(version), 4, 4, 0x1b, 1, 1, 0, 0xfb, 0x0e];
-        assert_eq!(rt; numbers(header), expected);
-        assert_eq!(rt; header.line_base(), -1);
-        assert!(rt;
-            holds(
-                *header.standard_opcode_lengths(),
-                b"\x0d\0\x01\x01\x01\x01\0\0\0\x01\0\0\x01"
-            )
-        );
-        assert!(rt; is_file(header, 1, b"a.c", 0));
+        check_version_2_or_3(&rt, program.header(), version);
     }
     Ok(())
+}
+
+/// What the header says there.
+fn check_version_2_or_3<R: Reader>(rt: &impl Abort, header: &LineProgramHeader<R>, version: u8) {
+    let expected = [0x2f, u64::from(version), 4, 4, 0x1b, 1, 1, 0, 0xfb, 0x0e];
+    assert_eq!(rt; numbers(header), expected);
+    assert_eq!(rt; header.line_base(), -1);
+    assert!(rt;
+        holds(
+            *header.standard_opcode_lengths(),
+            b"\x0d\0\x01\x01\x01\x01\0\0\0\x01\0\0\x01"
+        )
+    );
+    assert!(rt; is_file(header, 1, b"a.c", 0));
 }
 
 /// A header as long as the unit leaves no program, and what lies behind the tables is passed over.
@@ -325,9 +397,9 @@ fn headers_longer_than_their_tables(rt: HostRuntime) -> std::result::Result<(), 
     for (header_length, instructions) in rest {
         let bytes = changed(rt.alloc(), demo_unit(), &[(6, header_length)])?;
         let program = program(rt.alloc(), &bytes)?;
-        let header = program.header();
-        assert_eq!(rt; lengths(header), [0, 0, 0, 1]);
-        assert!(rt; has_bytes(header, OPERAND_COUNTS, instructions));
+        let found = lengths(program.header());
+        assert_eq!(rt; found, [0, 0, 0, 1]);
+        assert!(rt; has_bytes(program.header(), OPERAND_COUNTS, instructions));
     }
     Ok(())
 }
