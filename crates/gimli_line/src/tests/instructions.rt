@@ -2,8 +2,9 @@
 //! any reader where it can be, so that a proof stays short.
 
 use super::programs::{
-    Slice, flags, header_3, header_13, header_of_version_5, header_range_12, numbers, program, unit,
+    flags, header_3, header_13, header_of_version_5, header_range_12, numbers, program, unit,
 };
+use super::{Slice, slice};
 use crate::LineInstruction::{
     AdvanceLine, AdvancePc, ConstAddPc, Copy, DefineFile, EndSequence, FixedAddPc, NegateStatement,
     SetAddress, SetBasicBlock, SetColumn, SetDiscriminator, SetEpilogueBegin, SetFile, SetIsa,
@@ -13,9 +14,8 @@ use crate::{
     CompleteLineProgram, FileEntry, IncompleteLineProgram, LineInstruction, LineInstructions,
     LineProgramHeader, LineRow,
 };
-use gimli_core::{
-    AttributeValue, DwLne, DwLns, EndianSlice, Error, LittleEndian, Reader, ReaderOffsetId, Result,
-};
+use gimli_core::{AttributeValue, DwLne, DwLns, Error, Reader, ReaderOffsetId, Result};
+use std::alloc::Global;
 use std::process::Abort;
 use std::test::Fail;
 
@@ -52,6 +52,23 @@ fn refuses<R: Reader>(program: &IncompleteLineProgram<R>, error: Error) -> bool 
     }
 }
 
+/// Whether a unit begins with this instruction, and whether nothing stands behind it.
+fn first_of<R: Reader + PartialEq>(
+    alloc: Global,
+    unit: R,
+    size: u8,
+    first: LineInstruction<R>,
+) -> Result<(bool, bool)> {
+    let program = program(alloc, unit, size)?;
+    Ok((begins_with(&program, first), ends_behind_first(&program)))
+}
+
+/// Whether its first instruction is refused so, and whether nothing stands behind it.
+fn refusal_of_first<R: Reader>(alloc: Global, unit: R, error: Error) -> Result<(bool, bool)> {
+    let program = program(alloc, unit, 8)?;
+    Ok((refuses(&program, error), ends_behind_first(&program)))
+}
+
 /// Programs of one instruction.
 fn taken() -> [(&'static [u8], Instruction<'static>); 19] {
     [
@@ -84,9 +101,8 @@ fn taken() -> [(&'static [u8], Instruction<'static>); 19] {
 fn one_instruction_parsed(rt: HostRuntime) -> std::result::Result<(), Fail> {
     for (bytes, instruction) in taken() {
         let unit = unit(rt.alloc(), header_13(), bytes)?;
-        let program = program(rt.alloc(), &unit, 8)?;
-        assert!(rt; begins_with(&program, instruction), "at {bytes:?}");
-        assert!(rt; ends_behind_first(&program), "at {bytes:?}");
+        let found = first_of(rt.alloc(), slice(&unit), 8, instruction)?;
+        assert_eq!(rt; found, (true, true), "at {bytes:?}");
     }
     Ok(())
 }
@@ -95,9 +111,8 @@ fn one_instruction_parsed(rt: HostRuntime) -> std::result::Result<(), Fail> {
 fn each_special_opcode(rt: HostRuntime) -> std::result::Result<(), Fail> {
     for opcode in 0x0d..=0xffu8 {
         let unit = unit(rt.alloc(), header_13(), &[opcode, 0, 0, 0])?;
-        let program = program(rt.alloc(), &unit, 8)?;
-        assert!(rt; begins_with(&program, Special(opcode)), "at {opcode}");
-        assert!(rt; !ends_behind_first(&program), "at {opcode}");
+        let found = first_of(rt.alloc(), slice(&unit), 8, Special(opcode))?;
+        assert_eq!(rt; found, (true, false), "at {opcode}");
     }
     Ok(())
 }
@@ -105,7 +120,7 @@ fn each_special_opcode(rt: HostRuntime) -> std::result::Result<(), Fail> {
 /// The file `foo.c` in directory 0, of timestamp 1 and size 2.
 fn foo() -> FileEntry<Slice<'static>> {
     FileEntry {
-        path_name: AttributeValue::String(EndianSlice::new(b"foo.c", LittleEndian)),
+        path_name: AttributeValue::String(slice(b"foo.c")),
         directory_index: 0,
         timestamp: 1,
         size: 2,
@@ -116,10 +131,6 @@ fn foo() -> FileEntry<Slice<'static>> {
 
 fn defines_foo() -> &'static [u8] {
     b"\0\x0a\x03foo.c\0\0\x01\x02"
-}
-
-fn slice(bytes: &'static [u8]) -> Slice<'static> {
-    EndianSlice::new(bytes, LittleEndian)
 }
 
 #[test]
@@ -150,9 +161,8 @@ fn instructions_with_texts_and_bytes(rt: HostRuntime) -> std::result::Result<(),
     ];
     for (header, bytes, instruction) in cases {
         let unit = unit(rt.alloc(), header, bytes)?;
-        let program = program(rt.alloc(), &unit, 8)?;
-        assert!(rt; begins_with(&program, instruction), "at {bytes:?}");
-        assert!(rt; ends_behind_first(&program), "at {bytes:?}");
+        let found = first_of(rt.alloc(), slice(&unit), 8, instruction)?;
+        assert_eq!(rt; found, (true, true), "at {bytes:?}");
     }
     Ok(())
 }
@@ -174,9 +184,8 @@ fn unknown_standard_opcodes(rt: HostRuntime) -> std::result::Result<(), Fail> {
     ];
     for (operands, instruction, is_last) in cases {
         let unit = unit(rt.alloc(), &header_14(operands), &[0x0d, 1, 2, 3])?;
-        let program = program(rt.alloc(), &unit, 4)?;
-        assert!(rt; begins_with(&program, instruction), "at {operands}");
-        assert_eq!(rt; ends_behind_first(&program), is_last, "at {operands}");
+        let found = first_of(rt.alloc(), slice(&unit), 4, instruction)?;
+        assert_eq!(rt; found, (true, is_last), "at {operands}");
     }
     Ok(())
 }
@@ -220,9 +229,8 @@ fn refused() -> [(&'static [u8], Error); 9] {
 fn refused_instruction(rt: HostRuntime) -> std::result::Result<(), Fail> {
     for (bytes, error) in refused() {
         let unit = unit(rt.alloc(), header_13(), bytes)?;
-        let program = program(rt.alloc(), &unit, 8)?;
-        assert!(rt; refuses(&program, error), "at {bytes:?}");
-        assert!(rt; ends_behind_first(&program), "at {bytes:?}");
+        let found = refusal_of_first(rt.alloc(), slice(&unit), error)?;
+        assert_eq!(rt; found, (true, true), "at {bytes:?}");
     }
     Ok(())
 }
@@ -246,14 +254,22 @@ fn execute_all<R: Reader>(
     last
 }
 
-/// The last answer of a program, and the numbers and the flags of the row behind it.
-fn executed_by<R: Reader>(
-    program: &mut IncompleteLineProgram<R>,
-) -> (Result<bool>, [u64; 7], [bool; 5]) {
+/// The last answer of a program, and the row behind it.
+fn executed_by<R: Reader>(program: &mut IncompleteLineProgram<R>) -> (Result<bool>, LineRow) {
     let mut instructions = program.header().instructions();
     let mut row = LineRow::new(program.header());
     let last = execute_all(&mut row, &mut instructions, program);
-    (last, numbers(&row), flags(&row))
+    (last, row)
+}
+
+/// The same of a unit.
+fn executed_by_unit<R: Reader>(
+    alloc: Global,
+    unit: R,
+    size: u8,
+) -> Result<(Result<bool>, LineRow)> {
+    let mut program = program(alloc, unit, size)?;
+    Ok(executed_by(&mut program))
 }
 
 /// Numbers of a new row.
@@ -403,11 +419,10 @@ fn executed() -> [(&'static [u8], u8, Result<bool>, [u64; 7], [bool; 5]); 37] {
 fn one_instruction_executed(rt: HostRuntime) -> std::result::Result<(), Fail> {
     for (bytes, size, answer, registers, marks) in executed() {
         let unit = unit(rt.alloc(), header_range_12(), bytes)?;
-        let mut program = program(rt.alloc(), &unit, size)?;
-        let (last, found, found_marks) = executed_by(&mut program);
+        let (last, row) = executed_by_unit(rt.alloc(), slice(&unit), size)?;
         assert_eq!(rt; last, answer, "at {bytes:?}");
-        assert_eq!(rt; found, registers, "at {bytes:?}");
-        assert_eq!(rt; found_marks, marks, "at {bytes:?}");
+        assert_eq!(rt; numbers(&row), registers, "at {bytes:?}");
+        assert_eq!(rt; flags(&row), marks, "at {bytes:?}");
     }
     Ok(())
 }
@@ -415,13 +430,15 @@ fn one_instruction_executed(rt: HostRuntime) -> std::result::Result<(), Fail> {
 /// The first instruction of a program makes no row and changes no register.
 fn check_no_change<R: Reader>(
     rt: &impl Abort,
-    program: &mut IncompleteLineProgram<R>,
+    alloc: Global,
+    unit: R,
 ) -> std::result::Result<(), Fail> {
+    let mut program = program(alloc, unit, 8)?;
     let mut row = LineRow::new(program.header());
     let mut instructions = program.header().instructions();
     let first = instructions.next_instruction(program.header())?;
     let instruction = first.ok_or("no instruction")?;
-    assert_eq!(rt; row.execute(instruction, program), Ok(false));
+    assert_eq!(rt; row.execute(instruction, &mut program), Ok(false));
     assert_eq!(rt; row, LineRow::new(program.header()));
     Ok(())
 }
@@ -434,19 +451,16 @@ fn unknown_standard_opcodes_change_nothing(rt: HostRuntime) -> std::result::Resu
             &header_14(operands),
             &[0x0d, 0x80, 0, 0x8a, 0, 0x8a, 0],
         )?;
-        let mut program = program(rt.alloc(), &unit, 8)?;
-        check_no_change(&rt, &mut program)?;
+        check_no_change(&rt, rt.alloc(), slice(&unit))?;
     }
     Ok(())
 }
 
 /// The path of the file of the row behind a program, where the header has it.
-fn path_behind<R: Reader>(
-    program: &mut IncompleteLineProgram<R>,
-) -> Result<Option<AttributeValue<R>>> {
-    let mut row = LineRow::new(program.header());
-    let mut instructions = program.header().instructions();
-    execute_all(&mut row, &mut instructions, program)?;
+fn path_behind<R: Reader>(alloc: Global, unit: R) -> Result<Option<AttributeValue<R>>> {
+    let mut program = program(alloc, unit, 8)?;
+    let (last, row) = executed_by(&mut program);
+    last?;
     Ok(row.file(program.header()).map(|file| file.path_name()))
 }
 
@@ -460,12 +474,8 @@ fn files_of_a_row(rt: HostRuntime) -> std::result::Result<(), Fail> {
     ];
     for (bytes, expected) in paths {
         let unit = unit(rt.alloc(), header_of_two_files(), bytes)?;
-        let mut program = program(rt.alloc(), &unit, 8)?;
-        let found = path_behind(&mut program)?;
-        let text = expected.map(|text| AttributeValue::String(EndianSlice::new(
-            text,
-            LittleEndian,
-        )));
+        let found = path_behind(rt.alloc(), slice(&unit))?;
+        let text = expected.map(|text| AttributeValue::String(slice(text)));
         assert_eq!(rt; found, text, "at {bytes:?}");
     }
     Ok(())
@@ -488,7 +498,7 @@ fn execute_on_complete<R: Reader>(
 }
 
 /// A file that is defined changes no register.
-fn define_foo<R: Reader>(
+fn define_file<R: Reader>(
     rt: &impl Abort,
     row: &mut LineRow,
     program: &mut IncompleteLineProgram<R>,
@@ -518,14 +528,25 @@ fn check_complete<R: Reader>(
 #[test]
 fn file_defined_by_an_instruction(rt: HostRuntime) -> std::result::Result<(), Fail> {
     let unit = unit(rt.alloc(), header_13(), defines_foo())?;
-    let mut program = program(rt.alloc(), &unit, 4)?;
+    check_defined(&rt, rt.alloc(), slice(&unit), foo())?;
+    Ok(())
+}
+
+/// A program of one file and this one.
+fn check_defined<R: Reader + PartialEq>(
+    rt: &impl Abort,
+    alloc: Global,
+    unit: R,
+    file: FileEntry<R>,
+) -> Result<()> {
+    let mut program = program(alloc, unit, 4)?;
     let mut row = LineRow::new(program.header());
-    define_foo(&rt, &mut row, &mut program, foo());
-    assert!(rt; has_second(program.header(), foo()));
+    define_file(rt, &mut row, &mut program, file);
+    assert!(rt; has_second(program.header(), file));
     let complete = CompleteLineProgram {
         header: program.header,
     };
-    check_complete(&rt, &mut row, &complete, foo());
+    check_complete(rt, &mut row, &complete, file);
     Ok(())
 }
 
@@ -588,11 +609,17 @@ fn check_ended<R: Reader>(
 fn registers_reset_and_rebased(rt: HostRuntime) -> std::result::Result<(), Fail> {
     let marked: &[u8] = &[2, 42, 6, 7, 10, 11, 0, 2, 4, 9];
     let unit = unit(rt.alloc(), header_13(), marked)?;
-    let mut program = program(rt.alloc(), &unit, 1)?;
+    check_registers(&rt, rt.alloc(), slice(&unit))?;
+    Ok(())
+}
+
+/// The registers of a row of one-byte addresses behind each of these steps.
+fn check_registers<R: Reader>(rt: &impl Abort, alloc: Global, unit: R) -> Result<()> {
+    let mut program = program(alloc, unit, 1)?;
     let mut row = LineRow::new(program.header());
-    check_reset(&rt, &mut row, &mut program)?;
-    check_hidden(&rt, &mut row, &mut program)?;
-    check_rebased(&rt, &mut row, &mut program)?;
-    check_ended(&rt, &mut row, &mut program)?;
+    check_reset(rt, &mut row, &mut program)?;
+    check_hidden(rt, &mut row, &mut program)?;
+    check_rebased(rt, &mut row, &mut program)?;
+    check_ended(rt, &mut row, &mut program)?;
     Ok(())
 }

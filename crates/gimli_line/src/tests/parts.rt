@@ -2,7 +2,7 @@
 //! a proof stays short.
 
 use super::{
-    Slice, changed, demo_unit, is_directory, named_program, program, unit_of_version_4,
+    Slice, changed, demo_unit, is_directory, named_program, program, slice, unit_of_version_4,
     unit_of_version_5,
 };
 use crate::{DebugLine, IncompleteLineProgram, LineProgramHeader};
@@ -18,6 +18,22 @@ fn finds_nothing<R: Reader>(header: &LineProgramHeader<R>, index: u64) -> bool {
     header.directory(index).is_none() && header.file(index).is_none()
 }
 
+/// The first index at the top of its range that a unit finds something at.
+fn is_found_at_top<R: Reader>(
+    alloc: Global,
+    unit: R,
+    directory: R,
+    name: R,
+) -> Result<Option<u64>> {
+    let program = named_program(alloc, unit, directory, name)?;
+    for index in [u64::MAX, u64::MAX - 1, 1 << 32, (1 << 32) + 1] {
+        if !finds_nothing(program.header(), index) {
+            return Ok(Some(index));
+        }
+    }
+    Ok(None)
+}
+
 /// No index wraps to one that is there.
 #[test]
 fn indexes_at_the_top_of_their_range(rt: HostRuntime) -> std::result::Result<(), Fail> {
@@ -28,11 +44,9 @@ fn indexes_at_the_top_of_their_range(rt: HostRuntime) -> std::result::Result<(),
             demo_unit()
         };
         let bytes = changed(rt.alloc(), unit, &[(4, version)])?;
-        let program = named_program(rt.alloc(), &bytes, b"/w", b"a.c")?;
-        for index in [u64::MAX, u64::MAX - 1, 1 << 32, (1 << 32) + 1] {
-            let nothing = finds_nothing(program.header(), index);
-            assert!(rt; nothing, "at {index} of version {version}");
-        }
+        let unit = slice(&bytes);
+        let found = is_found_at_top(rt.alloc(), unit, slice(b"/w"), slice(b"a.c"))?;
+        assert_eq!(rt; found, None, "of version {version}");
     }
     Ok(())
 }
@@ -81,11 +95,17 @@ fn are_equal<R: Reader + PartialEq>(
     *one == *other
 }
 
-/// A unit has the header of the version 5 unit.
-fn has_equal_header(alloc: Global, unit: &[u8]) -> Result<bool> {
-    let one = program(alloc, unit_of_version_5())?;
-    let other = program(alloc, unit)?;
+/// Two units have equal headers.
+fn have_equal_headers<R: Reader + PartialEq>(alloc: Global, one: R, other: R) -> Result<bool> {
+    let one = program(alloc, one)?;
+    let other = program(alloc, other)?;
     Ok(are_equal(one.header(), other.header()))
+}
+
+/// Copies of a unit's header and of its program are equal to them.
+fn has_equal_copies<R: Reader + PartialEq>(alloc: Global, unit: R) -> Result<bool> {
+    let program = program(alloc, unit)?;
+    Ok(has_equal_copy(program.header()) && has_equal_program(&program))
 }
 
 /// A copy of the header is equal to it.
@@ -108,9 +128,9 @@ fn has_equal_program<R: Reader + PartialEq>(program: &IncompleteLineProgram<R>) 
 /// are compared and copied with it.
 #[test]
 fn equal_and_copied_headers(rt: HostRuntime) -> std::result::Result<(), Fail> {
-    assert!(rt; has_equal_header(rt.alloc(), unit_of_version_5())?);
-    assert!(rt; !has_equal_header(rt.alloc(), demo_unit())?);
-    let one = program(rt.alloc(), unit_of_version_5())?;
-    assert!(rt; has_equal_copy(one.header()) && has_equal_program(&one));
+    let one = slice(unit_of_version_5());
+    assert!(rt; have_equal_headers(rt.alloc(), one, slice(unit_of_version_5()))?);
+    assert!(rt; !have_equal_headers(rt.alloc(), one, slice(demo_unit()))?);
+    assert!(rt; has_equal_copies(rt.alloc(), one)?);
     Ok(())
 }

@@ -1,10 +1,12 @@
 //! What refuses a header, and what small changes make of one. Each step is a function of its own, so that a proof
 //! stays short.
 
-use super::{changed, demo_unit, is_directory, program, unit_of_version_4, unit_of_version_5};
+use super::{
+    changed, demo_unit, is_directory, program, slice, unit_of_version_4, unit_of_version_5,
+};
 use crate::LineProgramHeader;
 use gimli_core::Error::{self, UnexpectedEof};
-use gimli_core::{DwForm, Reader, ReaderOffsetId};
+use gimli_core::{DwForm, Reader, ReaderOffsetId, Result};
 use std::alloc::Global;
 use std::process::Abort;
 use std::test::Fail;
@@ -12,9 +14,14 @@ use std::test::Fail;
 /// The refusal of a unit with other bytes at some places.
 fn refusal(alloc: Global, unit: &[u8], changes: &[(usize, u8)]) -> Option<Error> {
     match changed(alloc, unit, changes) {
-        Ok(bytes) => program(alloc, &bytes).err(),
+        Ok(bytes) => refusal_of_unit(alloc, slice(&bytes)),
         Err(e) => Some(e),
     }
+}
+
+/// The refusal of a unit.
+fn refusal_of_unit<R: Reader>(alloc: Global, unit: R) -> Option<Error> {
+    program(alloc, unit).err()
 }
 
 /// A row of a table: other bytes, by their places, and the refusal.
@@ -104,7 +111,7 @@ fn wants_bytes(
     end: usize,
 ) -> std::result::Result<bool, &'static str> {
     let cut = section.get(..end).ok_or("short")?;
-    Ok(matches!(program(alloc, cut), Err(UnexpectedEof(_))))
+    Ok(matches!(refusal_of_unit(alloc, slice(cut)), Some(UnexpectedEof(_))))
 }
 
 /// As many bytes as the first length says are there, or are wanting; a unit that ends behind its header is
@@ -134,6 +141,12 @@ fn directory_of_file<R: Reader>(header: &LineProgramHeader<R>) -> Option<(u64, b
     Some((index, is_directory(header, index, b"/w")))
 }
 
+/// The same of a unit.
+fn directory_of_unit<R: Reader>(alloc: Global, unit: R) -> Result<Option<(u64, bool)>> {
+    let program = program(alloc, unit)?;
+    Ok(directory_of_file(program.header()))
+}
+
 /// Other bytes of the version 5 unit that leave a header, and the directory of its file.
 const ACCEPTED: [(&[(usize, u8)], Option<(u64, bool)>); 5] = [
     (&[(42, 0)], None),
@@ -149,8 +162,7 @@ const ACCEPTED: [(&[(usize, u8)], Option<(u64, bool)>); 5] = [
 fn changes_to_a_version_5_header(rt: HostRuntime) -> std::result::Result<(), Fail> {
     for (changes, expected) in ACCEPTED {
         let bytes = changed(rt.alloc(), unit_of_version_5(), changes)?;
-        let program = program(rt.alloc(), &bytes)?;
-        let found = directory_of_file(program.header());
+        let found = directory_of_unit(rt.alloc(), slice(&bytes))?;
         assert_eq!(rt; found, expected, "at {changes:?}");
     }
     Ok(())

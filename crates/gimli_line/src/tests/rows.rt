@@ -1,12 +1,13 @@
 //! The rows of whole programs, with their faults in order. Each step is a function of its own, so that a proof
 //! stays short.
 
-use super::is_text;
 use super::programs::{
     flags, header_3, header_13, header_of_three_operations, numbers, program, unit,
 };
+use super::{is_text, slice};
 use crate::{LineRow, OneShotLineRows};
 use gimli_core::{AttributeValue, Error, Reader};
+use std::alloc::Global;
 use std::process::Abort;
 use std::test::Fail;
 
@@ -64,6 +65,17 @@ fn gives<R: Reader>(rows: &mut OneShotLineRows<R>, events: &[Event]) -> bool {
         }
     }
     next(rows) == Done && next(rows) == Done
+}
+
+/// The same of a unit.
+fn unit_gives<R: Reader>(
+    alloc: Global,
+    unit: R,
+    size: u8,
+    events: &[Event],
+) -> gimli_core::Result<bool> {
+    let mut rows = program(alloc, unit, size)?.rows();
+    Ok(gives(&mut rows, events))
 }
 
 /// A program and its events.
@@ -208,8 +220,8 @@ fn rows_and_faults_in_order(rt: HostRuntime) -> Result<(), Fail> {
     for case in cases() {
         let name = case.name;
         let unit = unit(rt.alloc(), case.header, case.program)?;
-        let mut rows = program(rt.alloc(), &unit, case.size)?.rows();
-        assert!(rt; gives(&mut rows, case.events), "at {name}");
+        let found = unit_gives(rt.alloc(), slice(&unit), case.size, case.events)?;
+        assert!(rt; found, "at {name}");
     }
     Ok(())
 }
@@ -235,9 +247,20 @@ fn registers_from_row_to_row(rt: HostRuntime) -> Result<(), Fail> {
         ([0, 0, 1, 1, 0, 0, 0], [true, false, false, false, false]),
     ];
     let unit = unit(rt.alloc(), header_13(), program_bytes)?;
-    let mut rows = program(rt.alloc(), &unit, 4)?.rows();
+    check_registers(&rt, rt.alloc(), slice(&unit), &expected)?;
+    Ok(())
+}
+
+/// The numbers and the flags of each row of a unit are these.
+fn check_registers<R: Reader>(
+    rt: &impl Abort,
+    alloc: Global,
+    unit: R,
+    expected: &[([u64; 7], [bool; 5])],
+) -> gimli_core::Result<()> {
+    let mut rows = program(alloc, unit, 4)?.rows();
     for row in expected {
-        assert_eq!(rt; whole(&mut rows), row);
+        assert_eq!(rt; whole(&mut rows), *row);
     }
     assert_eq!(rt; next(&mut rows), Done);
     Ok(())
@@ -282,11 +305,17 @@ fn check_end<R: Reader>(rt: &impl Abort, rows: &mut OneShotLineRows<R>) {
 #[test]
 fn file_defined_after_its_row(rt: HostRuntime) -> Result<(), Fail> {
     let unit = unit(rt.alloc(), header_13(), defines_behind_a_row())?;
-    let mut rows = program(rt.alloc(), &unit, 4)?.rows();
-    check_row_without_file(&rt, &mut rows);
-    check_row_with_file(&rt, &mut rows);
-    check_row_with_file(&rt, &mut rows);
-    check_end(&rt, &mut rows);
+    check_files(&rt, rt.alloc(), slice(&unit))?;
+    Ok(())
+}
+
+/// The files of its three rows.
+fn check_files<R: Reader>(rt: &impl Abort, alloc: Global, unit: R) -> gimli_core::Result<()> {
+    let mut rows = program(alloc, unit, 4)?.rows();
+    check_row_without_file(rt, &mut rows);
+    check_row_with_file(rt, &mut rows);
+    check_row_with_file(rt, &mut rows);
+    check_end(rt, &mut rows);
     Ok(())
 }
 
@@ -307,8 +336,13 @@ fn check_growth<R: Reader>(rt: &impl Abort, rows: &mut OneShotLineRows<R>) {
 #[test]
 fn each_growth_refused(rt: HostRuntime) {
     let unit = unit_that_defines();
-    match program(rt.alloc(), &unit, 4) {
-        Ok(program) => check_growth(&rt, &mut program.rows()),
+    check_growth_of_unit(&rt, rt.alloc(), slice(&unit));
+}
+
+/// The same of a unit, whose header may be refused so.
+fn check_growth_of_unit<R: Reader>(rt: &impl Abort, alloc: Global, unit: R) {
+    match program(alloc, unit, 4) {
+        Ok(program) => check_growth(rt, &mut program.rows()),
         Err(e) => assert_eq!(rt; e, Error::OutOfMemory),
     }
 }

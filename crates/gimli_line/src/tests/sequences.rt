@@ -1,13 +1,10 @@
 //! Sequences, cut off and resumed. Each step is a function of its own, so that a proof stays short.
 
-use super::is_text;
 use super::programs::{header_3, header_13, program, unit};
-use crate::{
-    CompleteLineProgram, IncompleteLineProgram, LineProgramHeader, LineRow, LineSequence,
-    OneShotLineRows, ResumedLineRows,
-};
+use super::{is_text, slice};
+use crate::{CompleteLineProgram, LineProgramHeader, LineRow, LineSequence, ResumedLineRows};
 use gimli_core::{Error, Reader};
-use std::alloc::Global;
+use std::alloc::{AllocError, Global};
 use std::process::Abort;
 use std::test::Fail;
 
@@ -46,14 +43,14 @@ fn is_sequence<R: Reader>(
 /// The addresses of a sequence, and its rows.
 type Sequence<'a> = ((u64, u64), &'a [(u64, bool)]);
 
-/// The sequences of a program are these and no more.
+/// The sequences of a unit are these and no more.
 fn check_sequences<R: Reader>(
     rt: &impl Abort,
     alloc: Global,
-    program: IncompleteLineProgram<R>,
+    unit: R,
     expected: &[Sequence<'_>],
 ) -> gimli_core::Result<()> {
-    let (program, sequences) = program.sequences(alloc)?;
+    let (program, sequences) = program(alloc, unit, 4)?.sequences(alloc)?;
     assert_eq!(rt; sequences.len(), expected.len());
     for (index, (addresses, rows)) in expected.iter().enumerate() {
         let found = is_sequence(&program, sequences.get(index), *addresses, *rows);
@@ -71,39 +68,38 @@ fn check_unit(
     expected: &[Sequence<'_>],
 ) -> Result<(), Fail> {
     let unit = unit(alloc, header, instructions)?;
-    check_sequences(rt, alloc, program(alloc, &unit, 4)?, expected)?;
+    check_sequences(rt, alloc, slice(&unit), expected)?;
     Ok(())
 }
 
-/// The refusal of cutting a program.
-fn refusal<R: Reader>(alloc: Global, program: IncompleteLineProgram<R>) -> Option<Error> {
-    match program.sequences(alloc) {
-        Ok(_) => None,
+/// The refusal of cutting the program of a unit.
+fn refusal<R: Reader>(alloc: Global, unit: R, size: u8) -> Option<Error> {
+    match program(alloc, unit, size) {
+        Ok(program) => program.sequences(alloc).err(),
         Err(e) => Some(e),
     }
 }
 
 /// The same of a unit of these instructions.
-fn refusal_of_unit(
+fn refusal_of(
     alloc: Global,
     instructions: &[u8],
     size: u8,
-) -> gimli_core::Result<Option<Error>> {
-    let Ok(unit) = unit(alloc, header_13(), instructions) else {
-        return Err(Error::OutOfMemory);
-    };
-    Ok(refusal(alloc, program(alloc, &unit, size)?))
+) -> std::result::Result<Option<Error>, AllocError> {
+    let unit = unit(alloc, header_13(), instructions)?;
+    Ok(refusal(alloc, slice(&unit), size))
 }
 
-/// How many rows the single run of a program gives before it ends.
-fn count_of_rows<R: Reader>(rows: &mut OneShotLineRows<R>) -> usize {
+/// How many rows the single run of a unit gives before it ends.
+fn count_of_rows<R: Reader>(alloc: Global, unit: R) -> gimli_core::Result<usize> {
+    let mut rows = program(alloc, unit, 4)?.rows();
     for count in 0..100 {
         match rows.next_row() {
             Ok(Some(_)) => {}
-            _ => return count,
+            _ => return Ok(count),
         }
     }
-    100
+    Ok(100)
 }
 
 /// The file of a row has this path.
@@ -143,8 +139,7 @@ fn tombstone_between_sequences(rt: HostRuntime) -> Result<(), Fail> {
 fn rows_after_the_last_end(rt: HostRuntime) -> Result<(), Fail> {
     let instructions = b"\x01\0\x01\x01\x01";
     let unit = unit(rt.alloc(), header_13(), instructions)?;
-    let mut rows = program(rt.alloc(), &unit, 4)?.rows();
-    assert_eq!(rt; count_of_rows(&mut rows), 3);
+    assert_eq!(rt; count_of_rows(rt.alloc(), slice(&unit))?, 3);
     let rows = [(0, false), (0, true)];
     check_unit(
         &rt,
@@ -186,8 +181,10 @@ fn joined_over_a_hidden_end(rt: HostRuntime) -> Result<(), Fail> {
 /// The three rows of a single run are in file 2, which is there from the second row on.
 fn check_files_of_run<R: Reader>(
     rt: &impl Abort,
-    rows: &mut OneShotLineRows<R>,
+    alloc: Global,
+    unit: R,
 ) -> gimli_core::Result<()> {
+    let mut rows = program(alloc, unit, 4)?.rows();
     for found in [false, true, true] {
         let named = match rows.next_row()? {
             Some((header, row)) => row.file_index() == 2
@@ -219,9 +216,9 @@ fn check_files_of_rows<R: Reader>(
 fn check_files_of_sequences<R: Reader>(
     rt: &impl Abort,
     alloc: Global,
-    program: IncompleteLineProgram<R>,
+    unit: R,
 ) -> gimli_core::Result<()> {
-    let (program, sequences) = program.sequences(alloc)?;
+    let (program, sequences) = program(alloc, unit, 4)?.sequences(alloc)?;
     assert_eq!(rt; program.header().file_names().len(), 2);
     assert_eq!(rt; sequences.len(), 1);
     for sequence in &sequences {
@@ -235,22 +232,21 @@ fn check_files_of_sequences<R: Reader>(
 fn file_defined_late(rt: HostRuntime) -> Result<(), Fail> {
     let instructions = b"\x04\x02\x01\0\x08\x03b.c\0\0\0\0\x01\0\x01\x01";
     let unit = unit(rt.alloc(), header_13(), instructions)?;
-    let mut rows = program(rt.alloc(), &unit, 4)?.rows();
-    check_files_of_run(&rt, &mut rows)?;
-    check_files_of_sequences(&rt, rt.alloc(), program(rt.alloc(), &unit, 4)?)?;
+    check_files_of_run(&rt, rt.alloc(), slice(&unit))?;
+    check_files_of_sequences(&rt, rt.alloc(), slice(&unit))?;
     Ok(())
 }
 
 /// A fault behind the last end refuses too, and of two faults the first.
 #[test]
 fn faults_of_cutting(rt: HostRuntime) -> Result<(), Fail> {
-    let cut = refusal_of_unit(rt.alloc(), b"\x01\0\x01\x01\0", 4)?;
+    let cut = refusal_of(rt.alloc(), b"\x01\0\x01\x01\0", 4)?;
     assert!(rt; matches!(cut, Some(Error::UnexpectedEof(_))));
-    let over = refusal_of_unit(rt.alloc(), b"\x01\0\x01\x01\x02\xff\x01\x02\x01", 1)?;
+    let over = refusal_of(rt.alloc(), b"\x01\0\x01\x01\x02\xff\x01\x02\x01", 1)?;
     assert!(rt; matches!(over, Some(Error::AddressOverflow)));
-    let both = refusal_of_unit(rt.alloc(), b"\x02\xff\x01\x02\x01\0", 1)?;
+    let both = refusal_of(rt.alloc(), b"\x02\xff\x01\x02\x01\0", 1)?;
     assert!(rt; matches!(both, Some(Error::AddressOverflow)));
-    let none = refusal_of_unit(rt.alloc(), b"", 4)?;
+    let none = refusal_of(rt.alloc(), b"", 4)?;
     assert!(rt; matches!(none, None));
     Ok(())
 }
