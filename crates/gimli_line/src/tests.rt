@@ -22,25 +22,26 @@ use std::borrow::CowSlice;
 /// The reader of most tests.
 type Slice<'i> = EndianSlice<'i, LittleEndian>;
 
+/// A reader of bytes.
+fn slice(bytes: &[u8]) -> Slice<'_> {
+    EndianSlice::new(bytes, LittleEndian)
+}
+
 /// The program at the front of a section, where nothing else is known of the unit.
-fn program<'i>(alloc: Global, section: &'i [u8]) -> Result<IncompleteLineProgram<Slice<'i>>> {
-    DebugLine::new(section, LittleEndian).program(alloc, DebugLineOffset(0), 4, None, None)
+fn program<R: Reader>(alloc: Global, section: R) -> Result<IncompleteLineProgram<R>> {
+    let offset = DebugLineOffset(R::Offset::from_u8(0));
+    DebugLine::from(section).program(alloc, offset, 4, None, None)
 }
 
 /// The same, of a unit with a directory and a name.
-fn named_program<'i>(
+fn named_program<R: Reader>(
     alloc: Global,
-    section: &'i [u8],
-    directory: &'i [u8],
-    name: &'i [u8],
-) -> Result<IncompleteLineProgram<Slice<'i>>> {
-    DebugLine::new(section, LittleEndian).program(
-        alloc,
-        DebugLineOffset(0),
-        4,
-        Some(EndianSlice::new(directory, LittleEndian)),
-        Some(EndianSlice::new(name, LittleEndian)),
-    )
+    section: R,
+    directory: R,
+    name: R,
+) -> Result<IncompleteLineProgram<R>> {
+    let offset = DebugLineOffset(R::Offset::from_u8(0));
+    DebugLine::from(section).program(alloc, offset, 4, Some(directory), Some(name))
 }
 
 /// A unit with other bytes at some places.

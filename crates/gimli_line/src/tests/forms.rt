@@ -1,12 +1,16 @@
-//! Values of each form, in tables of version 5, and what a file takes of them.
+//! Values of each form, in tables of version 5, and what a file takes of them. Each step is a function of its own,
+//! over any reader where it can be, so that a proof stays short.
 
-use super::{Slice, is_directory, is_file, is_text, kinds, lengths, program, unit_of_tables};
+use super::{
+    Slice, is_directory, is_file, is_text, kinds, lengths, program, slice, unit_of_tables,
+};
 use crate::LineProgramHeader;
 use gimli_core::{
     AttributeValue, DebugLineStrOffset, DebugStrOffset, DebugStrOffsetsIndex, DwForm, EndianSlice,
     Error, Format, LittleEndian, Reader, Result,
 };
 use std::alloc::Global;
+use std::process::Abort;
 use std::test::Fail;
 
 /// A table whose only format is a path in place, and that has no entry.
@@ -19,21 +23,18 @@ fn is_first(
     directories: &[u8],
     value: AttributeValue<Slice<'_>>,
 ) -> bool {
-    let Ok(unit) = unit_of_tables(alloc, format, directories, EMPTY_TABLE) else {
-        return false;
-    };
-    match program(alloc, &unit) {
-        Ok(program) => begins_with(program.header(), value),
+    match unit_of_tables(alloc, format, directories, EMPTY_TABLE) {
+        Ok(unit) => begins_with(alloc, slice(&unit), value),
         Err(_) => false,
     }
 }
 
-/// Whether the first directory is this value.
-fn begins_with<R: Reader + PartialEq>(
-    header: &LineProgramHeader<R>,
-    value: AttributeValue<R>,
-) -> bool {
-    header.directory(0) == Some(value)
+/// Whether the first directory of a unit is this value.
+fn begins_with<R: Reader + PartialEq>(alloc: Global, unit: R, value: AttributeValue<R>) -> bool {
+    match program(alloc, unit) {
+        Ok(program) => program.header().directory(0) == Some(value),
+        Err(_) => false,
+    }
 }
 
 /// A block of these bytes.
@@ -162,10 +163,15 @@ fn forms_of_texts_and_indexes(rt: HostRuntime) {
 
 /// How many directories and files a unit of these tables has, or its refusal.
 fn sizes(alloc: Global, directories: &[u8], files: &[u8]) -> Result<[usize; 4]> {
-    let Ok(unit) = unit_of_tables(alloc, Format::Dwarf32, directories, files) else {
-        return Err(Error::OutOfMemory);
-    };
-    let program = program(alloc, &unit)?;
+    match unit_of_tables(alloc, Format::Dwarf32, directories, files) {
+        Ok(unit) => sizes_of_unit(alloc, slice(&unit)),
+        Err(_) => Err(Error::OutOfMemory),
+    }
+}
+
+/// The same of a unit.
+fn sizes_of_unit<R: Reader>(alloc: Global, unit: R) -> Result<[usize; 4]> {
+    let program = program(alloc, unit)?;
     Ok(lengths(program.header()))
 }
 
@@ -223,6 +229,12 @@ fn numbers_of_file<R: Reader>(header: &LineProgramHeader<R>) -> Option<[u64; 5]>
     ])
 }
 
+/// The same of a unit.
+fn numbers_of_unit<R: Reader>(alloc: Global, unit: R) -> Result<Option<[u64; 5]>> {
+    let program = program(alloc, unit)?;
+    Ok(numbers_of_file(program.header()))
+}
+
 /// Tables of files, and the numbers of the first.
 const FILES: [(&[u8], [u64; 5]); 10] = [
     (
@@ -273,8 +285,7 @@ const FILES: [(&[u8], [u64; 5]); 10] = [
 fn values_of_a_file(rt: HostRuntime) -> std::result::Result<(), Fail> {
     for (files, expected) in FILES {
         let unit = unit_of_tables(rt.alloc(), Format::Dwarf32, EMPTY_TABLE, files)?;
-        let program = program(rt.alloc(), &unit)?;
-        let found = numbers_of_file(program.header());
+        let found = numbers_of_unit(rt.alloc(), slice(&unit))?;
         assert_eq!(rt; found, Some(expected), "at {files:?}");
     }
     Ok(())
@@ -289,13 +300,19 @@ const KINDS: [(&[u8], [bool; 4]); 5] = [
     (b"\x02\x01\x08\x06\x08\0", [false, false, false, false]),
 ];
 
+/// Which kinds of values the files of a unit have.
+fn kinds_of_unit<R: Reader>(alloc: Global, unit: R) -> Result<[bool; 4]> {
+    let program = program(alloc, unit)?;
+    Ok(kinds(program.header()))
+}
+
 /// A kind of value is there by its format, also where no file is.
 #[test]
 fn kinds_of_values(rt: HostRuntime) -> std::result::Result<(), Fail> {
     for (files, expected) in KINDS {
         let unit = unit_of_tables(rt.alloc(), Format::Dwarf32, EMPTY_TABLE, files)?;
-        let program = program(rt.alloc(), &unit)?;
-        assert_eq!(rt; kinds(program.header()), expected, "at {files:?}");
+        let found = kinds_of_unit(rt.alloc(), slice(&unit))?;
+        assert_eq!(rt; found, expected, "at {files:?}");
     }
     Ok(())
 }
@@ -307,8 +324,19 @@ fn values_beside_a_path(rt: HostRuntime) -> std::result::Result<(), Fail> {
         b"\x03\x02\x0b\x01\x08\x05\x1e\x01\x07dir\0\x01\x02\x03\x04\x05\x06\x07\x08\x09\x0a\x0b\x0c\x0d\x0e\x0f\x10";
     let files = b"\x03\x01\x08\x81\x40\x08\x81\x40\x1f\x01a\0b\0\x09\0\0\0";
     let unit = unit_of_tables(rt.alloc(), Format::Dwarf32, directories, files)?;
-    let program = program(rt.alloc(), &unit)?;
     let source = AttributeValue::DebugLineStrRef(DebugLineStrOffset(9));
+    check_source(&rt, rt.alloc(), slice(&unit), source)?;
+    Ok(())
+}
+
+/// The paths of its directory and of its file, and the text of the file.
+fn check_source<R: Reader + PartialEq>(
+    rt: &impl Abort,
+    alloc: Global,
+    unit: R,
+    source: AttributeValue<R>,
+) -> Result<()> {
+    let program = program(alloc, unit)?;
     assert!(rt; is_directory(program.header(), 0, b"dir"));
     assert!(rt; is_file(program.header(), 0, b"a", 0));
     assert!(rt; has_source(program.header(), source));

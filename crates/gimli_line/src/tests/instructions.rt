@@ -1,8 +1,10 @@
-//! Instructions by themselves, as they are taken and as they are executed.
+//! Instructions by themselves, as they are taken and as they are executed. Each step is a function of its own, over
+//! any reader where it can be, so that a proof stays short.
 
 use super::programs::{
-    Slice, flags, header_3, header_13, header_of_version_5, header_range_12, numbers, program, unit,
+    flags, header_3, header_13, header_of_version_5, header_range_12, numbers, program, unit,
 };
+use super::{Slice, slice};
 use crate::LineInstruction::{
     AdvanceLine, AdvancePc, ConstAddPc, Copy, DefineFile, EndSequence, FixedAddPc, NegateStatement,
     SetAddress, SetBasicBlock, SetColumn, SetDiscriminator, SetEpilogueBegin, SetFile, SetIsa,
@@ -10,11 +12,11 @@ use crate::LineInstruction::{
 };
 use crate::{
     CompleteLineProgram, FileEntry, IncompleteLineProgram, LineInstruction, LineInstructions,
-    LineRow,
+    LineProgramHeader, LineRow,
 };
-use gimli_core::{
-    AttributeValue, DwLne, DwLns, EndianSlice, Error, LittleEndian, Reader, ReaderOffsetId, Result,
-};
+use gimli_core::{AttributeValue, DwLne, DwLns, Error, Reader, ReaderOffsetId, Result};
+use std::alloc::Global;
+use std::process::Abort;
 use std::test::Fail;
 
 type Instruction<'i> = LineInstruction<Slice<'i>>;
@@ -22,7 +24,10 @@ type Instruction<'i> = LineInstruction<Slice<'i>>;
 // ---- taken
 
 /// Whether this is the first instruction of a program.
-fn begins_with<'i>(program: &IncompleteLineProgram<Slice<'i>>, first: Instruction<'i>) -> bool {
+fn begins_with<R: Reader + PartialEq>(
+    program: &IncompleteLineProgram<R>,
+    first: LineInstruction<R>,
+) -> bool {
     let mut instructions = program.header().instructions();
     match instructions.next_instruction(program.header()) {
         Ok(Some(instruction)) => instruction == first,
@@ -31,7 +36,7 @@ fn begins_with<'i>(program: &IncompleteLineProgram<Slice<'i>>, first: Instructio
 }
 
 /// Whether nothing stands behind the first instruction of a program, or behind its refusal.
-fn ends_behind_first<'i>(program: &IncompleteLineProgram<Slice<'i>>) -> bool {
+fn ends_behind_first<R: Reader>(program: &IncompleteLineProgram<R>) -> bool {
     let mut instructions = program.header().instructions();
     let _ = instructions.next_instruction(program.header());
     let mut behind = instructions.clone();
@@ -39,12 +44,29 @@ fn ends_behind_first<'i>(program: &IncompleteLineProgram<Slice<'i>>) -> bool {
 }
 
 /// Whether the first instruction of a program is refused so.
-fn refuses<'i>(program: &IncompleteLineProgram<Slice<'i>>, error: Error) -> bool {
+fn refuses<R: Reader>(program: &IncompleteLineProgram<R>, error: Error) -> bool {
     let mut instructions = program.header().instructions();
     match instructions.next_instruction(program.header()) {
         Err(e) => e == error,
         Ok(_) => false,
     }
+}
+
+/// Whether a unit begins with this instruction, and whether nothing stands behind it.
+fn first_of<R: Reader + PartialEq>(
+    alloc: Global,
+    unit: R,
+    size: u8,
+    first: LineInstruction<R>,
+) -> Result<(bool, bool)> {
+    let program = program(alloc, unit, size)?;
+    Ok((begins_with(&program, first), ends_behind_first(&program)))
+}
+
+/// Whether its first instruction is refused so, and whether nothing stands behind it.
+fn refusal_of_first<R: Reader>(alloc: Global, unit: R, error: Error) -> Result<(bool, bool)> {
+    let program = program(alloc, unit, 8)?;
+    Ok((refuses(&program, error), ends_behind_first(&program)))
 }
 
 /// Programs of one instruction.
@@ -79,9 +101,8 @@ fn taken() -> [(&'static [u8], Instruction<'static>); 19] {
 fn one_instruction_parsed(rt: HostRuntime) -> std::result::Result<(), Fail> {
     for (bytes, instruction) in taken() {
         let unit = unit(rt.alloc(), header_13(), bytes)?;
-        let program = program(rt.alloc(), &unit, 8)?;
-        assert!(rt; begins_with(&program, instruction), "at {bytes:?}");
-        assert!(rt; ends_behind_first(&program), "at {bytes:?}");
+        let found = first_of(rt.alloc(), slice(&unit), 8, instruction)?;
+        assert_eq!(rt; found, (true, true), "at {bytes:?}");
     }
     Ok(())
 }
@@ -90,9 +111,8 @@ fn one_instruction_parsed(rt: HostRuntime) -> std::result::Result<(), Fail> {
 fn each_special_opcode(rt: HostRuntime) -> std::result::Result<(), Fail> {
     for opcode in 0x0d..=0xffu8 {
         let unit = unit(rt.alloc(), header_13(), &[opcode, 0, 0, 0])?;
-        let program = program(rt.alloc(), &unit, 8)?;
-        assert!(rt; begins_with(&program, Special(opcode)), "at {opcode}");
-        assert!(rt; !ends_behind_first(&program), "at {opcode}");
+        let found = first_of(rt.alloc(), slice(&unit), 8, Special(opcode))?;
+        assert_eq!(rt; found, (true, false), "at {opcode}");
     }
     Ok(())
 }
@@ -100,7 +120,7 @@ fn each_special_opcode(rt: HostRuntime) -> std::result::Result<(), Fail> {
 /// The file `foo.c` in directory 0, of timestamp 1 and size 2.
 fn foo() -> FileEntry<Slice<'static>> {
     FileEntry {
-        path_name: AttributeValue::String(EndianSlice::new(b"foo.c", LittleEndian)),
+        path_name: AttributeValue::String(slice(b"foo.c")),
         directory_index: 0,
         timestamp: 1,
         size: 2,
@@ -111,10 +131,6 @@ fn foo() -> FileEntry<Slice<'static>> {
 
 fn defines_foo() -> &'static [u8] {
     b"\0\x0a\x03foo.c\0\0\x01\x02"
-}
-
-fn slice(bytes: &'static [u8]) -> Slice<'static> {
-    EndianSlice::new(bytes, LittleEndian)
 }
 
 #[test]
@@ -145,9 +161,8 @@ fn instructions_with_texts_and_bytes(rt: HostRuntime) -> std::result::Result<(),
     ];
     for (header, bytes, instruction) in cases {
         let unit = unit(rt.alloc(), header, bytes)?;
-        let program = program(rt.alloc(), &unit, 8)?;
-        assert!(rt; begins_with(&program, instruction), "at {bytes:?}");
-        assert!(rt; ends_behind_first(&program), "at {bytes:?}");
+        let found = first_of(rt.alloc(), slice(&unit), 8, instruction)?;
+        assert_eq!(rt; found, (true, true), "at {bytes:?}");
     }
     Ok(())
 }
@@ -169,9 +184,8 @@ fn unknown_standard_opcodes(rt: HostRuntime) -> std::result::Result<(), Fail> {
     ];
     for (operands, instruction, is_last) in cases {
         let unit = unit(rt.alloc(), &header_14(operands), &[0x0d, 1, 2, 3])?;
-        let program = program(rt.alloc(), &unit, 4)?;
-        assert!(rt; begins_with(&program, instruction), "at {operands}");
-        assert_eq!(rt; ends_behind_first(&program), is_last, "at {operands}");
+        let found = first_of(rt.alloc(), slice(&unit), 4, instruction)?;
+        assert_eq!(rt; found, (true, is_last), "at {operands}");
     }
     Ok(())
 }
@@ -215,9 +229,8 @@ fn refused() -> [(&'static [u8], Error); 9] {
 fn refused_instruction(rt: HostRuntime) -> std::result::Result<(), Fail> {
     for (bytes, error) in refused() {
         let unit = unit(rt.alloc(), header_13(), bytes)?;
-        let program = program(rt.alloc(), &unit, 8)?;
-        assert!(rt; refuses(&program, error), "at {bytes:?}");
-        assert!(rt; ends_behind_first(&program), "at {bytes:?}");
+        let found = refusal_of_first(rt.alloc(), slice(&unit), error)?;
+        assert_eq!(rt; found, (true, true), "at {bytes:?}");
     }
     Ok(())
 }
@@ -225,10 +238,10 @@ fn refused_instruction(rt: HostRuntime) -> std::result::Result<(), Fail> {
 // ---- executed
 
 /// Executes the instructions of a program on a row, up to eight, and answers what the last one answered.
-fn execute_all<'i>(
+fn execute_all<R: Reader>(
     row: &mut LineRow,
-    instructions: &mut LineInstructions<Slice<'i>>,
-    program: &mut IncompleteLineProgram<Slice<'i>>,
+    instructions: &mut LineInstructions<R>,
+    program: &mut IncompleteLineProgram<R>,
 ) -> Result<bool> {
     let mut last = Ok(false);
     for _ in 0..8 {
@@ -239,6 +252,24 @@ fn execute_all<'i>(
         }
     }
     last
+}
+
+/// The last answer of a program, and the row behind it.
+fn executed_by<R: Reader>(program: &mut IncompleteLineProgram<R>) -> (Result<bool>, LineRow) {
+    let mut instructions = program.header().instructions();
+    let mut row = LineRow::new(program.header());
+    let last = execute_all(&mut row, &mut instructions, program);
+    (last, row)
+}
+
+/// The same of a unit.
+fn executed_by_unit<R: Reader>(
+    alloc: Global,
+    unit: R,
+    size: u8,
+) -> Result<(Result<bool>, LineRow)> {
+    let mut program = program(alloc, unit, size)?;
+    Ok(executed_by(&mut program))
 }
 
 /// Numbers of a new row.
@@ -388,14 +419,27 @@ fn executed() -> [(&'static [u8], u8, Result<bool>, [u64; 7], [bool; 5]); 37] {
 fn one_instruction_executed(rt: HostRuntime) -> std::result::Result<(), Fail> {
     for (bytes, size, answer, registers, marks) in executed() {
         let unit = unit(rt.alloc(), header_range_12(), bytes)?;
-        let mut program = program(rt.alloc(), &unit, size)?;
-        let mut instructions = program.header().instructions();
-        let mut row = LineRow::new(program.header());
-        let last = execute_all(&mut row, &mut instructions, &mut program);
+        let (last, row) = executed_by_unit(rt.alloc(), slice(&unit), size)?;
         assert_eq!(rt; last, answer, "at {bytes:?}");
         assert_eq!(rt; numbers(&row), registers, "at {bytes:?}");
         assert_eq!(rt; flags(&row), marks, "at {bytes:?}");
     }
+    Ok(())
+}
+
+/// The first instruction of a program makes no row and changes no register.
+fn check_no_change<R: Reader>(
+    rt: &impl Abort,
+    alloc: Global,
+    unit: R,
+) -> std::result::Result<(), Fail> {
+    let mut program = program(alloc, unit, 8)?;
+    let mut row = LineRow::new(program.header());
+    let mut instructions = program.header().instructions();
+    let first = instructions.next_instruction(program.header())?;
+    let instruction = first.ok_or("no instruction")?;
+    assert_eq!(rt; row.execute(instruction, &mut program), Ok(false));
+    assert_eq!(rt; row, LineRow::new(program.header()));
     Ok(())
 }
 
@@ -407,23 +451,17 @@ fn unknown_standard_opcodes_change_nothing(rt: HostRuntime) -> std::result::Resu
             &header_14(operands),
             &[0x0d, 0x80, 0, 0x8a, 0, 0x8a, 0],
         )?;
-        let mut program = program(rt.alloc(), &unit, 8)?;
-        let mut row = LineRow::new(program.header());
-        let mut instructions = program.header().instructions();
-        let first = instructions.next_instruction(program.header())?;
-        let instruction = first.ok_or("no instruction")?;
-        assert_eq!(rt; row.execute(instruction, &mut program), Ok(false));
-        assert_eq!(rt; row, LineRow::new(program.header()));
+        check_no_change(&rt, rt.alloc(), slice(&unit))?;
     }
     Ok(())
 }
 
-/// The path of a file of a row, where the header has it.
-fn path<'i>(
-    row: &LineRow,
-    program: &IncompleteLineProgram<Slice<'i>>,
-) -> Option<AttributeValue<Slice<'i>>> {
-    row.file(program.header()).map(|file| file.path_name())
+/// The path of the file of the row behind a program, where the header has it.
+fn path_behind<R: Reader>(alloc: Global, unit: R) -> Result<Option<AttributeValue<R>>> {
+    let mut program = program(alloc, unit, 8)?;
+    let (last, row) = executed_by(&mut program);
+    last?;
+    Ok(row.file(program.header()).map(|file| file.path_name()))
 }
 
 #[test]
@@ -436,15 +474,8 @@ fn files_of_a_row(rt: HostRuntime) -> std::result::Result<(), Fail> {
     ];
     for (bytes, expected) in paths {
         let unit = unit(rt.alloc(), header_of_two_files(), bytes)?;
-        let mut program = program(rt.alloc(), &unit, 8)?;
-        let mut row = LineRow::new(program.header());
-        let mut instructions = program.header().instructions();
-        execute_all(&mut row, &mut instructions, &mut program)?;
-        let found = path(&row, &program);
-        let text = expected.map(|text| AttributeValue::String(EndianSlice::new(
-            text,
-            LittleEndian,
-        )));
+        let found = path_behind(rt.alloc(), slice(&unit))?;
+        let text = expected.map(|text| AttributeValue::String(slice(text)));
         assert_eq!(rt; found, text, "at {bytes:?}");
     }
     Ok(())
@@ -457,58 +488,138 @@ fn header_of_two_files() -> &'static [u8] {
 }
 
 /// Defines a file of a program whose files are complete.
-fn execute_on_complete<'i>(
+fn execute_on_complete<R: Reader>(
     row: &mut LineRow,
-    program: &CompleteLineProgram<Slice<'i>>,
+    program: &CompleteLineProgram<R>,
+    file: FileEntry<R>,
 ) -> Result<bool> {
     let mut lent = program;
-    row.execute(DefineFile(foo()), &mut lent)
+    row.execute(DefineFile(file), &mut lent)
+}
+
+/// A file that is defined changes no register.
+fn define_file<R: Reader>(
+    rt: &impl Abort,
+    row: &mut LineRow,
+    program: &mut IncompleteLineProgram<R>,
+    file: FileEntry<R>,
+) {
+    let fresh = *row;
+    assert_eq!(rt; row.execute(DefineFile(file), program), Ok(false));
+    assert_eq!(rt; *row, fresh);
+}
+
+/// The second file of two is this one.
+fn has_second<R: Reader + PartialEq>(header: &LineProgramHeader<R>, file: FileEntry<R>) -> bool {
+    header.file_names().len() == 2 && header.file(2).copied() == Some(file)
+}
+
+/// A program whose files are complete takes no more, and refuses nothing.
+fn check_complete<R: Reader>(
+    rt: &impl Abort,
+    row: &mut LineRow,
+    complete: &CompleteLineProgram<R>,
+    file: FileEntry<R>,
+) {
+    assert_eq!(rt; execute_on_complete(row, complete, file), Ok(false));
+    assert_eq!(rt; complete.header().file_names().len(), 2);
 }
 
 #[test]
 fn file_defined_by_an_instruction(rt: HostRuntime) -> std::result::Result<(), Fail> {
     let unit = unit(rt.alloc(), header_13(), defines_foo())?;
-    let mut program = program(rt.alloc(), &unit, 4)?;
+    check_defined(&rt, rt.alloc(), slice(&unit), foo())?;
+    Ok(())
+}
+
+/// A program of one file and this one.
+fn check_defined<R: Reader + PartialEq>(
+    rt: &impl Abort,
+    alloc: Global,
+    unit: R,
+    file: FileEntry<R>,
+) -> Result<()> {
+    let mut program = program(alloc, unit, 4)?;
     let mut row = LineRow::new(program.header());
-    let fresh = row;
-    assert_eq!(rt; row.execute(DefineFile(foo()), &mut program), Ok(false));
-    assert_eq!(rt; row, fresh);
-    assert_eq!(rt; program.header().file_names().len(), 2);
-    assert_eq!(rt; program.header().file(2).copied(), Some(foo()));
-    // A program whose files are complete takes no more, and refuses nothing.
+    define_file(rt, &mut row, &mut program, file);
+    assert!(rt; has_second(program.header(), file));
     let complete = CompleteLineProgram {
         header: program.header,
     };
-    assert_eq!(rt; execute_on_complete(&mut row, &complete), Ok(false));
-    assert_eq!(rt; complete.header().file_names().len(), 2);
+    check_complete(rt, &mut row, &complete, file);
     Ok(())
 }
 
 // ---- behind a row
 
+/// A row behind a program, before and behind a reset.
+fn check_reset<R: Reader>(
+    rt: &impl Abort,
+    row: &mut LineRow,
+    program: &mut IncompleteLineProgram<R>,
+) -> Result<()> {
+    let mut instructions = program.header().instructions();
+    execute_all(row, &mut instructions, program)?;
+    assert_eq!(rt; numbers(row), [42, 0, 1, 1, 0, 0, 9]);
+    assert_eq!(rt; flags(row), [false, true, false, true, true]);
+    row.reset(program.header());
+    assert_eq!(rt; numbers(row), [42, 0, 1, 1, 0, 0, 0]);
+    assert_eq!(rt; flags(row), [false, false, false, false, false]);
+    Ok(())
+}
+
+/// An address that goes back hides what follows.
+fn check_hidden<R: Reader>(
+    rt: &impl Abort,
+    row: &mut LineRow,
+    program: &mut IncompleteLineProgram<R>,
+) -> Result<()> {
+    row.execute(SetAddress(8), program)?;
+    row.execute(AdvancePc(1), program)?;
+    assert_eq!(rt; row.address(), 42);
+    Ok(())
+}
+
+/// Rebase ends that.
+fn check_rebased<R: Reader>(
+    rt: &impl Abort,
+    row: &mut LineRow,
+    program: &mut IncompleteLineProgram<R>,
+) -> Result<()> {
+    row.rebase();
+    row.execute(AdvancePc(1), program)?;
+    assert_eq!(rt; row.address(), 1);
+    Ok(())
+}
+
+/// An end, and a reset behind it.
+fn check_ended<R: Reader>(
+    rt: &impl Abort,
+    row: &mut LineRow,
+    program: &mut IncompleteLineProgram<R>,
+) -> Result<()> {
+    row.execute(EndSequence, program)?;
+    assert!(rt; row.end_sequence());
+    row.reset(program.header());
+    assert_eq!(rt; *row, LineRow::new(program.header()));
+    Ok(())
+}
+
 #[test]
 fn registers_reset_and_rebased(rt: HostRuntime) -> std::result::Result<(), Fail> {
     let marked: &[u8] = &[2, 42, 6, 7, 10, 11, 0, 2, 4, 9];
     let unit = unit(rt.alloc(), header_13(), marked)?;
-    let mut program = program(rt.alloc(), &unit, 1)?;
+    check_registers(&rt, rt.alloc(), slice(&unit))?;
+    Ok(())
+}
+
+/// The registers of a row of one-byte addresses behind each of these steps.
+fn check_registers<R: Reader>(rt: &impl Abort, alloc: Global, unit: R) -> Result<()> {
+    let mut program = program(alloc, unit, 1)?;
     let mut row = LineRow::new(program.header());
-    let mut instructions = program.header().instructions();
-    execute_all(&mut row, &mut instructions, &mut program)?;
-    assert_eq!(rt; numbers(&row), [42, 0, 1, 1, 0, 0, 9]);
-    assert_eq!(rt; flags(&row), [false, true, false, true, true]);
-    row.reset(program.header());
-    assert_eq!(rt; numbers(&row), [42, 0, 1, 1, 0, 0, 0]);
-    assert_eq!(rt; flags(&row), [false, false, false, false, false]);
-    // An address that goes back hides what follows, and rebase ends that.
-    row.execute(SetAddress(8), &mut program)?;
-    row.execute(AdvancePc(1), &mut program)?;
-    assert_eq!(rt; row.address(), 42);
-    row.rebase();
-    row.execute(AdvancePc(1), &mut program)?;
-    assert_eq!(rt; row.address(), 1);
-    row.execute(EndSequence, &mut program)?;
-    assert!(rt; row.end_sequence());
-    row.reset(program.header());
-    assert_eq!(rt; row, LineRow::new(program.header()));
+    check_reset(rt, &mut row, &mut program)?;
+    check_hidden(rt, &mut row, &mut program)?;
+    check_rebased(rt, &mut row, &mut program)?;
+    check_ended(rt, &mut row, &mut program)?;
     Ok(())
 }

@@ -166,11 +166,20 @@ fn refusal<R: Reader>(alloc: Global, reader: R) -> Option<Error> {
         .err()
 }
 
+/// The refusal over 32-bit offsets.
+fn narrow_refusal(alloc: Global, unit: &[u8]) -> Option<Error> {
+    refusal(alloc, NarrowReader::new(alloc, unit, RunTimeEndian::Little))
+}
+
+/// The refusal over wider ones.
+fn wide_refusal(alloc: Global, unit: &[u8]) -> Option<Error> {
+    refusal(alloc, EndianSlice::new(unit, RunTimeEndian::Little))
+}
+
 /// Whether 32-bit offsets are too narrow for a unit, and wider ones find that bytes are wanting.
 fn is_too_wide(alloc: Global, unit: &[u8]) -> bool {
-    let narrow = refusal(alloc, NarrowReader::new(alloc, unit, RunTimeEndian::Little));
-    let wide = refusal(alloc, EndianSlice::new(unit, RunTimeEndian::Little));
-    narrow == Some(UnsupportedOffset) && matches!(wide, Some(UnexpectedEof(_)))
+    narrow_refusal(alloc, unit) == Some(UnsupportedOffset)
+        && matches!(wide_refusal(alloc, unit), Some(UnexpectedEof(_)))
 }
 
 /// A unit length, and a header length, that are too large.
@@ -218,10 +227,10 @@ const VALUES: [(&[u8], Option<Error>, Option<Error>); 6] = [
 fn values_that_offsets_do_not_hold(rt: HostRuntime) -> std::result::Result<(), Fail> {
     for (directories, narrow, wide) in VALUES {
         let unit = unit_of_tables(rt.alloc(), Format::Dwarf64, directories, b"\x01\x01\x08\0")?;
-        let reader = NarrowReader::new(rt.alloc(), &unit, RunTimeEndian::Little);
-        assert!(rt; refusal(rt.alloc(), reader) == narrow, "at {directories:?}");
-        let reader = EndianSlice::new(&unit, RunTimeEndian::Little);
-        assert!(rt; refusal(rt.alloc(), reader) == wide, "at {directories:?}");
+        let found = narrow_refusal(rt.alloc(), &unit) == narrow;
+        assert!(rt; found, "at {directories:?}");
+        let found = wide_refusal(rt.alloc(), &unit) == wide;
+        assert!(rt; found, "at {directories:?}");
     }
     let block = b"\x01\x01\x09\x01\x80\x80\x80\x80\x10";
     let unit = unit_of_tables(rt.alloc(), Format::Dwarf64, block, b"\x01\x01\x08\0")?;

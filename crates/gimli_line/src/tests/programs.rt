@@ -1,10 +1,8 @@
 //! Units of one program, and the registers of a row.
 
 use crate::{DebugLine, IncompleteLineProgram, LineRow};
-use gimli_core::{DebugLineOffset, EndianSlice, LittleEndian, Result};
+use gimli_core::{DebugLineOffset, Reader, ReaderOffset, Result};
 use std::alloc::{AllocError, Global};
-
-pub type Slice<'i> = EndianSlice<'i, LittleEndian>;
 
 /// A header of version 4 with the default line encoding, opcode base 13 and the file `a.c`.
 pub fn header_13() -> &'static [u8] {
@@ -48,16 +46,13 @@ pub fn unit(
 }
 
 /// The program of a unit, with addresses of 1, 4 or else 8 bytes.
-pub fn program<'i>(
-    alloc: Global,
-    unit: &'i [u8],
-    size: u8,
-) -> Result<IncompleteLineProgram<Slice<'i>>> {
-    let section = DebugLine::new(unit, LittleEndian);
+pub fn program<R: Reader>(alloc: Global, unit: R, size: u8) -> Result<IncompleteLineProgram<R>> {
+    let section = DebugLine::from(unit);
+    let offset = DebugLineOffset(R::Offset::from_u8(0));
     match size {
-        1 => section.program(alloc, DebugLineOffset(0), 1, None, None),
-        4 => section.program(alloc, DebugLineOffset(0), 4, None, None),
-        _ => section.program(alloc, DebugLineOffset(0), 8, None, None),
+        1 => section.program(alloc, offset, 1, None, None),
+        4 => section.program(alloc, offset, 4, None, None),
+        _ => section.program(alloc, offset, 8, None, None),
     }
 }
 

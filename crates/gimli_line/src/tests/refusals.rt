@@ -1,25 +1,34 @@
-//! What refuses a header, and what small changes make of one.
+//! What refuses a header, and what small changes make of one. Each step is a function of its own, so that a proof
+//! stays short.
 
-use super::{changed, demo_unit, is_directory, program, unit_of_version_4, unit_of_version_5};
+use super::{
+    changed, demo_unit, is_directory, program, slice, unit_of_version_4, unit_of_version_5,
+};
 use crate::LineProgramHeader;
 use gimli_core::Error::{self, UnexpectedEof};
-use gimli_core::{DwForm, Reader, ReaderOffsetId};
+use gimli_core::{DwForm, Reader, ReaderOffsetId, Result};
 use std::alloc::Global;
+use std::process::Abort;
 use std::test::Fail;
 
 /// The refusal of a unit with other bytes at some places.
 fn refusal(alloc: Global, unit: &[u8], changes: &[(usize, u8)]) -> Option<Error> {
     match changed(alloc, unit, changes) {
-        Ok(bytes) => program(alloc, &bytes).err(),
+        Ok(bytes) => refusal_of_unit(alloc, slice(&bytes)),
         Err(e) => Some(e),
     }
 }
 
-/// Rows of a table: other bytes, by their places, and the refusal.
-type Rows<const N: usize> = [(&'static [(usize, u8)], Error); N];
+/// The refusal of a unit.
+fn refusal_of_unit<R: Reader>(alloc: Global, unit: R) -> Option<Error> {
+    program(alloc, unit).err()
+}
+
+/// A row of a table: other bytes, by their places, and the refusal.
+type Row = (&'static [(usize, u8)], Error);
 
 /// The lines of the demo unit in the order in which they are read. Of two faults the first is the refusal.
-const OF_VERSION_4: Rows<18> = [
+const OF_VERSION_4: [Row; 18] = [
     (
         &[(0, 0xf0), (1, 0xff), (2, 0xff), (3, 0xff)],
         Error::UnknownReservedLength,
@@ -47,7 +56,7 @@ const OF_VERSION_4: Rows<18> = [
 ];
 
 /// The like of the version 5 unit.
-const OF_VERSION_5: Rows<20> = [
+const OF_VERSION_5: [Row; 20] = [
     (&[(4, 6)], Error::UnknownVersion(6)),
     (&[(4, 6), (6, 3)], Error::UnknownVersion(6)),
     (&[(6, 3)], Error::UnsupportedAddressSize(3)),
@@ -71,34 +80,38 @@ const OF_VERSION_5: Rows<20> = [
 ];
 
 /// A header length that ends within the tables, and a unit length that ends within the header.
-const TOO_SHORT: Rows<2> = [
+const TOO_SHORT: [Row; 2] = [
     (&[(6, 0x15)], UnexpectedEof(ReaderOffsetId(1))),
     (&[(0, 0x28)], UnexpectedEof(ReaderOffsetId(34))),
 ];
 
+/// A unit is refused so at each row.
+fn check_refusals(rt: &impl Abort, alloc: Global, unit: &[u8], rows: &[Row]) {
+    for (changes, error) in rows {
+        let refused = refusal(alloc, unit, *changes) == Some(*error);
+        assert!(rt; refused, "at {changes:?}");
+    }
+}
+
 #[test]
 fn refusals_of_the_header(rt: HostRuntime) {
-    for (changes, error) in OF_VERSION_4 {
-        let refused = refusal(rt.alloc(), demo_unit(), changes) == Some(error);
-        assert!(rt; refused, "at {changes:?}");
-    }
-    for (changes, error) in OF_VERSION_5 {
-        let refused = refusal(rt.alloc(), unit_of_version_5(), changes) == Some(error);
-        assert!(rt; refused, "at {changes:?}");
-    }
+    check_refusals(&rt, rt.alloc(), demo_unit(), &OF_VERSION_4);
+    check_refusals(&rt, rt.alloc(), unit_of_version_5(), &OF_VERSION_5);
 }
 
 #[test]
 fn version_4_tables_cut_short(rt: HostRuntime) {
-    for (changes, error) in TOO_SHORT {
-        let refused = refusal(rt.alloc(), unit_of_version_4(), changes) == Some(error);
-        assert!(rt; refused, "at {changes:?}");
-    }
+    check_refusals(&rt, rt.alloc(), unit_of_version_4(), &TOO_SHORT);
 }
 
-/// Whether bytes are wanting in a section, or memory.
-fn wants_bytes(alloc: Global, section: &[u8]) -> bool {
-    matches!(program(alloc, section), Err(UnexpectedEof(_)))
+/// Whether bytes are wanting in a section that is cut off there.
+fn wants_bytes(
+    alloc: Global,
+    section: &[u8],
+    end: usize,
+) -> std::result::Result<bool, &'static str> {
+    let cut = section.get(..end).ok_or("short")?;
+    Ok(matches!(refusal_of_unit(alloc, slice(cut)), Some(UnexpectedEof(_))))
 }
 
 /// As many bytes as the first length says are there, or are wanting; a unit that ends behind its header is
@@ -108,14 +121,14 @@ fn every_cut_of_the_demo_unit(rt: HostRuntime) -> std::result::Result<(), Fail> 
     for length in 0u8..47 {
         let end = usize::from(length) + 4;
         let bytes = changed(rt.alloc(), demo_unit(), &[(0, length)])?;
-        let cut = demo_unit().get(..end).ok_or("short")?;
-        assert!(rt; wants_bytes(rt.alloc(), cut), "at {length}");
-        let cut = bytes.get(..end).ok_or("short")?;
-        assert_eq!(rt; wants_bytes(rt.alloc(), cut), length < 33, "at {length}");
+        let wants = wants_bytes(rt.alloc(), demo_unit(), end)?;
+        assert!(rt; wants, "at {length}");
+        let wants = wants_bytes(rt.alloc(), &bytes, end)?;
+        assert_eq!(rt; wants, length < 33, "at {length}");
     }
     for end in 0usize..4 {
-        let cut = demo_unit().get(..end).ok_or("short")?;
-        assert!(rt; wants_bytes(rt.alloc(), cut), "at {end}");
+        let wants = wants_bytes(rt.alloc(), demo_unit(), end)?;
+        assert!(rt; wants, "at {end}");
     }
     Ok(())
 }
@@ -126,6 +139,12 @@ fn every_cut_of_the_demo_unit(rt: HostRuntime) -> std::result::Result<(), Fail> 
 fn directory_of_file<R: Reader>(header: &LineProgramHeader<R>) -> Option<(u64, bool)> {
     let index = header.file(0)?.directory_index();
     Some((index, is_directory(header, index, b"/w")))
+}
+
+/// The same of a unit.
+fn directory_of_unit<R: Reader>(alloc: Global, unit: R) -> Result<Option<(u64, bool)>> {
+    let program = program(alloc, unit)?;
+    Ok(directory_of_file(program.header()))
 }
 
 /// Other bytes of the version 5 unit that leave a header, and the directory of its file.
@@ -143,8 +162,7 @@ const ACCEPTED: [(&[(usize, u8)], Option<(u64, bool)>); 5] = [
 fn changes_to_a_version_5_header(rt: HostRuntime) -> std::result::Result<(), Fail> {
     for (changes, expected) in ACCEPTED {
         let bytes = changed(rt.alloc(), unit_of_version_5(), changes)?;
-        let program = program(rt.alloc(), &bytes)?;
-        let found = directory_of_file(program.header());
+        let found = directory_of_unit(rt.alloc(), slice(&bytes))?;
         assert_eq!(rt; found, expected, "at {changes:?}");
     }
     Ok(())

@@ -1,10 +1,14 @@
-//! The rows of whole programs, with their faults in order.
+//! The rows of whole programs, with their faults in order. Each step is a function of its own, so that a proof
+//! stays short.
 
 use super::programs::{
-    Slice, flags, header_3, header_13, header_of_three_operations, numbers, program, unit,
+    flags, header_3, header_13, header_of_three_operations, numbers, program, unit,
 };
+use super::{is_text, slice};
 use crate::{LineRow, OneShotLineRows};
-use gimli_core::{AttributeValue, EndianSlice, Error, LittleEndian};
+use gimli_core::{AttributeValue, Error, Reader};
+use std::alloc::Global;
+use std::process::Abort;
 use std::test::Fail;
 
 /// What `next_row` answers.
@@ -42,7 +46,7 @@ fn event_of(row: &LineRow) -> Event {
 }
 
 /// The next event of a run.
-fn next<'i>(rows: &mut OneShotLineRows<Slice<'i>>) -> Event {
+fn next<R: Reader>(rows: &mut OneShotLineRows<R>) -> Event {
     match rows.next_row() {
         Ok(Some((_, row))) => event_of(row),
         Ok(None) => Done,
@@ -54,13 +58,24 @@ fn next<'i>(rows: &mut OneShotLineRows<Slice<'i>>) -> Event {
 }
 
 /// Whether a run gives these events, and nothing behind them.
-fn gives<'i>(rows: &mut OneShotLineRows<Slice<'i>>, events: &[Event]) -> bool {
+fn gives<R: Reader>(rows: &mut OneShotLineRows<R>, events: &[Event]) -> bool {
     for event in events {
         if next(rows) != *event {
             return false;
         }
     }
     next(rows) == Done && next(rows) == Done
+}
+
+/// The same of a unit.
+fn unit_gives<R: Reader>(
+    alloc: Global,
+    unit: R,
+    size: u8,
+    events: &[Event],
+) -> gimli_core::Result<bool> {
+    let mut rows = program(alloc, unit, size)?.rows();
+    Ok(gives(&mut rows, events))
 }
 
 /// A program and its events.
@@ -205,14 +220,14 @@ fn rows_and_faults_in_order(rt: HostRuntime) -> Result<(), Fail> {
     for case in cases() {
         let name = case.name;
         let unit = unit(rt.alloc(), case.header, case.program)?;
-        let mut rows = program(rt.alloc(), &unit, case.size)?.rows();
-        assert!(rt; gives(&mut rows, case.events), "at {name}");
+        let found = unit_gives(rt.alloc(), slice(&unit), case.size, case.events)?;
+        assert!(rt; found, "at {name}");
     }
     Ok(())
 }
 
 /// The numbers and the flags of the next row; zeros where there is none.
-fn whole<'i>(rows: &mut OneShotLineRows<Slice<'i>>) -> ([u64; 7], [bool; 5]) {
+fn whole<R: Reader>(rows: &mut OneShotLineRows<R>) -> ([u64; 7], [bool; 5]) {
     match rows.next_row() {
         Ok(Some((_, row))) => (numbers(row), flags(row)),
         _ => ([0; 7], [false; 5]),
@@ -232,18 +247,27 @@ fn registers_from_row_to_row(rt: HostRuntime) -> Result<(), Fail> {
         ([0, 0, 1, 1, 0, 0, 0], [true, false, false, false, false]),
     ];
     let unit = unit(rt.alloc(), header_13(), program_bytes)?;
-    let mut rows = program(rt.alloc(), &unit, 4)?.rows();
+    check_registers(&rt, rt.alloc(), slice(&unit), &expected)?;
+    Ok(())
+}
+
+/// The numbers and the flags of each row of a unit are these.
+fn check_registers<R: Reader>(
+    rt: &impl Abort,
+    alloc: Global,
+    unit: R,
+    expected: &[([u64; 7], [bool; 5])],
+) -> gimli_core::Result<()> {
+    let mut rows = program(alloc, unit, 4)?.rows();
     for row in expected {
-        assert_eq!(rt; whole(&mut rows), row);
+        assert_eq!(rt; whole(&mut rows), *row);
     }
     assert_eq!(rt; next(&mut rows), Done);
     Ok(())
 }
 
 /// How many files the header has at the next row, and the path of the row's file.
-fn file_of_next<'i>(
-    rows: &mut OneShotLineRows<Slice<'i>>,
-) -> (usize, Option<AttributeValue<Slice<'i>>>) {
+fn file_of_next<R: Reader>(rows: &mut OneShotLineRows<R>) -> (usize, Option<AttributeValue<R>>) {
     match rows.next_row() {
         Ok(Some((header, row))) => (
             header.file_names().len(),
@@ -258,39 +282,67 @@ fn defines_behind_a_row() -> &'static [u8] {
     b"\x04\x02\x01\0\x08\x03b.c\0\0\0\0\x01\0\x01\x01"
 }
 
+/// A row whose file isn't there, of a header of one file.
+fn check_row_without_file<R: Reader>(rt: &impl Abort, rows: &mut OneShotLineRows<R>) {
+    assert_eq!(rt; rows.header().file_names().len(), 1);
+    let (files, path) = file_of_next(rows);
+    assert!(rt; files == 1 && path.is_none());
+    assert_eq!(rt; rows.header().file_names().len(), 1);
+}
+
+/// A row in the file that was defined.
+fn check_row_with_file<R: Reader>(rt: &impl Abort, rows: &mut OneShotLineRows<R>) {
+    let (files, path) = file_of_next(rows);
+    assert!(rt; files == 2 && is_text(path, b"b.c"));
+}
+
+/// Nothing more, of a header of two files.
+fn check_end<R: Reader>(rt: &impl Abort, rows: &mut OneShotLineRows<R>) {
+    assert_eq!(rt; next(rows), Done);
+    assert_eq!(rt; rows.header().file_names().len(), 2);
+}
+
 #[test]
 fn file_defined_after_its_row(rt: HostRuntime) -> Result<(), Fail> {
-    let path = AttributeValue::String(EndianSlice::new(b"b.c", LittleEndian));
     let unit = unit(rt.alloc(), header_13(), defines_behind_a_row())?;
-    let mut rows = program(rt.alloc(), &unit, 4)?.rows();
-    assert_eq!(rt; rows.header().file_names().len(), 1);
-    assert_eq!(rt; file_of_next(&mut rows), (1, None));
-    assert_eq!(rt; rows.header().file_names().len(), 1);
-    assert_eq!(rt; file_of_next(&mut rows), (2, Some(path)));
-    assert_eq!(rt; file_of_next(&mut rows), (2, Some(path)));
-    assert_eq!(rt; next(&mut rows), Done);
-    assert_eq!(rt; rows.header().file_names().len(), 2);
+    check_files(&rt, rt.alloc(), slice(&unit))?;
     Ok(())
+}
+
+/// The files of its three rows.
+fn check_files<R: Reader>(rt: &impl Abort, alloc: Global, unit: R) -> gimli_core::Result<()> {
+    let mut rows = program(alloc, unit, 4)?.rows();
+    check_row_without_file(rt, &mut rows);
+    check_row_with_file(rt, &mut rows);
+    check_row_with_file(rt, &mut rows);
+    check_end(rt, &mut rows);
+    Ok(())
+}
+
+/// A row, then two more or the refusal of memory, and nothing behind it.
+fn check_growth<R: Reader>(rt: &impl Abort, rows: &mut OneShotLineRows<R>) {
+    assert_eq!(rt; next(rows), Row(0, 0, 1));
+    match next(rows) {
+        Memory => {}
+        event => {
+            assert_eq!(rt; event, Row(0, 0, 1));
+            assert_eq!(rt; next(rows), End(0, 0, 1));
+        }
+    }
+    assert!(rt; gives(rows, &[]));
 }
 
 /// Where the growth for a defined file is refused, nothing comes behind it. Holds also where no allocation is.
 #[test]
 fn each_growth_refused(rt: HostRuntime) {
     let unit = unit_that_defines();
-    match program(rt.alloc(), &unit, 4) {
-        Ok(program) => {
-            let mut rows = program.rows();
-            assert_eq!(rt; next(&mut rows), Row(0, 0, 1));
-            match next(&mut rows) {
-                Memory => {}
-                event => {
-                    assert_eq!(rt; event, Row(0, 0, 1));
-                    assert_eq!(rt; next(&mut rows), End(0, 0, 1));
-                }
-            }
-            assert_eq!(rt; next(&mut rows), Done);
-            assert_eq!(rt; next(&mut rows), Done);
-        }
+    check_growth_of_unit(&rt, rt.alloc(), slice(&unit));
+}
+
+/// The same of a unit, whose header may be refused so.
+fn check_growth_of_unit<R: Reader>(rt: &impl Abort, alloc: Global, unit: R) {
+    match program(alloc, unit, 4) {
+        Ok(program) => check_growth(rt, &mut program.rows()),
         Err(e) => assert_eq!(rt; e, Error::OutOfMemory),
     }
 }

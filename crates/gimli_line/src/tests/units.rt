@@ -1,14 +1,14 @@
-//! Whole units, by every accessor of their headers.
+//! Whole units, by every accessor of their headers. Each step is a function of its own, so that a proof stays short.
 
 use super::{
     Slice, changed, demo_unit, has_bytes, holds, is_directory, is_file, is_text, kinds, lengths,
-    named_program, numbers, program, unit_of_version_4, unit_of_version_5,
+    named_program, numbers, program, slice, unit_of_version_4, unit_of_version_5,
 };
 use crate::{DebugLine, FileEntryFormat, IncompleteLineProgram, LineProgramHeader};
 use gimli_core::{
     BigEndian, DW_FORM_data1, DW_FORM_data16, DW_FORM_string, DW_FORM_udata, DW_LNCT_LLVM_source,
     DW_LNCT_MD5, DW_LNCT_directory_index, DW_LNCT_path, DebugLineOffset, DwForm, DwLnct, Encoding,
-    EndianSlice, Format, LineEncoding, LittleEndian, Reader, Result,
+    EndianSlice, Format, LineEncoding, LittleEndian, Reader, ReaderOffset, Result,
 };
 use std::alloc::Global;
 use std::process::Abort;
@@ -57,6 +57,23 @@ fn ends_at<R: Reader>(header: &LineProgramHeader<R>, directory: u64, file: u64) 
     header.directory(directory).is_none() && header.file(file).is_none()
 }
 
+/// The program at an offset of a section, with addresses of 8 bytes.
+fn program_at<R: Reader>(
+    alloc: Global,
+    section: R,
+    offset: u8,
+    directory: Option<R>,
+    name: Option<R>,
+) -> Result<IncompleteLineProgram<R>> {
+    let offset = DebugLineOffset(R::Offset::from_u8(offset));
+    DebugLine::from(section).program(alloc, offset, 8, directory, name)
+}
+
+/// The header stands at this offset.
+fn is_at<R: Reader>(header: &LineProgramHeader<R>, offset: u64) -> bool {
+    header.offset().0.into_u64() == offset
+}
+
 /// What the numbers of a unit and its rows are encoded by.
 fn has_encodings<R: Reader>(
     header: &LineProgramHeader<R>,
@@ -67,6 +84,31 @@ fn has_encodings<R: Reader>(
         && header.line_encoding() == line_encoding
         && header.line_base() == line_encoding.line_base
         && header.default_is_stmt() == line_encoding.default_is_stmt
+}
+
+/// The numbers of a header, the lengths of its tables and the kinds of its values are these.
+fn check_counts<R: Reader>(
+    rt: &impl Abort,
+    header: &LineProgramHeader<R>,
+    expected: [u64; 10],
+    tables: [usize; 4],
+    values: [bool; 4],
+) {
+    assert_eq!(rt; numbers(header), expected);
+    assert_eq!(rt; lengths(header), tables);
+    assert_eq!(rt; kinds(header), values);
+}
+
+/// The operand counts and the program are these bytes, behind this line base.
+fn check_bytes<R: Reader>(
+    rt: &impl Abort,
+    header: &LineProgramHeader<R>,
+    line_base: i8,
+    counts: &[u8],
+    program: &[u8],
+) {
+    assert_eq!(rt; header.line_base(), line_base);
+    assert!(rt; has_bytes(header, counts, program));
 }
 
 const OPERAND_COUNTS: &[u8] = b"\0\x01\x01\x01\x01\0\0\0\x01\0\0\x01";
@@ -85,12 +127,8 @@ fn has_version_5_tables<R: Reader>(header: &LineProgramHeader<R>) -> bool {
         && ends_at(header, 1, 1)
 }
 
-/// A body of `program` that always wants for memory fails here, as at every test that reads a header.
-#[test]
-fn version_5_unit(rt: HostRuntime) -> std::result::Result<(), Fail> {
-    let program = program(rt.alloc(), unit_of_version_5())?;
-    let header = program.header();
-    assert_eq!(rt; numbers(header), [0x2c, 5, 8, 4, 0x24, 1, 1, 1, 14, 13]);
+/// The encodings and the bytes of the version 5 unit.
+fn check_encodings<R: Reader>(rt: &impl Abort, header: &LineProgramHeader<R>) {
     let encoding = Encoding {
         address_size: 8,
         format: Format::Dwarf32,
@@ -98,9 +136,22 @@ fn version_5_unit(rt: HostRuntime) -> std::result::Result<(), Fail> {
     };
     assert!(rt; has_encodings(header, encoding, LineEncoding::default()));
     assert!(rt; has_bytes(header, OPERAND_COUNTS, b""));
-    assert_eq!(rt; lengths(header), [1, 1, 2, 1]);
-    assert_eq!(rt; kinds(header), [false; 4]);
-    assert!(rt; has_version_5_tables(header));
+}
+
+/// What the version 5 unit says.
+fn check_version_5<R: Reader>(rt: &impl Abort, alloc: Global, unit: R) -> Result<()> {
+    let program = program(alloc, unit)?;
+    let expected = [0x2c, 5, 8, 4, 0x24, 1, 1, 1, 14, 13];
+    check_counts(rt, program.header(), expected, [1, 1, 2, 1], [false; 4]);
+    check_encodings(rt, program.header());
+    assert!(rt; has_version_5_tables(program.header()));
+    Ok(())
+}
+
+/// A body of `program` that always wants for memory fails here, as at every test that reads a header.
+#[test]
+fn version_5_unit(rt: HostRuntime) -> std::result::Result<(), Fail> {
+    check_version_5(&rt, rt.alloc(), slice(unit_of_version_5()))?;
     Ok(())
 }
 
@@ -110,11 +161,22 @@ fn version_5_with_source(rt: HostRuntime) -> std::result::Result<(), Fail> {
     let section =
         b"\x30\0\0\0\x05\0\x08\0\x28\0\0\0\x01\x01\x01\xfb\x0e\x0d\0\x01\x01\x01\x01\0\0\0\x01\0\0\x01\
                     \x01\x01\x08\x01/w\0\x03\x01\x08\x02\x0f\x81\x40\x08\x01a.c\0\0\0";
-    let program = program(rt.alloc(), section)?;
+    check_source(&rt, rt.alloc(), slice(section))?;
+    Ok(())
+}
+
+/// What it says.
+fn check_source<R: Reader>(rt: &impl Abort, alloc: Global, unit: R) -> Result<()> {
+    let program = program(alloc, unit)?;
     let header = program.header();
-    assert_eq!(rt; numbers(header), [0x30, 5, 8, 4, 0x28, 1, 1, 1, 14, 13]);
-    assert_eq!(rt; lengths(header), [1, 1, 3, 1]);
-    assert_eq!(rt; kinds(header), [false, false, false, true]);
+    let expected = [0x30, 5, 8, 4, 0x28, 1, 1, 1, 14, 13];
+    check_counts(
+        rt,
+        header,
+        expected,
+        [1, 1, 3, 1],
+        [false, false, false, true],
+    );
     assert!(rt; is_file(header, 0, b"a.c", 0) && has_contents(header, 0, &[0; 16], b""));
     Ok(())
 }
@@ -132,23 +194,57 @@ fn has_version_4_tables<R: Reader>(header: &LineProgramHeader<R>) -> bool {
         && ends_at(header, 3, 3)
 }
 
-/// The cases of gimli's own test, and the same bytes where no directory and no name is handed in.
-#[test]
-fn version_4_tables(rt: HostRuntime) -> std::result::Result<(), Fail> {
-    let named = named_program(rt.alloc(), unit_of_version_4(), b"/comp_dir", b"/comp_name")?;
-    let header = named.header();
-    assert_eq!(rt; header.offset(), DebugLineOffset(0));
-    assert_eq!(rt; numbers(header), [62, 4, 4, 4, 40, 1, 1, 1, 1, 3]);
-    assert_eq!(rt; header.line_base(), 0);
-    assert!(rt; has_bytes(header, b"\x01\x02", &[0; 16]));
-    assert_eq!(rt; lengths(header), [0, 2, 0, 2]);
-    assert_eq!(rt; kinds(header), [true, true, false, false]);
+/// The entries of the version 4 unit where a directory and a name are handed in.
+fn check_entries<R: Reader>(rt: &impl Abort, header: &LineProgramHeader<R>) {
     assert!(rt; has_version_4_tables(header));
     assert!(rt; is_directory(header, 0, b"/comp_dir"));
     assert!(rt; is_file(header, 0, b"/comp_name", 0) && is_plain(header, 0));
-    let unnamed = program(rt.alloc(), unit_of_version_4())?;
+}
+
+/// What it says then.
+fn check_named<R: Reader>(
+    rt: &impl Abort,
+    alloc: Global,
+    unit: R,
+    directory: R,
+    name: R,
+) -> Result<()> {
+    let named = named_program(alloc, unit, directory, name)?;
+    let header = named.header();
+    assert!(rt; is_at(header, 0));
+    let expected = [62, 4, 4, 4, 40, 1, 1, 1, 1, 3];
+    check_counts(
+        rt,
+        header,
+        expected,
+        [0, 2, 0, 2],
+        [true, true, false, false],
+    );
+    check_bytes(rt, header, 0, b"\x01\x02", &[0; 16]);
+    check_entries(rt, header);
+    Ok(())
+}
+
+/// What it says where none is.
+fn check_unnamed<R: Reader>(rt: &impl Abort, alloc: Global, unit: R) -> Result<()> {
+    let unnamed = program(alloc, unit)?;
     assert!(rt; has_version_4_tables(unnamed.header()));
     assert!(rt; ends_at(unnamed.header(), 0, 0));
+    Ok(())
+}
+
+/// The cases of gimli's own test, and the same bytes where no directory and no name is handed in.
+#[test]
+fn version_4_tables(rt: HostRuntime) -> std::result::Result<(), Fail> {
+    let unit = slice(unit_of_version_4());
+    check_named(
+        &rt,
+        rt.alloc(),
+        unit,
+        slice(b"/comp_dir"),
+        slice(b"/comp_name"),
+    )?;
+    check_unnamed(&rt, rt.alloc(), unit)?;
     Ok(())
 }
 
@@ -199,47 +295,41 @@ fn has_files<R: Reader>(header: &LineProgramHeader<R>) -> bool {
         && ends_at(header, 2, 2)
 }
 
-/// What a unit of these parts says. The address size, the directory and the name that are handed in mean
-/// nothing.
-fn check_tables(
-    rt: &impl Abort,
-    alloc: Global,
-    section: &'static [u8],
-    expected: [u64; 10],
-) -> Result<()> {
-    let handed = Some(EndianSlice::new(b"/handed", LittleEndian));
-    let program = DebugLine::new(section, LittleEndian).program(
-        alloc,
-        DebugLineOffset(0),
-        8,
-        handed,
-        handed,
-    )?;
-    let header = program.header();
-    assert_eq!(rt; numbers(header), expected);
-    assert_eq!(rt; header.line_base(), 0);
-    assert!(rt; has_bytes(header, b"\x01\x02", b"\0\x01\x02\x03\x04"));
-    assert_eq!(rt; lengths(header), [1, 2, 4, 2]);
-    assert_eq!(rt; kinds(header), [false, false, true, true]);
+/// What such a header says, in the format of its numbers.
+fn check_header<R: Reader>(rt: &impl Abort, header: &LineProgramHeader<R>, expected: [u64; 10]) {
+    check_counts(
+        rt,
+        header,
+        expected,
+        [1, 2, 4, 2],
+        [false, false, true, true],
+    );
+    check_bytes(rt, header, 0, b"\x01\x02", b"\0\x01\x02\x03\x04");
     assert!(rt; has_directories(header));
     assert!(rt; has_files(header));
+}
+
+/// What a unit of these parts says. The address size, the directory and the name that are handed in mean
+/// nothing.
+fn check_tables<R: Reader>(
+    rt: &impl Abort,
+    alloc: Global,
+    section: R,
+    handed: R,
+    expected: [u64; 10],
+) -> Result<()> {
+    let program = program_at(alloc, section, 0, Some(handed), Some(handed))?;
+    check_header(rt, program.header(), expected);
     Ok(())
 }
 
 #[test]
 fn version_5_tables_in_both_formats(rt: HostRuntime) -> std::result::Result<(), Fail> {
-    check_tables(
-        &rt,
-        rt.alloc(),
-        tables_32(),
-        [0x68, 5, 4, 4, 0x5b, 1, 1, 1, 1, 3],
-    )?;
-    check_tables(
-        &rt,
-        rt.alloc(),
-        tables_64(),
-        [0x6c, 5, 4, 8, 0x5b, 1, 1, 1, 1, 3],
-    )?;
+    let handed = slice(b"/handed");
+    let expected = [0x68, 5, 4, 4, 0x5b, 1, 1, 1, 1, 3];
+    check_tables(&rt, rt.alloc(), slice(tables_32()), handed, expected)?;
+    let expected = [0x6c, 5, 4, 8, 0x5b, 1, 1, 1, 1, 3];
+    check_tables(&rt, rt.alloc(), slice(tables_64()), handed, expected)?;
     Ok(())
 }
 
@@ -251,22 +341,20 @@ fn demo_unit_at_an_offset(rt: HostRuntime) -> std::result::Result<(), Fail> {
     let mut section = Vec::from_slice(rt.alloc(), b"\xaa\xbb\xcc")?;
     section.extend_from_slice(demo_unit())?;
     section.push(0xdd)?;
-    let directory = Some(EndianSlice::new(b"/w", LittleEndian));
-    let program = DebugLine::new(&section, LittleEndian).program(
-        rt.alloc(),
-        DebugLineOffset(3),
-        8,
-        directory,
-        None,
-    )?;
+    check_demo(&rt, rt.alloc(), slice(&section), slice(b"/w"))?;
+    Ok(())
+}
+
+/// What the header says there.
+fn check_demo<R: Reader>(rt: &impl Abort, alloc: Global, section: R, directory: R) -> Result<()> {
+    let program = program_at(alloc, section, 3, Some(directory), None)?;
     let header = program.header();
-    assert_eq!(rt; header.offset(), DebugLineOffset(3));
+    assert!(rt; is_at(header, 3));
     assert_eq!(rt; numbers(header), [0x2f, 4, 8, 4, 0x1b, 1, 1, 1, 14, 13]);
-    assert_eq!(rt; header.line_base(), -5);
     assert!(rt; is_directory(header, 0, b"/w") && is_file(header, 1, b"a.c", 0));
     assert!(rt; ends_at(header, 1, 0));
     let instructions = b"\0\x05\x02\0\x10\0\0\x01\x4c\x02\x04\0\x01\x01";
-    assert!(rt; has_bytes(header, OPERAND_COUNTS, instructions));
+    check_bytes(rt, header, -5, OPERAND_COUNTS, instructions);
     Ok(())
 }
 
@@ -275,17 +363,16 @@ fn demo_unit_at_an_offset(rt: HostRuntime) -> std::result::Result<(), Fail> {
 fn big_endian_dwarf64(rt: HostRuntime) -> std::result::Result<(), Fail> {
     let section = b"\xff\xff\xff\xff\0\0\0\0\0\0\0\x1d\0\x02\0\0\0\0\0\0\0\x13\
                     \x01\x01\xfb\x0e\x0d\0\x01\x01\x01\x01\0\0\0\x01\0\0\x01\0\0";
-    let program = DebugLine::new(section, BigEndian).program(
-        rt.alloc(),
-        DebugLineOffset(0),
-        8,
-        None,
-        None,
-    )?;
+    check_big_endian(&rt, rt.alloc(), EndianSlice::new(section, BigEndian))?;
+    Ok(())
+}
+
+/// What the header says there.
+fn check_big_endian<R: Reader>(rt: &impl Abort, alloc: Global, section: R) -> Result<()> {
+    let program = program_at(alloc, section, 0, None, None)?;
     let header = program.header();
     assert_eq!(rt; numbers(header), [0x1d, 2, 8, 8, 0x13, 1, 1, 1, 14, 13]);
-    assert_eq!(rt; header.line_base(), -5);
-    assert!(rt; has_bytes(header, OPERAND_COUNTS, b""));
+    check_bytes(rt, header, -5, OPERAND_COUNTS, b"");
     assert_eq!(rt; lengths(header), [0; 4]);
     Ok(())
 }
@@ -299,19 +386,30 @@ fn fields_of_versions_2_and_3(rt: HostRuntime) -> std::result::Result<(), Fail> 
             demo_unit(),
             &[(4, version), (11, 0), (12, 0xff)],
         )?;
-        let program = program(rt.alloc(), &bytes)?;
-        let header = program.header();
-        let expected = [0x2f, u64::from(version), 4, 4, 0x1b, 1, 1, 0, 0xfb, 0x0e];
-        assert_eq!(rt; numbers(header), expected);
-        assert_eq!(rt; header.line_base(), -1);
-        assert!(rt;
-            holds(
-                *header.standard_opcode_lengths(),
-                b"\x0d\0\x01\x01\x01\x01\0\0\0\x01\0\0\x01"
-            )
-        );
-        assert!(rt; is_file(header, 1, b"a.c", 0));
+        check_version_2_or_3(&rt, rt.alloc(), slice(&bytes), version)?;
     }
+    Ok(())
+}
+
+/// What the header says there.
+fn check_version_2_or_3<R: Reader>(
+    rt: &impl Abort,
+    alloc: Global,
+    unit: R,
+    version: u8,
+) -> Result<()> {
+    let program = program(alloc, unit)?;
+    let header = program.header();
+    let expected = [0x2f, u64::from(version), 4, 4, 0x1b, 1, 1, 0, 0xfb, 0x0e];
+    assert_eq!(rt; numbers(header), expected);
+    assert_eq!(rt; header.line_base(), -1);
+    assert!(rt;
+        holds(
+            *header.standard_opcode_lengths(),
+            b"\x0d\0\x01\x01\x01\x01\0\0\0\x01\0\0\x01"
+        )
+    );
+    assert!(rt; is_file(header, 1, b"a.c", 0));
     Ok(())
 }
 
@@ -324,10 +422,20 @@ fn headers_longer_than_their_tables(rt: HostRuntime) -> std::result::Result<(), 
     ];
     for (header_length, instructions) in rest {
         let bytes = changed(rt.alloc(), demo_unit(), &[(6, header_length)])?;
-        let program = program(rt.alloc(), &bytes)?;
-        let header = program.header();
-        assert_eq!(rt; lengths(header), [0, 0, 0, 1]);
-        assert!(rt; has_bytes(header, OPERAND_COUNTS, instructions));
+        check_program(&rt, rt.alloc(), slice(&bytes), instructions)?;
     }
+    Ok(())
+}
+
+/// A unit of a file alone, with this program.
+fn check_program<R: Reader>(
+    rt: &impl Abort,
+    alloc: Global,
+    unit: R,
+    instructions: &[u8],
+) -> Result<()> {
+    let program = program(alloc, unit)?;
+    assert_eq!(rt; lengths(program.header()), [0, 0, 0, 1]);
+    assert!(rt; has_bytes(program.header(), OPERAND_COUNTS, instructions));
     Ok(())
 }
