@@ -8,9 +8,11 @@ use crate::{
 };
 use gimli_core::{Encoding, Format, LineEncoding};
 use std::alloc::Global;
+use std::process::Abort;
 use std::test::Fail;
 
-// What the calls of the builder ask, and little of what they ensure: so the proof of a test stays small.
+// What the calls of the builder ask, and little of what they ensure; and each step is a function of its own: so
+// the proof of a test stays small.
 
 /// A text of one byte.
 fn text(alloc: Global, byte: u8) -> Result<LineString>
@@ -113,19 +115,44 @@ fn directories_twice(rt: HostRuntime) -> std::result::Result<(), Fail> {
     Ok(())
 }
 
-#[test]
-fn files_twice(rt: HostRuntime) -> std::result::Result<(), Fail> {
-    let mut program = program(rt.alloc())?;
-    let first = put_file(&mut program, rt.alloc(), b'a', None)?;
-    let second = put_file(&mut program, rt.alloc(), b'b', None)?;
-    let again = put_file(&mut program, rt.alloc(), b'a', None)?;
-    assert_eq!(rt; first, again);
+/// Files `a` and `b`.
+fn put_two_files(program: &mut LineProgram, alloc: Global) -> Result<(FileId, FileId)>
+    requires { program.old.is_none ≡ false }
+    ensures { program.new.is_none ≡ false }
+{
+    let first = put_file(program, alloc, b'a', None)?;
+    let second = put_file(program, alloc, b'b', None)?;
+    Ok((first, second))
+}
+
+fn check_numbers(rt: &impl Abort, first: FileId, second: FileId) {
     assert_eq!(rt; first.raw(4), 1);
     assert_eq!(rt; second.raw(4), 2);
     assert_eq!(rt; second.raw(5), 1);
+}
+
+fn put_first_again(
+    rt: &impl Abort,
+    alloc: Global,
+    program: &mut LineProgram,
+    first: FileId,
+) -> Result<()>
+    requires { program.old.is_none ≡ false }
+{
+    let again = put_file(program, alloc, b'a', None)?;
+    assert_eq!(rt; first, again);
     let (path, directory) = program.get_file(again);
     assert_eq!(rt; first_byte(path), b'a');
     assert_eq!(rt; directory, program.default_directory());
+    Ok(())
+}
+
+#[test]
+fn files_twice(rt: HostRuntime) -> std::result::Result<(), Fail> {
+    let mut program = program(rt.alloc())?;
+    let (first, second) = put_two_files(&mut program, rt.alloc())?;
+    put_first_again(&rt, rt.alloc(), &mut program, first)?;
+    check_numbers(&rt, first, second);
     Ok(())
 }
 
@@ -137,15 +164,18 @@ fn next_name(files: &mut Files<'_>) -> u8 {
     }
 }
 
-#[test]
-fn files_in_order(rt: HostRuntime) -> std::result::Result<(), Fail> {
-    let mut program = program(rt.alloc())?;
-    put_file(&mut program, rt.alloc(), b'a', None)?;
-    put_file(&mut program, rt.alloc(), b'b', None)?;
+fn check_names(rt: &impl Abort, program: &LineProgram) {
     let mut files = program.files();
     assert_eq!(rt; next_name(&mut files), b'a');
     assert_eq!(rt; next_name(&mut files), b'b');
     assert_eq!(rt; next_name(&mut files), 0);
+}
+
+#[test]
+fn files_in_order(rt: HostRuntime) -> std::result::Result<(), Fail> {
+    let mut program = program(rt.alloc())?;
+    put_two_files(&mut program, rt.alloc())?;
+    check_names(&rt, &program);
     Ok(())
 }
 
@@ -292,24 +322,51 @@ fn item_number(item: Option<&BuiltItem>) -> (u8, u64) {
     }
 }
 
-/// A row at the set address, and one four bytes behind it. A body of `generate_row` that always answers that
-/// memory is wanting fails here.
-#[test]
-fn items_in_order(rt: HostRuntime) -> std::result::Result<(), Fail> {
-    let mut program = program(rt.alloc())?;
+/// An empty program, in which a sequence begins.
+fn begun(rt: &impl Abort, alloc: Global) -> Result<LineProgram>
+    ensures { IfOk result (λ program. program.is_none ≡ false) }
+{
+    let mut program = program(alloc)?;
     assert!(rt; program.is_empty());
     program.begin_sequence(Some(Address::Constant(0x1000)))?;
-    assert!(rt; put_row(&mut program, 0, 1)?);
-    assert!(rt; put_row(&mut program, 4, 3)?);
+    Ok(program)
+}
+
+fn put_two_rows(rt: &impl Abort, program: &mut LineProgram) -> Result<()>
+    requires { program.old.is_none ≡ false }
+    ensures { OnOk result (program.new.is_none ≡ false) }
+{
+    assert!(rt; put_row(program, 0, 1)?);
+    assert!(rt; put_row(program, 4, 3)?);
     assert!(rt; program.in_sequence());
-    assert!(rt; put_end(&mut program, 8)?);
+    Ok(())
+}
+
+fn put_last_end(rt: &impl Abort, program: &mut LineProgram) -> Result<()>
+    requires { program.old.is_none ≡ false }
+{
+    assert!(rt; put_end(program, 8)?);
     assert!(rt; !program.in_sequence());
+    Ok(())
+}
+
+fn check_items(rt: &impl Abort, program: &LineProgram) {
     let mut items = program.items();
     for wanted in [(1, 0x1000), (2, 0), (2, 4), (3, 8), (0, 0)] {
         let (kind, number) = item_number(items.next());
         assert_eq!(rt; kind, wanted.0);
         assert_eq!(rt; number, wanted.1);
     }
+}
+
+/// A row at the set address, and one four bytes behind it. A body of `generate_row` that always answers that
+/// memory is wanting fails here.
+#[test]
+fn items_in_order(rt: HostRuntime) -> std::result::Result<(), Fail> {
+    let mut program = begun(&rt, rt.alloc())?;
+    put_two_rows(&rt, &mut program)?;
+    put_last_end(&rt, &mut program)?;
+    check_items(&rt, &program);
     Ok(())
 }
 

@@ -21,18 +21,36 @@ struct Texts {
     line_strings: LineStringTable,
 }
 
+/// A table with a text.
+fn some_strings(alloc: Global) -> Result<StringTable>
+    ensures { IfOk result (λ strings. 0 < length strings) }
+{
+    let mut strings = StringTable::default(alloc);
+    strings.add(b"s")?;
+    if strings.count() == 0 {
+        return Err(Error::InvalidReference);
+    }
+    Ok(strings)
+}
+
+fn some_line_strings(alloc: Global) -> Result<LineStringTable>
+    ensures { IfOk result (λ strings. 0 < length strings) }
+{
+    let mut strings = LineStringTable::default(alloc);
+    strings.add(b"l")?;
+    if strings.count() == 0 {
+        return Err(Error::InvalidReference);
+    }
+    Ok(strings)
+}
+
 /// Tables with a text in each.
 fn some_texts(alloc: Global) -> Result<Texts>
     ensures strings { IfOk result (λ texts. 0 < length texts.strings) }
     ensures line_strings { IfOk result (λ texts. 0 < length texts.line_strings) }
 {
-    let mut strings = StringTable::default(alloc);
-    let mut line_strings = LineStringTable::default(alloc);
-    strings.add(b"s")?;
-    line_strings.add(b"l")?;
-    if strings.count() == 0 || line_strings.count() == 0 {
-        return Err(Error::InvalidReference);
-    }
+    let strings = some_strings(alloc)?;
+    let line_strings = some_line_strings(alloc)?;
     Ok(Texts {
         strings,
         line_strings,
@@ -925,20 +943,33 @@ fn overwrite(section: &mut [u8], offset: usize, bytes: &[u8])
     section[offset..offset + bytes.len()].copy_from_slice(bytes);
 }
 
+/// The section and the answer, behind the first `len` bytes of an array.
+fn written_in_array(
+    unit: Encoding,
+    program: &LineProgram,
+    texts: &mut Texts,
+    len: usize,
+) -> (ArraySection, Result<DebugLineOffset>)
+    requires can { CanWrite program.now texts.old.strings texts.old.line_strings }
+    requires len { len ≤ 256 }
+{
+    let mut section = DebugLine::from(array_section(len));
+    let answer = program.write(
+        &mut section,
+        unit,
+        &mut texts.line_strings,
+        &mut texts.strings,
+    );
+    (section.0, answer)
+}
+
 /// The demo unit behind the first `len` bytes of an array.
 fn demo_in_array(alloc: Global, len: usize) -> Result<(ArraySection, Result<DebugLineOffset>)>
     requires { len ≤ 256 }
 {
     let case = case_of(LineEncoding::default(), Sample::Demo);
     let (program, mut texts) = built(alloc, case)?;
-    let mut section = DebugLine::from(array_section(len));
-    let answer = program.write(
-        &mut section,
-        case.encoding,
-        &mut texts.line_strings,
-        &mut texts.strings,
-    );
-    Ok((section.0, answer))
+    Ok(written_in_array(case.encoding, &program, &mut texts, len))
 }
 
 /// Run with the Nth allocation refused (`rt try --test --fail-alloc N`), `write` is `Ok` wherever the
