@@ -134,10 +134,14 @@ where
         ensures offset { IfOk result (λ copy. copy.offset ≡ self.now.offset) }
         ensures err { IfErr result (λ e. e ≡ Error.OutOfMemory) }
     {
-        let (directory_entry_format, include_directories) =
-            copied_both(&self.directory_entry_format, &self.include_directories)?;
-        let (file_name_entry_format, file_names) =
-            copied_both(&self.file_name_entry_format, &self.file_names)?;
+        let (directory_entry_format, include_directories) = copied_both(
+            &self.directory_entry_format,
+            &self.include_directories,
+        )?;
+        let (file_name_entry_format, file_names) = copied_both(
+            &self.file_name_entry_format,
+            &self.file_names,
+        )?;
         Ok(LineProgramHeader {
             parameters: self.parameters,
             offset: self.offset,
