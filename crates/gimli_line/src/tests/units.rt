@@ -6,9 +6,10 @@ use super::{
 };
 use crate::{DebugLine, FileEntryFormat, IncompleteLineProgram, LineProgramHeader};
 use gimli_core::{
-    BigEndian, DW_FORM_data1, DW_FORM_data16, DW_FORM_string, DW_FORM_udata, DW_LNCT_LLVM_source,
-    DW_LNCT_MD5, DW_LNCT_directory_index, DW_LNCT_path, DebugLineOffset, DwForm, DwLnct, Encoding,
-    EndianSlice, Format, LineEncoding, LittleEndian, Reader, ReaderOffset, Result,
+    AttributeValue, BigEndian, DW_FORM_data1, DW_FORM_data16, DW_FORM_string, DW_FORM_udata,
+    DW_LNCT_LLVM_source, DW_LNCT_MD5, DW_LNCT_directory_index, DW_LNCT_path, DebugLineOffset,
+    DwForm, DwLnct, Encoding, EndianSlice, Format, LineEncoding, LittleEndian, Reader,
+    ReaderOffset, Result,
 };
 use std::alloc::Global;
 use std::process::Abort;
@@ -194,11 +195,18 @@ fn has_version_4_tables<R: Reader>(header: &LineProgramHeader<R>) -> bool {
         && ends_at(header, 3, 3)
 }
 
+/// The directory of a file, as its entry finds it in the header.
+fn directory_of<R: Reader>(header: &LineProgramHeader<R>, file: u64) -> Option<AttributeValue<R>> {
+    header.file(file)?.directory(header)
+}
+
 /// The entries of the version 4 unit where a directory and a name are handed in.
 fn check_entries<R: Reader>(rt: &impl Abort, header: &LineProgramHeader<R>) {
     assert!(rt; has_version_4_tables(header));
     assert!(rt; is_directory(header, 0, b"/comp_dir"));
     assert!(rt; is_file(header, 0, b"/comp_name", 0) && is_plain(header, 0));
+    assert!(rt; is_text(directory_of(header, 1), b"/comp_dir"));
+    assert!(rt; is_text(directory_of(header, 2), b"/inc"));
 }
 
 /// What it says then.
@@ -230,6 +238,7 @@ fn check_unnamed<R: Reader>(rt: &impl Abort, alloc: Global, unit: R) -> Result<(
     let unnamed = program(alloc, unit)?;
     assert!(rt; has_version_4_tables(unnamed.header()));
     assert!(rt; ends_at(unnamed.header(), 0, 0));
+    assert!(rt; directory_of(unnamed.header(), 1).is_none());
     Ok(())
 }
 
