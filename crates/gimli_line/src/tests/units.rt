@@ -1,14 +1,14 @@
 //! Whole units, by every accessor of their headers. Each step is a function of its own, so that a proof stays short.
 
 use super::{
-    Slice, changed, demo_unit, has_bytes, holds, is_directory, is_file, is_text, kinds, lengths,
+    changed, demo_unit, has_bytes, holds, is_directory, is_file, is_text, kinds, lengths,
     named_program, numbers, program, slice, unit_of_version_4, unit_of_version_5,
 };
 use crate::{DebugLine, FileEntryFormat, IncompleteLineProgram, LineProgramHeader};
 use gimli_core::{
     BigEndian, DW_FORM_data1, DW_FORM_data16, DW_FORM_string, DW_FORM_udata, DW_LNCT_LLVM_source,
     DW_LNCT_MD5, DW_LNCT_directory_index, DW_LNCT_path, DebugLineOffset, DwForm, DwLnct, Encoding,
-    EndianSlice, Format, LineEncoding, LittleEndian, Reader, ReaderOffset, Result,
+    Format, LineEncoding, LittleEndian, Reader, ReaderOffset, Result,
 };
 use std::alloc::Global;
 use std::process::Abort;
