@@ -1,15 +1,14 @@
 //! Whole units, by every accessor of their headers. Each step is a function of its own, so that a proof stays short.
 
 use super::{
-    Slice, changed, demo_unit, has_bytes, holds, is_directory, is_file, is_text, kinds, lengths,
+    changed, demo_unit, has_bytes, holds, is_directory, is_file, is_text, kinds, lengths,
     named_program, numbers, program, slice, unit_of_version_4, unit_of_version_5,
 };
 use crate::{DebugLine, FileEntryFormat, IncompleteLineProgram, LineProgramHeader};
 use gimli_core::{
     AttributeValue, BigEndian, DW_FORM_data1, DW_FORM_data16, DW_FORM_string, DW_FORM_udata,
     DW_LNCT_LLVM_source, DW_LNCT_MD5, DW_LNCT_directory_index, DW_LNCT_path, DebugLineOffset,
-    DwForm, DwLnct, Encoding, EndianSlice, Format, LineEncoding, LittleEndian, Reader,
-    ReaderOffset, Result,
+    DwForm, DwLnct, Encoding, Format, LineEncoding, LittleEndian, Reader, ReaderOffset, Result,
 };
 use std::alloc::Global;
 use std::process::Abort;
@@ -61,13 +60,13 @@ fn ends_at<R: Reader>(header: &LineProgramHeader<R>, directory: u64, file: u64) 
 /// The program at an offset of a section, with addresses of 8 bytes.
 fn program_at<R: Reader>(
     alloc: Global,
-    section: R,
+    section: &DebugLine<R>,
     offset: u8,
     directory: Option<R>,
     name: Option<R>,
 ) -> Result<IncompleteLineProgram<R>> {
     let offset = DebugLineOffset(R::Offset::from_u8(offset));
-    DebugLine::from(section).program(alloc, offset, 8, directory, name)
+    section.program(alloc, offset, 8, directory, name)
 }
 
 /// The header stands at this offset.
@@ -323,7 +322,7 @@ fn check_header<R: Reader>(rt: &impl Abort, header: &LineProgramHeader<R>, expec
 fn check_tables<R: Reader>(
     rt: &impl Abort,
     alloc: Global,
-    section: R,
+    section: &DebugLine<R>,
     handed: R,
     expected: [u64; 10],
 ) -> Result<()> {
@@ -336,9 +335,21 @@ fn check_tables<R: Reader>(
 fn version_5_tables_in_both_formats(rt: HostRuntime) -> std::result::Result<(), Fail> {
     let handed = slice(b"/handed");
     let expected = [0x68, 5, 4, 4, 0x5b, 1, 1, 1, 1, 3];
-    check_tables(&rt, rt.alloc(), slice(tables_32()), handed, expected)?;
+    check_tables(
+        &rt,
+        rt.alloc(),
+        &DebugLine::new(tables_32(), LittleEndian),
+        handed,
+        expected,
+    )?;
     let expected = [0x6c, 5, 4, 8, 0x5b, 1, 1, 1, 1, 3];
-    check_tables(&rt, rt.alloc(), slice(tables_64()), handed, expected)?;
+    check_tables(
+        &rt,
+        rt.alloc(),
+        &DebugLine::new(tables_64(), LittleEndian),
+        handed,
+        expected,
+    )?;
     Ok(())
 }
 
@@ -350,12 +361,22 @@ fn demo_unit_at_an_offset(rt: HostRuntime) -> std::result::Result<(), Fail> {
     let mut section = Vec::from_slice(rt.alloc(), b"\xaa\xbb\xcc")?;
     section.extend_from_slice(demo_unit())?;
     section.push(0xdd)?;
-    check_demo(&rt, rt.alloc(), slice(&section), slice(b"/w"))?;
+    check_demo(
+        &rt,
+        rt.alloc(),
+        &DebugLine::new(&section, LittleEndian),
+        slice(b"/w"),
+    )?;
     Ok(())
 }
 
 /// What the header says there.
-fn check_demo<R: Reader>(rt: &impl Abort, alloc: Global, section: R, directory: R) -> Result<()> {
+fn check_demo<R: Reader>(
+    rt: &impl Abort,
+    alloc: Global,
+    section: &DebugLine<R>,
+    directory: R,
+) -> Result<()> {
     let program = program_at(alloc, section, 3, Some(directory), None)?;
     let header = program.header();
     assert!(rt; is_at(header, 3));
@@ -372,12 +393,16 @@ fn check_demo<R: Reader>(rt: &impl Abort, alloc: Global, section: R, directory: 
 fn big_endian_dwarf64(rt: HostRuntime) -> std::result::Result<(), Fail> {
     let section = b"\xff\xff\xff\xff\0\0\0\0\0\0\0\x1d\0\x02\0\0\0\0\0\0\0\x13\
                     \x01\x01\xfb\x0e\x0d\0\x01\x01\x01\x01\0\0\0\x01\0\0\x01\0\0";
-    check_big_endian(&rt, rt.alloc(), EndianSlice::new(section, BigEndian))?;
+    check_big_endian(&rt, rt.alloc(), &DebugLine::new(section, BigEndian))?;
     Ok(())
 }
 
 /// What the header says there.
-fn check_big_endian<R: Reader>(rt: &impl Abort, alloc: Global, section: R) -> Result<()> {
+fn check_big_endian<R: Reader>(
+    rt: &impl Abort,
+    alloc: Global,
+    section: &DebugLine<R>,
+) -> Result<()> {
     let program = program_at(alloc, section, 0, None, None)?;
     let header = program.header();
     assert_eq!(rt; numbers(header), [0x1d, 2, 8, 8, 0x13, 1, 1, 1, 14, 13]);
