@@ -1,3 +1,5 @@
+//! Each step is a function of its own, so that a proof stays short.
+
 ghost use Rattle.std.specs.Prelude.{◌≡◌, ◌≤◌, [], OnOk, IfOk};
 ghost use Rattle.gimli_write.specs.Conditions.{CanWrite};
 
@@ -10,6 +12,7 @@ use gimli_core::{
 };
 use gimli_line::{ColumnType, LineRow};
 use std::alloc::Global;
+use std::process::Abort;
 use std::test::Fail;
 
 /// A call of the builder.
@@ -351,14 +354,28 @@ fn cases(rt: HostRuntime) -> std::result::Result<(), Fail> {
     Ok(())
 }
 
+/// The section and the answer of a case, for a unit of this address size.
+fn trip(
+    alloc: Global,
+    case: &Case,
+    address_size: u8,
+) -> Result<(Vec<u8>, ConvertResult<RoundTrip>)> {
+    let program = built(alloc, case)?;
+    let mut section = empty_section(alloc);
+    let answer = run(alloc, &program, address_size, &mut section);
+    Ok((section.0.into_vec(), answer))
+}
+
+fn check_demo(rt: &impl Abort, bytes: &[u8], answer: &RoundTrip) {
+    assert_eq!(rt; answer.offset, DebugLineOffset(0));
+    assert_eq!(rt; bytes, DEMO.bytes);
+    assert!(rt; are_rows(answer.rows.as_slice(), DEMO.rows));
+}
+
 #[test]
 fn demo_unit(rt: HostRuntime) -> std::result::Result<(), Fail> {
-    let program = built(rt.alloc(), &DEMO)?;
-    let mut section = empty_section(rt.alloc());
-    let answer = run(rt.alloc(), &program, 4, &mut section)?;
-    assert_eq!(rt; answer.offset, DebugLineOffset(0));
-    assert_eq!(rt; section.0.slice(), DEMO.bytes);
-    assert!(rt; are_rows(answer.rows.as_slice(), DEMO.rows));
+    let (bytes, answer) = trip(rt.alloc(), &DEMO, 4)?;
+    check_demo(&rt, bytes.as_slice(), &answer?);
     Ok(())
 }
 
@@ -370,11 +387,9 @@ fn overflow_at_one_byte(rt: HostRuntime) -> std::result::Result<(), Fail> {
         steps: &[Step::Row(255, 0, 1), Step::Row(256, 0, 1)],
         ..DEMO
     };
-    let program = built(rt.alloc(), &case)?;
-    let mut section = empty_section(rt.alloc());
-    let refusal = run(rt.alloc(), &program, 1, &mut section).err();
+    let (_, answer) = trip(rt.alloc(), &case, 1)?;
     assert_eq!(rt;
-        refusal,
+        answer.err(),
         Some(ConvertError::Read(ReadError::AddressOverflow))
     );
     Ok(())
@@ -382,14 +397,12 @@ fn overflow_at_one_byte(rt: HostRuntime) -> std::result::Result<(), Fail> {
 
 #[test]
 fn other_address_size(rt: HostRuntime) -> std::result::Result<(), Fail> {
-    let program = built(rt.alloc(), &DEMO)?;
-    let mut section = empty_section(rt.alloc());
-    let refusal = run(rt.alloc(), &program, 8, &mut section).err();
+    let (bytes, answer) = trip(rt.alloc(), &DEMO, 8)?;
     assert_eq!(rt;
-        refusal,
+        answer.err(),
         Some(ConvertError::Write(Error::IncompatibleLineProgramEncoding))
     );
-    assert_eq!(rt; section.0.slice().len(), 0);
+    assert_eq!(rt; bytes.len(), 0);
     Ok(())
 }
 

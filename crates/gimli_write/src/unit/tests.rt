@@ -943,33 +943,20 @@ fn overwrite(section: &mut [u8], offset: usize, bytes: &[u8])
     section[offset..offset + bytes.len()].copy_from_slice(bytes);
 }
 
-/// The section and the answer, behind the first `len` bytes of an array.
-fn written_in_array(
-    unit: Encoding,
-    program: &LineProgram,
-    texts: &mut Texts,
-    len: usize,
-) -> (ArraySection, Result<DebugLineOffset>)
-    requires can { CanWrite program.now texts.old.strings texts.old.line_strings }
-    requires len { len ≤ 256 }
-{
-    let mut section = DebugLine::from(array_section(len));
-    let answer = program.write(
-        &mut section,
-        unit,
-        &mut texts.line_strings,
-        &mut texts.strings,
-    );
-    (section.0, answer)
-}
-
 /// The demo unit behind the first `len` bytes of an array.
 fn demo_in_array(alloc: Global, len: usize) -> Result<(ArraySection, Result<DebugLineOffset>)>
     requires { len ≤ 256 }
 {
     let case = case_of(LineEncoding::default(), Sample::Demo);
     let (program, mut texts) = built(alloc, case)?;
-    Ok(written_in_array(case.encoding, &program, &mut texts, len))
+    let mut section = DebugLine::from(array_section(len));
+    let answer = program.write(
+        &mut section,
+        case.encoding,
+        &mut texts.line_strings,
+        &mut texts.strings,
+    );
+    Ok((section.0, answer))
 }
 
 /// Run with the Nth allocation refused (`rt try --test --fail-alloc N`), `write` is `Ok` wherever the
