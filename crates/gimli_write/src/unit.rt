@@ -2,10 +2,11 @@
 
 ghost use Rattle.std.specs.Prelude.{◌≡◌, ℕ, ◌<◌, ◌≤◌, ◌^◌, ◌⊎◌, List, [], ◌∷◌, ◌++◌, length, map, drop, All, IsTrue, IfOk, IfErr, OnOk, Ok, Err, Some, None};
 ghost use Rattle.gimli_core.specs.Notation.{Notation};
+ghost use Rattle.gimli_bytes.specs.Number.{uleb};
 ghost use Rattle.gimli_bytes.specs.Written.{Begins, Appends};
 ghost use Rattle.gimli_bytes.specs.declared.error.Error.TheVariants.{OutOfMemory};
 ghost use Rattle.gimli_line.specs.Header.{Given};
-ghost use Rattle.gimli_write.specs.LineText.{line_text};
+ghost use Rattle.gimli_write.specs.LineText.{Inline, line_text};
 ghost use Rattle.gimli_write.specs.Tables.{FitsFile};
 ghost use Rattle.gimli_write.specs.TablesInside.{details};
 ghost use Rattle.gimli_write.specs.Conditions.{CanWrite, IsBuilt};
@@ -439,6 +440,19 @@ fn write_file<W: Writer>(
     ensures fit { OnOk result (FitsFile ((line_text path.now, directory), details info.now)) }
 {
     write_name(w, path)?;
+    write_numbers(w, directory, info)
+}
+
+/// Appends a file's directory, its timestamp and its size.
+fn write_numbers<W: Writer>(w: &mut W, directory: DirectoryId, info: &FileInfo) -> Result<()>
+    ensures keeps { Begins (W.contents w.old) (W.contents w.new) }
+    ensures ordered { W.big w.new ≡ W.big w.old }
+    ensures ok { IsTrue W.plain → OnOk result
+        (Appends (Ok (uleb directory ++ uleb info.now.timestamp ++ uleb info.now.size))
+        (W.contents w.old) (W.contents w.new)) }
+    ensures err { IsTrue W.plain → IsTrue W.steady → IfErr result (λ e. e ≡ OutOfMemory) }
+    ensures fit { OnOk result (FitsFile ((Inline [], directory), details info.now)) }
+{
     w.write_uleb128(directory.index() as u64)?;
     w.write_uleb128(info.timestamp)?;
     w.write_uleb128(info.size)
