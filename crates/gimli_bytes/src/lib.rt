@@ -1,7 +1,7 @@
 //! Writers of DWARF sections, tables of strings, and the errors of writing.
 //!
-//! A [`Writer`] means the list of its bytes, and two facts of the type: whether it is plain, and whether it
-//! is steady. A string table means a list of distinct texts.
+//! A [`Writer`] means the list of its bytes, and two facts of the type: whether it keeps exactly its bytes, and whether it
+//! fails for memory alone. A string table means a list of distinct texts.
 #![tactic(auto)]
 
 mod address;

@@ -25,12 +25,12 @@ pub trait Writer {
     ghost big: { Self → Bool };
 
     /// Whether a writer of this type keeps exactly the bytes given to it.
-    ghost plain: { Bool };
+    ghost keeps_bytes: { Bool };
 
     /// Whether a writer of this type refuses a `write` for want of memory alone, a `write_at` for
     /// its two bounds alone, and any other call for what is said there, or as the `write` or
     /// `write_at` under it.
-    ghost steady: { Bool };
+    ghost fails_for_memory_alone: { Bool };
 
     /// The order of bytes.
     fn endian(&self) -> Self::Endian
@@ -44,9 +44,9 @@ pub trait Writer {
     fn write(&mut self, bytes: &[u8]) -> Result<()>
         ensures keeps { Begins (contents self.old) (contents self.new) }
         ensures ordered { big self.new ≡ big self.old }
-        ensures ok { IsTrue plain →
+        ensures ok { IsTrue keeps_bytes →
             OnOk result (Appends (Ok bytes.now) (contents self.old) (contents self.new)) }
-        ensures err { IsTrue steady → IfErr result (Refuses (Ok bytes.now)) };
+        ensures err { IsTrue fails_for_memory_alone → IfErr result (Refuses (Ok bytes.now)) };
 
     /// Writes over the bytes from an offset on. Refused by `OffsetOutOfBounds` where the offset
     /// is past the end of the section, else by `LengthOutOfBounds` where the bytes would pass the
@@ -56,9 +56,9 @@ pub trait Writer {
         ensures before { take offset (contents self.new) ≡ take offset (contents self.old) }
         ensures ordered { big self.new ≡ big self.old }
         ensures refused { OnErr result (contents self.new ≡ contents self.old) }
-        ensures ok { IsTrue plain →
+        ensures ok { IsTrue keeps_bytes →
             OnOk result (patch (Ok bytes.now) (contents self.old) offset ≡ Ok (contents self.new)) }
-        ensures err { IsTrue steady →
+        ensures err { IsTrue fails_for_memory_alone →
             IfErr result (λ e. patch (Ok bytes.now) (contents self.old) offset ≡ Err e) };
 
     /// Appends an address of `size` bytes. A symbol is `InvalidAddress`; a constant is refused as
@@ -66,10 +66,10 @@ pub trait Writer {
     fn write_address(&mut self, address: Address, size: u8) -> Result<()>
         ensures keeps { Begins (contents self.old) (contents self.new) }
         ensures ordered { big self.new ≡ big self.old }
-        ensures ok { IsTrue plain → OnOk result
+        ensures ok { IsTrue keeps_bytes → OnOk result
             (Appends (address_bytes (big self.old) address size)
             (contents self.old) (contents self.new)) }
-        ensures err { IsTrue steady →
+        ensures err { IsTrue fails_for_memory_alone →
             IfErr result (Refuses (address_bytes (big self.old) address size)) }
     {
         match address {
@@ -84,10 +84,10 @@ pub trait Writer {
     fn write_eh_pointer(&mut self, address: Address, eh_pe: DwEhPe, size: u8) -> Result<()>
         ensures keeps { Begins (contents self.old) (contents self.new) }
         ensures ordered { big self.new ≡ big self.old }
-        ensures ok { IsTrue plain → OnOk result
+        ensures ok { IsTrue keeps_bytes → OnOk result
             (Appends (pointer_bytes (big self.old) (length (contents self.old)) address eh_pe size)
             (contents self.old) (contents self.new)) }
-        ensures err { IsTrue steady → IfErr result
+        ensures err { IsTrue fails_for_memory_alone → IfErr result
             (Refuses (pointer_bytes (big self.old) (length (contents self.old)) address eh_pe size)) }
     {
         match address {
@@ -109,10 +109,10 @@ pub trait Writer {
     fn write_eh_pointer_data(&mut self, val: u64, format: DwEhPe, size: u8) -> Result<()>
         ensures keeps { Begins (contents self.old) (contents self.new) }
         ensures ordered { big self.new ≡ big self.old }
-        ensures ok { IsTrue plain → OnOk result
+        ensures ok { IsTrue keeps_bytes → OnOk result
             (Appends (pointer_data (big self.old) val format size)
             (contents self.old) (contents self.new)) }
-        ensures err { IsTrue steady →
+        ensures err { IsTrue fails_for_memory_alone →
             IfErr result (Refuses (pointer_data (big self.old) val format size)) }
     {
         match format {
@@ -134,10 +134,10 @@ pub trait Writer {
     fn write_offset(&mut self, val: usize, _section: SectionId, size: u8) -> Result<()>
         ensures keeps { Begins (contents self.old) (contents self.new) }
         ensures ordered { big self.new ≡ big self.old }
-        ensures ok { IsTrue plain → OnOk result
+        ensures ok { IsTrue keeps_bytes → OnOk result
             (Appends (udata (big self.old) val size)
             (contents self.old) (contents self.new)) }
-        ensures err { IsTrue steady → IfErr result (Refuses (udata (big self.old) val size)) }
+        ensures err { IsTrue fails_for_memory_alone → IfErr result (Refuses (udata (big self.old) val size)) }
     {
         self.write_udata(val as u64, size)
     }
@@ -155,10 +155,10 @@ pub trait Writer {
         ensures before { take offset (contents self.new) ≡ take offset (contents self.old) }
         ensures ordered { big self.new ≡ big self.old }
         ensures refused { OnErr result (contents self.new ≡ contents self.old) }
-        ensures ok { IsTrue plain → OnOk result
+        ensures ok { IsTrue keeps_bytes → OnOk result
             (patch (udata (big self.old) val size) (contents self.old) offset
             ≡ Ok (contents self.new)) }
-        ensures err { IsTrue steady → IfErr result
+        ensures err { IsTrue fails_for_memory_alone → IfErr result
             (λ e. patch (udata (big self.old) val size) (contents self.old) offset ≡ Err e) }
     {
         self.write_udata_at(offset, val as u64, size)
@@ -169,10 +169,10 @@ pub trait Writer {
     fn write_reference(&mut self, _symbol: usize, _size: u8) -> Result<()>
         ensures keeps { Begins (contents self.old) (contents self.new) }
         ensures ordered { big self.new ≡ big self.old }
-        ensures ok { IsTrue plain → OnOk result
+        ensures ok { IsTrue keeps_bytes → OnOk result
             (Appends (Err Error.InvalidReference)
             (contents self.old) (contents self.new)) }
-        ensures err { IsTrue steady → IfErr result (Refuses (Err Error.InvalidReference)) }
+        ensures err { IsTrue fails_for_memory_alone → IfErr result (Refuses (Err Error.InvalidReference)) }
     {
         Err(Error::InvalidReference)
     }
@@ -181,10 +181,10 @@ pub trait Writer {
     fn write_u8(&mut self, val: u8) -> Result<()>
         ensures keeps { Begins (contents self.old) (contents self.new) }
         ensures ordered { big self.new ≡ big self.old }
-        ensures ok { IsTrue plain → OnOk result
+        ensures ok { IsTrue keeps_bytes → OnOk result
             (Appends (Ok (number_bytes (big self.old) 1 val))
             (contents self.old) (contents self.new)) }
-        ensures err { IsTrue steady →
+        ensures err { IsTrue fails_for_memory_alone →
             IfErr result (Refuses (Ok (number_bytes (big self.old) 1 val))) }
     {
         self.write(&[val])
@@ -194,10 +194,10 @@ pub trait Writer {
     fn write_u16(&mut self, val: u16) -> Result<()>
         ensures keeps { Begins (contents self.old) (contents self.new) }
         ensures ordered { big self.new ≡ big self.old }
-        ensures ok { IsTrue plain → OnOk result
+        ensures ok { IsTrue keeps_bytes → OnOk result
             (Appends (Ok (number_bytes (big self.old) 2 val))
             (contents self.old) (contents self.new)) }
-        ensures err { IsTrue steady →
+        ensures err { IsTrue fails_for_memory_alone →
             IfErr result (Refuses (Ok (number_bytes (big self.old) 2 val))) }
     {
         self.write(&bytes_of_u16(self.endian(), val))
@@ -207,10 +207,10 @@ pub trait Writer {
     fn write_u32(&mut self, val: u32) -> Result<()>
         ensures keeps { Begins (contents self.old) (contents self.new) }
         ensures ordered { big self.new ≡ big self.old }
-        ensures ok { IsTrue plain → OnOk result
+        ensures ok { IsTrue keeps_bytes → OnOk result
             (Appends (Ok (number_bytes (big self.old) 4 val))
             (contents self.old) (contents self.new)) }
-        ensures err { IsTrue steady →
+        ensures err { IsTrue fails_for_memory_alone →
             IfErr result (Refuses (Ok (number_bytes (big self.old) 4 val))) }
     {
         self.write(&bytes_of_u32(self.endian(), val))
@@ -220,10 +220,10 @@ pub trait Writer {
     fn write_u64(&mut self, val: u64) -> Result<()>
         ensures keeps { Begins (contents self.old) (contents self.new) }
         ensures ordered { big self.new ≡ big self.old }
-        ensures ok { IsTrue plain → OnOk result
+        ensures ok { IsTrue keeps_bytes → OnOk result
             (Appends (Ok (number_bytes (big self.old) 8 val))
             (contents self.old) (contents self.new)) }
-        ensures err { IsTrue steady →
+        ensures err { IsTrue fails_for_memory_alone →
             IfErr result (Refuses (Ok (number_bytes (big self.old) 8 val))) }
     {
         self.write(&bytes_of_u64(self.endian(), val))
@@ -233,10 +233,10 @@ pub trait Writer {
     fn write_u128(&mut self, val: u128) -> Result<()>
         ensures keeps { Begins (contents self.old) (contents self.new) }
         ensures ordered { big self.new ≡ big self.old }
-        ensures ok { IsTrue plain → OnOk result
+        ensures ok { IsTrue keeps_bytes → OnOk result
             (Appends (Ok (number_bytes (big self.old) 16 val))
             (contents self.old) (contents self.new)) }
-        ensures err { IsTrue steady →
+        ensures err { IsTrue fails_for_memory_alone →
             IfErr result (Refuses (Ok (number_bytes (big self.old) 16 val))) }
     {
         self.write(&bytes_of_u128(self.endian(), val))
@@ -248,10 +248,10 @@ pub trait Writer {
         ensures before { take offset (contents self.new) ≡ take offset (contents self.old) }
         ensures ordered { big self.new ≡ big self.old }
         ensures refused { OnErr result (contents self.new ≡ contents self.old) }
-        ensures ok { IsTrue plain → OnOk result
+        ensures ok { IsTrue keeps_bytes → OnOk result
             (patch (Ok (number_bytes (big self.old) 1 val)) (contents self.old) offset
             ≡ Ok (contents self.new)) }
-        ensures err { IsTrue steady → IfErr result
+        ensures err { IsTrue fails_for_memory_alone → IfErr result
             (λ e. patch (Ok (number_bytes (big self.old) 1 val)) (contents self.old) offset ≡ Err e) }
     {
         self.write_at(offset, &[val])
@@ -263,10 +263,10 @@ pub trait Writer {
         ensures before { take offset (contents self.new) ≡ take offset (contents self.old) }
         ensures ordered { big self.new ≡ big self.old }
         ensures refused { OnErr result (contents self.new ≡ contents self.old) }
-        ensures ok { IsTrue plain → OnOk result
+        ensures ok { IsTrue keeps_bytes → OnOk result
             (patch (Ok (number_bytes (big self.old) 2 val)) (contents self.old) offset
             ≡ Ok (contents self.new)) }
-        ensures err { IsTrue steady → IfErr result
+        ensures err { IsTrue fails_for_memory_alone → IfErr result
             (λ e. patch (Ok (number_bytes (big self.old) 2 val)) (contents self.old) offset ≡ Err e) }
     {
         self.write_at(offset, &bytes_of_u16(self.endian(), val))
@@ -278,10 +278,10 @@ pub trait Writer {
         ensures before { take offset (contents self.new) ≡ take offset (contents self.old) }
         ensures ordered { big self.new ≡ big self.old }
         ensures refused { OnErr result (contents self.new ≡ contents self.old) }
-        ensures ok { IsTrue plain → OnOk result
+        ensures ok { IsTrue keeps_bytes → OnOk result
             (patch (Ok (number_bytes (big self.old) 4 val)) (contents self.old) offset
             ≡ Ok (contents self.new)) }
-        ensures err { IsTrue steady → IfErr result
+        ensures err { IsTrue fails_for_memory_alone → IfErr result
             (λ e. patch (Ok (number_bytes (big self.old) 4 val)) (contents self.old) offset ≡ Err e) }
     {
         self.write_at(offset, &bytes_of_u32(self.endian(), val))
@@ -293,10 +293,10 @@ pub trait Writer {
         ensures before { take offset (contents self.new) ≡ take offset (contents self.old) }
         ensures ordered { big self.new ≡ big self.old }
         ensures refused { OnErr result (contents self.new ≡ contents self.old) }
-        ensures ok { IsTrue plain → OnOk result
+        ensures ok { IsTrue keeps_bytes → OnOk result
             (patch (Ok (number_bytes (big self.old) 8 val)) (contents self.old) offset
             ≡ Ok (contents self.new)) }
-        ensures err { IsTrue steady → IfErr result
+        ensures err { IsTrue fails_for_memory_alone → IfErr result
             (λ e. patch (Ok (number_bytes (big self.old) 8 val)) (contents self.old) offset ≡ Err e) }
     {
         self.write_at(offset, &bytes_of_u64(self.endian(), val))
@@ -308,10 +308,10 @@ pub trait Writer {
         ensures before { take offset (contents self.new) ≡ take offset (contents self.old) }
         ensures ordered { big self.new ≡ big self.old }
         ensures refused { OnErr result (contents self.new ≡ contents self.old) }
-        ensures ok { IsTrue plain → OnOk result
+        ensures ok { IsTrue keeps_bytes → OnOk result
             (patch (Ok (number_bytes (big self.old) 16 val)) (contents self.old) offset
             ≡ Ok (contents self.new)) }
-        ensures err { IsTrue steady → IfErr result
+        ensures err { IsTrue fails_for_memory_alone → IfErr result
             (λ e. patch (Ok (number_bytes (big self.old) 16 val)) (contents self.old) offset ≡ Err e) }
     {
         self.write_at(offset, &bytes_of_u128(self.endian(), val))
@@ -322,10 +322,10 @@ pub trait Writer {
     fn write_udata(&mut self, val: u64, size: u8) -> Result<()>
         ensures keeps { Begins (contents self.old) (contents self.new) }
         ensures ordered { big self.new ≡ big self.old }
-        ensures ok { IsTrue plain → OnOk result
+        ensures ok { IsTrue keeps_bytes → OnOk result
             (Appends (udata (big self.old) val size)
             (contents self.old) (contents self.new)) }
-        ensures err { IsTrue steady → IfErr result (Refuses (udata (big self.old) val size)) }
+        ensures err { IsTrue fails_for_memory_alone → IfErr result (Refuses (udata (big self.old) val size)) }
     {
         match size {
             1 => {
@@ -368,10 +368,10 @@ pub trait Writer {
     fn write_sdata(&mut self, val: i64, size: u8) -> Result<()>
         ensures keeps { Begins (contents self.old) (contents self.new) }
         ensures ordered { big self.new ≡ big self.old }
-        ensures ok { IsTrue plain → OnOk result
+        ensures ok { IsTrue keeps_bytes → OnOk result
             (Appends (sdata (big self.old) val size)
             (contents self.old) (contents self.new)) }
-        ensures err { IsTrue steady → IfErr result (Refuses (sdata (big self.old) val size)) }
+        ensures err { IsTrue fails_for_memory_alone → IfErr result (Refuses (sdata (big self.old) val size)) }
     {
         match size {
             1 => self.write_u8(bits_of_i8(val)?),
@@ -389,10 +389,10 @@ pub trait Writer {
         ensures before { take offset (contents self.new) ≡ take offset (contents self.old) }
         ensures ordered { big self.new ≡ big self.old }
         ensures refused { OnErr result (contents self.new ≡ contents self.old) }
-        ensures ok { IsTrue plain → OnOk result
+        ensures ok { IsTrue keeps_bytes → OnOk result
             (patch (udata (big self.old) val size) (contents self.old) offset
             ≡ Ok (contents self.new)) }
-        ensures err { IsTrue steady → IfErr result
+        ensures err { IsTrue fails_for_memory_alone → IfErr result
             (λ e. patch (udata (big self.old) val size) (contents self.old) offset ≡ Err e) }
     {
         match size {
@@ -435,9 +435,9 @@ pub trait Writer {
         ensures shortest { IsShortest (SpellsUleb128 64) (uleb val) val }
         ensures keeps { Begins (contents self.old) (contents self.new) }
         ensures ordered { big self.new ≡ big self.old }
-        ensures ok { IsTrue plain →
+        ensures ok { IsTrue keeps_bytes →
             OnOk result (Appends (Ok (uleb val)) (contents self.old) (contents self.new)) }
-        ensures err { IsTrue steady → IfErr result (Refuses (Ok (uleb val))) }
+        ensures err { IsTrue fails_for_memory_alone → IfErr result (Refuses (Ok (uleb val))) }
     {
         self.write(Leb128::unsigned(val).bytes())
     }
@@ -447,9 +447,9 @@ pub trait Writer {
         ensures shortest { IsShortest SpellsSleb128 (sleb val) val }
         ensures keeps { Begins (contents self.old) (contents self.new) }
         ensures ordered { big self.new ≡ big self.old }
-        ensures ok { IsTrue plain →
+        ensures ok { IsTrue keeps_bytes →
             OnOk result (Appends (Ok (sleb val)) (contents self.old) (contents self.new)) }
-        ensures err { IsTrue steady → IfErr result (Refuses (Ok (sleb val))) }
+        ensures err { IsTrue fails_for_memory_alone → IfErr result (Refuses (Ok (sleb val))) }
     {
         self.write(Leb128::signed(val).bytes())
     }
@@ -460,12 +460,12 @@ pub trait Writer {
         ensures keeps { Begins (contents self.old) (contents self.new) }
         ensures ordered { big self.new ≡ big self.old }
         ensures after { IfOk result (λ word. length (contents self.old) ≤ word.0) }
-        ensures place { IsTrue plain →
+        ensures place { IsTrue keeps_bytes →
             IfOk result (λ word. word.0 ≡ length (contents self.old) + escape_size format) }
-        ensures ok { IsTrue plain → OnOk result
+        ensures ok { IsTrue keeps_bytes → OnOk result
             (Appends (Ok (open_length (big self.old) format))
             (contents self.old) (contents self.new)) }
-        ensures err { IsTrue steady →
+        ensures err { IsTrue fails_for_memory_alone →
             IfErr result (Refuses (Ok (open_length (big self.old) format))) }
     {
         match format {
@@ -496,10 +496,10 @@ pub trait Writer {
         ensures before { take offset.0 (contents self.new) ≡ take offset.0 (contents self.old) }
         ensures ordered { big self.new ≡ big self.old }
         ensures refused { OnErr result (contents self.new ≡ contents self.old) }
-        ensures ok { IsTrue plain → OnOk result
+        ensures ok { IsTrue keeps_bytes → OnOk result
             (patch (length_word (big self.old) format val) (contents self.old) offset.0
             ≡ Ok (contents self.new)) }
-        ensures err { IsTrue steady → IfErr result
+        ensures err { IsTrue fails_for_memory_alone → IfErr result
             (λ e. patch (length_word (big self.old) format val) (contents self.old) offset.0 ≡ Err e) }
     {
         if format == Format::Dwarf32 && (0xffff_fff0..=0xffff_ffff).contains(&val) {
@@ -578,6 +578,3 @@ fn bits_of_i32(val: i64) -> Result<u32>
         Err(_) => Err(Error::ValueTooLarge),
     }
 }
-
-#[cfg(test)]
-mod tests;

@@ -2,8 +2,8 @@ pub mod Leb
 pub mod SignedLeb
 pub mod Texts
 pub mod Padded
-pub mod Lines
+pub mod Productions
 pub mod UnsignedLeb
 pub mod SignedLaws
-pub mod LineLaws
+pub mod ProductionLaws
 pub mod Written

@@ -62,10 +62,10 @@ split_ok n bytes slice rest e = elim (cases_lt (length bytes) n) [
 number_of_split : (big : Bool) (n size v : ℕ) (bytes slice rest after : List ℕ) → size ≡ n → ◌≡◌ {A = Read (List ℕ)} (Ok slice, after) (split_at size bytes) → rest ≡ after
     → (n ≤ length bytes → length slice ≡ n → v ≡ value_of big slice) → ◌≡◌ {A = Read ℕ} (Ok v, rest) (number_at big n bytes)
 number_of_split big n size v bytes slice rest after same e is value =
-    let cut = split_ok n bytes slice after (rw same at e) in
-    let len : length slice ≡ n = ap length cut.1 ∙ length-take-le n bytes cut.0 in
-    let number : v ≡ value_of big (take n bytes) = value cut.0 len ∙ ap (value_of big) cut.1 in
-    rw (le-ltb (length bytes) n cut.0, number, is, cut.2) refl
+    let decoding = split_ok n bytes slice after (rw same at e) in
+    let len : length slice ≡ n = ap length decoding.1 ∙ length-take-le n bytes decoding.0 in
+    let number : v ≡ value_of big (take n bytes) = value decoding.0 len ∙ ap (value_of big) decoding.1 in
+    rw (le-ltb (length bytes) n decoding.0, number, is, decoding.2) refl
 
 pub read_little : (n size v : ℕ) (buf bytes slice rest after : List ℕ) → n ≤ 8 → size ≡ n → ◌≡◌ {A = Read (List ℕ)} (Ok slice, after) (split_at size bytes) → rest ≡ after
     → buf ≡ slice ++ drop n zeros_8 → v ≡ value_of false (take 8 buf) → ◌≡◌ {A = Read ℕ} (Ok v, rest) (number_at false n bytes)

@@ -8,9 +8,9 @@ use Rattle.gimli_core.specs.declared.error.Error.{Error}
 use Rattle.gimli_core.specs.declared.error.Error.TheVariants.{BadSignedLeb128}
 use Rattle.gimli_core.specs.Numbers.{Groups, is_negative, SpellsSleb128}
 use Rattle.gimli_core.specs.Reading.{Read, Difference, last_group, sleb_at, signed_at}
-use Rattle.gimli_core.specs.Line.{signed, IsLebFault, Reads}
+use Rattle.gimli_core.specs.Production.{signed, IsLebFault, Reads}
 use Rattle.gimli_core.proofs.Leb.{pow_next}
-use Rattle.gimli_core.proofs.Lines.{bind_ok, bind_fault, bind_refused, ok_parts}
+use Rattle.gimli_core.proofs.Productions.{bind_ok, bind_fault, bind_refused, ok_parts}
 use Rattle.gimli_core.proofs.UnsignedLeb.{longer, not_nil, only_last, first_high}
 
 -- the numbers that fit so many groups and a last one that repeats the sign are above - limit and below it

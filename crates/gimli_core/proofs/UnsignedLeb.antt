@@ -5,8 +5,8 @@ use Rattle.gimli_core.specs.declared.error.Error.{Error}
 use Rattle.gimli_core.specs.declared.error.Error.TheVariants.{BadUnsignedLeb128}
 use Rattle.gimli_core.specs.Numbers.{Groups}
 use Rattle.gimli_core.specs.Reading.{Read, uleb_at}
-use Rattle.gimli_core.specs.Line.{unsigned, unsigned_16, IsLebFault, AllHigh, Reads}
-use Rattle.gimli_core.proofs.Lines.{bind_ok, bind_fault, bind_refused, ok_parts}
+use Rattle.gimli_core.specs.Production.{unsigned, unsigned_16, IsLebFault, AllHigh, Reads}
+use Rattle.gimli_core.proofs.Productions.{bind_ok, bind_fault, bind_refused, ok_parts}
 
 -- the first number that is too large for so many groups and a last one of at most top
 abbrev pub limit : ℕ → ℕ → ℕ

@@ -2,7 +2,7 @@
 use Rattle.std.specs.Prelude.{ℕ, List, [], ◌∷◌, Option, Some, None, not, nat_eq, if◌then◌else◌, ℤ}
 use Rattle.gimli_core.specs.Notation.{Notation}
 use Rattle.gimli_core.specs.Values.{Value}
-use Rattle.gimli_core.specs.Line.{Line, ◌>>=◌, done, refuse, number, unsigned, signed, text, some_bytes, below_limit, offset_word}
+use Rattle.gimli_core.specs.Production.{Production, ◌>>=◌, done, refuse, number, unsigned, signed, text, some_bytes, below_limit, offset_word}
 use Rattle.gimli_core.specs.declared.common.Format.{Format}
 use Rattle.gimli_core.specs.declared.error.Error.TheVariants.{UnknownForm}
 use Rattle.gimli_core.specs.declared.attribute_value.AttributeValue.TheVariants.{Block, Data1, Data2, Data4, Data8, Udata, Sdata, Flag, SecOffset, String, DebugStrRef, DebugStrRefSup, DebugLineStrRef, DebugStrOffsetsIndex}
@@ -48,49 +48,49 @@ shape_among form [] = None
 shape_among form (row ∷ rows) = if nat_eq form row.0 then Some row.1 else shape_among form rows
 
 -- that many bytes, as a block
-abbrev pub block_line : ℕ → Line Value
-block_line n = do
+abbrev pub block_production : ℕ → Production Value
+block_production n = do
   bytes ← some_bytes n
   done (Block bytes)
 
 module _ (notation : Notation) (format : Format) where
-  abbrev pub shape_line : Shape → Line Value
-  shape_line (fixed size make) = do
+  abbrev pub shape_production : Shape → Production Value
+  shape_production (fixed size make) = do
     n ← number notation.big size
     done (make n)
-  shape_line (three_bytes make) = do
+  shape_production (three_bytes make) = do
     n ← below_limit notation (number notation.big 3)
     done (make n)
-  shape_line (word_offset make) = do
+  shape_production (word_offset make) = do
     n ← offset_word notation format
     done (make n)
-  shape_line (leb make) = do
+  shape_production (leb make) = do
     n ← unsigned
     done (make n)
-  shape_line (signed_leb make) = do
+  shape_production (signed_leb make) = do
     z ← signed
     done (make z)
-  shape_line (leb_offset make) = do
+  shape_production (leb_offset make) = do
     n ← below_limit notation unsigned
     done (make n)
-  shape_line (block size) = block_line size
-  shape_line (counted size) = do
+  shape_production (block size) = block_production size
+  shape_production (counted size) = do
     n ← number notation.big size
-    block_line n
-  shape_line leb_counted = do
+    block_production n
+  shape_production leb_counted = do
     n ← below_limit notation unsigned
-    block_line n
-  shape_line string = do
+    block_production n
+  shape_production string = do
     name ← text
     done (String name)
 
   -- a value in a form; a form that isn't known is refused, whatever comes
-  abbrev pub form_line : ℕ → Line Value
-  form_line form = elim (shape_among form shapes) [
-    | Some shape ↦ shape_line shape
+  abbrev pub form_production : ℕ → Production Value
+  form_production form = elim (shape_among form shapes) [
+    | Some shape ↦ shape_production shape
     | None ↦ refuse (UnknownForm (record { 0 = form }))
   ]
 
   -- the bytes are a value in this form
   abbrev pub SpellsForm : ℕ → List ℕ → Value → Type 0
-  SpellsForm form = (form_line form).Spells
+  SpellsForm form = (form_production form).Spells

@@ -3,5 +3,5 @@ pub mod Numbers
 pub mod Notation
 pub mod Values
 pub mod Reading
-pub mod Line
+pub mod Production
 pub mod Form

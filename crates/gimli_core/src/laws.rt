@@ -1,11 +1,11 @@
-//! Laws of the formats: the functions by which a reader's calls are told read the lines of the grammar,
+//! Laws of the formats: the functions by which a reader's calls are told read the productions of the grammar,
 //! in both directions, with their refusals.
 
 ghost use Rattle.std.specs.Prelude.{ℕ, Bool, ◌<◌, ◌^◌};
 ghost use Rattle.gimli_core.specs.Numbers.{SpellsNumber, number_bytes};
 ghost use Rattle.gimli_core.specs.Notation.{Notation};
 ghost use Rattle.gimli_core.specs.declared.common.Format.{Format};
-ghost use Rattle.gimli_core.specs.Line.{Reads, byte, some_bytes, number, text, unsigned, unsigned_16, signed, offset_word, unit_length};
+ghost use Rattle.gimli_core.specs.Production.{Reads, byte, some_bytes, number, text, unsigned, unsigned_16, signed, offset_word, unit_length};
 ghost use Rattle.gimli_core.specs.Reading.{split_at, byte_at, number_at, text_at, unsigned_at, unsigned_16_at, signed_at, word_at, initial_length_at};
 
 /// `read_uleb128` takes a spelling of its number, and each that is there, whatever follows.

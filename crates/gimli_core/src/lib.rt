@@ -15,8 +15,6 @@ mod leb128;
 mod offset;
 mod reader;
 mod section;
-#[cfg(test)]
-mod tests;
 
 pub use attribute_value::AttributeValue;
 pub use common::{

@@ -5,10 +5,10 @@ use Rattle.std.proofs.lemmas.Bool.Decides.{eqb_tells}
 use Rattle.std.proofs.lemmas.List.{length-append}
 use Rattle.gimli_core.specs.declared.error.Error.{Error}
 use Rattle.gimli_core.specs.Reading.{Read, ◌>>=◌, text_at}
-use Rattle.gimli_core.specs.Line.{Line, ◌>>=◌ as ◌>>>◌, text, Each, IsOpen, closed, Reads}
-use Rattle.gimli_core.proofs.Lines.{bind_ok, bind_fault, bind_refused, ok_parts}
-use Rattle.gimli_core.proofs.LineLaws.{reads_text}
-use Rattle.gimli_line.specs.Lines.{name}
+use Rattle.gimli_core.specs.Production.{Production, ◌>>=◌ as ◌>>>◌, text, Each, IsOpen, closed, Reads}
+use Rattle.gimli_core.proofs.Productions.{bind_ok, bind_fault, bind_refused, ok_parts}
+use Rattle.gimli_core.proofs.ProductionLaws.{reads_text}
+use Rattle.gimli_line.specs.Productions.{name}
 use Rattle.gimli_line.specs.TableReading.{is_closed, closed_below, closed_at}
 
 -- bytes that begin with one that isn't zero
@@ -18,8 +18,8 @@ pub record Opens (bytes : List ℕ) : Type 0 where
   pub parts : bytes ≡ first ∷ rest
   pub other : first ≢ 0
 
--- a function reads a line wherever no zero byte comes next; and no spelling of the line begins with one
-pub record ReadsOpen {A : Type 0} (l : Line A) (read : List ℕ → Read A) : Type 0 where
+-- a function reads a production wherever no zero byte comes next; and no spelling of the production begins with one
+pub record ReadsOpen {A : Type 0} (l : Production A) (read : List ℕ → Read A) : Type 0 where
   pub found : (bytes : List ℕ) (x : A) (rest : List ℕ) → IsOpen bytes → read bytes ≡ (Ok x, rest) → (front : List ℕ) × (bytes ≡ front ++ rest) × l.Spells front x
   pub only : (front : List ℕ) (x : A) (rest : List ℕ) → l.Spells front x → read (front ++ rest) ≡ (Ok x, rest)
   pub opens : (front : List ℕ) (x : A) → l.Spells front x → Opens front
@@ -47,9 +47,9 @@ reads_name = record {
   refused = λ bytes e clear f. reads_text.refused bytes e f;
 }
 
--- ---- a line, and behind it the next
+-- ---- a production, and behind it the next
 
-module _ {A B : Type 0} (l : Line A) (next : A → Line B) (read : List ℕ → Read A) (after : A → List ℕ → Read B) (first : ReadsOpen l read) (second : (x : A) → Reads (next x) (after x)) where
+module _ {A B : Type 0} (l : Production A) (next : A → Production B) (read : List ℕ → Read A) (after : A → List ℕ → Read B) (first : ReadsOpen l read) (second : (x : A) → Reads (next x) (after x)) where
   abbrev both : List ℕ → Read B
   both bytes = read bytes >>= after
 
@@ -109,7 +109,7 @@ opens_longer front rest o =
     let some : length front ≡ suc (length o.rest) = ap length o.parts in
     omega (arith, length-append front rest)
 
-module _ {A : Type 0} (l : Line A) (read : List ℕ → Read A) (r : ReadsOpen l read) where
+module _ {A : Type 0} (l : Production A) (read : List ℕ → Read A) (r : ReadsOpen l read) where
   -- another value, and the further ones
   abbrev more_at : ℕ → List ℕ → Read (List A)
   more_at more bytes = read bytes >>= λ x rest. closed_below more read rest >>= λ xs left. (Ok (x ∷ xs), left)

@@ -6,7 +6,7 @@ use Rattle.gimli_core.specs.Values.{Value, udata_value}
 use Rattle.gimli_core.specs.Reading.{Read, ◌>>=◌}
 use Rattle.gimli_core.specs.declared.common.Format.{Format}
 use Rattle.gimli_core.specs.declared.attribute_value.AttributeValue.TheVariants.{String}
-use Rattle.gimli_line.specs.Gives.{viewed}
+use Rattle.gimli_line.specs.Outcome.{viewed}
 use Rattle.gimli_line.specs.Instruction.{File}
 use Rattle.gimli_line.specs.Header.{plain_file}
 use Rattle.gimli_line.specs.HeaderGrammar.{Entry, last_value, digest, path_of, file_of_entry}

@@ -1,32 +1,32 @@
--- Reading a header, line by line.
+-- Reading a header, production by production.
 use Rattle.std.proofs.Common.{◌≡◌, ℕ, ◌-◌, Bool, true, false, not, if◌then◌else◌, List, [], ◌∷◌, Option, Some, None, Ok, Err, refl, sym, ap, ◌∙◌, ◌⊎◌, inl, inr}
 use Rattle.std.specs.Prelude.{nat_eq, nat_le, count_by, ◌&&◌}
 use Rattle.gimli_core.specs.Notation.{Notation}
 use Rattle.gimli_core.specs.Numbers.{is_address_size}
 use Rattle.gimli_core.specs.Reading.{Read, ◌>>=◌, byte_at, address_size_at, check_at}
-use Rattle.gimli_core.specs.Line.{Line, ◌>>=◌ as ◌>>>◌, done, refuse, check, choose, times, byte, number, some_bytes, text, unsigned, unsigned_16, signed, below_limit, offset_word, unit_length, within, Reads}
-use Rattle.gimli_core.specs.Form.{Shape, fixed, three_bytes, word_offset, leb, signed_leb, leb_offset, block, counted, leb_counted, string, shape_among, shapes, block_line, shape_line, form_line}
+use Rattle.gimli_core.specs.Production.{Production, ◌>>=◌ as ◌>>>◌, done, refuse, check, choose, times, byte, number, some_bytes, text, unsigned, unsigned_16, signed, below_limit, offset_word, unit_length, within, Reads}
+use Rattle.gimli_core.specs.Form.{Shape, fixed, three_bytes, word_offset, leb, signed_leb, leb_offset, block, counted, leb_counted, string, shape_among, shapes, block_production, shape_production, form_production}
 use Rattle.gimli_core.specs.declared.common.Encoding.{Encoding}
 use Rattle.gimli_core.specs.declared.common.Format.{Format}
 use Rattle.gimli_core.specs.declared.attribute_value.AttributeValue.TheVariants.{Block, String}
 use Rattle.gimli_core.specs.declared.error.Error.{Error}
 use Rattle.gimli_core.specs.declared.error.Error.TheVariants.{UnknownForm, UnknownVersion, UnsupportedAddressSize, UnsupportedSegmentSize, MinimumInstructionLengthZero, MaximumOperationsPerInstructionZero, LineRangeZero, OpcodeBaseZero, MissingFileEntryFormatPath}
-use Rattle.gimli_core.proofs.Lines.{reads_both, reads_done, reads_refuse, reads_check, reads_if, reads_times, reads_within, reads_same}
-use Rattle.gimli_core.proofs.LineLaws.{reads_byte, reads_some_bytes, reads_number, reads_text, reads_below_limit, reads_offset_word, reads_unit_length}
+use Rattle.gimli_core.proofs.Productions.{reads_both, reads_done, reads_refuse, reads_check, reads_if, reads_times, reads_within, reads_same}
+use Rattle.gimli_core.proofs.ProductionLaws.{reads_byte, reads_some_bytes, reads_number, reads_text, reads_below_limit, reads_offset_word, reads_unit_length}
 use Rattle.gimli_core.proofs.UnsignedLeb.{reads_unsigned, reads_unsigned_16}
 use Rattle.gimli_core.proofs.SignedLaws.{reads_signed}
 use Rattle.gimli_line.specs.Instruction.{File}
-use Rattle.gimli_line.specs.Header.{Header, Given, plain_file}
-use Rattle.gimli_line.specs.Lines.{name, positive}
+use Rattle.gimli_line.specs.Header.{Header, UnitEntry, plain_file}
+use Rattle.gimli_line.specs.Productions.{name, positive}
 use Rattle.gimli_line.specs.FormReading.{block_at, shape_at, form_at}
-use Rattle.gimli_line.specs.HeaderGrammar.{is_content, Opening, paths_line, file_line, files_line, format_line, formats_line, entry_line, entries_line, table_line, version_line, address_size_line, opening_line, line_encoding_line, rules_line, directory_table, file_table, fields_line, header_line, SpellsUnit, HasHeaderFault}
+use Rattle.gimli_line.specs.HeaderGrammar.{is_content, Opening, paths_production, file_production, files_production, format_production, formats_production, entry_production, entries_production, table_production, version_production, address_size_production, opening_production, line_encoding_production, parameters_production, directory_table, file_table, fields_production, header_production, SpellsUnit, HasHeaderFault}
 use Rattle.gimli_line.specs.HeaderReading.{positive_at, paths_at, plain_file_at, named_file_at, files_at, format_at, formats_at, entry_at, entries_at, table_at, version_at, own_address_size_at, size_at, opening_at, operations_at, line_encoding_at, rules_at, directories_at, file_names_at, fields_at, header_at}
 use Rattle.gimli_line.specs.declared.file_entry.FileEntryFormat.{FileEntryFormat}
 use Rattle.gimli_line.proofs.Closed.{ReadsOpen, reads_name, reads_open_both, reads_closed}
 
--- ---- a test, and behind it a line
+-- ---- a test, and behind it a production
 
-pub reads_guard : {A : Type 0} (b : Bool) (d : Error) (m : Line A) (after : List ℕ → Read A) → Reads m after → Reads (check b d >>> λ ok. m) (λ bytes. if b then after bytes else (Err d, bytes))
+pub reads_guard : {A : Type 0} (b : Bool) (d : Error) (m : Production A) (after : List ℕ → Read A) → Reads m after → Reads (check b d >>> λ ok. m) (λ bytes. if b then after bytes else (Err d, bytes))
 reads_guard true d m after r = reads_both (check true d) (λ ok. m) (check_at true d) (λ ok. after) (reads_check true d) (λ ok. r)
 reads_guard false d m after r = reads_both (check false d) (λ ok. m) (check_at false d) (λ ok. after) (reads_check false d) (λ ok. r)
 
@@ -36,11 +36,11 @@ reads_positive d = reads_both byte _ byte_at _ reads_byte (λ n. reads_guard (no
 
 -- ---- the values of forms
 
-reads_block : (n : ℕ) → Reads (block_line n) (block_at n)
+reads_block : (n : ℕ) → Reads (block_production n) (block_at n)
 reads_block n = reads_both (some_bytes n) _ _ _ (reads_some_bytes n) (λ xs. reads_done (Block xs))
 
 module _ (notation : Notation) (format : Format) where
-  reads_shape : (shape : Shape) → Reads (shape_line notation format shape) (shape_at notation format shape)
+  reads_shape : (shape : Shape) → Reads (shape_production notation format shape) (shape_at notation format shape)
   reads_shape (fixed size make) = reads_both (number notation.big size) _ _ _ (reads_number notation.big size) (λ n. reads_done (make n))
   reads_shape (three_bytes make) = reads_both (below_limit notation (number notation.big 3)) _ _ _ (reads_below_limit notation (number notation.big 3) _ (reads_number notation.big 3)) (λ n. reads_done (make n))
   reads_shape (word_offset make) = reads_both (offset_word notation format) _ _ _ (reads_offset_word notation format) (λ n. reads_done (make n))
@@ -52,64 +52,64 @@ module _ (notation : Notation) (format : Format) where
   reads_shape leb_counted = reads_both (below_limit notation unsigned) _ _ _ (reads_below_limit notation unsigned _ reads_unsigned) reads_block
   reads_shape string = reads_both text _ _ _ reads_text (λ xs. reads_done (String xs))
 
-  pub reads_form : (form : ℕ) → Reads (form_line notation format form) (form_at notation format form)
+  pub reads_form : (form : ℕ) → Reads (form_production notation format form) (form_at notation format form)
   unfolding form_at
   reads_form form = at_shape (shape_among form shapes)
     where
-      at_shape : (found : Option Shape) → Reads (elim found [ Some shape ↦ shape_line notation format shape | None ↦ refuse (UnknownForm (record { 0 = form })) ]) (λ bytes. elim found [ Some shape ↦ shape_at notation format shape bytes | None ↦ (Err (UnknownForm (record { 0 = form })), bytes) ])
+      at_shape : (found : Option Shape) → Reads (elim found [ Some shape ↦ shape_production notation format shape | None ↦ refuse (UnknownForm (record { 0 = form })) ]) (λ bytes. elim found [ Some shape ↦ shape_at notation format shape bytes | None ↦ (Err (UnknownForm (record { 0 = form })), bytes) ])
       at_shape (Some shape) = reads_shape shape
       at_shape None = reads_refuse (UnknownForm (record { 0 = form }))
 
 -- ---- tables up to version 4
 
-pub reads_paths : Reads paths_line paths_at
+pub reads_paths : Reads paths_production paths_at
 reads_paths = reads_closed name _ reads_name
 
-pub reads_file : (path : List ℕ) → Reads (file_line path) (plain_file_at path)
+pub reads_file : (path : List ℕ) → Reads (file_production path) (plain_file_at path)
 unfolding plain_file_at
 reads_file path =
     reads_both unsigned _ _ _ reads_unsigned (λ directory. reads_both unsigned _ _ _ reads_unsigned (λ time. reads_both unsigned _ _ _ reads_unsigned (λ size. reads_done (plain_file path directory time size))))
 
 -- a path that isn't empty, and what stands behind it
-abbrev pub named_file : Line File
-named_file = name >>> file_line
+abbrev pub named_file : Production File
+named_file = name >>> file_production
 
 pub reads_named_file : ReadsOpen named_file named_file_at
-reads_named_file = reads_open_both name file_line _ _ reads_name reads_file
+reads_named_file = reads_open_both name file_production _ _ reads_name reads_file
 
-pub reads_files : Reads files_line files_at
+pub reads_files : Reads files_production files_at
 reads_files = reads_closed named_file _ reads_named_file
 
 -- ---- tables of version 5
 
-pub reads_format : Reads format_line format_at
+pub reads_format : Reads format_production format_at
 unfolding format_at
 reads_format = reads_both unsigned _ _ _ reads_unsigned (λ content. reads_both unsigned_16 _ _ _ reads_unsigned_16 (λ form. reads_done _))
 
-pub reads_formats : Reads formats_line formats_at
+pub reads_formats : Reads formats_production formats_at
 unfolding formats_at
 reads_formats =
-    reads_both byte _ _ _ reads_byte (λ count. reads_both (times count format_line) _ _ _ (reads_times count format_line _ reads_format)
+    reads_both byte _ _ _ reads_byte (λ count. reads_both (times count format_production) _ _ _ (reads_times count format_production _ reads_format)
     (λ formats. reads_guard (nat_eq (count_by (is_content 0x0001) formats) 1) MissingFileEntryFormatPath (done formats) _ (reads_done formats)))
 
 module _ (notation : Notation) (format : Format) where
-  pub reads_entry : (formats : List FileEntryFormat) → Reads (entry_line notation format formats) (entry_at notation format formats)
+  pub reads_entry : (formats : List FileEntryFormat) → Reads (entry_production notation format formats) (entry_at notation format formats)
   reads_entry [] = reads_done []
   reads_entry (f ∷ formats) =
-      reads_both (form_line notation format f.form.0) _ _ _ (reads_form notation format f.form.0)
-      (λ value. reads_both (entry_line notation format formats) _ _ _ (reads_entry formats) (λ values. reads_done _))
+      reads_both (form_production notation format f.form.0) _ _ _ (reads_form notation format f.form.0)
+      (λ value. reads_both (entry_production notation format formats) _ _ _ (reads_entry formats) (λ values. reads_done _))
 
-  pub reads_entries : (formats : List FileEntryFormat) → Reads (entries_line notation format formats) (entries_at notation format formats)
+  pub reads_entries : (formats : List FileEntryFormat) → Reads (entries_production notation format formats) (entries_at notation format formats)
   unfolding entries_at
-  reads_entries formats = reads_both unsigned _ _ _ reads_unsigned (λ count. reads_times count (entry_line notation format formats) _ (reads_entry formats))
+  reads_entries formats = reads_both unsigned _ _ _ reads_unsigned (λ count. reads_times count (entry_production notation format formats) _ (reads_entry formats))
 
-  pub reads_table : Reads (table_line notation format) (table_at notation format)
+  pub reads_table : Reads (table_production notation format) (table_at notation format)
   unfolding table_at
-  reads_table = reads_both formats_line _ _ _ reads_formats (λ formats. reads_both (entries_line notation format formats) _ _ _ (reads_entries formats) (λ entries. reads_done (formats, entries)))
+  reads_table = reads_both formats_production _ _ _ reads_formats (λ formats. reads_both (entries_production notation format formats) _ _ _ (reads_entries formats) (λ entries. reads_done (formats, entries)))
 
 -- ---- the parts of a header
 
-pub reads_version : (big : Bool) → Reads (version_line big) (version_at big)
+pub reads_version : (big : Bool) → Reads (version_production big) (version_at big)
 unfolding version_at
 reads_version big = reads_both (number big 2) _ _ _ (reads_number big 2) (λ version. reads_guard (nat_le 2 version && nat_le version 5) (UnknownVersion version) (done version) _ (reads_done version))
 
@@ -123,7 +123,7 @@ tested_size k (b ∷ bytes) = at_test (is_address_size b)
     at_test true = refl
     at_test false = refl
 
-pub reads_size : (version handed : ℕ) → Reads (address_size_line version handed) (size_at version handed)
+pub reads_size : (version handed : ℕ) → Reads (address_size_production version handed) (size_at version handed)
 unfolding own_address_size_at
 reads_size version handed =
     reads_if (nat_le version 4) (done handed) _ _ _ (reads_done handed)
@@ -131,16 +131,16 @@ reads_size version handed =
     (reads_both byte _ _ _ reads_byte (λ size. reads_guard (is_address_size size) (UnsupportedAddressSize size) _ _
     (reads_both byte _ _ _ reads_byte (λ selector. reads_guard (nat_eq selector 0) (UnsupportedSegmentSize selector) (done size) _ (reads_done size))))))
 
-pub reads_opening : (notation : Notation) (handed : ℕ) (format : Format) → Reads (opening_line notation handed format) (opening_at notation handed format)
+pub reads_opening : (notation : Notation) (handed : ℕ) (format : Format) → Reads (opening_production notation handed format) (opening_at notation handed format)
 unfolding opening_at
 reads_opening notation handed format =
-    reads_both (version_line notation.big) _ _ _ (reads_version notation.big)
-    (λ version. reads_both (address_size_line version handed) _ _ _ (reads_size version handed)
+    reads_both (version_production notation.big) _ _ _ (reads_version notation.big)
+    (λ version. reads_both (address_size_production version handed) _ _ _ (reads_size version handed)
     (λ address_size. reads_both (offset_word notation format) _ _ _ (reads_offset_word notation format)
     (λ header_length. reads_both (some_bytes header_length) _ _ _ (reads_some_bytes header_length)
     (λ fields. reads_done _))))
 
-pub reads_line_encoding : (version : ℕ) → Reads (line_encoding_line version) (line_encoding_at version)
+pub reads_line_encoding : (version : ℕ) → Reads (line_encoding_production version) (line_encoding_at version)
 unfolding line_encoding_at
 reads_line_encoding version =
     reads_both (positive MinimumInstructionLengthZero) _ _ _ (reads_positive MinimumInstructionLengthZero)
@@ -148,44 +148,44 @@ reads_line_encoding version =
     (λ maximum. reads_both byte _ _ _ reads_byte (λ statement. reads_both byte _ _ _ reads_byte
     (λ base. reads_both (positive LineRangeZero) _ _ _ (reads_positive LineRangeZero) (λ range. reads_done _)))))
 
-pub reads_rules : (encoding : Encoding) → Reads (rules_line encoding) (rules_at encoding)
+pub reads_rules : (encoding : Encoding) → Reads (parameters_production encoding) (rules_at encoding)
 unfolding rules_at
 reads_rules encoding =
-    reads_both (line_encoding_line encoding.version) _ _ _ (reads_line_encoding encoding.version)
+    reads_both (line_encoding_production encoding.version) _ _ _ (reads_line_encoding encoding.version)
     (λ line_encoding. reads_both (positive OpcodeBaseZero) _ _ _ (reads_positive OpcodeBaseZero) (λ opcode_base. reads_done _))
 
 pub reads_directories : (notation : Notation) (encoding : Encoding) → Reads (directory_table notation encoding) (directories_at notation encoding)
 unfolding directories_at
 reads_directories notation encoding =
     reads_if (nat_le encoding.version 4) _ _ _ _
-    (reads_both paths_line _ _ _ reads_paths (λ paths. reads_done _))
-    (reads_both (table_line notation encoding.format) _ _ _ (reads_table notation encoding.format) (λ table. reads_done _))
+    (reads_both paths_production _ _ _ reads_paths (λ paths. reads_done _))
+    (reads_both (table_production notation encoding.format) _ _ _ (reads_table notation encoding.format) (λ table. reads_done _))
 
 pub reads_file_names : (notation : Notation) (encoding : Encoding) → Reads (file_table notation encoding) (file_names_at notation encoding)
 unfolding file_names_at
 reads_file_names notation encoding =
     reads_if (nat_le encoding.version 4) _ _ _ _
-    (reads_both files_line _ _ _ reads_files (λ files. reads_done _))
-    (reads_both (table_line notation encoding.format) _ _ _ (reads_table notation encoding.format) (λ table. reads_done _))
+    (reads_both files_production _ _ _ reads_files (λ files. reads_done _))
+    (reads_both (table_production notation encoding.format) _ _ _ (reads_table notation encoding.format) (λ table. reads_done _))
 
-pub reads_fields : (notation : Notation) (given : Given) (unit : ℕ) (opening : Opening) (program : List ℕ) → Reads (fields_line notation given unit opening program) (fields_at notation given unit opening program)
+pub reads_fields : (notation : Notation) (unit_entry : UnitEntry) (unit : ℕ) (opening : Opening) (program : List ℕ) → Reads (fields_production notation unit_entry unit opening program) (fields_at notation unit_entry unit opening program)
 unfolding fields_at
-reads_fields notation given unit opening program =
-    reads_both (rules_line opening.encoding) _ _ _ (reads_rules opening.encoding)
-    (λ rules. reads_both (some_bytes (rules.opcode_base - 1)) _ _ _ (reads_some_bytes (rules.opcode_base - 1))
+reads_fields notation unit_entry unit opening program =
+    reads_both (parameters_production opening.encoding) _ _ _ (reads_rules opening.encoding)
+    (λ parameters. reads_both (some_bytes (parameters.opcode_base - 1)) _ _ _ (reads_some_bytes (parameters.opcode_base - 1))
     (λ counts. reads_both (directory_table notation opening.encoding) _ _ _ (reads_directories notation opening.encoding)
     (λ directories. reads_both (file_table notation opening.encoding) _ _ _ (reads_file_names notation opening.encoding)
     (λ files. reads_done _))))
 
 -- ---- the header
 
-pub reads_header : (notation : Notation) (given : Given) → Reads (header_line notation given) (header_at notation given)
+pub reads_header : (notation : Notation) (unit_entry : UnitEntry) → Reads (header_production notation unit_entry) (header_at notation unit_entry)
 unfolding header_at
 reads_header notation given =
     reads_both (unit_length notation) _ _ _ (reads_unit_length notation)
     (λ unit. reads_both (some_bytes unit.0) _ _ _ (reads_some_bytes unit.0)
-    (λ inside. reads_both (within inside (opening_line notation given.address_size unit.1)) _ _ _ (reads_within inside (opening_line notation given.address_size unit.1) _ (reads_opening notation given.address_size unit.1))
-    (λ opened. reads_both (within opened.0.fields (fields_line notation given unit.0 opened.0 opened.1)) _ _ _ (reads_within opened.0.fields (fields_line notation given unit.0 opened.0 opened.1) _ (reads_fields notation given unit.0 opened.0 opened.1))
+    (λ inside. reads_both (within inside (opening_production notation unit_entry.address_size unit.1)) _ _ _ (reads_within inside (opening_production notation unit_entry.address_size unit.1) _ (reads_opening notation unit_entry.address_size unit.1))
+    (λ opened. reads_both (within opened.0.fields (fields_production notation unit_entry unit.0 opened.0 opened.1)) _ _ _ (reads_within opened.0.fields (fields_production notation unit_entry unit.0 opened.0 opened.1) _ (reads_fields notation unit_entry unit.0 opened.0 opened.1))
     (λ fields. reads_done _))))
 
 -- ---- a unit, or a refusal
@@ -199,38 +199,38 @@ pub answer_of : {A : Type 0} (r : Read A) → Answer r
 answer_of (Ok x, rest) = given_ok x rest refl
 answer_of (Err e, rest) = given_err e refl
 
-module _ (notation : Notation) (given : Given) where
+module _ (notation : Notation) (unit_entry : UnitEntry) where
   -- a header that is read is that of the unit in front
-  pub unit_found : (bytes : List ℕ) (h : Header) (rest : List ℕ) → header_at notation given bytes ≡ (Ok h, rest) → SpellsUnit notation given bytes h
-  unit_found bytes h rest e = let f = (reads_header notation given).found bytes h rest e in (f.0, rest, f.1, f.2)
+  pub unit_found : (bytes : List ℕ) (h : Header) (rest : List ℕ) → header_at notation unit_entry bytes ≡ (Ok h, rest) → SpellsUnit notation unit_entry bytes h
+  unit_found bytes h rest e = let f = (reads_header notation unit_entry).found bytes h rest e in (f.0, rest, f.1, f.2)
 
   -- the same where the bytes behind it aren't told
-  pub unit_answered : (bytes : List ℕ) (h : Header) → (header_at notation given bytes).0 ≡ Ok h → SpellsUnit notation given bytes h
-  unit_answered bytes h is = at_rest (header_at notation given bytes) refl is
+  pub unit_answered : (bytes : List ℕ) (h : Header) → (header_at notation unit_entry bytes).0 ≡ Ok h → SpellsUnit notation unit_entry bytes h
+  unit_answered bytes h is = at_rest (header_at notation unit_entry bytes) refl is
     where
-      at_rest : (r : Read Header) → header_at notation given bytes ≡ r → r.0 ≡ Ok h → SpellsUnit notation given bytes h
+      at_rest : (r : Read Header) → header_at notation unit_entry bytes ≡ r → r.0 ≡ Ok h → SpellsUnit notation unit_entry bytes h
       at_rest (Ok k, rest) same is = let whole : k ≡ h = cc in unit_found bytes h rest (same ∙ ap (λ (x : Header). let r : Read Header = (Ok x, rest) in r) whole)
       at_rest (Err e, rest) same is = absurd cc
 
   -- the header of a unit in front is read
-  pub unit_read : (bytes : List ℕ) (h : Header) → SpellsUnit notation given bytes h → (header_at notation given bytes).0 ≡ Ok h
-  unit_read bytes h s = ap (λ (xs : List ℕ). (header_at notation given xs).0) s.2 ∙ ap (λ (r : Read Header). r.0) ((reads_header notation given).only s.0 h s.1 s.3)
+  pub unit_read : (bytes : List ℕ) (h : Header) → SpellsUnit notation unit_entry bytes h → (header_at notation unit_entry bytes).0 ≡ Ok h
+  unit_read bytes h s = ap (λ (xs : List ℕ). (header_at notation unit_entry xs).0) s.2 ∙ ap (λ (r : Read Header). r.0) ((reads_header notation unit_entry).only s.0 h s.1 s.3)
 
   -- a unit has one header
-  pub one_header : (bytes : List ℕ) (h k : Header) → SpellsUnit notation given bytes h → SpellsUnit notation given bytes k → h ≡ k
+  pub one_header : (bytes : List ℕ) (h k : Header) → SpellsUnit notation unit_entry bytes h → SpellsUnit notation unit_entry bytes k → h ≡ k
   one_header bytes h k s t = let e = sym (unit_read bytes h s) ∙ unit_read bytes k t in cc
 
   -- and no refusal
-  pub no_fault : (bytes : List ℕ) (h : Header) (e : Error) → SpellsUnit notation given bytes h → HasHeaderFault notation given bytes e → ⊥
-  no_fault bytes h e s f = let both = sym (unit_read bytes h s) ∙ (reads_header notation given).refused bytes e f in cc
+  pub no_fault : (bytes : List ℕ) (h : Header) (e : Error) → SpellsUnit notation unit_entry bytes h → HasHeaderFault notation unit_entry bytes e → ⊥
+  no_fault bytes h e s f = let both = sym (unit_read bytes h s) ∙ (reads_header notation unit_entry).refused bytes e f in cc
 
   -- what is no unit has one refusal
-  pub one_fault : (bytes : List ℕ) (e d : Error) → HasHeaderFault notation given bytes e → HasHeaderFault notation given bytes d → e ≡ d
-  one_fault bytes e d f g = let both = sym ((reads_header notation given).refused bytes e f) ∙ (reads_header notation given).refused bytes d g in cc
+  pub one_fault : (bytes : List ℕ) (e d : Error) → HasHeaderFault notation unit_entry bytes e → HasHeaderFault notation unit_entry bytes d → e ≡ d
+  one_fault bytes e d f g = let both = sym ((reads_header notation unit_entry).refused bytes e f) ∙ (reads_header notation unit_entry).refused bytes d g in cc
 
   -- one of the two is there
-  pub unit_or_fault : (bytes : List ℕ) → ((h : Header) × SpellsUnit notation given bytes h) ⊎ ((e : Error) × HasHeaderFault notation given bytes e)
-  unit_or_fault bytes = elim (answer_of (header_at notation given bytes)) [
+  pub unit_or_fault : (bytes : List ℕ) → ((h : Header) × SpellsUnit notation unit_entry bytes h) ⊎ ((e : Error) × HasHeaderFault notation unit_entry bytes e)
+  unit_or_fault bytes = elim (answer_of (header_at notation unit_entry bytes)) [
     | given_ok h rest is ↦ inl (h, unit_found bytes h rest is)
-    | given_err e is ↦ inr (e, (reads_header notation given).fault bytes e is)
+    | given_err e is ↦ inr (e, (reads_header notation unit_entry).fault bytes e is)
   ]

@@ -9,9 +9,9 @@ use Rattle.gimli_core.specs.declared.attribute_value.AttributeValue.TheVariants.
 use Rattle.gimli_core.specs.declared.error.Error.{Error}
 use Rattle.gimli_core.specs.declared.error.Error.TheVariants.{UnexpectedEof, BadUnsignedLeb128, UnknownReservedLength, UnknownVersion, UnsupportedAddressSize, UnsupportedSegmentSize, MinimumInstructionLengthZero, MaximumOperationsPerInstructionZero, LineRangeZero, OpcodeBaseZero, MissingFileEntryFormatPath, UnknownForm}
 use Rattle.gimli_line.specs.declared.file_entry.FileEntryFormat.{FileEntryFormat}
-use Rattle.gimli_line.specs.Rules.{Rules}
+use Rattle.gimli_line.specs.Parameters.{Parameters}
 use Rattle.gimli_line.specs.Instruction.{File}
-use Rattle.gimli_line.specs.Header.{Header, Given, plain_file}
+use Rattle.gimli_line.specs.Header.{Header, UnitEntry, plain_file}
 use Rattle.gimli_line.specs.HeaderGrammar.{SpellsUnit, HasHeaderFault}
 use Rattle.gimli_line.specs.TableReading.{closed_below}
 use Rattle.gimli_line.specs.FormReading.{form_at}
@@ -24,14 +24,14 @@ little = record { big = false; limit = 0x1_0000_0000_0000_0000 }
 abbrev big_endian : Notation
 big_endian = record { big = true; limit = 0x1_0000_0000_0000_0000 }
 
-abbrev handed : ℕ → Given
+abbrev handed : ℕ → UnitEntry
 handed address_size = record { address_size = address_size; directory = None; name = None }
 
-abbrev handed_names : Given
+abbrev handed_names : UnitEntry
 handed_names = record { address_size = 4; directory = Some (codes "/comp_dir"); name = Some (codes "/comp_name") }
 
-abbrev rules : ℕ → ℕ → Format → ℤ → ℕ → ℕ → Rules
-rules version address_size form base range opcode_base = record {
+abbrev parameters : ℕ → ℕ → Format → ℤ → ℕ → ℕ → Parameters
+parameters version address_size form base range opcode_base = record {
   encoding = record { address_size = address_size; format = form; version = version };
   line_encoding = record { minimum_instruction_length = 1; maximum_operations_per_instruction = 1; default_is_stmt = true; line_base = base; line_range = range };
   opcode_base = opcode_base;
@@ -45,7 +45,7 @@ format content form = record { content_type = record { 0 = content }; form = rec
 
 abbrev header_13 : Header
 header_13 = record {
-  rules = rules 4 4 Dwarf32 (negsuc 4) 14 13;
+  parameters = parameters 4 4 Dwarf32 (negsuc 4) 14 13;
   unit_length = 47;
   header_length = 27;
   operand_counts = counts_13;
@@ -67,7 +67,7 @@ a_c_with_source = record (a_c 0) { source = Some (String []) }
 -- version 5, one directory and one file
 abbrev header_5 : ℕ → ℕ → File → List ℕ → Header
 header_5 unit_length header_length file program = record {
-  rules = rules 5 8 Dwarf32 (negsuc 4) 14 13;
+  parameters = parameters 5 8 Dwarf32 (negsuc 4) 14 13;
   unit_length = unit_length;
   header_length = header_length;
   operand_counts = counts_13;
@@ -83,7 +83,7 @@ header_5 unit_length header_length file program = record {
 -- version 5, two files with all their parts
 abbrev header_of_digests : Format → ℕ → Header
 header_of_digests form unit_length = record {
-  rules = rules 5 4 form (pos 0) 1 3;
+  parameters = parameters 5 4 form (pos 0) 1 3;
   unit_length = unit_length;
   header_length = 91;
   operand_counts = 1 ∷ 2 ∷ [];
@@ -102,7 +102,7 @@ header_of_digests form unit_length = record {
 
 record WholeUnit : Type 0 where
   notation : Notation
-  given : Given
+  given : UnitEntry
   bytes : List ℕ
   header : Header
   -- the bytes behind the unit
@@ -126,7 +126,7 @@ version_4_tables = record {
       ∷ 0x00 ∷ 0x00 ∷ 0x00 ∷ 0x00 ∷ 0x00 ∷ 0x00 ∷ 0x00 ∷ 0x00 ∷ 0x00 ∷ 0x00 ∷ 0x00 ∷ 0x00 ∷ 0x00 ∷ 0x00 ∷ 0x00 ∷ 0x00
       ∷ 0x00 ∷ 0x00 ∷ [];
   header = record {
-    rules = rules 4 4 Dwarf32 (pos 0) 1 3;
+    parameters = parameters 4 4 Dwarf32 (pos 0) 1 3;
     unit_length = 62;
     header_length = 40;
     operand_counts = 1 ∷ 2 ∷ [];
@@ -262,7 +262,7 @@ big_endian_64_bits = record {
       ∷ 0x00 ∷ 0x00 ∷ 0x00 ∷ 0x00 ∷ 0x00 ∷ 0x13 ∷ 0x01 ∷ 0x01 ∷ 0xfb ∷ 0x0e ∷ 0x0d ∷ 0x00 ∷ 0x01 ∷ 0x01 ∷ 0x01 ∷ 0x01
       ∷ 0x00 ∷ 0x00 ∷ 0x00 ∷ 0x01 ∷ 0x00 ∷ 0x00 ∷ 0x01 ∷ 0x00 ∷ 0x00 ∷ [];
   header = record {
-    rules = rules 2 8 Dwarf64 (negsuc 4) 14 13;
+    parameters = parameters 2 8 Dwarf64 (negsuc 4) 14 13;
     unit_length = 29;
     header_length = 19;
     operand_counts = counts_13;
@@ -339,7 +339,7 @@ units = (
 -- ---- refusals
 
 record Refused : Type 0 where
-  given : Given
+  given : UnitEntry
   bytes : List ℕ
   refusal : Error
 

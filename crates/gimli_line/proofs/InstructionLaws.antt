@@ -4,24 +4,24 @@ use Rattle.std.specs.Prelude.{nat_eq, nat_le, slice_index}
 use Rattle.std.proofs.lemmas.List.{length-append, take_at}
 use Rattle.gimli_core.specs.Notation.{Notation}
 use Rattle.gimli_core.specs.Reading.{Read, ◌>>=◌, within_at}
-use Rattle.gimli_core.specs.Line.{Line, ◌>>=◌ as ◌>>>◌, done, times, byte, number, some_bytes, text, unsigned, signed, below_limit, within, Reads}
+use Rattle.gimli_core.specs.Production.{Production, ◌>>=◌ as ◌>>>◌, done, times, byte, number, some_bytes, text, unsigned, signed, below_limit, within, Reads}
 use Rattle.gimli_core.specs.declared.error.Error.{Error}
-use Rattle.gimli_core.proofs.Lines.{reads_both, reads_done, reads_if, reads_times, reads_within, bind_ok, bind_fault, bind_refused, ok_parts}
-use Rattle.gimli_core.proofs.LineLaws.{reads_byte, reads_some_bytes, reads_number, reads_text, reads_below_limit}
+use Rattle.gimli_core.proofs.Productions.{reads_both, reads_done, reads_if, reads_times, reads_within, bind_ok, bind_fault, bind_refused, ok_parts}
+use Rattle.gimli_core.proofs.ProductionLaws.{reads_byte, reads_some_bytes, reads_number, reads_text, reads_below_limit}
 use Rattle.gimli_core.proofs.UnsignedLeb.{reads_unsigned}
 use Rattle.gimli_core.proofs.SignedLaws.{reads_signed}
 use Rattle.gimli_line.specs.declared.instruction.LineInstruction.TheVariants.{Special, UnknownStandard0, UnknownStandard1, UnknownStandardN, UnknownExtended}
 use Rattle.gimli_line.specs.Instruction.{Ins}
 use Rattle.gimli_line.specs.Header.{Header}
-use Rattle.gimli_line.specs.Lines.{bytes_of, among}
-use Rattle.gimli_line.specs.HeaderGrammar.{file_line}
-use Rattle.gimli_line.specs.InstructionGrammar.{Operand, none, uleb, sleb, half, address, file, standard_opcodes, extended_opcodes, operand_line, unknown_line, standard_line, extended_operands, extended_line, instruction_line, SpellsInstruction, Cuts}
-use Rattle.gimli_line.specs.InstructionReading.{bytes_at, operand_at, unknown_at, standard_at, extended_operands_at, extended_at, ins_at, cut_behind, cut_upto, cut_at}
+use Rattle.gimli_line.specs.Productions.{bytes_of, among}
+use Rattle.gimli_line.specs.HeaderGrammar.{file_production}
+use Rattle.gimli_line.specs.InstructionGrammar.{Operand, none, uleb, sleb, half, address, file, standard_opcodes, extended_opcodes, operand_production, unknown_production, standard_production, extended_operands, extended_production, instruction_production, SpellsInstruction, Decodes}
+use Rattle.gimli_line.specs.InstructionReading.{bytes_at, operand_at, unknown_at, standard_at, extended_operands_at, extended_at, ins_at, decoded_behind, decoded_upto, decoded_at}
 use Rattle.gimli_line.proofs.HeaderLaws.{reads_file, given_ok, given_err, answer_of}
 
--- ---- the bytes of a line
+-- ---- the bytes of a production
 
-module _ {A : Type 0} (l : Line A) (read : List ℕ → Read A) (r : Reads l read) where
+module _ {A : Type 0} (l : Production A) (read : List ℕ → Read A) (r : Reads l read) where
   -- what stands in front of the rest
   front_is : (front rest : List ℕ) → take (length (front ++ rest) - length rest) (front ++ rest) ≡ front
   front_is front rest = take_at front rest (length (front ++ rest) - length rest) (omega (arith, length-append front rest))
@@ -55,15 +55,15 @@ module _ {A : Type 0} (l : Line A) (read : List ℕ → Read A) (r : Reads l rea
 -- ---- instructions
 
 module _ (notation : Notation) (h : Header) where
-  reads_operand : (operand : Operand) → Reads (operand_line notation h operand) (operand_at notation h operand)
+  reads_operand : (operand : Operand) → Reads (operand_production notation h operand) (operand_at notation h operand)
   reads_operand (none i) = reads_done i
   reads_operand (uleb make) = reads_both unsigned _ _ _ reads_unsigned (λ n. reads_done (make n))
   reads_operand (sleb make) = reads_both signed _ _ _ reads_signed (λ z. reads_done (make z))
   reads_operand (half make) = reads_both (number notation.big 2) _ _ _ (reads_number notation.big 2) (λ n. reads_done (make n))
-  reads_operand (address make) = reads_both (number notation.big h.rules.encoding.address_size) _ _ _ (reads_number notation.big h.rules.encoding.address_size) (λ a. reads_done (make a))
-  reads_operand (file make) = reads_both text _ _ _ reads_text (λ path. reads_both (file_line path) _ _ _ (reads_file path) (λ f. reads_done (make f)))
+  reads_operand (address make) = reads_both (number notation.big h.parameters.encoding.address_size) _ _ _ (reads_number notation.big h.parameters.encoding.address_size) (λ a. reads_done (make a))
+  reads_operand (file make) = reads_both text _ _ _ reads_text (λ path. reads_both (file_production path) _ _ _ (reads_file path) (λ f. reads_done (make f)))
 
-  reads_unknown : (opcode count : ℕ) → Reads (unknown_line notation h opcode count) (unknown_at notation h opcode count)
+  reads_unknown : (opcode count : ℕ) → Reads (unknown_production notation h opcode count) (unknown_at notation h opcode count)
   unfolding unknown_at
   reads_unknown opcode zero = reads_done (UnknownStandard0 (record { 0 = opcode }))
   reads_unknown opcode (suc zero) = reads_both unsigned _ _ _ reads_unsigned (λ n. reads_done (UnknownStandard1 (record { 0 = opcode }) n))
@@ -71,27 +71,27 @@ module _ (notation : Notation) (h : Header) where
       reads_both (bytes_of (times (suc (suc more)) unsigned)) _ _ _ (reads_bytes_of (times (suc (suc more)) unsigned) _ (reads_times (suc (suc more)) unsigned _ reads_unsigned))
       (λ operands. reads_done (UnknownStandardN (record { 0 = opcode }) operands))
 
-  pub reads_standard : (opcode : ℕ) → Reads (standard_line notation h opcode) (standard_at notation h opcode)
+  pub reads_standard : (opcode : ℕ) → Reads (standard_production notation h opcode) (standard_at notation h opcode)
   unfolding standard_at
   reads_standard opcode = at_operand (among opcode standard_opcodes)
     where
       at_operand : (found : Option Operand) → Reads {A = Ins}
-          (elim found [ Some operand ↦ operand_line notation h operand | None ↦ unknown_line notation h opcode (slice_index h.operand_counts (opcode - 1)) ])
+          (elim found [ Some operand ↦ operand_production notation h operand | None ↦ unknown_production notation h opcode (slice_index h.operand_counts (opcode - 1)) ])
           (λ bytes. elim found [ Some operand ↦ operand_at notation h operand bytes | None ↦ unknown_at notation h opcode (slice_index h.operand_counts (opcode - 1)) bytes ])
       at_operand (Some operand) = reads_operand operand
       at_operand None = reads_unknown opcode (slice_index h.operand_counts (opcode - 1))
 
   reads_extended_operands : (opcode : ℕ) (operands : List ℕ) → Reads (extended_operands notation h opcode operands) (extended_operands_at notation h opcode operands)
   unfolding extended_operands_at
-  reads_extended_operands opcode operands = at_operand (among opcode (extended_opcodes h.rules.encoding.version))
+  reads_extended_operands opcode operands = at_operand (among opcode (extended_opcodes h.parameters.encoding.version))
     where
       at_operand : (found : Option Operand) → Reads {A = Ins}
-          (elim found [ Some operand ↦ within operands (operand_line notation h operand) >>> (λ read. done read.0) | None ↦ done (UnknownExtended (record { 0 = opcode }) operands) ])
+          (elim found [ Some operand ↦ within operands (operand_production notation h operand) >>> (λ read. done read.0) | None ↦ done (UnknownExtended (record { 0 = opcode }) operands) ])
           (λ bytes. elim found [ Some operand ↦ within_at operands (operand_at notation h operand) bytes >>= (λ read rest. (Ok read.0, rest)) | None ↦ (Ok (UnknownExtended (record { 0 = opcode }) operands), bytes) ])
-      at_operand (Some operand) = reads_both (within operands (operand_line notation h operand)) _ _ _ (reads_within operands (operand_line notation h operand) _ (reads_operand operand)) (λ read. reads_done read.0)
+      at_operand (Some operand) = reads_both (within operands (operand_production notation h operand)) _ _ _ (reads_within operands (operand_production notation h operand) _ (reads_operand operand)) (λ read. reads_done read.0)
       at_operand None = reads_done (UnknownExtended (record { 0 = opcode }) operands)
 
-  reads_extended : Reads (extended_line notation h) (extended_at notation h)
+  reads_extended : Reads (extended_production notation h) (extended_at notation h)
   unfolding extended_at
   reads_extended =
       reads_both (below_limit notation unsigned) _ _ _ (reads_below_limit notation unsigned _ reads_unsigned)
@@ -99,12 +99,12 @@ module _ (notation : Notation) (h : Header) where
       (λ inside. reads_both (within inside byte) _ _ _ (reads_within inside byte _ reads_byte)
       (λ opened. reads_extended_operands opened.0 opened.1)))
 
-  pub reads_instruction : Reads (instruction_line notation h) (ins_at notation h)
+  pub reads_instruction : Reads (instruction_production notation h) (ins_at notation h)
   unfolding ins_at
   reads_instruction =
       reads_both byte _ _ _ reads_byte
-      (λ opcode. reads_if (nat_eq opcode 0) (extended_line notation h) _ _ _ reads_extended
-      (reads_if (nat_le h.rules.opcode_base opcode) (done (Special opcode)) _ _ _ (reads_done (Special opcode)) (reads_standard opcode)))
+      (λ opcode. reads_if (nat_eq opcode 0) (extended_production notation h) _ _ _ reads_extended
+      (reads_if (nat_le h.parameters.opcode_base opcode) (done (Special opcode)) _ _ _ (reads_done (Special opcode)) (reads_standard opcode)))
 
   -- ---- a program
 
@@ -114,8 +114,8 @@ module _ (notation : Notation) (h : Header) where
       let some : length s.1 ≡ 1 = ap length s.4 in
       omega (arith, length-append s.1 s.2, ap length s.3)
 
-  cut_is : (more : ℕ) (bytes : List ℕ) → length bytes ≤ more → Cuts notation h bytes (cut_upto notation h more bytes).0 (cut_upto notation h more bytes).1
-  unfolding cut_upto
+  cut_is : (more : ℕ) (bytes : List ℕ) → length bytes ≤ more → Decodes notation h bytes (decoded_upto notation h more bytes).0 (decoded_upto notation h more bytes).1
+  unfolding decoded_upto
   cut_is zero [] le = record { front = []; rest = []; parts = refl; spelled = refl; ended = refl }
   cut_is zero (b ∷ bytes) le = absurd (omega arith)
   cut_is (suc more) [] le = record { front = []; rest = []; parts = refl; spelled = refl; ended = refl }
@@ -134,7 +134,7 @@ module _ (notation : Notation) (h : Header) where
     | given_err e is ↦ at_fault e (ins_at notation h (b ∷ bytes)) refl is
   ]
     where
-      at_fault : (e : Error) (r : Read Ins) → r ≡ ins_at notation h (b ∷ bytes) → r.0 ≡ Err e → Cuts notation h (b ∷ bytes) (cut_behind notation h (cut_upto notation h more) r).0 (cut_behind notation h (cut_upto notation h more) r).1
+      at_fault : (e : Error) (r : Read Ins) → r ≡ ins_at notation h (b ∷ bytes) → r.0 ≡ Err e → Decodes notation h (b ∷ bytes) (decoded_behind notation h (decoded_upto notation h more) r).0 (decoded_behind notation h (decoded_upto notation h more) r).1
       at_fault e (Ok i, rest) same is = absurd cc
       at_fault e (Err d, rest) same is = record {
         front = [];
@@ -144,62 +144,62 @@ module _ (notation : Notation) (h : Header) where
         ended = (λ none. absurd cc, reads_instruction.fault (b ∷ bytes) d (rw (← same) refl));
       }
 
-  only_cut : (list : List Ins) (end : Option Error) (more : ℕ) (bytes : List ℕ) → length bytes ≤ more → Cuts notation h bytes list end → (list, end) ≡ cut_upto notation h more bytes
-  unfolding cut_upto
-  only_cut [] None more bytes le c = at_end more bytes (c.parts ∙ rw (c.spelled, c.ended) refl)
+  only_decoding : (list : List Ins) (end : Option Error) (more : ℕ) (bytes : List ℕ) → length bytes ≤ more → Decodes notation h bytes list end → (list, end) ≡ decoded_upto notation h more bytes
+  unfolding decoded_upto
+  only_decoding [] None more bytes le c = at_end more bytes (c.parts ∙ rw (c.spelled, c.ended) refl)
     where
-      at_end : (more : ℕ) (bytes : List ℕ) → bytes ≡ [] → ([], None) ≡ cut_upto notation h more bytes
+      at_end : (more : ℕ) (bytes : List ℕ) → bytes ≡ [] → ([], None) ≡ decoded_upto notation h more bytes
       at_end zero bytes is = refl
       at_end (suc more) [] is = refl
       at_end (suc more) (b ∷ bytes) is = absurd cc
-  only_cut [] (Some e) more bytes le c =
+  only_decoding [] (Some e) more bytes le c =
       let whole : bytes ≡ c.rest = c.parts ∙ rw c.spelled refl in
-      at_fault more bytes le (λ none. c.ended.0 (sym whole ∙ none)) (subst (λ (xs : List ℕ). (instruction_line notation h).Fault xs e) (sym whole) c.ended.1)
+      at_fault more bytes le (λ none. c.ended.0 (sym whole ∙ none)) (subst (λ (xs : List ℕ). (instruction_production notation h).Fault xs e) (sym whole) c.ended.1)
     where
-      behind : (b : ℕ) (bytes : List ℕ) (more : ℕ) (r : Read Ins) → r.0 ≡ Err e → ([], Some e) ≡ cut_behind notation h (cut_upto notation h more) r
+      behind : (b : ℕ) (bytes : List ℕ) (more : ℕ) (r : Read Ins) → r.0 ≡ Err e → ([], Some e) ≡ decoded_behind notation h (decoded_upto notation h more) r
       behind b bytes more (Ok i, rest) is = absurd cc
       behind b bytes more (Err d, rest) is = let same : d ≡ e = cc in rw same refl
 
-      at_fault : (more : ℕ) (bytes : List ℕ) → length bytes ≤ more → bytes ≢ [] → (instruction_line notation h).Fault bytes e → ([], Some e) ≡ cut_upto notation h more bytes
+      at_fault : (more : ℕ) (bytes : List ℕ) → length bytes ≤ more → bytes ≢ [] → (instruction_production notation h).Fault bytes e → ([], Some e) ≡ decoded_upto notation h more bytes
       at_fault zero [] le some f = absurd (some refl)
       at_fault zero (b ∷ bytes) le some f = absurd (omega arith)
       at_fault (suc more) [] le some f = absurd (some refl)
       at_fault (suc more) (b ∷ bytes) le some f = behind b bytes more (ins_at notation h (b ∷ bytes)) (reads_instruction.refused (b ∷ bytes) e f)
-  only_cut (i ∷ list) end more bytes le c =
+  only_decoding (i ∷ list) end more bytes le c =
       let s = c.spelled in
       let some = takes_bytes s.0 i s.3 in
       let whole : bytes ≡ s.0 ++ (s.1 ++ c.rest) = c.parts ∙ ap (λ (xs : List ℕ). xs ++ c.rest) s.2 ∙ append_assoc s.0 s.1 c.rest in
       let first : ins_at notation h bytes ≡ (Ok i, s.1 ++ c.rest) = ap (ins_at notation h) whole ∙ reads_instruction.only s.0 i (s.1 ++ c.rest) s.3 in
       at_more more bytes le (s.1 ++ c.rest) first (omega (arith, length-append s.0 (s.1 ++ c.rest), ap length whole))
-      (λ less fewer. only_cut list end less (s.1 ++ c.rest) fewer (record { front = s.1; rest = c.rest; parts = refl; spelled = s.4; ended = c.ended }))
+      (λ less fewer. only_decoding list end less (s.1 ++ c.rest) fewer (record { front = s.1; rest = c.rest; parts = refl; spelled = s.4; ended = c.ended }))
     where
       at_more : (more : ℕ) (bytes : List ℕ) → length bytes ≤ more → (rest : List ℕ) → ins_at notation h bytes ≡ (Ok i, rest) → length rest < length bytes
-          → ((less : ℕ) → length rest ≤ less → (list, end) ≡ cut_upto notation h less rest) → (i ∷ list, end) ≡ cut_upto notation h more bytes
+          → ((less : ℕ) → length rest ≤ less → (list, end) ≡ decoded_upto notation h less rest) → (i ∷ list, end) ≡ decoded_upto notation h more bytes
       at_more zero bytes le rest first fewer others = absurd (omega arith)
       at_more (suc more) [] le rest first fewer others = absurd (omega arith)
       at_more (suc more) (b ∷ bytes) le rest first fewer others = rw (first, ← others more (omega arith)) refl
 
-  -- a program is cut so
-  pub cuts : (bytes : List ℕ) → Cuts notation h bytes (cut_at notation h bytes).0 (cut_at notation h bytes).1
+  -- a program is decoded so
+  pub cuts : (bytes : List ℕ) → Decodes notation h bytes (decoded_at notation h bytes).0 (decoded_at notation h bytes).1
   cuts bytes = cut_is (length bytes) bytes (omega arith)
 
   -- and no other way
-  pub one_cut : (bytes : List ℕ) (list : List Ins) (end : Option Error) → Cuts notation h bytes list end → (list, end) ≡ cut_at notation h bytes
-  one_cut bytes list end c = only_cut list end (length bytes) bytes (omega arith) c
+  pub one_decoding : (bytes : List ℕ) (list : List Ins) (end : Option Error) → Decodes notation h bytes list end → (list, end) ≡ decoded_at notation h bytes
+  one_decoding bytes list end c = only_decoding list end (length bytes) bytes (omega arith) c
 
   -- ---- no more instructions than bytes
 
-  cut_bounded : (more : ℕ) (bytes : List ℕ) → length (cut_upto notation h more bytes).0 ≤ more
-  unfolding cut_upto
+  cut_bounded : (more : ℕ) (bytes : List ℕ) → length (decoded_upto notation h more bytes).0 ≤ more
+  unfolding decoded_upto
   cut_bounded zero bytes = omega arith
   cut_bounded (suc more) [] = omega arith
   cut_bounded (suc more) (b ∷ bytes) = behind (λ rest. cut_bounded more rest) (ins_at notation h (b ∷ bytes))
     where
-      behind : ((rest : List ℕ) → length (cut_upto notation h more rest).0 ≤ more) → (r : Read Ins) → length (cut_behind notation h (cut_upto notation h more) r).0 ≤ suc more
+      behind : ((rest : List ℕ) → length (decoded_upto notation h more rest).0 ≤ more) → (r : Read Ins) → length (decoded_behind notation h (decoded_upto notation h more) r).0 ≤ suc more
       behind bound (Ok i, rest) = omega (arith, bound rest)
       behind bound (Err e, rest) = omega arith
 
-  pub instructions_bounded : (bytes : List ℕ) (list : List Ins) (end : Option Error) → Cuts notation h bytes list end → length list ≤ length bytes
+  pub instructions_bounded : (bytes : List ℕ) (list : List Ins) (end : Option Error) → Decodes notation h bytes list end → length list ≤ length bytes
   instructions_bounded bytes list end c =
-      let same : length list ≡ length (cut_at notation h bytes).0 = ap (λ (p : List Ins × Option Error). length p.0) (one_cut bytes list end c) in
+      let same : length list ≡ length (decoded_at notation h bytes).0 = ap (λ (p : List Ins × Option Error). length p.0) (one_decoding bytes list end c) in
       omega (arith, cut_bounded (length bytes) bytes)

@@ -13,6 +13,6 @@ pub mod Opened
 pub mod LookUps
 pub mod Operands
 pub mod Runs
-pub mod ToldLaws
+pub mod EventsWithFilesLaws
 pub mod SequenceLaws
-pub mod RisingLaws
+pub mod NonDecreasingLaws

@@ -11,11 +11,11 @@ above : {A : Type 0} (first : Option A) (entries : List A) (i : ℕ) → 0 < i �
 above first entries zero lt = absurd (omega arith)
 above first entries (suc i) lt = let less : i ≡ suc i - 1 = omega arith in ap (slice_get entries) less
 
-pub directory_above : (h : Header) (i : ℕ) → h.rules.encoding.version ≤ 4 → 0 < i → directory_of h i ≡ slice_get h.directories (i - 1)
-directory_above h i old lt = rw (le-leb h.rules.encoding.version 4 old) (above _ h.directories i lt)
+pub directory_above : (h : Header) (i : ℕ) → h.parameters.encoding.version ≤ 4 → 0 < i → directory_of h i ≡ slice_get h.directories (i - 1)
+directory_above h i old lt = rw (le-leb h.parameters.encoding.version 4 old) (above _ h.directories i lt)
 
-pub file_above : (h : Header) (i : ℕ) → h.rules.encoding.version ≤ 4 → 0 < i → file_of h i ≡ slice_get h.files (i - 1)
-file_above h i old lt = rw (le-leb h.rules.encoding.version 4 old) (above _ h.files i lt)
+pub file_above : (h : Header) (i : ℕ) → h.parameters.encoding.version ≤ 4 → 0 < i → file_of h i ≡ slice_get h.files (i - 1)
+file_above h i old lt = rw (le-leb h.parameters.encoding.version 4 old) (above _ h.files i lt)
 
 -- ---- an entry that was found, seen as a table's
 

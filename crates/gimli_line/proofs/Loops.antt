@@ -8,10 +8,10 @@ use Rattle.gimli_core.specs.declared.error.Error.{Error}
 use Rattle.gimli_core.specs.Notation.{Notation}
 use Rattle.gimli_core.specs.Reading.{Read, ◌>>=◌, text_at, unsigned_at, times_at}
 use Rattle.gimli_core.specs.declared.common.Format.{Format}
-use Rattle.gimli_core.specs.Line.{Line, IsOpen}
-use Rattle.gimli_core.proofs.Lines.{bind_ok, bind_refused, ok_parts}
-use Rattle.gimli_core.proofs.LineLaws.{reads_text}
-use Rattle.gimli_line.specs.Gives.{viewed}
+use Rattle.gimli_core.specs.Production.{Production, IsOpen}
+use Rattle.gimli_core.proofs.Productions.{bind_ok, bind_refused, ok_parts}
+use Rattle.gimli_core.proofs.ProductionLaws.{reads_text}
+use Rattle.gimli_line.specs.Outcome.{viewed}
 use Rattle.gimli_line.specs.TableReading.{is_closed, closed_below, closed_at}
 use Rattle.gimli_line.specs.Instruction.{File}
 use Rattle.gimli_line.specs.HeaderGrammar.{Entry, file_of_entry}
@@ -88,7 +88,7 @@ module _ {A B : Type 0} (f : A → B) where
 
   -- ---- items up to a zero byte
 
-  module _ (l : Line A) (read : List ℕ → Read A) (r : ReadsOpen l read) where
+  module _ (l : Production A) (read : List ℕ → Read A) (r : ReadsOpen l read) where
     -- an item has bytes
     pub shrinks : (bytes : List ℕ) (x : A) (rest : List ℕ) → IsOpen bytes → read bytes ≡ (Ok x, rest) → length rest < length bytes
     shrinks bytes x rest free e =

@@ -2,8 +2,8 @@
 use Rattle.std.proofs.Common.{◌≡◌, ℕ, suc, ◌+◌, ◌-◌, ◌<◌, List, ◌∷◌, ◌++◌, Ok, Err, refl, sym, ap, ◌∙◌, arith}
 use Rattle.gimli_core.specs.declared.error.Error.{Error}
 use Rattle.gimli_core.specs.Reading.{Read, ◌>>=◌, times_at, unsigned_at}
-use Rattle.gimli_core.specs.Line.{unsigned}
-use Rattle.gimli_core.proofs.Lines.{bind_ok, ok_parts, reads_times}
+use Rattle.gimli_core.specs.Production.{unsigned}
+use Rattle.gimli_core.proofs.Productions.{bind_ok, ok_parts, reads_times}
 use Rattle.gimli_core.proofs.UnsignedLeb.{reads_unsigned}
 use Rattle.gimli_line.specs.InstructionReading.{passed_over}
 

@@ -10,12 +10,12 @@ use Rattle.gimli_core.specs.declared.error.Error.TheVariants.{AddressOverflow, U
 use Rattle.gimli_line.specs.declared.instruction.LineInstruction.TheVariants.{Special, Copy, AdvancePc, AdvanceLine, SetFile, EndSequence, SetAddress, DefineFile, FixedAddPc}
 use Rattle.gimli_line.specs.declared.row.LineRow.{LineRow}
 use Rattle.gimli_line.specs.Instruction.{Ins, File}
-use Rattle.gimli_line.specs.Header.{Header, Given, plain_file}
+use Rattle.gimli_line.specs.Header.{Header, UnitEntry, plain_file}
 use Rattle.gimli_line.specs.HeaderGrammar.{SpellsUnit}
-use Rattle.gimli_line.specs.InstructionGrammar.{Cuts}
+use Rattle.gimli_line.specs.InstructionGrammar.{Decodes}
 use Rattle.gimli_line.specs.TableReading.{closed_below}
 use Rattle.gimli_line.specs.HeaderReading.{positive_at, plain_file_at, version_at, opening_at, line_encoding_at, rules_at, directories_at, file_names_at, fields_at, header_at}
-use Rattle.gimli_line.specs.InstructionReading.{standard_at, extended_operands_at, extended_at, ins_at, cut_upto, cut_at}
+use Rattle.gimli_line.specs.InstructionReading.{standard_at, extended_operands_at, extended_at, ins_at, decoded_upto, decoded_at}
 use Rattle.gimli_line.specs.Events.{Event, row, fault, Events, program_events}
 use Rattle.gimli_line.proofs.HeaderLaws.{unit_found}
 use Rattle.gimli_line.proofs.InstructionLaws.{cuts}
@@ -24,7 +24,7 @@ use Rattle.gimli_line.proofs.InstructionLaws.{cuts}
 abbrev little : Notation
 little = record { big = false; limit = 0x1_0000_0000_0000_0000 }
 
-abbrev handed : ℕ → Given
+abbrev handed : ℕ → UnitEntry
 handed address_size = record { address_size = address_size; directory = None; name = None }
 
 -- ---- two units
@@ -38,7 +38,7 @@ unit_13 unit_length operations program =
 
 abbrev header_13 : ℕ → ℕ → ℕ → List ℕ → Header
 header_13 unit_length address_size operations program = record {
-  rules = record {
+  parameters = record {
     encoding = record { address_size = address_size; format = Dwarf32; version = 4 };
     line_encoding = record { minimum_instruction_length = 1; maximum_operations_per_instruction = operations; default_is_stmt = true; line_base = negsuc 4; line_range = 14 };
     opcode_base = 13;
@@ -64,7 +64,7 @@ unit_3 unit_length program =
 
 abbrev header_3 : ℕ → List ℕ → Header
 header_3 unit_length program = record {
-  rules = record {
+  parameters = record {
     encoding = record { address_size = 4; format = Dwarf32; version = 4 };
     line_encoding = record { minimum_instruction_length = 1; maximum_operations_per_instruction = 1; default_is_stmt = true; line_base = pos 0; line_range = 1 };
     opcode_base = 3;
@@ -84,32 +84,32 @@ header_3 unit_length program = record {
 -- ---- a unit, and what its program gives
 
 record Program : Type 0 where
-  given : Given
+  given : UnitEntry
   bytes : List ℕ
   header : Header
   list : List Ins
   end : Option Error
   events : List Event
 
--- the bytes begin with a unit of this header, its program is cut so, and it gives these events
+-- the bytes begin with a unit of this header, its program is decoded so, and it gives these events
 record Meets (p : Program) : Type 0 where
   unit : SpellsUnit little p.given p.bytes p.header
-  cut : Cuts little p.header p.header.program p.list p.end
+  decoding : Decodes little p.header p.header.program p.list p.end
   run : Events little p.header p.header.program p.events
 
-meets : (p : Program) → header_at little p.given p.bytes ≡ (Ok p.header, []) → cut_at little p.header p.header.program ≡ (p.list, p.end) → p.events ≡ program_events p.header.rules p.list p.end → Meets p
-meets p read cut events =
-    let is : Cuts little p.header p.header.program p.list p.end = let c = cuts little p.header p.header.program in let l = ap (λ (x : List Ins × Option Error). x.0) cut in let e = ap (λ (x : List Ins × Option Error). x.1) cut in rw (← l, ← e) c in
+meets : (p : Program) → header_at little p.given p.bytes ≡ (Ok p.header, []) → decoded_at little p.header p.header.program ≡ (p.list, p.end) → p.events ≡ program_events p.header.parameters p.list p.end → Meets p
+meets p read decoding events =
+    let is : Decodes little p.header p.header.program p.list p.end = let c = cuts little p.header p.header.program in let l = ap (λ (x : List Ins × Option Error). x.0) decoding in let e = ap (λ (x : List Ins × Option Error). x.1) decoding in rw (← l, ← e) c in
     record {
       unit = unit_found little p.given p.bytes p.header [] read;
-      cut = is;
-      run = record { list = p.list; end = p.end; cut = is; given = events };
+      decoding = is;
+      run = record { list = p.list; end = p.end; decoding = is; given = events };
     }
 
 -- a row of the first file, at the left edge
 abbrev blank : ℕ → ℕ → ℕ → LineRow
 blank address op_index line = record {
-  tombstone = false;
+  hidden = false;
   address = address;
   op_index = op_index;
   file = 1;
@@ -308,7 +308,7 @@ programs : Meets demo_unit
     × Meets set_address_that_goes_back
     × Meets empty_extended_instruction
     × Meets file_defined_midway
-unfolding uleb_at sleb_at word_at initial_length_at closed_below positive_at plain_file_at version_at opening_at line_encoding_at rules_at directories_at file_names_at fields_at header_at standard_at extended_operands_at extended_at ins_at cut_upto
+unfolding uleb_at sleb_at word_at initial_length_at closed_below positive_at plain_file_at version_at opening_at line_encoding_at rules_at directories_at file_names_at fields_at header_at standard_at extended_operands_at extended_at ins_at decoded_upto
 programs = (
   meets demo_unit refl refl refl,
   meets tombstone_in_a_sequence refl refl refl,

@@ -2,40 +2,40 @@
 use Rattle.std.proofs.Common.{not, if◌then◌else◌, ◌≡◌, ◌≢◌, ℕ, ◌<◌, Bool, true, false, List, [], ◌∷◌, ◌++◌, length, Option, Some, None, refl, sym, ap, ◌∙◌, append_assoc, arith, ◌⊎◌, inl, inr}
 use Rattle.std.proofs.lemmas.List.{length-append, append-nil}
 use Rattle.gimli_core.specs.Notation.{Notation}
-use Rattle.gimli_core.specs.Line.{Each}
+use Rattle.gimli_core.specs.Production.{Each}
 use Rattle.gimli_core.specs.declared.error.Error.{Error}
 use Rattle.gimli_core.specs.declared.error.Error.TheVariants.{AddressOverflow, OutOfMemory}
 use Rattle.gimli_line.specs.declared.row.LineRow.{LineRow}
 use Rattle.gimli_line.specs.declared.instruction.LineInstruction.TheVariants.{Special, Copy, EndSequence, DefineFile}
-use Rattle.gimli_line.specs.Rules.{Rules}
+use Rattle.gimli_line.specs.Parameters.{Parameters}
 use Rattle.gimli_line.specs.Header.{Header, bare, files_behind}
 use Rattle.gimli_line.specs.Instruction.{Ins, File, makes_row, defines_file}
-use Rattle.gimli_line.specs.InstructionGrammar.{SpellsInstruction, instruction_line, IsEnd, Cuts}
-use Rattle.gimli_line.specs.InstructionReading.{cut_upto, cut_at}
+use Rattle.gimli_line.specs.InstructionGrammar.{SpellsInstruction, instruction_production, IsEnd, Decodes}
+use Rattle.gimli_line.specs.InstructionReading.{decoded_upto, decoded_at}
 use Rattle.gimli_line.specs.Events.{Event, row, fault}
 use Rattle.gimli_line.specs.Machine.{stepped, reset_row, is_refused}
-use Rattle.gimli_line.specs.Told.{Told, step_events, next_registers}
-use Rattle.gimli_line.specs.Source.{Source}
-use Rattle.gimli_line.specs.Left.{Left}
-use Rattle.gimli_line.specs.Passed.{Passes, ready, events_from, registers_behind, files_from}
+use Rattle.gimli_line.specs.EventsWithFiles.{EventWithFiles, step_events, next_registers}
+use Rattle.gimli_line.specs.Unread.{Unread}
+use Rattle.gimli_line.specs.RunState.{RunState}
+use Rattle.gimli_line.specs.Progress.{Progress, ready, events_from, registers_behind, files_from}
 use Rattle.gimli_line.specs.Rows.{live_events, events_left, WantsMemory, FaultIs}
-use Rattle.gimli_line.proofs.InstructionLaws.{cuts, one_cut, takes_bytes}
+use Rattle.gimli_line.proofs.InstructionLaws.{cuts, one_decoding, takes_bytes}
 
--- ---- what a program is cut into, by its front
+-- ---- what a program is decoded into, by its front
 
 module _ (notation : Notation) (h : Header) (bytes : List ℕ) where
-  pub cut_none : bytes ≡ [] → cut_at notation h bytes ≡ ([], None)
-  unfolding cut_upto
+  pub cut_none : bytes ≡ [] → decoded_at notation h bytes ≡ ([], None)
+  unfolding decoded_upto
   cut_none e = rw e refl
 
-  pub cut_fault : (e : Error) → bytes ≢ [] → (instruction_line notation h).Fault bytes e → cut_at notation h bytes ≡ ([], Some e)
-  cut_fault e some f = sym (one_cut notation h bytes [] (Some e) (record { front = []; rest = bytes; parts = refl; spelled = refl; ended = (some, f) }))
+  pub cut_fault : (e : Error) → bytes ≢ [] → (instruction_production notation h).Fault bytes e → decoded_at notation h bytes ≡ ([], Some e)
+  cut_fault e some f = sym (one_decoding notation h bytes [] (Some e) (record { front = []; rest = bytes; parts = refl; spelled = refl; ended = (some, f) }))
 
   pub cut_some : (i : Ins) (front rest : List ℕ) → bytes ≡ front ++ rest → SpellsInstruction notation h front i
-      → cut_at notation h bytes ≡ (i ∷ (cut_at notation h rest).0, (cut_at notation h rest).1)
+      → decoded_at notation h bytes ≡ (i ∷ (decoded_at notation h rest).0, (decoded_at notation h rest).1)
   cut_some i front rest parts s =
       let c = cuts notation h rest in
-      sym (one_cut notation h bytes (i ∷ (cut_at notation h rest).0) (cut_at notation h rest).1 (record {
+      sym (one_decoding notation h bytes (i ∷ (decoded_at notation h rest).0) (decoded_at notation h rest).1 (record {
         front = front ++ c.front;
         rest = c.rest;
         parts = parts ∙ ap (λ (xs : List ℕ). front ++ xs) c.parts ∙ sym (append_assoc front c.front c.rest);
@@ -44,7 +44,7 @@ module _ (notation : Notation) (h : Header) (bytes : List ℕ) where
       }))
 
 -- the files of a header mean nothing to its program
-pub bare_cuts : (notation : Notation) (h : Header) (bytes : List ℕ) (list : List Ins) (end : Option Error) → Cuts notation (bare h) bytes list end → Cuts notation h bytes list end
+pub bare_cuts : (notation : Notation) (h : Header) (bytes : List ℕ) (list : List Ins) (end : Option Error) → Decodes notation (bare h) bytes list end → Decodes notation h bytes list end
 bare_cuts notation h bytes list end c = record { front = c.front; rest = c.rest; parts = c.parts; spelled = each c.front list c.spelled; ended = end_is end c.ended }
   where
     each : (front : List ℕ) (list : List Ins) → Each (SpellsInstruction notation (bare h)) front list → Each (SpellsInstruction notation h) front list
@@ -58,10 +58,10 @@ bare_cuts notation h bytes list end c = record { front = c.front; rest = c.rest;
 -- ---- instructions that make a row or are refused
 
 -- such an instruction hides what was hidden before it
-special_hidden : (h : Rules) (o : ℕ) (r : LineRow) → (stepped h (Special o) r).tombstone ≡ r.tombstone
+special_hidden : (h : Parameters) (o : ℕ) (r : LineRow) → (stepped h (Special o) r).hidden ≡ r.hidden
 special_hidden h o r = refl
 
-pub keeps_hidden : (h : Rules) (i : Ins) (r : LineRow) → makes_row i ≡ true → (stepped h i r).tombstone ≡ r.tombstone
+pub keeps_hidden : (h : Parameters) (i : Ins) (r : LineRow) → makes_row i ≡ true → (stepped h i r).hidden ≡ r.hidden
 keeps_hidden h (Special o) r made = special_hidden h o r
 keeps_hidden h Copy r made = refl
 keeps_hidden h EndSequence r made = refl
@@ -72,45 +72,45 @@ pub no_file_at_row : (a : Bool) (i : Ins) (files : List File) → makes_row i �
 no_file_at_row a (DefineFile f) files made = absurd cc
 no_file_at_row a i files made = refl
 
-pub no_file_at_refusal : (a : Bool) (h : Rules) (i : Ins) (r : LineRow) (files : List File) → is_refused h i r ≡ true → files_behind a i files ≡ files
+pub no_file_at_refusal : (a : Bool) (h : Parameters) (i : Ins) (r : LineRow) (files : List File) → is_refused h i r ≡ true → files_behind a i files ≡ files
 no_file_at_refusal a h (DefineFile f) r files large = absurd cc
 no_file_at_refusal a h i r files large = refl
 
 -- ---- a state of an iterator, whose program has the header h
 
-abbrev pub state : Bool → Header → Notation → ℕ → LineRow → Source → Left
-state a h o n r s = record { fixed = bare h; files = h.files; appends = a; notation = o; offset = n; row = r; source = s }
+abbrev pub state : Bool → Header → Notation → ℕ → LineRow → Unread → RunState
+state a h o n r s = record { fixed = bare h; files = h.files; appends = a; notation = o; offset = n; row = r; unread = s }
 
-abbrev pub told : Event → Header → Told
-told e h = record { event = e; files = h.files }
+abbrev pub events : Event → Header → EventWithFiles
+events e h = record { event = e; files = h.files }
 
-pub source_same : (s t : Source) → s.bytes ≡ t.bytes → s.notation ≡ t.notation → s ≡ t
-source_same s t b n = ap (λ (xs : List ℕ). let u : Source = record { bytes = xs; notation = s.notation } in u) b ∙ ap (λ (m : Notation). let u : Source = record { bytes = t.bytes; notation = m } in u) n
+pub source_same : (s t : Unread) → s.bytes ≡ t.bytes → s.notation ≡ t.notation → s ≡ t
+source_same s t b n = ap (λ (xs : List ℕ). let u : Unread = record { bytes = xs; notation = s.notation } in u) b ∙ ap (λ (m : Notation). let u : Unread = record { bytes = t.bytes; notation = m } in u) n
 
 -- where no bytes are left
-pub none_left : (a : Left) → a.source.bytes ≡ [] → live_events a ≡ []
-none_left a e = rw (cut_none a.source.notation a.fixed a.source.bytes e) refl
+pub none_left : (a : RunState) → a.unread.bytes ≡ [] → live_events a ≡ []
+none_left a e = rw (cut_none a.unread.notation a.fixed a.unread.bytes e) refl
 
-pub none_to_come : (a : Left) → a.source.bytes ≡ [] → events_left a ≡ []
+pub none_to_come : (a : RunState) → a.unread.bytes ≡ [] → events_left a ≡ []
 none_to_come a e = none_left (ready a) e
 
 -- k is the header that was lent, s2 what was left of the instructions
-module _ (a : Bool) (h k : Header) (same : k ≡ h) (o o2 : Notation) (n n2 : ℕ) (r : LineRow) (s s2 : Source) where
-  pub after_fault : (e : Error) → s.bytes ≢ [] → s2.bytes ≡ [] → (instruction_line s.notation k).Fault s.bytes e → (r2 : LineRow)
-      → live_events (state a h o n r s) ≡ told (fault e) h ∷ events_left (state a h o2 n2 r2 s2)
+module _ (a : Bool) (h k : Header) (same : k ≡ h) (o o2 : Notation) (n n2 : ℕ) (r : LineRow) (s s2 : Unread) where
+  pub after_fault : (e : Error) → s.bytes ≢ [] → s2.bytes ≡ [] → (instruction_production s.notation k).Fault s.bytes e → (r2 : LineRow)
+      → live_events (state a h o n r s) ≡ events (fault e) h ∷ events_left (state a h o2 n2 r2 s2)
   after_fault e some empty f r2 =
       rw (cut_fault s.notation (bare h) s.bytes e some (rw same at f), none_to_come (state a h o2 n2 r2 s2) empty) refl
 
   module _ (notation : s2.notation ≡ s.notation) (i : Ins) (front : List ℕ) (parts : s.bytes ≡ front ++ s2.bytes) (spelled : SpellsInstruction s.notation k front i) where
-    cut_is : cut_at s.notation (bare h) s.bytes ≡ (i ∷ (cut_at s.notation (bare h) s2.bytes).0, (cut_at s.notation (bare h) s2.bytes).1)
+    cut_is : decoded_at s.notation (bare h) s.bytes ≡ (i ∷ (decoded_at s.notation (bare h) s2.bytes).0, (decoded_at s.notation (bare h) s2.bytes).1)
     cut_is = cut_some s.notation (bare h) s.bytes i front s2.bytes parts (rw same at spelled)
 
     pub is_shorter : length s2.bytes < length s.bytes
     is_shorter = omega (arith, takes_bytes s.notation k front i spelled, length-append front s2.bytes, ap length parts)
 
     -- one instruction is passed over
-    pub passes_one : (h2 : Header) (r2 : LineRow) (events : List Event) → h2 ≡ record h { files = files_behind a i h.files } → step_events h.rules i r ≡ events
-        → r2 ≡ next_registers h.rules i r → Passes (state a h o n r s) (state a h2 o2 n2 r2 s2) events
+    pub passes_one : (h2 : Header) (r2 : LineRow) (events : List Event) → h2 ≡ record h { files = files_behind a i h.files } → step_events h.parameters i r ≡ events
+        → r2 ≡ next_registers h.parameters i r → Progress (state a h o n r s) (state a h2 o2 n2 r2 s2) events
     passes_one h2 r2 events behind given next = record {
       list = i ∷ [];
       front = front;
@@ -119,51 +119,51 @@ module _ (a : Bool) (h k : Header) (same : k ≡ h) (o o2 : Notation) (n n2 : �
       notation = notation;
       fixed = ap bare behind;
       appends = refl;
-      given = append-nil (step_events h.rules i r) ∙ given;
+      given = append-nil (step_events h.parameters i r) ∙ given;
       registers = next;
       files = ap (λ (k : Header). k.files) behind;
     }
 
-    module _ (h2 : Header) (r2 : LineRow) (behind : h2 ≡ record h { files = files_behind a i h.files }) (fits : is_refused h.rules i r ≡ false) where
-      pub passes_quiet : makes_row i ≡ false → r2 ≡ stepped h.rules i r → Passes (state a h o n r s) (state a h2 o2 n2 r2 s2) []
+    module _ (h2 : Header) (r2 : LineRow) (behind : h2 ≡ record h { files = files_behind a i h.files }) (fits : is_refused h.parameters i r ≡ false) where
+      pub passes_quiet : makes_row i ≡ false → r2 ≡ stepped h.parameters i r → Progress (state a h o n r s) (state a h2 o2 n2 r2 s2) []
       passes_quiet made row_is = passes_one h2 r2 [] behind (rw (fits, made) refl) (rw (fits, made) row_is)
 
-      pub passes_hidden : makes_row i ≡ true → (stepped h.rules i r).tombstone ≡ true → r2 ≡ reset_row h.rules (stepped h.rules i r) → Passes (state a h o n r s) (state a h2 o2 n2 r2 s2) []
+      pub passes_hidden : makes_row i ≡ true → (stepped h.parameters i r).hidden ≡ true → r2 ≡ reset_row h.parameters (stepped h.parameters i r) → Progress (state a h o n r s) (state a h2 o2 n2 r2 s2) []
       passes_hidden made hidden row_is =
-          let was : r.tombstone ≡ true = sym (keeps_hidden h.rules i r made) ∙ hidden in
+          let was : r.hidden ≡ true = sym (keeps_hidden h.parameters i r made) ∙ hidden in
           passes_one h2 r2 [] behind (rw (fits, made, was) refl) (rw (fits, made) row_is)
 
-      pub passes_seen : makes_row i ≡ true → (stepped h.rules i r).tombstone ≡ false → r2 ≡ stepped h.rules i r
-          → Passes (state a h o n r s) (ready (state a h2 o2 n2 r2 s2)) (row r2 ∷ [])
+      pub passes_seen : makes_row i ≡ true → (stepped h.parameters i r).hidden ≡ false → r2 ≡ stepped h.parameters i r
+          → Progress (state a h o n r s) (ready (state a h2 o2 n2 r2 s2)) (row r2 ∷ [])
       passes_seen made seen row_is =
-          let was : r.tombstone ≡ false = sym (keeps_hidden h.rules i r made) ∙ seen in
-          let rules : h2.rules ≡ h.rules = ap (λ (k : Header). k.rules) behind in
-          let given : step_events h.rules i r ≡ row r2 ∷ [] =
-          rw (fits, made) (ap (λ (b : Bool). if not b then row (stepped h.rules i r) ∷ [] else []) was ∙ ap (λ (q : LineRow). row q ∷ []) (sym row_is)) in
-          passes_one h2 (reset_row h2.rules r2) (row r2 ∷ []) behind given (rw (fits, made, rules, row_is) refl)
+          let was : r.hidden ≡ false = sym (keeps_hidden h.parameters i r made) ∙ seen in
+          let parameters : h2.parameters ≡ h.parameters = ap (λ (k : Header). k.parameters) behind in
+          let given : step_events h.parameters i r ≡ row r2 ∷ [] =
+          rw (fits, made) (ap (λ (b : Bool). if not b then row (stepped h.parameters i r) ∷ [] else []) was ∙ ap (λ (q : LineRow). row q ∷ []) (sym row_is)) in
+          passes_one h2 (reset_row h2.parameters r2) (row r2 ∷ []) behind given (rw (fits, made, parameters, row_is) refl)
 
     module _ (h2 : Header) (r2 : LineRow) where
-      pub after_quiet : h2 ≡ record h { files = files_behind a i h.files } → is_refused h.rules i r ≡ false → makes_row i ≡ false → r2 ≡ stepped h.rules i r
+      pub after_quiet : h2 ≡ record h { files = files_behind a i h.files } → is_refused h.parameters i r ≡ false → makes_row i ≡ false → r2 ≡ stepped h.parameters i r
           → live_events (state a h o n r s) ≡ live_events (state a h2 o2 n2 r2 s2)
       after_quiet behind fits made row_is = rw (cut_is, behind, row_is, notation, fits, made) refl
 
-      pub after_hidden : h2 ≡ record h { files = files_behind a i h.files } → is_refused h.rules i r ≡ false → makes_row i ≡ true → (stepped h.rules i r).tombstone ≡ true
-          → r2 ≡ reset_row h.rules (stepped h.rules i r) → live_events (state a h o n r s) ≡ live_events (state a h2 o2 n2 r2 s2)
+      pub after_hidden : h2 ≡ record h { files = files_behind a i h.files } → is_refused h.parameters i r ≡ false → makes_row i ≡ true → (stepped h.parameters i r).hidden ≡ true
+          → r2 ≡ reset_row h.parameters (stepped h.parameters i r) → live_events (state a h o n r s) ≡ live_events (state a h2 o2 n2 r2 s2)
       after_hidden behind fits made hidden row_is =
-          let was : r.tombstone ≡ true = sym (keeps_hidden h.rules i r made) ∙ hidden in
+          let was : r.hidden ≡ true = sym (keeps_hidden h.parameters i r made) ∙ hidden in
           rw (cut_is, behind, row_is, notation, fits, made, was) refl
 
-      pub after_seen : h2 ≡ record h { files = files_behind a i h.files } → is_refused h.rules i r ≡ false → makes_row i ≡ true → (stepped h.rules i r).tombstone ≡ false
-          → r2 ≡ stepped h.rules i r → live_events (state a h o n r s) ≡ told (row r2) h2 ∷ events_left (state a h2 o2 n2 r2 s2)
+      pub after_seen : h2 ≡ record h { files = files_behind a i h.files } → is_refused h.parameters i r ≡ false → makes_row i ≡ true → (stepped h.parameters i r).hidden ≡ false
+          → r2 ≡ stepped h.parameters i r → live_events (state a h o n r s) ≡ events (row r2) h2 ∷ events_left (state a h2 o2 n2 r2 s2)
       after_seen behind fits made hidden row_is =
-          let was : r.tombstone ≡ false = sym (keeps_hidden h.rules i r made) ∙ hidden in
+          let was : r.hidden ≡ false = sym (keeps_hidden h.parameters i r made) ∙ hidden in
           let files : files_behind a i h.files ≡ h.files = no_file_at_row a i h.files made in
           rw (cut_is, behind, row_is, notation, fits, made, was, files) refl
 
-      pub after_overflow : h2 ≡ h → is_refused h.rules i r ≡ true → r2 ≡ stepped h.rules i r
-          → live_events (state a h o n r s) ≡ told (fault AddressOverflow) h2 ∷ events_left (state a h2 o2 n2 r2 s2)
+      pub after_overflow : h2 ≡ h → is_refused h.parameters i r ≡ true → r2 ≡ stepped h.parameters i r
+          → live_events (state a h o n r s) ≡ events (fault AddressOverflow) h2 ∷ events_left (state a h2 o2 n2 r2 s2)
       after_overflow kept large row_is =
-          let files : files_behind a i h.files ≡ h.files = no_file_at_refusal a h.rules i r h.files large in
+          let files : files_behind a i h.files ≡ h.files = no_file_at_refusal a h.parameters i r h.files large in
           rw (cut_is, kept, row_is, notation, large, files) refl
 
 -- ---- errors
@@ -178,18 +178,18 @@ only_overflow e other is = elim (is_overflow e) [ inl p ↦ p | inr n ↦ absurd
 -- ---- passing over several instructions
 
 -- where nothing was taken
-pub passes_none : (a b : Left) → b ≡ a → Passes a b []
+pub passes_none : (a b : RunState) → b ≡ a → Progress a b []
 passes_none a b same = record {
   list = [];
   front = [];
-  parts = ap (λ (c : Left). c.source.bytes) (sym same);
+  parts = ap (λ (c : RunState). c.unread.bytes) (sym same);
   spelled = refl;
-  notation = ap (λ (c : Left). c.source.notation) same;
-  fixed = ap (λ (c : Left). c.fixed) same;
-  appends = ap (λ (c : Left). c.appends) same;
+  notation = ap (λ (c : RunState). c.unread.notation) same;
+  fixed = ap (λ (c : RunState). c.fixed) same;
+  appends = ap (λ (c : RunState). c.appends) same;
   given = refl;
-  registers = ap (λ (c : Left). c.row) same;
-  files = ap (λ (c : Left). c.files) same;
+  registers = ap (λ (c : RunState). c.row) same;
+  files = ap (λ (c : RunState). c.files) same;
 }
 
 each_joined : (n : Notation) (h : Header) (front behind : List ℕ) (list more : List Ins) → Each (SpellsInstruction n h) front list → Each (SpellsInstruction n h) behind more
@@ -198,13 +198,13 @@ each_joined n h front behind [] more s t = rw s t
 each_joined n h front behind (i ∷ list) more s t =
     (s.0, s.1 ++ behind, ap (λ (xs : List ℕ). xs ++ behind) s.2 ∙ append_assoc s.0 s.1 behind, s.3, each_joined n h s.1 behind list more s.4 t)
 
-pub events_joined : (h : Rules) (r : LineRow) (list more : List Ins) → events_from h r (list ++ more) ≡ events_from h r list ++ events_from h (registers_behind h r list) more
+pub events_joined : (h : Parameters) (r : LineRow) (list more : List Ins) → events_from h r (list ++ more) ≡ events_from h r list ++ events_from h (registers_behind h r list) more
 events_joined h r [] more = refl
 events_joined h r (i ∷ list) more =
     ap (λ (es : List Event). step_events h i r ++ es) (events_joined h (next_registers h i r) list more)
     ∙ sym (append_assoc (step_events h i r) (events_from h (next_registers h i r) list) (events_from h (registers_behind h (next_registers h i r) list) more))
 
-registers_joined : (h : Rules) (r : LineRow) (list more : List Ins) → registers_behind h r (list ++ more) ≡ registers_behind h (registers_behind h r list) more
+registers_joined : (h : Parameters) (r : LineRow) (list more : List Ins) → registers_behind h r (list ++ more) ≡ registers_behind h (registers_behind h r list) more
 registers_joined h r [] more = refl
 registers_joined h r (i ∷ list) more = registers_joined h (next_registers h i r) list more
 
@@ -212,28 +212,28 @@ files_joined : (a : Bool) (files : List File) (list more : List Ins) → files_f
 files_joined a files [] more = refl
 files_joined a files (i ∷ list) more = files_joined a (files_behind a i files) list more
 
-pub passes_both : (a b c : Left) (es fs : List Event) → Passes a b es → Passes b c fs → Passes a c (es ++ fs)
+pub passes_both : (a b c : RunState) (es fs : List Event) → Progress a b es → Progress b c fs → Progress a c (es ++ fs)
 passes_both a b c es fs p q = record {
   list = p.list ++ q.list;
   front = p.front ++ q.front;
-  parts = p.parts ∙ ap (λ (xs : List ℕ). p.front ++ xs) q.parts ∙ sym (append_assoc p.front q.front c.source.bytes);
-  spelled = each_joined a.source.notation a.fixed p.front q.front p.list q.list p.spelled (rw (p.notation, p.fixed) at q.spelled);
+  parts = p.parts ∙ ap (λ (xs : List ℕ). p.front ++ xs) q.parts ∙ sym (append_assoc p.front q.front c.unread.bytes);
+  spelled = each_joined a.unread.notation a.fixed p.front q.front p.list q.list p.spelled (rw (p.notation, p.fixed) at q.spelled);
   notation = q.notation ∙ p.notation;
   fixed = q.fixed ∙ p.fixed;
   appends = q.appends ∙ p.appends;
   given =
-      events_joined a.fixed.rules a.row p.list q.list
-      ∙ ap (λ (xs : List Event). xs ++ events_from a.fixed.rules (registers_behind a.fixed.rules a.row p.list) q.list) p.given
+      events_joined a.fixed.parameters a.row p.list q.list
+      ∙ ap (λ (xs : List Event). xs ++ events_from a.fixed.parameters (registers_behind a.fixed.parameters a.row p.list) q.list) p.given
       ∙ ap (λ (xs : List Event). es ++ xs) (rw (p.fixed, p.registers) at q.given);
-  registers = rw (p.fixed, p.registers) at q.registers ∙ sym (registers_joined a.fixed.rules a.row p.list q.list);
+  registers = rw (p.fixed, p.registers) at q.registers ∙ sym (registers_joined a.fixed.parameters a.row p.list q.list);
   files = rw (p.appends, p.files) at q.files ∙ sym (files_joined a.appends a.files p.list q.list);
 }
 
 -- ---- refusals
 
 -- memory is wanting for the file that an instruction defines
-pub wants : (a : Bool) (h k : Header) → k ≡ h → (o o2 : Notation) (n n2 : ℕ) (r : LineRow) (s : Source) (i : Ins) (front rest : List ℕ) → s.bytes ≡ front ++ rest
-    → SpellsInstruction s.notation k front i → defines_file i ≡ true → (h2 : Header) (r2 : LineRow) (s2 : Source) → s2.bytes ≡ [] → h2 ≡ h → a ≡ true
+pub wants : (a : Bool) (h k : Header) → k ≡ h → (o o2 : Notation) (n n2 : ℕ) (r : LineRow) (s : Unread) (i : Ins) (front rest : List ℕ) → s.bytes ≡ front ++ rest
+    → SpellsInstruction s.notation k front i → defines_file i ≡ true → (h2 : Header) (r2 : LineRow) (s2 : Unread) → s2.bytes ≡ [] → h2 ≡ h → a ≡ true
     → WantsMemory (state a h o n r s) (state a h2 o2 n2 r2 s2)
 wants a h k same o o2 n n2 r s i front rest parts spelled defines h2 r2 s2 empty kept appends = record {
   place = state a h o n r s;
@@ -250,7 +250,7 @@ wants a h k same o o2 n n2 r s i front rest parts spelled defines h2 r2 s2 empty
 }
 
 -- a refusal behind instructions that give nothing
-pub refused_behind : (a b c : Left) (e : Error) → live_events a ≡ live_events b → Passes a b [] → FaultIs b c e → FaultIs a c e
+pub refused_behind : (a b c : RunState) (e : Error) → live_events a ≡ live_events b → Progress a b [] → FaultIs b c e → FaultIs a c e
 refused_behind a b c e events passed (inl m) = inl (
   m.0,
   record {

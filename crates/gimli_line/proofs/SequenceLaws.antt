@@ -4,53 +4,53 @@ use Rattle.std.specs.List.{AllByRecursion, list_any, flat_map}
 use Rattle.std.specs.Option.{unwrap_or}
 use Rattle.std.proofs.lemmas.List.{length-append, append-nil, map-append, take_at}
 use Rattle.gimli_core.specs.Notation.{Notation}
-use Rattle.gimli_core.specs.Line.{Each}
+use Rattle.gimli_core.specs.Production.{Each}
 use Rattle.gimli_core.specs.declared.error.Error.{Error}
 use Rattle.gimli_line.specs.declared.row.LineRow.{LineRow}
 use Rattle.gimli_line.specs.declared.instruction.LineInstruction.TheVariants.{DefineFile}
-use Rattle.gimli_line.specs.Rules.{Rules}
+use Rattle.gimli_line.specs.Parameters.{Parameters}
 use Rattle.gimli_line.specs.Header.{Header, bare, files_behind}
 use Rattle.gimli_line.specs.Instruction.{Ins, File, makes_row}
 use Rattle.gimli_line.specs.InstructionGrammar.{SpellsInstruction}
-use Rattle.gimli_line.specs.InstructionReading.{cut_at}
-use Rattle.gimli_line.specs.Pointer.{overflows}
+use Rattle.gimli_line.specs.InstructionReading.{decoded_at}
+use Rattle.gimli_line.specs.OperationPointer.{overflows}
 use Rattle.gimli_line.specs.Events.{Event, row, fault, events_at, events_behind, end_events, program_events, defined_files, ends_sequence, through_last_end}
 use Rattle.gimli_line.specs.Machine.{initial, reset_row}
-use Rattle.gimli_line.specs.Told.{Told, told_at, told_from, step_events, next_registers}
-use Rattle.gimli_line.specs.Source.{Source, in_front}
-use Rattle.gimli_line.specs.Left.{Left}
-use Rattle.gimli_line.specs.Passed.{Passes, ready, events_from, registers_behind, files_from}
+use Rattle.gimli_line.specs.EventsWithFiles.{EventWithFiles, with_files, events_with_files_from, step_events, next_registers}
+use Rattle.gimli_line.specs.Unread.{Unread, in_front}
+use Rattle.gimli_line.specs.RunState.{RunState}
+use Rattle.gimli_line.specs.Progress.{Progress, ready, events_from, registers_behind, files_from}
 use Rattle.gimli_line.specs.Rows.{live_events, events_left, started, event_of}
 use Rattle.gimli_line.specs.Sequences.{Part, events_of, resumed, first_address, IsSequence, behind, AreSequences, HasFirstFault}
-use Rattle.gimli_line.specs.Cutter.{Cut, with_row}
+use Rattle.gimli_line.specs.SequenceSplit.{SequenceSplit, with_row}
 use Rattle.gimli_line.proofs.Backwards.{registers}
-use Rattle.gimli_line.proofs.ToldLaws.{gives, goes}
-use Rattle.gimli_line.proofs.InstructionLaws.{cuts, one_cut, takes_bytes}
+use Rattle.gimli_line.proofs.EventsWithFilesLaws.{gives, goes}
+use Rattle.gimli_line.proofs.InstructionLaws.{cuts, one_decoding, takes_bytes}
 use Rattle.gimli_line.proofs.Runs.{cut_some, bare_cuts, passes_none, passes_both, events_joined}
 
 -- ---- events alone
 
-events_of_at : (files : List File) (es : List Event) → events_of (told_at files es) ≡ es
+events_of_at : (files : List File) (es : List Event) → events_of (with_files files es) ≡ es
 events_of_at files [] = refl
 events_of_at files (e ∷ es) = ap (λ (xs : List Event). e ∷ xs) (events_of_at files es)
 
-pub events_told : (a : Bool) (h : Rules) (r : LineRow) (files : List File) (list : List Ins) (end : Option Error)
-    → events_of (told_from a h r files list end) ≡ events_from h r list ++ end_events end
-events_told a h r files [] end = events_of_at files (end_events end)
-events_told a h r files (i ∷ list) end =
-    map-append (λ (t : Told). t.event) (told_at files (step_events h i r)) (told_from a h (next_registers h i r) (files_behind a i files) list end)
-    ∙ ap (λ (xs : List Event). xs ++ events_of (told_from a h (next_registers h i r) (files_behind a i files) list end)) (events_of_at files (step_events h i r))
-    ∙ ap (λ (xs : List Event). step_events h i r ++ xs) (events_told a h (next_registers h i r) (files_behind a i files) list end)
+pub events_without_files : (a : Bool) (h : Parameters) (r : LineRow) (files : List File) (list : List Ins) (end : Option Error)
+    → events_of (events_with_files_from a h r files list end) ≡ events_from h r list ++ end_events end
+events_without_files a h r files [] end = events_of_at files (end_events end)
+events_without_files a h r files (i ∷ list) end =
+    map-append (λ (t : EventWithFiles). t.event) (with_files files (step_events h i r)) (events_with_files_from a h (next_registers h i r) (files_behind a i files) list end)
+    ∙ ap (λ (xs : List Event). xs ++ events_of (events_with_files_from a h (next_registers h i r) (files_behind a i files) list end)) (events_of_at files (step_events h i r))
+    ∙ ap (λ (xs : List Event). step_events h i r ++ xs) (events_without_files a h (next_registers h i r) (files_behind a i files) list end)
     ∙ sym (append_assoc (step_events h i r) (events_from h (next_registers h i r) list) (end_events end))
 
 -- the machine's events are those found by looking back
-from_registers : (h : Rules) (past list : List Ins) → events_from h (registers h past) list ≡ events_behind h past list
+from_registers : (h : Parameters) (past list : List Ins) → events_from h (registers h past) list ≡ events_behind h past list
 from_registers h past [] = refl
 from_registers h past (i ∷ list) =
     rw (gives h past i (overflows h past i) (makes_row i) refl refl, goes h past i (overflows h past i) (makes_row i) refl refl)
     (ap (λ (xs : List Event). events_at h past i ++ xs) (from_registers h (i ∷ past) list))
 
-pub from_start : (h : Rules) (list : List Ins) → events_from h (initial h) list ≡ events_behind h [] list
+pub from_start : (h : Parameters) (list : List Ins) → events_from h (initial h) list ≡ events_behind h [] list
 from_start h list = from_registers h [] list
 
 -- the files at the end of a program
@@ -95,8 +95,8 @@ through_one (r ∷ rows) last behind closed =
 -- a sequence whose instructions give these events
 record Closed (h : Header) (s : Part) (events : List Event) : Type 0 where
   list : List Ins
-  cut : cut_at s.source.notation (bare h) s.source.bytes ≡ (list, None)
-  given : events_from h.rules (initial h.rules) list ≡ events
+  decoding : decoded_at s.unread.notation (bare h) s.unread.bytes ≡ (list, None)
+  given : events_from h.parameters (initial h.parameters) list ≡ events
   is : IsSequence events s.start s.end
 
 abbrev AllClosed : Header → List Part → List Event → Type 0
@@ -127,7 +127,7 @@ through_closed h (s ∷ parts) joined all behind =
 module _ (h c : Header) (files : List File) (c_is : c ≡ record h { files = files }) where
   resumed_is : (s : Part) (events : List Event) → Closed h s events → resumed c s ≡ events
   resumed_is s events one =
-      rw (c_is, one.cut) (events_told false h.rules (initial h.rules) files one.list None ∙ append-nil (events_from h.rules (initial h.rules) one.list) ∙ one.given)
+      rw (c_is, one.decoding) (events_without_files false h.parameters (initial h.parameters) files one.list None ∙ append-nil (events_from h.parameters (initial h.parameters) one.list) ∙ one.given)
 
   all_sequences : (parts : List Part) (joined : List Event) → AllClosed h parts joined → AllByRecursion (λ s. IsSequence (resumed c s) s.start s.end) parts
   all_sequences [] joined all = tt
@@ -144,10 +144,10 @@ abbrev pub first_of : List LineRow → Option ℕ
 first_of [] = None
 first_of (r ∷ rows) = Some r.address
 
-abbrev began : Header → Notation → ℕ → List File → Source → Left
-began h o n files source = record { fixed = bare h; files = files; appends = true; notation = o; offset = n; row = initial h.rules; source = source }
+abbrev began : Header → Notation → ℕ → List File → Unread → RunState
+began h o n files unread = record { fixed = bare h; files = files; appends = true; notation = o; offset = n; row = initial h.parameters; unread = unread }
 
-pub record Cutting (h : Header) (k : Cut) (done : List LineRow) (place : Left) : Type 0 where
+pub record Cutting (h : Header) (k : SequenceSplit) (done : List LineRow) (place : RunState) : Type 0 where
   joined : List Event
   rows : List LineRow
   order : Notation
@@ -157,10 +157,10 @@ pub record Cutting (h : Header) (k : Cut) (done : List LineRow) (place : Left) :
   closed : AllClosed h k.parts joined
   unended : AreOpen rows
   start_is : k.start ≡ first_of rows
-  passes : Passes (began h order offset files k.source) place (map row rows)
+  passes : Progress (began h order offset files k.unread) place (map row rows)
 
-pub starts_cutting : (h : Header) (o : Notation) (n : ℕ) (source : Source) → Cutting h (record { parts = []; source = source; start = None }) [] (ready (started true h o n source))
-starts_cutting h o n source = record {
+pub starts_cutting : (h : Header) (o : Notation) (n : ℕ) (unread : Unread) → Cutting h (record { parts = []; unread = unread; start = None }) [] (ready (started true h o n unread))
+starts_cutting h o n unread = record {
   order = o;
   offset = n;
   joined = [];
@@ -170,7 +170,7 @@ starts_cutting h o n source = record {
   closed = refl;
   unended = tt;
   start_is = refl;
-  passes = passes_none (began h o n h.files source) (ready (started true h o n source)) refl;
+  passes = passes_none (began h o n h.files unread) (ready (started true h o n unread)) refl;
 }
 
 open_push : (rows : List LineRow) (r : LineRow) → AreOpen rows → r.end_sequence ≡ false → AreOpen (rows ++ r ∷ [])
@@ -185,18 +185,18 @@ first_is : (rows : List LineRow) (start : Option ℕ) → start ≡ first_of row
 first_is [] start is = rw is refl
 first_is (q ∷ rows) start is = rw is refl
 
-anew_at_end : (rules : Rules) (r : LineRow) → r.end_sequence ≡ true → reset_row rules r ≡ initial rules
-anew_at_end rules r e = rw e refl
+anew_at_end : (parameters : Parameters) (r : LineRow) → r.end_sequence ≡ true → reset_row parameters r ≡ initial parameters
+anew_at_end parameters r e = rw e refl
 
-left_same : (a b : Left) → a.fixed ≡ b.fixed → a.appends ≡ b.appends → a.row ≡ b.row → a.files ≡ b.files → a.notation ≡ b.notation → a.offset ≡ b.offset → a.source ≡ b.source → a ≡ b
+left_same : (a b : RunState) → a.fixed ≡ b.fixed → a.appends ≡ b.appends → a.row ≡ b.row → a.files ≡ b.files → a.notation ≡ b.notation → a.offset ≡ b.offset → a.unread ≡ b.unread → a ≡ b
 left_same a b f p r fs o n s = rw (f, p, r, fs, o, n, s) refl
 
 front_at : (bytes front rest : List ℕ) → bytes ≡ front ++ rest → take (length bytes - length rest) bytes ≡ front
 front_at bytes front rest parts = rw parts (take_at front rest (length (front ++ rest) - length rest) (omega (arith, length-append front rest)))
 
-module _ (h : Header) (k : Cut) (done : List LineRow) (place next : Left) (c : Cutting h k done place) (p : Passes place (ready next) (row next.row ∷ [])) where
-  whole : Passes (began h c.order c.offset c.files k.source) (ready next) (map row c.rows ++ row next.row ∷ [])
-  whole = passes_both (began h c.order c.offset c.files k.source) place (ready next) (map row c.rows) (row next.row ∷ []) c.passes p
+module _ (h : Header) (k : SequenceSplit) (done : List LineRow) (place next : RunState) (c : Cutting h k done place) (p : Progress place (ready next) (row next.row ∷ [])) where
+  whole : Progress (began h c.order c.offset c.files k.unread) (ready next) (map row c.rows ++ row next.row ∷ [])
+  whole = passes_both (began h c.order c.offset c.files k.unread) place (ready next) (map row c.rows) (row next.row ∷ []) c.passes p
 
   more_done : map row (done ++ next.row ∷ []) ≡ c.joined ++ (map row c.rows ++ row next.row ∷ [])
   more_done =
@@ -213,19 +213,19 @@ module _ (h : Header) (k : Cut) (done : List LineRow) (place next : Left) (c : C
     closed = c.closed;
     unended = open_push c.rows next.row c.unended e;
     start_is = first_push c.rows next.row k.start c.start_is;
-    passes = subst (λ (es : List Event). Passes (began h c.order c.offset c.files k.source) (ready next) es) (sym (map-append row c.rows (next.row ∷ []))) whole;
+    passes = subst (λ (es : List Event). Progress (began h c.order c.offset c.files k.unread) (ready next) es) (sym (map-append row c.rows (next.row ∷ []))) whole;
   }
 
   abbrev ended : Part
-  ended = record { start = unwrap_or k.start 0; end = next.row.address; source = in_front k.source next.source }
+  ended = record { start = unwrap_or k.start 0; end = next.row.address; unread = in_front k.unread next.unread }
 
-  front_is : take (length k.source.bytes - length next.source.bytes) k.source.bytes ≡ whole.front
-  front_is = front_at k.source.bytes whole.front next.source.bytes whole.parts
+  front_is : take (length k.unread.bytes - length next.unread.bytes) k.unread.bytes ≡ whole.front
+  front_is = front_at k.unread.bytes whole.front next.unread.bytes whole.parts
 
   closes : next.row.end_sequence ≡ true → Closed h ended (map row c.rows ++ row next.row ∷ [])
   closes e = record {
     list = whole.list;
-    cut = rw front_is (sym (one_cut k.source.notation (bare h) whole.front whole.list None (record { front = whole.front; rest = []; parts = sym (append-nil whole.front); spelled = whole.spelled; ended = refl })));
+    decoding = rw front_is (sym (one_decoding k.unread.notation (bare h) whole.front whole.list None (record { front = whole.front; rest = []; parts = sym (append-nil whole.front); spelled = whole.spelled; ended = refl })));
     given = whole.given;
     is = record {
       rows = c.rows;
@@ -238,7 +238,7 @@ module _ (h : Header) (k : Cut) (done : List LineRow) (place next : Left) (c : C
     };
   }
 
-  goes_closed : next.row.end_sequence ≡ true → Cutting h (record { parts = k.parts ++ ended ∷ []; source = next.source; start = None }) (done ++ next.row ∷ []) (ready next)
+  goes_closed : next.row.end_sequence ≡ true → Cutting h (record { parts = k.parts ++ ended ∷ []; unread = next.unread; start = None }) (done ++ next.row ∷ []) (ready next)
   goes_closed e = record {
     joined = c.joined ++ (map row c.rows ++ row next.row ∷ []);
     rows = [];
@@ -249,42 +249,42 @@ module _ (h : Header) (k : Cut) (done : List LineRow) (place next : Left) (c : C
     closed = closed_push h k.parts c.joined ended (map row c.rows ++ row next.row ∷ []) c.closed (closes e);
     unended = tt;
     start_is = refl;
-    passes = passes_none (began h next.notation next.offset next.files next.source) (ready next) (left_same (ready next) (began h next.notation next.offset next.files next.source) whole.fixed whole.appends (anew_at_end next.fixed.rules next.row e ∙ ap (λ (x : Header). initial x.rules) whole.fixed) refl refl refl refl);
+    passes = passes_none (began h next.notation next.offset next.files next.unread) (ready next) (left_same (ready next) (began h next.notation next.offset next.files next.unread) whole.fixed whole.appends (anew_at_end next.fixed.parameters next.row e ∙ ap (λ (x : Header). initial x.parameters) whole.fixed) refl refl refl refl);
   }
 
-  pub goes_cutting : Cutting h (with_row next.row next.source k) (done ++ next.row ∷ []) (ready next)
+  pub goes_cutting : Cutting h (with_row next.row next.unread k) (done ++ next.row ∷ []) (ready next)
   goes_cutting = at_test next.row.end_sequence refl
     where
-      at_test : (b : Bool) → next.row.end_sequence ≡ b → Cutting h (if b then record { parts = k.parts ++ ended ∷ []; source = next.source; start = None }
+      at_test : (b : Bool) → next.row.end_sequence ≡ b → Cutting h (if b then record { parts = k.parts ++ ended ∷ []; unread = next.unread; start = None }
           else record k { start = Some (unwrap_or k.start next.row.address) }) (done ++ next.row ∷ []) (ready next)
       at_test true e = goes_closed e
       at_test false e = goes_open e
 
   -- what is cut off stands in front of the rest
-  pub has_front : (front : List ℕ) × (k.source.bytes ≡ front ++ next.source.bytes)
+  pub has_front : (front : List ℕ) × (k.unread.bytes ≡ front ++ next.unread.bytes)
   has_front = (whole.front, whole.parts)
 
 -- a row takes bytes
-pub row_takes : (a b : Left) (e : Event) (es : List Event) → Passes a b (e ∷ es) → length b.source.bytes < length a.source.bytes
+pub row_takes : (a b : RunState) (e : Event) (es : List Event) → Progress a b (e ∷ es) → length b.unread.bytes < length a.unread.bytes
 row_takes a b e es p = at_list p.list p.front p.parts p.spelled p.given
   where
-    at_list : (list : List Ins) (front : List ℕ) → a.source.bytes ≡ front ++ b.source.bytes → Each (SpellsInstruction a.source.notation a.fixed) front list
-        → events_from a.fixed.rules a.row list ≡ e ∷ es → length b.source.bytes < length a.source.bytes
+    at_list : (list : List Ins) (front : List ℕ) → a.unread.bytes ≡ front ++ b.unread.bytes → Each (SpellsInstruction a.unread.notation a.fixed) front list
+        → events_from a.fixed.parameters a.row list ≡ e ∷ es → length b.unread.bytes < length a.unread.bytes
     at_list [] front parts s given = absurd cc
     at_list (i ∷ list) front parts s given =
-        omega (arith, takes_bytes a.source.notation a.fixed s.0 i s.3, length-append s.0 s.1, ap length s.2, length-append front b.source.bytes, ap length parts)
+        omega (arith, takes_bytes a.unread.notation a.fixed s.0 i s.3, length-append s.0 s.1, ap length s.2, length-append front b.unread.bytes, ap length parts)
 
 -- ---- the end of a run without a fault
 
-module _ (n : Notation) (offset : ℕ) (h c : Header) (k : Cut) (done : List LineRow) (place last : Left) where
-  abbrev whole_program : Source
+module _ (n : Notation) (offset : ℕ) (h c : Header) (k : SequenceSplit) (done : List LineRow) (place last : RunState) where
+  abbrev whole_program : Unread
   whole_program = record { bytes = h.program; notation = n }
 
-  pub are_sequences : Cutting h k done place → Passes (ready (started true h n offset whole_program)) last (map row done) → last.source.bytes ≡ [] → bare c ≡ last.fixed → c.files ≡ last.files
+  pub are_sequences : Cutting h k done place → Progress (ready (started true h n offset whole_program)) last (map row done) → last.unread.bytes ≡ [] → bare c ≡ last.fixed → c.files ≡ last.files
       → AreSequences n h c k.parts
   are_sequences cutting p empty fixed files = record {
     list = p.list;
-    cut = bare_cuts n h h.program p.list None (record { front = p.front; rest = []; parts = p.parts ∙ ap (λ (xs : List ℕ). p.front ++ xs) empty; spelled = p.spelled; ended = refl });
+    decoding = bare_cuts n h h.program p.list None (record { front = p.front; rest = []; parts = p.parts ∙ ap (λ (xs : List ℕ). p.front ++ xs) empty; spelled = p.spelled; ended = refl });
     rows = done;
     given = given;
     files = c_is;
@@ -295,8 +295,8 @@ module _ (n : Notation) (offset : ℕ) (h c : Header) (k : Cut) (done : List Lin
         ∙ ap (λ (xs : List Event). cutting.joined ++ xs) (through_none (map row cutting.rows) (none_ends cutting.rows cutting.unended)) ∙ append-nil cutting.joined);
   }
     where
-      given : program_events h.rules p.list None ≡ map row done
-      given = append-nil (events_behind h.rules [] p.list) ∙ sym (from_start h.rules p.list) ∙ p.given
+      given : program_events h.parameters p.list None ≡ map row done
+      given = append-nil (events_behind h.parameters [] p.list) ∙ sym (from_start h.parameters p.list) ∙ p.given
 
       c_is : c ≡ record h { files = defined_files h.files (behind [] p.list) }
       c_is =
@@ -306,41 +306,41 @@ module _ (n : Notation) (offset : ℕ) (h c : Header) (k : Cut) (done : List Lin
 -- ---- a fault
 
 cuts_on : (n : Notation) (h : Header) (bytes : List ℕ) (list : List Ins) (front rest : List ℕ) → bytes ≡ front ++ rest → Each (SpellsInstruction n h) front list
-    → cut_at n h bytes ≡ (list ++ (cut_at n h rest).0, (cut_at n h rest).1)
-cuts_on n h bytes [] front rest parts s = ap (cut_at n h) (parts ∙ ap (λ (xs : List ℕ). xs ++ rest) s)
+    → decoded_at n h bytes ≡ (list ++ (decoded_at n h rest).0, (decoded_at n h rest).1)
+cuts_on n h bytes [] front rest parts s = ap (decoded_at n h) (parts ∙ ap (λ (xs : List ℕ). xs ++ rest) s)
 cuts_on n h bytes (i ∷ list) front rest parts s =
     let whole : bytes ≡ s.0 ++ (s.1 ++ rest) = parts ∙ ap (λ (xs : List ℕ). xs ++ rest) s.2 ∙ append_assoc s.0 s.1 rest in
     cut_some n h bytes i s.0 (s.1 ++ rest) whole s.3 ∙ ap (λ (c : List Ins × Option Error). (i ∷ c.0, c.1)) (cuts_on n h (s.1 ++ rest) list s.1 rest refl s.4)
 
-events_live : (a : Left) → events_of (live_events a)
-    ≡ events_from a.fixed.rules a.row (cut_at a.source.notation a.fixed a.source.bytes).0 ++ end_events (cut_at a.source.notation a.fixed a.source.bytes).1
-events_live a = let c = cut_at a.source.notation a.fixed a.source.bytes in events_told a.appends a.fixed.rules a.row a.files c.0 c.1
+events_live : (a : RunState) → events_of (live_events a)
+    ≡ events_from a.fixed.parameters a.row (decoded_at a.unread.notation a.fixed a.unread.bytes).0 ++ end_events (decoded_at a.unread.notation a.fixed a.unread.bytes).1
+events_live a = let c = decoded_at a.unread.notation a.fixed a.unread.bytes in events_without_files a.appends a.fixed.parameters a.row a.files c.0 c.1
 
-pub passes_left : (a b : Left) (es : List Event) → Passes a b es → events_of (live_events a) ≡ es ++ events_of (live_events b)
+pub passes_left : (a b : RunState) (es : List Event) → Progress a b es → events_of (live_events a) ≡ es ++ events_of (live_events b)
 passes_left a b es p =
-    let c = cut_at a.source.notation a.fixed b.source.bytes in
-    let there : events_of (live_events b) ≡ events_from a.fixed.rules (registers_behind a.fixed.rules a.row p.list) c.0 ++ end_events c.1 =
+    let c = decoded_at a.unread.notation a.fixed b.unread.bytes in
+    let there : events_of (live_events b) ≡ events_from a.fixed.parameters (registers_behind a.fixed.parameters a.row p.list) c.0 ++ end_events c.1 =
     events_live b ∙ rw (p.notation, p.fixed, p.registers) refl in
     events_live a
-    ∙ ap (λ (d : List Ins × Option Error). events_from a.fixed.rules a.row d.0 ++ end_events d.1) (cuts_on a.source.notation a.fixed a.source.bytes p.list p.front b.source.bytes p.parts p.spelled)
-    ∙ ap (λ (xs : List Event). xs ++ end_events c.1) (events_joined a.fixed.rules a.row p.list c.0)
-    ∙ append_assoc (events_from a.fixed.rules a.row p.list) (events_from a.fixed.rules (registers_behind a.fixed.rules a.row p.list) c.0) (end_events c.1)
-    ∙ ap (λ (xs : List Event). xs ++ (events_from a.fixed.rules (registers_behind a.fixed.rules a.row p.list) c.0 ++ end_events c.1)) p.given
+    ∙ ap (λ (d : List Ins × Option Error). events_from a.fixed.parameters a.row d.0 ++ end_events d.1) (cuts_on a.unread.notation a.fixed a.unread.bytes p.list p.front b.unread.bytes p.parts p.spelled)
+    ∙ ap (λ (xs : List Event). xs ++ end_events c.1) (events_joined a.fixed.parameters a.row p.list c.0)
+    ∙ append_assoc (events_from a.fixed.parameters a.row p.list) (events_from a.fixed.parameters (registers_behind a.fixed.parameters a.row p.list) c.0) (end_events c.1)
+    ∙ ap (λ (xs : List Event). xs ++ (events_from a.fixed.parameters (registers_behind a.fixed.parameters a.row p.list) c.0 ++ end_events c.1)) p.given
     ∙ ap (λ (xs : List Event). es ++ xs) (sym there)
 
-pub has_first_fault : (n : Notation) (offset : ℕ) (h : Header) (done : List LineRow) (old new : Left) (e : Error) → Passes (ready (started true h n offset (record { bytes = h.program; notation = n }))) (ready old) (map row done)
+pub has_first_fault : (n : Notation) (offset : ℕ) (h : Header) (done : List LineRow) (old new : RunState) (e : Error) → Progress (ready (started true h n offset (record { bytes = h.program; notation = n }))) (ready old) (map row done)
     → events_left old ≡ event_of (fault e) new ∷ events_left new → HasFirstFault n h e
 has_first_fault n offset h done old new e p is =
-    let c = cut_at n (bare h) h.program in
+    let c = decoded_at n (bare h) h.program in
     record {
       list = c.0;
       end = c.1;
-      cut = bare_cuts n h h.program c.0 c.1 (cuts n (bare h) h.program);
+      decoding = bare_cuts n h h.program c.0 c.1 (cuts n (bare h) h.program);
       rows = done;
       rest = events_of (events_left new);
       given =
-          ap (λ (xs : List Event). xs ++ end_events c.1) (sym (from_start h.rules c.0))
+          ap (λ (xs : List Event). xs ++ end_events c.1) (sym (from_start h.parameters c.0))
           ∙ sym (events_live (ready (started true h n offset (record { bytes = h.program; notation = n }))))
           ∙ passes_left (ready (started true h n offset (record { bytes = h.program; notation = n }))) (ready old) (map row done) p
-          ∙ ap (λ (t : List Told). map row done ++ events_of t) is;
+          ∙ ap (λ (t : List EventWithFiles). map row done ++ events_of t) is;
     }

@@ -4,14 +4,14 @@ use Rattle.std.specs.Prelude.{pos, negsuc}
 use Rattle.gimli_core.specs.declared.common.Format.TheVariants.{Dwarf32}
 use Rattle.gimli_core.specs.declared.error.Error.TheVariants.{AddressOverflow}
 use Rattle.gimli_line.specs.declared.instruction.LineInstruction.TheVariants.{Special, Copy, AdvancePc, AdvanceLine, SetFile, SetColumn, NegateStatement, SetBasicBlock, EndSequence, SetAddress, DefineFile, SetDiscriminator, FixedAddPc, ConstAddPc, SetPrologueEnd, SetEpilogueBegin}
-use Rattle.gimli_line.specs.Rules.{Rules}
+use Rattle.gimli_line.specs.Parameters.{Parameters}
 use Rattle.gimli_line.specs.declared.row.LineRow.{LineRow}
 use Rattle.gimli_line.specs.Instruction.{Ins, File}
 use Rattle.gimli_line.specs.Header.{plain_file}
 use Rattle.gimli_line.specs.Events.{Event, row, fault, program_events, through_last_end, defined_files}
 
 -- opcode base 13, with the default line encoding but for the operations
-abbrev rules_13 : ℕ → ℕ → Rules
+abbrev rules_13 : ℕ → ℕ → Parameters
 rules_13 address_size operations = record {
   encoding = record { address_size = address_size; format = Dwarf32; version = 4 };
   line_encoding = record { minimum_instruction_length = 1; maximum_operations_per_instruction = operations; default_is_stmt = true; line_base = negsuc 4; line_range = 14 };
@@ -19,7 +19,7 @@ rules_13 address_size operations = record {
 }
 
 -- opcode base 3, and special opcodes that advance no line
-abbrev rules_3 : Rules
+abbrev rules_3 : Parameters
 rules_3 = record {
   encoding = record { address_size = 4; format = Dwarf32; version = 4 };
   line_encoding = record { minimum_instruction_length = 1; maximum_operations_per_instruction = 1; default_is_stmt = true; line_base = pos 0; line_range = 1 };
@@ -29,7 +29,7 @@ rules_3 = record {
 -- a row of the first file, at the left edge
 abbrev blank : ℕ → ℕ → ℕ → LineRow
 blank address op_index line = record {
-  tombstone = false;
+  hidden = false;
   address = address;
   op_index = op_index;
   file = 1;

@@ -6,26 +6,26 @@ use Rattle.gimli_core.specs.declared.error.Error.TheVariants.{AddressOverflow}
 use Rattle.gimli_line.specs.declared.instruction.LineInstruction.TheVariants.{DefineFile}
 use Rattle.gimli_line.specs.declared.row.LineRow.{LineRow}
 use Rattle.gimli_core.specs.Notation.{Notation}
-use Rattle.gimli_line.specs.Rules.{Rules}
+use Rattle.gimli_line.specs.Parameters.{Parameters}
 use Rattle.gimli_line.specs.Instruction.{Ins, File, is_end, makes_row}
 use Rattle.gimli_line.specs.Header.{Header}
-use Rattle.gimli_line.specs.InstructionGrammar.{Cuts}
+use Rattle.gimli_line.specs.InstructionGrammar.{Decodes}
 use Rattle.gimli_line.specs.Registers.{file_at, column_at, isa_at, is_stmt_at, line_at, nearest, discriminator_operand, sets_basic_block, sets_prologue_end, sets_epilogue_begin}
-use Rattle.gimli_line.specs.Pointer.{pointer_at, is_hidden, overflows, recent}
+use Rattle.gimli_line.specs.OperationPointer.{pointer_at, is_hidden, overflows, recent}
 
 -- the row of a place; that of an end has the pointer before it, any other the one after it
-abbrev pub row_at : Rules → List Ins → Ins → LineRow
-row_at rules past i =
-    let here = if is_end i then pointer_at rules past else pointer_at rules (i ∷ past) in
-    let marks = recent rules past in
+abbrev pub row_at : Parameters → List Ins → Ins → LineRow
+row_at parameters past i =
+    let here = if is_end i then pointer_at parameters past else pointer_at parameters (i ∷ past) in
+    let marks = recent parameters past in
     record {
-      tombstone = false;
+      hidden = false;
       address = here.address;
       op_index = here.op_index;
       file = file_at past;
-      line = line_at rules past i;
+      line = line_at parameters past i;
       column = column_at past;
-      is_stmt = is_stmt_at rules past;
+      is_stmt = is_stmt_at parameters past;
       basic_block = list_any sets_basic_block marks;
       end_sequence = is_end i;
       prologue_end = list_any sets_prologue_end marks;
@@ -39,31 +39,31 @@ pub data Event : Type 0 where
   fault : Error → Event
 
 -- what a place gives: a fault where it overflows, else a row where it makes one and isn't hidden
-abbrev pub events_at : Rules → List Ins → Ins → List Event
-events_at rules past i =
-    if overflows rules past i then fault AddressOverflow ∷ []
-    else (if makes_row i && not (is_hidden rules past) then row (row_at rules past i) ∷ [] else [])
+abbrev pub events_at : Parameters → List Ins → Ins → List Event
+events_at parameters past i =
+    if overflows parameters past i then fault AddressOverflow ∷ []
+    else (if makes_row i && not (is_hidden parameters past) then row (row_at parameters past i) ∷ [] else [])
 
 -- what these instructions give behind a past
-abbrev pub events_behind : Rules → List Ins → List Ins → List Event
-events_behind rules past [] = []
-events_behind rules past (i ∷ list) = events_at rules past i ++ events_behind rules (i ∷ past) list
+abbrev pub events_behind : Parameters → List Ins → List Ins → List Event
+events_behind parameters past [] = []
+events_behind parameters past (i ∷ list) = events_at parameters past i ++ events_behind parameters (i ∷ past) list
 
 -- what the end of a program gives
 abbrev pub end_events : Option Error → List Event
 end_events None = []
 end_events (Some e) = fault e ∷ []
 
--- what a program gives that is cut into these instructions and this end
-abbrev pub program_events : Rules → List Ins → Option Error → List Event
-program_events rules list end = events_behind rules [] list ++ end_events end
+-- what a program gives that is decoded into these instructions and this end
+abbrev pub program_events : Parameters → List Ins → Option Error → List Event
+program_events parameters list end = events_behind parameters [] list ++ end_events end
 
 -- the events of a program's bytes
 pub record Events (notation : Notation) (h : Header) (bytes : List ℕ) (events : List Event) : Type 0 where
   pub list : List Ins
   pub end : Option Error
-  pub cut : Cuts notation h bytes list end
-  pub given : events ≡ program_events h.rules list end
+  pub decoding : Decodes notation h bytes list end
+  pub given : events ≡ program_events h.parameters list end
 
 -- ---- files and ends
 

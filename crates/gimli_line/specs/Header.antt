@@ -8,7 +8,7 @@ use Rattle.gimli_core.specs.declared.attribute_value.AttributeValue.{AttributeVa
 use Rattle.gimli_core.specs.declared.attribute_value.AttributeValue.TheVariants.{String}
 use Rattle.gimli_core.specs.declared.common.DebugLineOffset.{DebugLineOffset}
 use Rattle.gimli_core.specs.Notation.{Notation}
-use Rattle.gimli_line.specs.Rules.{Rules}
+use Rattle.gimli_line.specs.Parameters.{Parameters}
 use Rattle.gimli_line.specs.Instruction.{Ins, File}
 use Rattle.gimli_line.specs.declared.instruction.LineInstruction.TheVariants.{DefineFile}
 use Rattle.gimli_line.specs.declared.file_entry.FileEntry.{FileEntry}
@@ -16,7 +16,7 @@ use Rattle.gimli_line.specs.declared.file_entry.FileEntryFormat.{FileEntryFormat
 
 -- what a header says, with lists of bytes in the place of readers
 pub record Header : Type 0 where
-  pub rules : Rules
+  pub parameters : Parameters
   pub unit_length : ℕ
   pub header_length : ℕ
   -- how many LEB128 operands each standard opcode has, from opcode 1 on
@@ -31,7 +31,7 @@ pub record Header : Type 0 where
   pub comp_file : Option File
 
 -- what the caller of a parse hands in
-pub record Given : Type 0 where
+pub record UnitEntry : Type 0 where
   pub address_size : ℕ
   pub directory : Option (List ℕ)
   pub name : Option (List ℕ)
@@ -57,13 +57,13 @@ from_one first entries (suc i) = slice_get entries i
 -- up to version 4 the tables begin at 1, and the handed directory and file stand at 0; in version 5 they begin at 0
 abbrev pub directory_of : Header → ℕ → Option Value
 directory_of h i =
-    if nat_le h.rules.encoding.version 4
+    if nat_le h.parameters.encoding.version 4
     then from_one (option_map String h.comp_dir) h.directories i
     else slice_get h.directories i
 
 abbrev pub file_of : Header → ℕ → Option File
 file_of h i =
-    if nat_le h.rules.encoding.version 4
+    if nat_le h.parameters.encoding.version 4
     then from_one h.comp_file h.files i
     else slice_get h.files i
 
@@ -92,7 +92,7 @@ files_behind appends i files = files
 pub record SeenHeader (R Offset Endian : Type 0) : Type 0 where
   pub meaning : Header
   pub notation : Notation
-  pub parameters : Rules
+  pub parameters : Parameters
   pub offset : DebugLineOffset Offset
   pub unit_length : Offset
   pub header_length : Offset

@@ -10,9 +10,9 @@ use Rattle.gimli_core.specs.declared.common.Format.{Format}
 use Rattle.gimli_core.specs.declared.attribute_value.AttributeValue.TheVariants.{String}
 use Rattle.gimli_core.specs.declared.error.Error.{Error}
 use Rattle.gimli_core.specs.declared.error.Error.TheVariants.{UnknownVersion, UnsupportedSegmentSize, MinimumInstructionLengthZero, MaximumOperationsPerInstructionZero, LineRangeZero, OpcodeBaseZero, MissingFileEntryFormatPath}
-use Rattle.gimli_line.specs.Rules.{Rules}
+use Rattle.gimli_line.specs.Parameters.{Parameters}
 use Rattle.gimli_line.specs.Instruction.{File}
-use Rattle.gimli_line.specs.Header.{Header, Given, plain_file}
+use Rattle.gimli_line.specs.Header.{Header, UnitEntry, plain_file}
 use Rattle.gimli_line.specs.TableReading.{closed_at}
 use Rattle.gimli_line.specs.FormReading.{form_at}
 use Rattle.gimli_line.specs.HeaderGrammar.{Entry, is_content, path_of, file_of_entry, Opening, taken}
@@ -110,7 +110,7 @@ line_encoding_at version bytes =
       rest,
     )
 
-unfoldable pub rules_at : Encoding → List ℕ → Read Rules
+unfoldable pub rules_at : Encoding → List ℕ → Read Parameters
 rules_at encoding bytes =
     line_encoding_at encoding.version bytes >>= λ line_encoding rest. positive_at OpcodeBaseZero rest >>= λ opcode_base rest.
     (Ok (record { encoding = encoding; line_encoding = line_encoding; opcode_base = opcode_base }), rest)
@@ -127,12 +127,12 @@ file_names_at notation encoding bytes =
     then (files_at bytes >>= λ files rest. (Ok ([], files), rest))
     else (table_at notation encoding.format bytes >>= λ table rest. (Ok (table.0, map file_of_entry table.1), rest))
 
-unfoldable pub fields_at : Notation → Given → ℕ → Opening → List ℕ → List ℕ → Read Header
-fields_at notation given unit opening program bytes =
-    rules_at opening.encoding bytes >>= λ rules rest. split_at (rules.opcode_base - 1) rest >>= λ counts rest. directories_at notation opening.encoding rest >>= λ directories rest.
+unfoldable pub fields_at : Notation → UnitEntry → ℕ → Opening → List ℕ → List ℕ → Read Header
+fields_at notation unit_entry unit opening program bytes =
+    rules_at opening.encoding bytes >>= λ parameters rest. split_at (parameters.opcode_base - 1) rest >>= λ counts rest. directories_at notation opening.encoding rest >>= λ directories rest.
     file_names_at notation opening.encoding rest >>= λ files rest. (
       Ok (record {
-        rules = rules;
+        parameters = parameters;
         unit_length = unit;
         header_length = opening.header_length;
         operand_counts = counts;
@@ -141,16 +141,16 @@ fields_at notation given unit opening program bytes =
         file_formats = files.0;
         files = files.1;
         program = program;
-        comp_dir = taken opening.encoding given.directory;
-        comp_file = taken opening.encoding (option_map (λ path. plain_file path 0 0 0) given.name);
+        comp_dir = taken opening.encoding unit_entry.directory;
+        comp_file = taken opening.encoding (option_map (λ path. plain_file path 0 0 0) unit_entry.name);
       }),
       rest,
     )
 
 -- ---- the header
 
-unfoldable pub header_at : Notation → Given → List ℕ → Read Header
-header_at notation given bytes =
+unfoldable pub header_at : Notation → UnitEntry → List ℕ → Read Header
+header_at notation unit_entry bytes =
     initial_length_at notation.big notation.limit bytes >>= λ unit rest. split_at unit.0 rest >>= λ inside rest.
-    within_at inside (opening_at notation given.address_size unit.1) rest >>= λ opened rest.
-    within_at opened.0.fields (fields_at notation given unit.0 opened.0 opened.1) rest >>= λ fields rest. (Ok fields.0, rest)
+    within_at inside (opening_at notation unit_entry.address_size unit.1) rest >>= λ opened rest.
+    within_at opened.0.fields (fields_at notation unit_entry unit.0 opened.0 opened.1) rest >>= λ fields rest. (Ok fields.0, rest)

@@ -1,13 +1,13 @@
--- How instructions are spelled, and how a program is cut into them (DWARF 5, sections 6.2.3 and 6.2.5).
+-- How instructions are spelled, and how a program is decoded into them (DWARF 5, sections 6.2.3 and 6.2.5).
 use Rattle.std.specs.Prelude.{◌≡◌, ◌≢◌, ℕ, zero, suc, ◌-◌, List, [], ◌∷◌, ◌++◌, nat_eq, nat_le, if◌then◌else◌, Option, Some, None, ℤ, slice_index}
-use Rattle.gimli_core.specs.Line.{Line, ◌>>=◌, done, choose, times, within, byte, number, some_bytes, text, unsigned, signed, below_limit, Each}
+use Rattle.gimli_core.specs.Production.{Production, ◌>>=◌, done, choose, times, within, byte, number, some_bytes, text, unsigned, signed, below_limit, Each}
 use Rattle.gimli_core.specs.declared.error.Error.{Error}
 use Rattle.gimli_line.specs.declared.instruction.LineInstruction.TheVariants.{Special, Copy, AdvancePc, AdvanceLine, SetFile, SetColumn, NegateStatement, SetBasicBlock, ConstAddPc, FixedAddPc, SetPrologueEnd, SetEpilogueBegin, SetIsa, UnknownStandard0, UnknownStandard1, UnknownStandardN, EndSequence, SetAddress, DefineFile, SetDiscriminator, UnknownExtended}
 use Rattle.gimli_core.specs.Notation.{Notation}
 use Rattle.gimli_line.specs.Instruction.{Ins, File}
 use Rattle.gimli_line.specs.Header.{Header}
-use Rattle.gimli_line.specs.HeaderGrammar.{file_line}
-use Rattle.gimli_line.specs.Lines.{bytes_of, among}
+use Rattle.gimli_line.specs.HeaderGrammar.{file_production}
+use Rattle.gimli_line.specs.Productions.{bytes_of, among}
 
 -- ---- opcodes and their operands
 
@@ -39,52 +39,52 @@ extended_opcodes version =
     ∷ (if nat_le version 4 then (0x03, file DefineFile) ∷ [] else [])
 
 module _ (notation : Notation) (h : Header) where
-  abbrev pub operand_line : Operand → Line Ins
-  operand_line (none i) = done i
-  operand_line (uleb make) = do
+  abbrev pub operand_production : Operand → Production Ins
+  operand_production (none i) = done i
+  operand_production (uleb make) = do
     n ← unsigned
     done (make n)
-  operand_line (sleb make) = do
+  operand_production (sleb make) = do
     z ← signed
     done (make z)
-  operand_line (half make) = do
+  operand_production (half make) = do
     n ← number notation.big 2
     done (make n)
-  operand_line (address make) = do
-    a ← number notation.big h.rules.encoding.address_size
+  operand_production (address make) = do
+    a ← number notation.big h.parameters.encoding.address_size
     done (make a)
-  operand_line (file make) = do
+  operand_production (file make) = do
     path ← text
-    f ← file_line path
+    f ← file_production path
     done (make f)
 
   -- behind a standard opcode without a meaning here: as many LEB128 numbers as the header counts
-  abbrev pub unknown_line : ℕ → ℕ → Line Ins
-  unknown_line opcode zero = done (UnknownStandard0 (record { 0 = opcode }))
-  unknown_line opcode (suc zero) = do
+  abbrev pub unknown_production : ℕ → ℕ → Production Ins
+  unknown_production opcode zero = done (UnknownStandard0 (record { 0 = opcode }))
+  unknown_production opcode (suc zero) = do
     n ← unsigned
     done (UnknownStandard1 (record { 0 = opcode }) n)
-  unknown_line opcode (suc (suc more)) = do
+  unknown_production opcode (suc (suc more)) = do
     operands ← bytes_of (times (suc (suc more)) unsigned)
     done (UnknownStandardN (record { 0 = opcode }) operands)
 
   -- behind an opcode below the opcode base
-  abbrev pub standard_line : ℕ → Line Ins
-  standard_line opcode = elim (among opcode standard_opcodes) [
-    | Some operand ↦ operand_line operand
-    | None ↦ unknown_line opcode (slice_index h.operand_counts (opcode - 1))
+  abbrev pub standard_production : ℕ → Production Ins
+  standard_production opcode = elim (among opcode standard_opcodes) [
+    | Some operand ↦ operand_production operand
+    | None ↦ unknown_production opcode (slice_index h.operand_counts (opcode - 1))
   ]
 
   -- an extended opcode, and the bytes behind it within its instruction; surplus ones are skipped
-  abbrev pub extended_operands : ℕ → List ℕ → Line Ins
-  extended_operands opcode operands = elim (among opcode (extended_opcodes h.rules.encoding.version)) [
-    | Some operand ↦ within operands (operand_line operand) >>= λ read. done read.0
+  abbrev pub extended_operands : ℕ → List ℕ → Production Ins
+  extended_operands opcode operands = elim (among opcode (extended_opcodes h.parameters.encoding.version)) [
+    | Some operand ↦ within operands (operand_production operand) >>= λ read. done read.0
     | None ↦ done (UnknownExtended (record { 0 = opcode }) operands)
   ]
 
   -- behind a zero byte: a length, and that many bytes, of which the first is the opcode
-  abbrev pub extended_line : Line Ins
-  extended_line = do
+  abbrev pub extended_production : Production Ins
+  extended_production = do
     size ← below_limit notation unsigned
     inside ← some_bytes size
     opened ← within inside byte
@@ -92,25 +92,25 @@ module _ (notation : Notation) (h : Header) where
 
   -- an instruction: a zero byte opens an extended one, a byte from the opcode base on is a special opcode, and any
   -- other a standard opcode
-  abbrev pub instruction_line : Line Ins
-  instruction_line = do
+  abbrev pub instruction_production : Production Ins
+  instruction_production = do
     opcode ← byte
-    choose (nat_eq opcode 0) extended_line
-        (choose (nat_le h.rules.opcode_base opcode) (done (Special opcode)) (standard_line opcode))
+    choose (nat_eq opcode 0) extended_production
+        (choose (nat_le h.parameters.opcode_base opcode) (done (Special opcode)) (standard_production opcode))
 
   -- the bytes are a spelling of the instruction
   abbrev pub SpellsInstruction : List ℕ → Ins → Type 0
-  SpellsInstruction = instruction_line.Spells
+  SpellsInstruction = instruction_production.Spells
 
   -- ---- a program
 
   -- what is left behind the last instruction: nothing, or bytes that begin with none, and this is the refusal
   abbrev pub IsEnd : List ℕ → Option Error → Type 0
   IsEnd rest None = rest ≡ []
-  IsEnd rest (Some e) = (rest ≢ []) × instruction_line.Fault rest e
+  IsEnd rest (Some e) = (rest ≢ []) × instruction_production.Fault rest e
 
   -- the bytes are the spellings of these instructions one after the other, and then comes the end
-  pub record Cuts (bytes : List ℕ) (list : List Ins) (end : Option Error) : Type 0 where
+  pub record Decodes (bytes : List ℕ) (list : List Ins) (end : Option Error) : Type 0 where
     pub front : List ℕ
     pub rest : List ℕ
     pub parts : bytes ≡ front ++ rest

@@ -6,7 +6,7 @@ use Rattle.gimli_core.specs.declared.error.Error.{Error}
 use Rattle.gimli_line.specs.declared.instruction.LineInstruction.TheVariants.{Special, UnknownStandard0, UnknownStandard1, UnknownStandardN, UnknownExtended}
 use Rattle.gimli_line.specs.Instruction.{Ins}
 use Rattle.gimli_line.specs.Header.{Header}
-use Rattle.gimli_line.specs.Lines.{among}
+use Rattle.gimli_line.specs.Productions.{among}
 use Rattle.gimli_line.specs.FormReading.{offset_at}
 use Rattle.gimli_line.specs.HeaderReading.{plain_file_at}
 use Rattle.gimli_line.specs.InstructionGrammar.{Operand, none, uleb, sleb, half, address, file, standard_opcodes, extended_opcodes}
@@ -25,7 +25,7 @@ module _ (notation : Notation) (h : Header) where
   operand_at (uleb make) bytes = unsigned_at bytes >>= λ n rest. (Ok (make n), rest)
   operand_at (sleb make) bytes = signed_at bytes >>= λ z rest. (Ok (make z), rest)
   operand_at (half make) bytes = number_at notation.big 2 bytes >>= λ n rest. (Ok (make n), rest)
-  operand_at (address make) bytes = number_at notation.big h.rules.encoding.address_size bytes >>= λ a rest. (Ok (make a), rest)
+  operand_at (address make) bytes = number_at notation.big h.parameters.encoding.address_size bytes >>= λ a rest. (Ok (make a), rest)
   operand_at (file make) bytes = text_at bytes >>= λ path rest. plain_file_at path rest >>= λ f rest. (Ok (make f), rest)
 
   -- behind a standard opcode without a meaning here, with its number of operands
@@ -44,7 +44,7 @@ module _ (notation : Notation) (h : Header) where
 
   -- an extended opcode, with the bytes behind it within its instruction
   unfoldable pub extended_operands_at : ℕ → List ℕ → List ℕ → Read Ins
-  extended_operands_at opcode operands bytes = elim (among opcode (extended_opcodes h.rules.encoding.version)) [
+  extended_operands_at opcode operands bytes = elim (among opcode (extended_opcodes h.parameters.encoding.version)) [
     | Some operand ↦ within_at operands (operand_at operand) bytes >>= λ read rest. (Ok read.0, rest)
     | None ↦ (Ok (UnknownExtended (record { 0 = opcode }) operands), bytes)
   ]
@@ -60,19 +60,19 @@ module _ (notation : Notation) (h : Header) where
   ins_at bytes =
       byte_at bytes >>= λ opcode rest.
       if nat_eq opcode 0 then extended_at rest
-      else (if nat_le h.rules.opcode_base opcode then (Ok (Special opcode), rest) else standard_at opcode rest)
+      else (if nat_le h.parameters.opcode_base opcode then (Ok (Special opcode), rest) else standard_at opcode rest)
 
   -- a program behind what was read as its first instruction
-  abbrev pub cut_behind : (List ℕ → List Ins × Option Error) → Read Ins → List Ins × Option Error
-  cut_behind cut (Ok i, rest) = (i ∷ (cut rest).0, (cut rest).1)
-  cut_behind cut (Err e, rest) = ([], Some e)
+  abbrev pub decoded_behind : (List ℕ → List Ins × Option Error) → Read Ins → List Ins × Option Error
+  decoded_behind decoding (Ok i, rest) = (i ∷ (decoding rest).0, (decoding rest).1)
+  decoded_behind decoding (Err e, rest) = ([], Some e)
 
   -- at most so many instructions, and the end
-  unfoldable pub cut_upto : ℕ → List ℕ → List Ins × Option Error
-  cut_upto zero bytes = ([], None)
-  cut_upto (suc more) [] = ([], None)
-  cut_upto (suc more) (b ∷ bytes) = cut_behind (cut_upto more) (ins_at (b ∷ bytes))
+  unfoldable pub decoded_upto : ℕ → List ℕ → List Ins × Option Error
+  decoded_upto zero bytes = ([], None)
+  decoded_upto (suc more) [] = ([], None)
+  decoded_upto (suc more) (b ∷ bytes) = decoded_behind (decoded_upto more) (ins_at (b ∷ bytes))
 
   -- the instructions of a program and its end; they aren't more than its bytes
-  abbrev pub cut_at : List ℕ → List Ins × Option Error
-  cut_at bytes = cut_upto (length bytes) bytes
+  abbrev pub decoded_at : List ℕ → List Ins × Option Error
+  decoded_at bytes = decoded_upto (length bytes) bytes

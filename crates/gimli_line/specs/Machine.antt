@@ -3,22 +3,22 @@ use Rattle.std.specs.Prelude.{◌≤◌, Bool, true, false, not, ◌&&◌, if◌
 use Rattle.gimli_core.specs.declared.error.Error.TheVariants.{AddressOverflow}
 use Rattle.gimli_line.specs.declared.instruction.LineInstruction.TheVariants.{Special, AdvancePc, AdvanceLine, SetFile, SetColumn, NegateStatement, SetBasicBlock, ConstAddPc, FixedAddPc, SetPrologueEnd, SetEpilogueBegin, SetIsa, EndSequence, SetAddress, SetDiscriminator}
 use Rattle.gimli_line.specs.declared.row.LineRow.{LineRow}
-use Rattle.gimli_line.specs.Rules.{Rules}
+use Rattle.gimli_line.specs.Parameters.{Parameters}
 use Rattle.gimli_line.specs.Instruction.{Ins, makes_row}
 use Rattle.gimli_line.specs.Registers.{line_advance, advanced_line}
-use Rattle.gimli_line.specs.Pointer.{Pointer, next_pointer, target, exceeds, hides}
+use Rattle.gimli_line.specs.OperationPointer.{OperationPointer, next_pointer, target, exceeds, hides}
 use Rattle.gimli_line.specs.Events.{Event, row, fault}
 
 -- the registers at the start of a sequence
-abbrev pub initial : Rules → LineRow
-initial rules = record {
-  tombstone = false;
+abbrev pub initial : Parameters → LineRow
+initial parameters = record {
+  hidden = false;
   address = 0;
   op_index = 0;
   file = 1;
   line = 1;
   column = 0;
-  is_stmt = rules.line_encoding.default_is_stmt;
+  is_stmt = parameters.line_encoding.default_is_stmt;
   basic_block = false;
   end_sequence = false;
   prologue_end = false;
@@ -28,31 +28,31 @@ initial rules = record {
 }
 
 -- the registers behind a row: an end starts all of them anew
-abbrev pub reset_row : Rules → LineRow → LineRow
-reset_row rules r =
-    if r.end_sequence then initial rules
+abbrev pub reset_row : Parameters → LineRow → LineRow
+reset_row parameters r =
+    if r.end_sequence then initial parameters
     else record r { discriminator = 0; basic_block = false; prologue_end = false; epilogue_begin = false }
 
 -- the registers where addresses count from a set address
 abbrev pub rebased : LineRow → LineRow
-rebased r = record r { tombstone = false; address = 0; op_index = 0 }
+rebased r = record r { hidden = false; address = 0; op_index = 0 }
 
 -- the caller's condition: a special opcode is at least the opcode base
-abbrev pub IsAllowed : Rules → Ins → Type 0
-IsAllowed rules (Special o) = rules.opcode_base ≤ o
-IsAllowed rules i = Unit {0}
+abbrev pub IsAllowed : Parameters → Ins → Type 0
+IsAllowed parameters (Special o) = parameters.opcode_base ≤ o
+IsAllowed parameters i = Unit {0}
 
-abbrev pub pointer_of : LineRow → Pointer
+abbrev pub pointer_of : LineRow → OperationPointer
 pointer_of r = record { address = r.address; op_index = r.op_index }
 
-abbrev pub at_pointer : Pointer → LineRow → LineRow
+abbrev pub at_pointer : OperationPointer → LineRow → LineRow
 at_pointer p r = record r { address = p.address; op_index = p.op_index }
 
 -- the pointer goes on
-abbrev pub moved : Rules → Ins → LineRow → LineRow
-moved rules i r = at_pointer (next_pointer rules r.tombstone i (pointer_of r)) r
+abbrev pub moved : Parameters → Ins → LineRow → LineRow
+moved parameters i r = at_pointer (next_pointer parameters r.hidden i (pointer_of r)) r
 
--- a register that an instruction sets, whatever the rules are
+-- a register that an instruction sets, whatever the parameters are
 abbrev pub with_register : Ins → LineRow → LineRow
 with_register (AdvanceLine v) r = record r { line = advanced_line v r.line }
 with_register (SetFile n) r = record r { file = n }
@@ -67,23 +67,23 @@ with_register EndSequence r = record r { end_sequence = true }
 with_register i r = r
 
 -- the registers after an instruction; at an end the pointer stays until the reset
-abbrev pub stepped : Rules → Ins → LineRow → LineRow
-stepped rules (Special o) r = record (moved rules (Special o) r) { line = elim (line_advance rules (Special o)) [ Some v ↦ advanced_line v r.line | None ↦ r.line ] }
-stepped rules (AdvancePc n) r = moved rules (AdvancePc n) r
-stepped rules ConstAddPc r = moved rules ConstAddPc r
-stepped rules (FixedAddPc n) r = moved rules (FixedAddPc n) r
-stepped rules (SetAddress a) r = record (moved rules (SetAddress a) r) { tombstone = hides rules a (pointer_of r) }
-stepped rules i r = with_register i r
+abbrev pub stepped : Parameters → Ins → LineRow → LineRow
+stepped parameters (Special o) r = record (moved parameters (Special o) r) { line = elim (line_advance parameters (Special o)) [ Some v ↦ advanced_line v r.line | None ↦ r.line ] }
+stepped parameters (AdvancePc n) r = moved parameters (AdvancePc n) r
+stepped parameters ConstAddPc r = moved parameters ConstAddPc r
+stepped parameters (FixedAddPc n) r = moved parameters (FixedAddPc n) r
+stepped parameters (SetAddress a) r = record (moved parameters (SetAddress a) r) { hidden = hides parameters a (pointer_of r) }
+stepped parameters i r = with_register i r
 
 -- whether an instruction is refused by `AddressOverflow`
-abbrev pub is_refused : Rules → Ins → LineRow → Bool
-is_refused rules i r = (elim (target rules i (pointer_of r)) [ Some to ↦ exceeds rules to | None ↦ false ]) && not r.tombstone
+abbrev pub is_refused : Parameters → Ins → LineRow → Bool
+is_refused parameters i r = (elim (target parameters i (pointer_of r)) [ Some to ↦ exceeds parameters to | None ↦ false ]) && not r.hidden
 
 -- what a run gives from these registers on
-abbrev pub run : Rules → LineRow → List Ins → List Event
-run rules r [] = []
-run rules r (i ∷ list) =
-    if is_refused rules i r then fault AddressOverflow ∷ run rules (reset_row rules (stepped rules i r)) list
+abbrev pub run : Parameters → LineRow → List Ins → List Event
+run parameters r [] = []
+run parameters r (i ∷ list) =
+    if is_refused parameters i r then fault AddressOverflow ∷ run parameters (reset_row parameters (stepped parameters i r)) list
     else (if makes_row i
-    then (if r.tombstone then [] else row (stepped rules i r) ∷ []) ++ run rules (reset_row rules (stepped rules i r)) list
-    else run rules (stepped rules i r) list)
+    then (if r.hidden then [] else row (stepped parameters i r) ∷ []) ++ run parameters (reset_row parameters (stepped parameters i r)) list
+    else run parameters (stepped parameters i r) list)

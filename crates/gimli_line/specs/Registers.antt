@@ -2,7 +2,7 @@
 -- sections 6.2.2 and 6.2.5). The past of a place is the list of the instructions before it, the nearest first.
 use Rattle.std.specs.Prelude.{ℕ, suc, ◌+◌, ◌-◌, ◌%◌, ◌^◌, Bool, true, false, not, if◌then◌else◌, List, [], ◌∷◌, Option, Some, None, ℤ, pos, negsuc, ◌+ℤ◌}
 use Rattle.gimli_line.specs.declared.instruction.LineInstruction.TheVariants.{Special, AdvanceLine, SetFile, SetColumn, NegateStatement, SetBasicBlock, SetPrologueEnd, SetEpilogueBegin, SetIsa, SetDiscriminator}
-use Rattle.gimli_line.specs.Rules.{Rules}
+use Rattle.gimli_line.specs.Parameters.{Parameters}
 use Rattle.gimli_line.specs.Instruction.{Ins, is_end}
 
 -- the sequence of a place: the instructions after the last end
@@ -66,17 +66,17 @@ abbrev pub isa_at : List Ins → ℕ
 isa_at past = nearest isa_operand 0 (sequence past)
 
 -- the default, turned where it was negated an odd number of times
-abbrev pub is_stmt_at : Rules → List Ins → Bool
-is_stmt_at rules past =
-    if is_odd negates_statement (sequence past) then not rules.line_encoding.default_is_stmt else rules.line_encoding.default_is_stmt
+abbrev pub is_stmt_at : Parameters → List Ins → Bool
+is_stmt_at parameters past =
+    if is_odd negates_statement (sequence past) then not parameters.line_encoding.default_is_stmt else parameters.line_encoding.default_is_stmt
 
 -- ---- the line
 
 -- how far an instruction moves the line
-abbrev pub line_advance : Rules → Ins → Option ℤ
-line_advance rules (AdvanceLine v) = Some v
-line_advance rules (Special o) = Some (rules.line_encoding.line_base +ℤ pos ((o - rules.opcode_base) % rules.line_encoding.line_range))
-line_advance rules i = None
+abbrev pub line_advance : Parameters → Ins → Option ℤ
+line_advance parameters (AdvanceLine v) = Some v
+line_advance parameters (Special o) = Some (parameters.line_encoding.line_base +ℤ pos ((o - parameters.opcode_base) % parameters.line_encoding.line_range))
+line_advance parameters i = None
 
 -- the line v further on, modulo 2 ^ 64; one that would go below 0 stops there
 abbrev pub advanced_line : ℤ → ℕ → ℕ
@@ -84,10 +84,10 @@ advanced_line (pos v) line = (line + v) % 2 ^ 64
 advanced_line (negsuc v) line = line - suc v
 
 -- 1, and the advances of these instructions, the nearest last
-abbrev pub line_after : Rules → List Ins → ℕ
-line_after rules [] = 1
-line_after rules (i ∷ past) = elim (line_advance rules i) [ Some v ↦ advanced_line v (line_after rules past) | None ↦ line_after rules past ]
+abbrev pub line_after : Parameters → List Ins → ℕ
+line_after parameters [] = 1
+line_after parameters (i ∷ past) = elim (line_advance parameters i) [ Some v ↦ advanced_line v (line_after parameters past) | None ↦ line_after parameters past ]
 
 -- the line at a place with this instruction, whose own advance counts
-abbrev pub line_at : Rules → List Ins → Ins → ℕ
-line_at rules past i = line_after rules (i ∷ sequence past)
+abbrev pub line_at : Parameters → List Ins → Ins → ℕ
+line_at parameters past i = line_after parameters (i ∷ sequence past)

@@ -7,28 +7,28 @@ use Rattle.gimli_line.specs.declared.row.LineRow.{LineRow}
 use Rattle.gimli_line.specs.declared.sequences.LineSequence.{LineSequence}
 use Rattle.gimli_line.specs.Header.{Header}
 use Rattle.gimli_line.specs.Instruction.{Ins}
-use Rattle.gimli_line.specs.InstructionGrammar.{Cuts}
+use Rattle.gimli_line.specs.InstructionGrammar.{Decodes}
 use Rattle.gimli_line.specs.Events.{Event, row, fault, program_events, defined_files, through_last_end}
-use Rattle.gimli_line.specs.Source.{Source}
-use Rattle.gimli_line.specs.Told.{Told}
+use Rattle.gimli_line.specs.Unread.{Unread}
+use Rattle.gimli_line.specs.EventsWithFiles.{EventWithFiles}
 use Rattle.gimli_line.specs.Rows.{events_left, started}
 
 -- a sequence: the addresses that it tells, and the instructions that give its rows
 pub record Part : Type 0 where
   pub start : ℕ
   pub end : ℕ
-  pub source : Source
+  pub unread : Unread
 
 abbrev pub part_of : {A B C : Type 0} → LineSequence A B C → Part
-part_of s = record { start = s.start; end = s.end; source = s.instructions }
+part_of s = record { start = s.start; end = s.end; unread = s.instructions }
 
--- the events among what is told
-abbrev pub events_of : List Told → List Event
-events_of told = map (λ t. t.event) told
+-- the events among events with their files
+abbrev pub events_of : List EventWithFiles → List Event
+events_of events = map (λ t. t.event) events
 
 -- what a sequence gives that is resumed over a header, wherever the header stands
 abbrev pub resumed : Header → Part → List Event
-resumed h s = events_of (events_left (started false h s.source.notation 0 s.source))
+resumed h s = events_of (events_left (started false h s.unread.notation 0 s.unread))
 
 -- the address of the first row; 0 where there is none
 abbrev pub first_address : List LineRow → ℕ
@@ -54,18 +54,18 @@ behind past (i ∷ list) = behind (i ∷ past) list
 -- each sequence gives the rows of one, and all in order give those of the program through its last end
 pub record AreSequences (notation : Notation) (h c : Header) (parts : List Part) : Type 0 where
   pub list : List Ins
-  pub cut : Cuts notation h h.program list None
+  pub decoding : Decodes notation h h.program list None
   pub rows : List LineRow
-  pub given : program_events h.rules list None ≡ map row rows
+  pub given : program_events h.parameters list None ≡ map row rows
   pub files : c ≡ record h { files = defined_files h.files (behind [] list) }
   pub each : AllByRecursion (λ s. IsSequence (resumed c s) s.start s.end) parts
-  pub joined : flat_map (resumed c) parts ≡ through_last_end (program_events h.rules list None)
+  pub joined : flat_map (resumed c) parts ≡ through_last_end (program_events h.parameters list None)
 
 -- the first fault of a program, behind rows
 pub record HasFirstFault (notation : Notation) (h : Header) (e : Error) : Type 0 where
   pub list : List Ins
   pub end : Option Error
-  pub cut : Cuts notation h h.program list end
+  pub decoding : Decodes notation h h.program list end
   pub rows : List LineRow
   pub rest : List Event
-  pub given : program_events h.rules list end ≡ map row rows ++ fault e ∷ rest
+  pub given : program_events h.parameters list end ≡ map row rows ++ fault e ∷ rest

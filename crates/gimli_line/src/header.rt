@@ -24,9 +24,9 @@ pub(crate) struct Parameters {
 }
 
 impl Model for Parameters {
-    ghost use Rattle.gimli_line.specs.Rules.{Rules, AreAllowed};
+    ghost use Rattle.gimli_line.specs.Parameters.{Parameters, AreAllowed};
 
-    ghost Value = { Rules };
+    ghost Value = { Parameters };
 
     ghost view = { λ a. record { encoding = a.encoding; line_encoding = a.line_encoding; opcode_base = a.opcode_base } };
 
@@ -73,7 +73,7 @@ where
 
     ghost view = { λ a. record {
       meaning = record {
-        rules = a.parameters;
+        parameters = a.parameters;
         unit_length = Offset.number a.unit_length;
         header_length = Offset.number a.header_length;
         operand_counts = R.bytes a.standard_opcode_lengths;
@@ -121,7 +121,7 @@ where
     R: Reader<Offset = Offset>,
     Offset: ReaderOffset,
 {
-    ghost use Rattle.gimli_line.specs.Gives.{Answers};
+    ghost use Rattle.gimli_line.specs.Outcome.{IsAnswer};
     ghost use Rattle.gimli_line.specs.Header.{plain_file, directory_of, file_of, has_content};
     ghost use Rattle.gimli_line.specs.HeaderGrammar.{taken};
     ghost use Rattle.gimli_line.specs.HeaderReading.{fields_at, header_at};
@@ -174,14 +174,14 @@ where
 
     /// What the numbers of the unit are encoded by.
     pub fn encoding(&self) -> Encoding
-        ensures { result ≡ self.now.meaning.rules.encoding }
+        ensures { result ≡ self.now.meaning.parameters.encoding }
     {
         self.parameters.encoding
     }
 
     /// The version, from 2 to 5.
     pub fn version(&self) -> u16
-        ensures { result ≡ self.now.meaning.rules.encoding.version }
+        ensures { result ≡ self.now.meaning.parameters.encoding.version }
     {
         self.parameters.encoding.version
     }
@@ -195,35 +195,35 @@ where
 
     /// The number of bytes of an address.
     pub fn address_size(&self) -> u8
-        ensures { result ≡ self.now.meaning.rules.encoding.address_size }
+        ensures { result ≡ self.now.meaning.parameters.encoding.address_size }
     {
         self.parameters.encoding.address_size
     }
 
     /// The format of words.
     pub fn format(&self) -> Format
-        ensures { result ≡ self.now.meaning.rules.encoding.format }
+        ensures { result ≡ self.now.meaning.parameters.encoding.format }
     {
         self.parameters.encoding.format
     }
 
     /// What rows are encoded by.
     pub fn line_encoding(&self) -> LineEncoding
-        ensures { result ≡ self.now.meaning.rules.line_encoding }
+        ensures { result ≡ self.now.meaning.parameters.line_encoding }
     {
         self.parameters.line_encoding
     }
 
     /// The number of bytes of the shortest instruction of the machine.
     pub fn minimum_instruction_length(&self) -> u8
-        ensures { result ≡ self.now.meaning.rules.line_encoding.minimum_instruction_length }
+        ensures { result ≡ self.now.meaning.parameters.line_encoding.minimum_instruction_length }
     {
         self.parameters.line_encoding.minimum_instruction_length
     }
 
     /// The greatest number of operations in one instruction of the machine.
     pub fn maximum_operations_per_instruction(&self) -> u8
-        ensures { result ≡ self.now.meaning.rules.line_encoding.maximum_operations_per_instruction }
+        ensures { result ≡ self.now.meaning.parameters.line_encoding.maximum_operations_per_instruction }
     {
         self.parameters
             .line_encoding
@@ -232,28 +232,28 @@ where
 
     /// Whether a row is the beginning of a statement, where the program says nothing of it.
     pub fn default_is_stmt(&self) -> bool
-        ensures { result ≡ self.now.meaning.rules.line_encoding.default_is_stmt }
+        ensures { result ≡ self.now.meaning.parameters.line_encoding.default_is_stmt }
     {
         self.parameters.line_encoding.default_is_stmt
     }
 
     /// The least line advance of a special opcode.
     pub fn line_base(&self) -> i8
-        ensures { result ≡ self.now.meaning.rules.line_encoding.line_base }
+        ensures { result ≡ self.now.meaning.parameters.line_encoding.line_base }
     {
         self.parameters.line_encoding.line_base
     }
 
     /// How many line advances special opcodes have.
     pub fn line_range(&self) -> u8
-        ensures { result ≡ self.now.meaning.rules.line_encoding.line_range }
+        ensures { result ≡ self.now.meaning.parameters.line_encoding.line_range }
     {
         self.parameters.line_encoding.line_range
     }
 
     /// The number of the first special opcode.
     pub fn opcode_base(&self) -> u8
-        ensures { result ≡ self.now.meaning.rules.opcode_base }
+        ensures { result ≡ self.now.meaning.parameters.opcode_base }
     {
         self.parameters.opcode_base
     }
@@ -316,14 +316,14 @@ where
 
     /// Whether the files have a timestamp. Where it doesn't hold, it isn't known of any file.
     pub fn file_has_timestamp(&self) -> bool
-        ensures { result ≡ (nat_le self.now.meaning.rules.encoding.version 4 || has_content 0x0003 self.now.meaning.file_formats) }
+        ensures { result ≡ (nat_le self.now.meaning.parameters.encoding.version 4 || has_content 0x0003 self.now.meaning.file_formats) }
     {
         self.version() <= 4 || self.file_has(constants::DW_LNCT_timestamp)
     }
 
     /// Whether the files have a size. Where it doesn't hold, it isn't known of any file.
     pub fn file_has_size(&self) -> bool
-        ensures { result ≡ (nat_le self.now.meaning.rules.encoding.version 4 || has_content 0x0004 self.now.meaning.file_formats) }
+        ensures { result ≡ (nat_le self.now.meaning.parameters.encoding.version 4 || has_content 0x0004 self.now.meaning.file_formats) }
     {
         self.version() <= 4 || self.file_has(constants::DW_LNCT_size)
     }
@@ -409,7 +409,7 @@ where
         comp_name: Option<R>,
     ) -> Result<Self>
         requires { IsTrue (is_address_size address_size) }
-        ensures read { Answers (λ header. header.meaning) result
+        ensures read { IsAnswer (λ header. header.meaning) result
             (header_at (record { big = R.big input.old; limit = Offset.limit })
             (record { address_size = address_size; directory = option_map R.bytes comp_dir; name = option_map R.bytes comp_name }) (R.bytes input.old)).0 }
         ensures notation { IfOk result (λ header. header.notation ≡ record { big = R.big input.old; limit = Offset.limit }) }
@@ -442,7 +442,7 @@ where
     ) -> Result<Self>
         requires size { IsTrue (is_address_size opening.encoding.address_size) }
         requires order { R.big opening.fields ≡ R.big program_buf }
-        ensures read { Answers (λ header. header.meaning) result
+        ensures read { IsAnswer (λ header. header.meaning) result
             (fields_at (record { big = R.big program_buf; limit = Offset.limit })
             (record { address_size = opening.encoding.address_size; directory = option_map R.bytes comp_dir; name = option_map R.bytes comp_name })
             (Offset.number unit_length)

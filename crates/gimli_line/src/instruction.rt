@@ -88,7 +88,7 @@ where
         ensures read { (seen (ins_seen R.bytes Offset.number) result, R.bytes input.new)
             ≡ ins_at (record { big = R.big input.old; limit = Offset.limit }) header.now.meaning (R.bytes input.old) }
         ensures order { R.big input.new ≡ R.big input.old }
-        ensures allowed { IfOk result (λ i. IsAllowed header.now.meaning.rules (ins_seen R.bytes Offset.number i)) }
+        ensures allowed { IfOk result (λ i. IsAllowed header.now.meaning.parameters (ins_seen R.bytes Offset.number i)) }
     {
         let opcode = input.read_u8()?;
         if opcode == 0 {
@@ -107,7 +107,7 @@ where
         ensures read { (seen (ins_seen R.bytes Offset.number) result, R.bytes input.new)
             ≡ extended_at (record { big = R.big input.old; limit = Offset.limit }) header.now.meaning (R.bytes input.old) }
         ensures order { R.big input.new ≡ R.big input.old }
-        ensures allowed { IfOk result (λ i. IsAllowed header.now.meaning.rules (ins_seen R.bytes Offset.number i)) }
+        ensures allowed { IfOk result (λ i. IsAllowed header.now.meaning.parameters (ins_seen R.bytes Offset.number i)) }
     {
         let length = parse_offset(input)?;
         let mut inside = input.split(length)?;
@@ -124,7 +124,7 @@ where
     ) -> Result<Self>
         ensures read { (behind : List ℕ) → (seen (ins_seen R.bytes Offset.number) result, behind)
             ≡ extended_operands_at (record { big = R.big operands; limit = Offset.limit }) header.now.meaning opcode.0 (R.bytes operands) behind }
-        ensures allowed { IfOk result (λ i. IsAllowed header.now.meaning.rules (ins_seen R.bytes Offset.number i)) }
+        ensures allowed { IfOk result (λ i. IsAllowed header.now.meaning.parameters (ins_seen R.bytes Offset.number i)) }
     {
         let encoding = header.parameters.encoding;
         let mut input = operands;
@@ -158,7 +158,7 @@ where
         ensures read { (seen (ins_seen R.bytes Offset.number) result, R.bytes input.new)
             ≡ standard_at (record { big = R.big input.old; limit = Offset.limit }) header.now.meaning opcode.0 (R.bytes input.old) }
         ensures order { R.big input.new ≡ R.big input.old }
-        ensures allowed { IfOk result (λ i. IsAllowed header.now.meaning.rules (ins_seen R.bytes Offset.number i)) }
+        ensures allowed { IfOk result (λ i. IsAllowed header.now.meaning.parameters (ins_seen R.bytes Offset.number i)) }
     {
         match opcode {
             constants::DW_LNS_copy => Ok(LineInstruction::Copy),
@@ -192,7 +192,7 @@ where
         ensures read { (seen (ins_seen R.bytes Offset.number) result, R.bytes input.new)
             ≡ unknown_at (record { big = R.big input.old; limit = Offset.limit }) header.now.meaning opcode.0 (slice_index header.now.meaning.operand_counts (opcode.0 - 1)) (R.bytes input.old) }
         ensures order { R.big input.new ≡ R.big input.old }
-        ensures allowed { IfOk result (λ i. IsAllowed header.now.meaning.rules (ins_seen R.bytes Offset.number i)) }
+        ensures allowed { IfOk result (λ i. IsAllowed header.now.meaning.parameters (ins_seen R.bytes Offset.number i)) }
     {
         match header.operand_count(opcode) {
             0 => Ok(LineInstruction::UnknownStandard0(opcode)),
@@ -235,9 +235,9 @@ pub struct LineInstructions<R: Reader> {
 }
 
 impl<R: Reader> Model for LineInstructions<R> {
-    ghost use Rattle.gimli_line.specs.Source.{Source};
+    ghost use Rattle.gimli_line.specs.Unread.{Unread};
 
-    ghost Value = { Source };
+    ghost Value = { Unread };
 
     ghost view = { λ a. record { bytes = R.bytes a.input; notation = record { big = R.big a.input; limit = R.Offset.limit } } };
 }
@@ -246,9 +246,9 @@ impl<R: Reader> LineInstructions<R> {
     ghost use Rattle.std.specs.Prelude.{◌≡◌, ◌≢◌, [], ◌++◌, List, ℕ, IfOk, IfErr, MatchOption};
     ghost use Rattle.gimli_line.specs.Instruction.{ins_seen};
     ghost use Rattle.std.specs.Prelude.{Ok};
-    ghost use Rattle.gimli_line.specs.InstructionGrammar.{SpellsInstruction, instruction_line};
+    ghost use Rattle.gimli_line.specs.InstructionGrammar.{SpellsInstruction, instruction_production};
     ghost use Rattle.gimli_line.specs.Machine.{IsAllowed};
-    ghost use Rattle.gimli_line.specs.Source.{in_front};
+    ghost use Rattle.gimli_line.specs.Unread.{in_front};
 
     /// The instructions of these bytes.
     pub(crate) fn new(input: R) -> Self
@@ -295,8 +295,8 @@ impl<R: Reader> LineInstructions<R> {
             (λ i. (front : List ℕ) × (self.old.bytes ≡ front ++ self.new.bytes)
             × SpellsInstruction self.old.notation header.now.meaning front (ins_seen R.bytes R.Offset.number i))) }
         ensures refusal { IfErr result (λ e. (self.old.bytes ≢ []) × (self.new.bytes ≡ [])
-            × (instruction_line self.old.notation header.now.meaning).Fault self.old.bytes e) }
-        ensures allowed { IfOk result (λ next. IfSome next (λ i. IsAllowed header.now.meaning.rules (ins_seen R.bytes R.Offset.number i))) }
+            × (instruction_production self.old.notation header.now.meaning).Fault self.old.bytes e) }
+        ensures allowed { IfOk result (λ next. IfSome next (λ i. IsAllowed header.now.meaning.parameters (ins_seen R.bytes R.Offset.number i))) }
         ensures notation { self.new.notation ≡ self.old.notation }
     {
         if self.input.is_empty() {

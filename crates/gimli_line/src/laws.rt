@@ -1,48 +1,48 @@
-//! Laws of the two grammars: a unit has one header or one refusal, a program is cut in one way. And laws of what a
+//! Laws of the two grammars: a unit has one header or one refusal, a program is decoded in one way. And laws of what a
 //! program gives.
 
 ghost use Rattle.std.specs.Prelude.{◌≡◌, ◌≢◌, ◌≤◌, ◌⊎◌, ◌++◌, ℕ, List, [], Option, length};
 ghost use Rattle.gimli_core.specs.Notation.{Notation};
 ghost use Rattle.gimli_core.specs.declared.common.Format.{Format};
 ghost use Rattle.gimli_core.specs.declared.error.Error.{Error};
-ghost use Rattle.gimli_line.specs.Header.{Header, Given};
+ghost use Rattle.gimli_line.specs.Header.{Header, UnitEntry};
 ghost use Rattle.gimli_line.specs.HeaderGrammar.{Entry, SpellsUnit, HasHeaderFault, SpellsEntries};
 ghost use Rattle.gimli_line.specs.Events.{events_behind};
 ghost use Rattle.gimli_line.specs.Instruction.{Ins};
-ghost use Rattle.gimli_line.specs.InstructionGrammar.{Cuts};
+ghost use Rattle.gimli_line.specs.InstructionGrammar.{Decodes};
 ghost use Rattle.gimli_line.specs.Machine.{run, initial};
-ghost use Rattle.gimli_line.specs.Rising.{AreOneSequence, NeverBelow};
-ghost use Rattle.gimli_line.specs.Rules.{Rules};
+ghost use Rattle.gimli_line.specs.NonDecreasing.{AreOneSequence, NeverBelow};
+ghost use Rattle.gimli_line.specs.Parameters.{Parameters};
 ghost use Rattle.gimli_line.specs.declared.file_entry.FileEntryFormat.{FileEntryFormat};
 
 /// Bytes begin with a unit, or they have a refusal.
 pub fn unit_or_refusal()
-    ensures { (notation : Notation) (given : Given) (bytes : List ℕ) →
-        ((h : Header) × SpellsUnit notation given bytes h) ⊎ ((e : Error) × HasHeaderFault notation given bytes e) }
+    ensures { (notation : Notation) (unit_entry : UnitEntry) (bytes : List ℕ) →
+        ((h : Header) × SpellsUnit notation unit_entry bytes h) ⊎ ((e : Error) × HasHeaderFault notation unit_entry bytes e) }
 {}
 
 /// They don't have both, the header is one, and so is the refusal.
 pub fn one_unit_or_refusal()
-    ensures both { (notation : Notation) (given : Given) (bytes : List ℕ) (h : Header) (e : Error) →
-        SpellsUnit notation given bytes h → HasHeaderFault notation given bytes e → ⊥ }
-    ensures header { (notation : Notation) (given : Given) (bytes : List ℕ) (h k : Header) →
-        SpellsUnit notation given bytes h → SpellsUnit notation given bytes k → h ≡ k }
-    ensures refusal { (notation : Notation) (given : Given) (bytes : List ℕ) (e d : Error) →
-        HasHeaderFault notation given bytes e → HasHeaderFault notation given bytes d → e ≡ d }
+    ensures both { (notation : Notation) (unit_entry : UnitEntry) (bytes : List ℕ) (h : Header) (e : Error) →
+        SpellsUnit notation unit_entry bytes h → HasHeaderFault notation unit_entry bytes e → ⊥ }
+    ensures header { (notation : Notation) (unit_entry : UnitEntry) (bytes : List ℕ) (h k : Header) →
+        SpellsUnit notation unit_entry bytes h → SpellsUnit notation unit_entry bytes k → h ≡ k }
+    ensures refusal { (notation : Notation) (unit_entry : UnitEntry) (bytes : List ℕ) (e d : Error) →
+        HasHeaderFault notation unit_entry bytes e → HasHeaderFault notation unit_entry bytes d → e ≡ d }
 {}
 
-/// A program is cut into instructions, and in one way.
-pub fn one_cut()
+/// A program is decoded into instructions, and in one way.
+pub fn one_decoding()
     ensures some { (notation : Notation) (h : Header) (bytes : List ℕ) →
-        (list : List Ins) × (end : Option Error) × Cuts notation h bytes list end }
+        (list : List Ins) × (end : Option Error) × Decodes notation h bytes list end }
     ensures one { (notation : Notation) (h : Header) (bytes : List ℕ) (list other : List Ins) (end finish : Option Error) →
-        Cuts notation h bytes list end → Cuts notation h bytes other finish → (list ≡ other) × (end ≡ finish) }
+        Decodes notation h bytes list end → Decodes notation h bytes other finish → (list ≡ other) × (end ≡ finish) }
 {}
 
 /// A program has no more instructions than bytes.
 pub fn instructions_are_bounded()
     ensures { (notation : Notation) (h : Header) (bytes : List ℕ) (list : List Ins) (end : Option Error) →
-        Cuts notation h bytes list end → length list ≤ length bytes }
+        Decodes notation h bytes list end → length list ≤ length bytes }
 {}
 
 /// A table of version 5 has no more entries than bytes behind their count.
@@ -54,11 +54,11 @@ pub fn entries_are_bounded()
 
 /// The machine, run from the registers at the start of a sequence, gives the rows and faults that looking back says.
 pub fn machine_gives_events()
-    ensures { (rules : Rules) (list : List Ins) → run rules (initial rules) list ≡ events_behind rules [] list }
+    ensures { (parameters : Parameters) (list : List Ins) → run parameters (initial parameters) list ≡ events_behind parameters [] list }
 {}
 
 /// Between two ends of sequences, whether their rows are hidden or not, and from the start to the first, the addresses
 /// of rows never go down.
 pub fn addresses_never_go_down()
-    ensures { (rules : Rules) (past list : List Ins) → AreOneSequence list → NeverBelow 0 (events_behind rules past list) }
+    ensures { (parameters : Parameters) (past list : List Ins) → AreOneSequence list → NeverBelow 0 (events_behind parameters past list) }
 {}

@@ -13,8 +13,6 @@ mod row;
 mod rows;
 mod sequences;
 mod tables;
-#[cfg(test)]
-mod tests;
 
 pub use debug_line::DebugLine;
 pub use file_entry::{FileEntry, FileEntryFormat};

@@ -4,7 +4,7 @@ ghost use Rattle.std.specs.Prelude.{◌≡◌, ◌<◌, ◌≤◌, IfOk, IsTrue,
 ghost use Rattle.gimli_core.specs.Numbers.{is_address_size};
 ghost use Rattle.gimli_core.specs.Reading.{seen};
 ghost use Rattle.gimli_line.specs.HeaderReading.{positive_at, version_at, own_address_size_at, size_at, opening_at, operations_at, line_encoding_at, rules_at};
-ghost use Rattle.gimli_line.specs.Rules.{IsLineEncoding};
+ghost use Rattle.gimli_line.specs.Parameters.{IsLineEncoding};
 
 use crate::header::Parameters;
 use gimli_core::{Encoding, Error, Format, LineEncoding, Reader, Result};
@@ -95,7 +95,7 @@ pub(crate) fn parse_parameters<R: Reader>(input: &mut R, encoding: Encoding) -> 
     requires { IsTrue (is_address_size encoding.address_size) }
     ensures read { (result, R.bytes input.new) ≡ rules_at encoding (R.bytes input.old) }
     ensures order { R.big input.new ≡ R.big input.old }
-    ensures positive { IfOk result (λ rules. 0 < rules.opcode_base) }
+    ensures positive { IfOk result (λ parameters. 0 < parameters.opcode_base) }
 {
     let line_encoding = parse_line_encoding(input, encoding.version)?;
     let opcode_base = parse_positive(input, Error::OpcodeBaseZero)?;

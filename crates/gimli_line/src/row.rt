@@ -12,7 +12,7 @@ use std::num::NonZeroU64;
 #[derive(Clone, Copy, Debug, PartialEq, Eq)]
 pub struct LineRow {
     /// The last set address hides what follows it.
-    tombstone: bool,
+    hidden: bool,
     address: u64,
     op_index: u64,
     file: u64,
@@ -40,16 +40,16 @@ impl LineRow {
     ghost use Rattle.gimli_line.specs.Header.{files_behind, file_of};
     ghost use Rattle.gimli_line.specs.Instruction.{ins_seen, file_seen, makes_row, defines_file};
     ghost use Rattle.gimli_line.specs.Machine.{initial, reset_row, rebased, IsAllowed, is_refused, stepped, with_register};
-    ghost use Rattle.gimli_line.specs.Pointer.{exceeds};
-    ghost use Rattle.gimli_line.specs.Columns.{IsColumn};
+    ghost use Rattle.gimli_line.specs.OperationPointer.{exceeds};
+    ghost use Rattle.gimli_line.specs.Row.{IsColumn};
     ghost use Rattle.gimli_line.specs.Registers.{advanced_line};
 
     /// The registers at the start of a sequence.
     pub fn new<R: Reader>(header: &LineProgramHeader<R>) -> Self
-        ensures { result ≡ initial header.now.meaning.rules }
+        ensures { result ≡ initial header.now.meaning.parameters }
     {
         LineRow {
-            tombstone: false,
+            hidden: false,
             address: 0,
             op_index: 0,
             file: 1,
@@ -164,9 +164,9 @@ impl LineRow {
 
     /// Whether the row is hidden.
     pub(crate) fn is_hidden(&self) -> bool
-        ensures { result ≡ self.now.tombstone }
+        ensures { result ≡ self.now.hidden }
     {
-        self.tombstone
+        self.hidden
     }
 
     /// Executes an instruction, and says whether it makes a row, which may be hidden. A file that it defines is
@@ -178,14 +178,14 @@ impl LineRow {
         instruction: LineInstruction<R>,
         program: &mut P,
     ) -> Result<bool>
-        requires { IsAllowed (P.meaning program.old).rules (ins_seen R.bytes R.Offset.number instruction) }
+        requires { IsAllowed (P.meaning program.old).parameters (ins_seen R.bytes R.Offset.number instruction) }
         ensures made { IfOk result (λ made. made ≡ makes_row (ins_seen R.bytes R.Offset.number instruction)) }
-        ensures step { OnOk result (self.new ≡ stepped (P.meaning program.old).rules (ins_seen R.bytes R.Offset.number instruction) self.old) }
-        ensures fits { OnOk result (is_refused (P.meaning program.old).rules (ins_seen R.bytes R.Offset.number instruction) self.old ≡ false) }
+        ensures step { OnOk result (self.new ≡ stepped (P.meaning program.old).parameters (ins_seen R.bytes R.Offset.number instruction) self.old) }
+        ensures fits { OnOk result (is_refused (P.meaning program.old).parameters (ins_seen R.bytes R.Offset.number instruction) self.old ≡ false) }
         ensures files { OnOk result (P.meaning program.new ≡ record (P.meaning program.old) { files = files_behind P.appends (ins_seen R.bytes R.Offset.number instruction) (P.meaning program.old).files }) }
         ensures overflow { IfErr result (λ e. e ≡ Error.AddressOverflow →
-            (is_refused (P.meaning program.old).rules (ins_seen R.bytes R.Offset.number instruction) self.old ≡ true)
-            × (self.new ≡ stepped (P.meaning program.old).rules (ins_seen R.bytes R.Offset.number instruction) self.old)) }
+            (is_refused (P.meaning program.old).parameters (ins_seen R.bytes R.Offset.number instruction) self.old ≡ true)
+            × (self.new ≡ stepped (P.meaning program.old).parameters (ins_seen R.bytes R.Offset.number instruction) self.old)) }
         ensures memory { IfErr result (λ e. e ≢ Error.AddressOverflow →
             (e ≡ Error.OutOfMemory) × (P.appends ≡ true) × (defines_file (ins_seen R.bytes R.Offset.number instruction) ≡ true) × (self.new ≡ self.old)) }
         ensures kept { OnErr result (P.meaning program.new ≡ P.meaning program.old) }
@@ -267,7 +267,7 @@ impl LineRow {
     /// Makes the registers ready for what follows a row: those of a row alone are cleared, and behind an end all
     /// start anew.
     pub fn reset<R: Reader>(&mut self, header: &LineProgramHeader<R>)
-        ensures { self.new ≡ reset_row header.now.meaning.rules self.old }
+        ensures { self.new ≡ reset_row header.now.meaning.parameters self.old }
     {
         if self.end_sequence {
             *self = Self::new(header);
@@ -284,7 +284,7 @@ impl LineRow {
     pub fn rebase(&mut self)
         ensures { self.new ≡ rebased self.old }
     {
-        self.tombstone = false;
+        self.hidden = false;
         self.address = 0;
         self.op_index = 0;
     }
@@ -310,7 +310,7 @@ impl LineRow {
         ensures fits { OnOk result (is_refused parameters.now (LineInstruction.AdvancePc operation_advance) self.old ≡ false) }
         ensures overflow { IfErr result (λ e. (e ≡ Error.AddressOverflow) × (is_refused parameters.now (LineInstruction.AdvancePc operation_advance) self.old ≡ true)) }
     {
-        if self.tombstone {
+        if self.hidden {
             return Ok(());
         }
         let encoding = parameters.line_encoding;
@@ -346,7 +346,7 @@ impl LineRow {
         ensures fits { OnOk result (is_refused parameters.now (LineInstruction.FixedAddPc advance) self.old ≡ false) }
         ensures overflow { IfErr result (λ e. (e ≡ Error.AddressOverflow) × (is_refused parameters.now (LineInstruction.FixedAddPc advance) self.old ≡ true)) }
     {
-        if self.tombstone {
+        if self.hidden {
             return Ok(());
         }
         self.add_to_address(u64::from(advance), parameters)?;
@@ -385,8 +385,8 @@ impl LineRow {
         ensures { self.new ≡ stepped parameters.now (LineInstruction.SetAddress address) self.old }
     {
         let min_tombstone = u64::min_tombstone(parameters.encoding.address_size);
-        self.tombstone = address < self.address || address >= min_tombstone;
-        if !self.tombstone {
+        self.hidden = address < self.address || address >= min_tombstone;
+        if !self.hidden {
             self.address = address;
             self.op_index = 0;
         }

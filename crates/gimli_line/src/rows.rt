@@ -31,9 +31,9 @@ pub type ResumedLineRows<'program, R> = LineRows<R, &'program CompleteLineProgra
 
 impl<R: Reader, P: LineProgram<R>> Model for LineRows<R, P> {
     ghost use Rattle.gimli_line.specs.Header.{bare};
-    ghost use Rattle.gimli_line.specs.Left.{Left};
+    ghost use Rattle.gimli_line.specs.RunState.{RunState};
 
-    ghost Value = { Left };
+    ghost Value = { RunState };
 
     ghost view = { λ a. record {
       fixed = bare (P.meaning a.program);
@@ -42,7 +42,7 @@ impl<R: Reader, P: LineProgram<R>> Model for LineRows<R, P> {
       notation = P.notation a.program;
       offset = P.offset a.program;
       row = a.row;
-      source = a.instructions;
+      unread = a.instructions;
     } };
 }
 
@@ -65,7 +65,7 @@ impl<R: Reader, P: LineProgram<R>> LineRows<R, P> {
     ghost use Rattle.std.specs.Io.BufRead.{Rests};
     ghost use Rattle.gimli_line.specs.Events.{row as row_event};
     ghost use Rattle.gimli_line.specs.Header.{bare};
-    ghost use Rattle.gimli_line.specs.Passed.{ready, Passes};
+    ghost use Rattle.gimli_line.specs.Progress.{ready, Progress};
     ghost use Rattle.gimli_line.specs.Rows.{events_left, event_of, started, KeepsHeader, StepIs, FaultIs};
 
     /// The rows of these instructions of a program, from the start of a sequence on.
@@ -119,7 +119,7 @@ impl<R: Reader, P: LineProgram<R>> LineRows<R, P> {
 
     /// The instructions to come.
     pub(crate) fn instructions(&self) -> &LineInstructions<R>
-        ensures { result.now ≡ self.now.source }
+        ensures { result.now ≡ self.now.unread }
     {
         &self.instructions
     }
@@ -145,8 +145,8 @@ impl<R: Reader, P: LineProgram<R>> LineRows<R, P> {
         ensures notation { self.new.notation ≡ self.old.notation }
         ensures offset { self.new.offset ≡ self.old.offset }
         ensures passes { IfOk result (λ found. MatchBool found
-            (Passes (ready self.old) (ready self.new) (row_event self.new.row ∷ []))
-            ((self.new.source.bytes ≡ []) × Passes (ready self.old) self.new [])) }
+            (Progress (ready self.old) (ready self.new) (row_event self.new.row ∷ []))
+            ((self.new.unread.bytes ≡ []) × Progress (ready self.old) self.new [])) }
     {
         self.row.reset(self.program.header());
         'instructions: loop {
@@ -223,11 +223,11 @@ impl<'program, R: Reader> LineRows<R, &'program CompleteLineProgram<R>> {
 impl<R: Reader> IncompleteLineProgram<R> {
     ghost use Rattle.std.specs.Prelude.{◌≡◌, true};
     ghost use Rattle.gimli_line.specs.Rows.{events_left, started};
-    ghost use Rattle.gimli_line.specs.Told.{Tells};
+    ghost use Rattle.gimli_line.specs.EventsWithFiles.{EventsWithFiles};
 
     /// The rows of the program, from its start to its end.
     pub fn rows(self) -> OneShotLineRows<R>
-        ensures told { Tells self.notation true self.meaning self.meaning.program (events_left result) }
+        ensures events { EventsWithFiles self.notation true self.meaning self.meaning.program (events_left result) }
         ensures start { result ≡ started true self.meaning self.notation (R.Offset.number self.offset.0) (record { bytes = self.meaning.program; notation = self.notation }) }
     {
         let instructions = self.header.instructions();

@@ -34,7 +34,7 @@ impl<R: Reader> LineSequence<R> {
 
 /// The sequences that were cut off so far, and the one that is open.
 #[derive(Drop)]
-struct Cutter<R: Reader> {
+struct SequenceSplit<R: Reader> {
     sequences: Vec<LineSequence<R>>,
     /// The instructions from the start of the open sequence on.
     instructions: LineInstructions<R>,
@@ -42,26 +42,26 @@ struct Cutter<R: Reader> {
     start: Option<u64>,
 }
 
-impl<R: Reader> Model for Cutter<R> {
+impl<R: Reader> Model for SequenceSplit<R> {
     ghost use Rattle.std.specs.Prelude.{map};
-    ghost use Rattle.gimli_line.specs.Cutter.{Cut};
+    ghost use Rattle.gimli_line.specs.SequenceSplit.{SequenceSplit};
     ghost use Rattle.gimli_line.specs.Sequences.{part_of};
 
-    ghost Value = { Cut };
+    ghost Value = { SequenceSplit };
 
-    ghost view = { λ a. record { parts = map part_of a.sequences.items; source = a.instructions; start = a.start } };
+    ghost view = { λ a. record { parts = map part_of a.sequences.items; unread = a.instructions; start = a.start } };
 }
 
-impl<R: Reader> Cutter<R> {
+impl<R: Reader> SequenceSplit<R> {
     ghost use Rattle.std.specs.Prelude.{◌≡◌, ◌++◌, ℕ, List, [], None, map, IfErr, OnOk};
-    ghost use Rattle.gimli_line.specs.Cutter.{with_row};
+    ghost use Rattle.gimli_line.specs.SequenceSplit.{with_row};
     ghost use Rattle.gimli_line.specs.Sequences.{part_of};
 
     /// No sequence yet, and an open one that starts with these instructions.
     fn new(alloc: Global, instructions: LineInstructions<R>) -> Self
-        ensures { result ≡ record { parts = []; source = instructions; start = None } }
+        ensures { result ≡ record { parts = []; unread = instructions; start = None } }
     {
-        Cutter {
+        SequenceSplit {
             sequences: Vec::new(alloc),
             instructions,
             start: None,
@@ -70,7 +70,7 @@ impl<R: Reader> Cutter<R> {
 
     /// Takes in the next row, behind which a rest of the instructions is left. Refused by `OutOfMemory` alone.
     fn row(&mut self, row: &LineRow, rest: &LineInstructions<R>) -> Result<()>
-        requires { (front : List ℕ) × (self.old.source.bytes ≡ front ++ rest.now.bytes) }
+        requires { (front : List ℕ) × (self.old.unread.bytes ≡ front ++ rest.now.bytes) }
         ensures ok { OnOk result (self.new ≡ with_row row.now rest.now self.old) }
         ensures err { IfErr result (λ e. e ≡ Error.OutOfMemory) }
     {
@@ -112,7 +112,7 @@ impl<R: Reader> IncompleteLineProgram<R> {
         ensures err { IfErr result (λ e. e ≢ Error.OutOfMemory → HasFirstFault self.notation self.meaning e) }
     {
         let mut rows = self.rows();
-        let mut cutter = Cutter::new(alloc, rows.instructions().clone());
+        let mut cutter = SequenceSplit::new(alloc, rows.instructions().clone());
         'rows: while rows.advance()? {
             cutter.row(rows.row(), rows.instructions())?;
         }

@@ -4,7 +4,7 @@ ghost use Rattle.std.specs.Prelude.{◌≡◌, [], ◌∷◌, ◌++◌, map, IfE
 ghost use Rattle.gimli_core.specs.Reading.{seen, times_at};
 ghost use Rattle.gimli_core.specs.Values.{value_seen};
 ghost use Rattle.gimli_core.specs.declared.attribute_value.AttributeValue.TheVariants.{String};
-ghost use Rattle.gimli_line.specs.Gives.{Gives, viewed};
+ghost use Rattle.gimli_line.specs.Outcome.{IsOutcome, viewed};
 ghost use Rattle.gimli_line.specs.HeaderGrammar.{path_of, file_of_entry};
 ghost use Rattle.gimli_line.specs.HeaderReading.{format_at, formats_at, paths_at, files_at, entry_at, entries_at, directories_at, file_names_at};
 ghost use Rattle.gimli_line.specs.Instruction.{file_seen};
@@ -33,7 +33,7 @@ pub(crate) fn push<T: Drop>(list: &mut Vec<T>, item: T) -> Result<()>
 /// Takes the formats of a table. Refused by `MissingFileEntryFormatPath` where not exactly one of them is a path.
 #[tactic(auto, unfolding(crate::specs::HeaderReading::formats_at))]
 pub(crate) fn parse_formats<R: Reader>(alloc: Global, input: &mut R) -> Result<Vec<FileEntryFormat>>
-    ensures read { Gives (λ formats. formats.items) result (R.bytes input.new) (formats_at (R.bytes input.old)) }
+    ensures read { IsOutcome (λ formats. formats.items) result (R.bytes input.new) (formats_at (R.bytes input.old)) }
     ensures order { R.big input.new ≡ R.big input.old }
 {
     let count = input.read_u8()?;
@@ -54,7 +54,7 @@ fn parse_all_formats<R: Reader>(
     input: &mut R,
     count: u8,
 ) -> Result<Vec<FileEntryFormat>>
-    ensures read { Gives (λ formats. formats.items) result (R.bytes input.new) (times_at count format_at (R.bytes input.old)) }
+    ensures read { IsOutcome (λ formats. formats.items) result (R.bytes input.new) (times_at count format_at (R.bytes input.old)) }
     ensures order { R.big input.new ≡ R.big input.old }
 {
     let mut formats = Vec::new(alloc);
@@ -83,7 +83,7 @@ fn parse_format<R: Reader>(input: &mut R) -> Result<FileEntryFormat>
 
 /// Takes directories up to an empty one.
 fn parse_directories<R: Reader>(alloc: Global, input: &mut R) -> Result<Vec<AttributeValue<R>>>
-    ensures read { Gives (λ directories. map (value_seen R.bytes R.Offset.number) directories.items) result (R.bytes input.new)
+    ensures read { IsOutcome (λ directories. map (value_seen R.bytes R.Offset.number) directories.items) result (R.bytes input.new)
         (viewed (map String) (paths_at (R.bytes input.old))) }
     ensures order { R.big input.new ≡ R.big input.old }
 {
@@ -99,7 +99,7 @@ fn parse_directories<R: Reader>(alloc: Global, input: &mut R) -> Result<Vec<Attr
 
 /// Takes files up to one with an empty path.
 fn parse_files<R: Reader>(alloc: Global, input: &mut R) -> Result<Vec<FileEntry<R>>>
-    ensures read { Gives (λ files. map (file_seen R.bytes R.Offset.number) files.items) result (R.bytes input.new)
+    ensures read { IsOutcome (λ files. map (file_seen R.bytes R.Offset.number) files.items) result (R.bytes input.new)
         (files_at (R.bytes input.old)) }
     ensures order { R.big input.new ≡ R.big input.old }
 {
@@ -171,7 +171,7 @@ fn parse_directories_v5<R: Reader>(
     format: Format,
     formats: &[FileEntryFormat],
 ) -> Result<Vec<AttributeValue<R>>>
-    ensures read { Gives (λ directories. map (value_seen R.bytes R.Offset.number) directories.items) result (R.bytes input.new)
+    ensures read { IsOutcome (λ directories. map (value_seen R.bytes R.Offset.number) directories.items) result (R.bytes input.new)
         (viewed (map path_of) (entries_at (record { big = R.big input.old; limit = R.Offset.limit }) format formats.now (R.bytes input.old))) }
     ensures order { R.big input.new ≡ R.big input.old }
 {
@@ -192,7 +192,7 @@ fn parse_files_v5<R: Reader>(
     format: Format,
     formats: &[FileEntryFormat],
 ) -> Result<Vec<FileEntry<R>>>
-    ensures read { Gives (λ files. map (file_seen R.bytes R.Offset.number) files.items) result (R.bytes input.new)
+    ensures read { IsOutcome (λ files. map (file_seen R.bytes R.Offset.number) files.items) result (R.bytes input.new)
         (viewed (map file_of_entry) (entries_at (record { big = R.big input.old; limit = R.Offset.limit }) format formats.now (R.bytes input.old))) }
     ensures order { R.big input.new ≡ R.big input.old }
 {
@@ -214,7 +214,7 @@ pub(crate) fn parse_directory_table<R: Reader>(
     input: &mut R,
     encoding: Encoding,
 ) -> Result<(Vec<FileEntryFormat>, Vec<AttributeValue<R>>)>
-    ensures read { Gives (λ table. (table.0.items, map (value_seen R.bytes R.Offset.number) table.1.items)) result (R.bytes input.new)
+    ensures read { IsOutcome (λ table. (table.0.items, map (value_seen R.bytes R.Offset.number) table.1.items)) result (R.bytes input.new)
         (directories_at (record { big = R.big input.old; limit = R.Offset.limit }) encoding (R.bytes input.old)) }
     ensures order { R.big input.new ≡ R.big input.old }
 {
@@ -234,7 +234,7 @@ pub(crate) fn parse_file_table<R: Reader>(
     input: &mut R,
     encoding: Encoding,
 ) -> Result<(Vec<FileEntryFormat>, Vec<FileEntry<R>>)>
-    ensures read { Gives (λ table. (table.0.items, map (file_seen R.bytes R.Offset.number) table.1.items)) result (R.bytes input.new)
+    ensures read { IsOutcome (λ table. (table.0.items, map (file_seen R.bytes R.Offset.number) table.1.items)) result (R.bytes input.new)
         (file_names_at (record { big = R.big input.old; limit = R.Offset.limit }) encoding (R.bytes input.old)) }
     ensures order { R.big input.new ≡ R.big input.old }
 {

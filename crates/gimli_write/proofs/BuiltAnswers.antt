@@ -6,25 +6,25 @@ use Rattle.std.proofs.lemmas.Result.{IfOk-weaker, MatchResult-weaker}
 use Rattle.gimli_core.specs.Notation.{Notation}
 use Rattle.gimli_core.specs.Values.{Value}
 use Rattle.gimli_core.specs.declared.error.Error.{Error}
-use Rattle.gimli_line.specs.Header.{Header, Given}
+use Rattle.gimli_line.specs.Header.{Header, UnitEntry}
 use Rattle.gimli_line.specs.HeaderGrammar.{SpellsUnit}
 use Rattle.gimli_line.specs.Instruction.{Ins, File as ReadFile}
 use Rattle.gimli_line.specs.Events.{Event, row, fault, Events, program_events}
 use Rattle.gimli_line.specs.declared.row.LineRow.{LineRow as ReadRow}
 use Rattle.gimli_line.proofs.HeaderLaws.{one_header}
-use Rattle.gimli_line.proofs.InstructionLaws.{one_cut}
+use Rattle.gimli_line.proofs.InstructionLaws.{one_decoding}
 use Rattle.gimli_write.specs.LineText.{bytes_in}
 use Rattle.gimli_write.specs.Tables.{File}
 use Rattle.gimli_write.specs.Built.{Built}
 use Rattle.gimli_write.specs.Stored.{stored}
-use Rattle.gimli_write.specs.Items.{AreHeld}
-use Rattle.gimli_write.specs.SameRow.{AreSame}
+use Rattle.gimli_write.specs.Items.{AddressesFit}
+use Rattle.gimli_write.specs.SameRow.{RowsMatch}
 use Rattle.gimli_write.specs.Texts.{Sections, IsText, IsOptionalText, OneByOne}
 use Rattle.gimli_write.specs.ReadsBack.{IsUnit, IsDirectory, IsFile, ReadsBack, directories_from_zero}
 use Rattle.gimli_write.specs.declared.convert_error.ConvertError.{ConvertError}
 use Rattle.gimli_write.specs.declared.convert_error.ConvertError.TheVariants.{Read, OutOfMemory as NoMemory}
 use Rattle.gimli_write.specs.declared.read_back.RoundTrip.{RoundTrip}
-use Rattle.gimli_write.specs.RoundTrip.{FileAnswer, file_answer, built_file, Answers, answers, IsFileAnswer, AreAnswers, AnswersUnit, AnswersProgram, IsUnitOf, IsRunRefusal, RefusesUnit, slice_notation, given_of, sections_of}
+use Rattle.gimli_write.specs.RoundTrip.{FileAnswer, file_answer, built_file, Answers, answers, IsFileAnswer, AreAnswers, AnswersUnit, AnswersProgram, IsUnitOf, IsRunRefusal, RefusesUnit, slice_notation, unit_entry_of, sections_of}
 use Rattle.gimli_write.proofs.ReadTexts.{text_there}
 use Rattle.gimli_write.proofs.ReadUnits.{read_back, AreShort}
 
@@ -85,7 +85,7 @@ file_same s p strings line_strings read built answer is also =
 events_same : (notation : Notation) (h : Header) (bytes : List ℕ) (es fs : List Event) → Events notation h bytes es → Events notation h bytes fs → es ≡ fs
 events_same notation h bytes es fs a b =
     a.given
-    ∙ ap (λ (c : List Ins × Option Error). program_events h.rules c.0 c.1) (one_cut notation h bytes a.list a.end a.cut ∙ sym (one_cut notation h bytes b.list b.end b.cut))
+    ∙ ap (λ (c : List Ins × Option Error). program_events h.parameters c.0 c.1) (one_decoding notation h bytes a.list a.end a.decoding ∙ sym (one_decoding notation h bytes b.list b.end b.decoding))
     ∙ sym b.given
 
 rows_same : (rows others : List ReadRow) → map row rows ≡ map row others → rows ≡ others
@@ -110,49 +110,49 @@ no_fault_among (r ∷ rows) (s ∷ others) e rest is =
 rows_refused : (notation : Notation) (h : Header) (rows : List ReadRow) (e : ConvertError) → Events notation h h.program (map row rows) → IsRunRefusal notation h e → e ≡ NoMemory
 rows_refused notation h rows NoMemory given refused = refl
 rows_refused notation h rows (Read e) given refused =
-    let whole : Events notation h h.program (program_events h.rules refused.list refused.end) = record {
+    let whole : Events notation h h.program (program_events h.parameters refused.list refused.end) = record {
       list = refused.list;
       end = refused.end;
-      cut = refused.cut;
+      decoding = refused.decoding;
       given = refl;
     } in
     absurd (no_fault_among rows refused.rows e refused.rest
-    (events_same notation h h.program (map row rows) (program_events h.rules refused.list refused.end) given whole ∙ refused.given))
+    (events_same notation h h.program (map row rows) (program_events h.parameters refused.list refused.end) given whole ∙ refused.given))
 rows_refused notation h rows e given refused = absurd refused
 
 -- ---- a unit
 
-module _ (notation : Notation) (given : Given) (sections : Sections) (p : Built) (strings line_strings : List (List ℕ)) (unit : List ℕ)
-    (back : ReadsBack notation given sections p strings line_strings unit) where
-  begins : (h : Header) → IsUnit notation given unit h → SpellsUnit notation given unit h
+module _ (notation : Notation) (unit_entry : UnitEntry) (sections : Sections) (p : Built) (strings line_strings : List (List ℕ)) (unit : List ℕ)
+    (back : ReadsBack notation unit_entry sections p strings line_strings unit) where
+  begins : (h : Header) → IsUnit notation unit_entry unit h → SpellsUnit notation unit_entry unit h
   begins h is = (unit, [], sym (append-nil unit), is.spelled)
 
-  header_same : (h : Header) → IsUnit notation given unit h → h ≡ back.header
-  header_same h is = one_header notation given unit h back.header (begins h is) (begins back.header back.is_unit)
+  header_same : (h : Header) → IsUnit notation unit_entry unit h → h ≡ back.header
+  header_same h is = one_header notation unit_entry unit h back.header (begins h is) (begins back.header back.is_unit)
 
-  answered : (a : Answers) → AnswersUnit notation given sections unit a → AreAnswers notation sections back.header a
+  answered : (a : Answers) → AnswersUnit notation unit_entry sections unit a → AreAnswers notation sections back.header a
   answered a is = subst (λ (h : Header). AreAnswers notation sections h a) (header_same is.header is.is_unit) is.answered
 
-  directories_built : (a : Answers) → AnswersUnit notation given sections unit a → a.directories ≡ map (bytes_in strings line_strings) p.directories
+  directories_built : (a : Answers) → AnswersUnit notation unit_entry sections unit a → a.directories ≡ map (bytes_in strings line_strings) p.directories
   directories_built a is =
       one_by_one_same (IsDirectory sections strings line_strings) (IsText sections) (bytes_in strings line_strings)
       (λ v built text is also. text_same sections v (bytes_in strings line_strings built) text is also)
       (directories_from_zero back.header) p.directories a.directories back.directories (answered a is).directories
 
-  files_built : (a : Answers) → AnswersUnit notation given sections unit a → a.files ≡ map (built_file p strings line_strings) p.files
+  files_built : (a : Answers) → AnswersUnit notation unit_entry sections unit a → a.files ≡ map (built_file p strings line_strings) p.files
   files_built a is =
       one_by_one_same (IsFile sections p strings line_strings) (IsFileAnswer sections) (built_file p strings line_strings)
       (λ read built answer is also. file_same sections p strings line_strings read built answer is also)
       back.header.files p.files a.files back.files (answered a is).files
 
-  rows_built : (a : Answers) → AnswersUnit notation given sections unit a → AreHeld p.encoding.address_size 0 (0, 0) p.items
-      → AreSame p.encoding.version [] p.items a.rows
+  rows_built : (a : Answers) → AnswersUnit notation unit_entry sections unit a → AddressesFit p.encoding.address_size 0 (0, 0) p.items
+      → RowsMatch p.encoding.version [] p.items a.rows
   rows_built a is held =
       let rows = back.rows held in
       let same = rows_same rows.0 a.rows (events_same notation back.header back.header.program (map row rows.0) (map row a.rows) rows.1 (answered a is).rows) in
-      subst (λ (xs : List ReadRow). AreSame p.encoding.version [] p.items xs) same rows.2
+      subst (λ (xs : List ReadRow). RowsMatch p.encoding.version [] p.items xs) same rows.2
 
-  refused_for_memory : (e : ConvertError) → AreHeld p.encoding.address_size 0 (0, 0) p.items → RefusesUnit notation given unit e → e ≡ NoMemory
+  refused_for_memory : (e : ConvertError) → AddressesFit p.encoding.address_size 0 (0, 0) p.items → RefusesUnit notation unit_entry unit e → e ≡ NoMemory
   refused_for_memory e held refused =
       let rows = back.rows held in
       rows_refused notation back.header rows.0 e rows.1
@@ -161,7 +161,7 @@ module _ (notation : Notation) (given : Given) (sections : Sections) (p : Built)
 -- ---- the unit of a program
 
 module _ (big : Bool) (p : Built) (strings line_strings : List (List ℕ)) (section : List ℕ) (n : ℕ) (whole : IsUnitOf big p strings line_strings (drop n section)) (fits : length section < 2 ^ 64) (held : AreShort strings line_strings) where
-  read_again : ReadsBack (slice_notation big) (given_of p strings line_strings) (sections_of strings line_strings) p strings line_strings (drop n section)
+  read_again : ReadsBack (slice_notation big) (unit_entry_of p strings line_strings) (sections_of strings line_strings) p strings line_strings (drop n section)
   read_again = read_back big p strings line_strings section n whole fits held
 
   pub built_directories : (r : Result RoundTrip ConvertError) → IfOk r (AnswersProgram big p strings line_strings (drop n section))
@@ -173,9 +173,9 @@ module _ (big : Bool) (p : Built) (strings line_strings : List (List ℕ)) (sect
   built_files r is = IfOk-weaker r _ _ (λ answer a. files_built _ _ _ p strings line_strings _ read_again (answers answer) a) is
 
   pub built_rows : (r : Result RoundTrip ConvertError) → IfOk r (AnswersProgram big p strings line_strings (drop n section))
-      → IfOk r (λ answer. AreHeld p.encoding.address_size 0 (0, 0) p.items → AreSame p.encoding.version [] p.items answer.rows.items)
+      → IfOk r (λ answer. AddressesFit p.encoding.address_size 0 (0, 0) p.items → RowsMatch p.encoding.version [] p.items answer.rows.items)
   built_rows r is = IfOk-weaker r _ _ (λ answer a. rows_built _ _ _ p strings line_strings _ read_again (answers answer) a) is
 
-  pub never_read : (r : Result RoundTrip ConvertError) → IfErr r (RefusesUnit (slice_notation big) (given_of p strings line_strings) (drop n section))
-      → AreHeld p.encoding.address_size 0 (0, 0) p.items → IfErr r (λ e. e ≡ NoMemory)
+  pub never_read : (r : Result RoundTrip ConvertError) → IfErr r (RefusesUnit (slice_notation big) (unit_entry_of p strings line_strings) (drop n section))
+      → AddressesFit p.encoding.address_size 0 (0, 0) p.items → IfErr r (λ e. e ≡ NoMemory)
   never_read r is held = MatchResult-weaker r is (λ _ u. u) (λ e f. refused_for_memory _ _ _ p strings line_strings _ read_again e held f)

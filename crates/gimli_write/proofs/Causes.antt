@@ -17,7 +17,7 @@ use Rattle.gimli_write.specs.Built.{Built}
 use Rattle.gimli_write.specs.Rows.{initial_row}
 use Rattle.gimli_write.specs.Joined.{joined, RefusesFor}
 use Rattle.gimli_write.specs.Items.{item_bytes, items_bytes, next_previous}
-use Rattle.gimli_write.specs.NewTables.{strings_behind, line_strings_behind}
+use Rattle.gimli_write.specs.Version5Tables.{strings_behind, line_strings_behind}
 use Rattle.gimli_write.specs.Unit.{version_bytes, opening_bytes, operations_bytes, line_encoding_bytes, flag_byte, base_byte, opcode_bytes, tables_bytes, fields_bytes, header_bytes, program_bytes, inside_bytes, escape_bytes, whole_bytes, is_incompatible, unit_bytes}
 use Rattle.gimli_write.specs.Cause.{cause_if, first_of, text_cause, item_cause, word_cause, unit_length_cause, header_length, unit_length, emitted_texts, first_cause}
 use Rattle.gimli_write.proofs.Refusals.{refusal, or_first, first_before_none, first_apart, joined-refusal, behind-refusal, tested-refusal, barred-refusal, seven_causes}

@@ -9,7 +9,7 @@ use Rattle.gimli_write.specs.LineText.{IsWithin}
 use Rattle.gimli_write.specs.Tables.{File}
 use Rattle.gimli_write.specs.Built.{Built}
 use Rattle.gimli_write.specs.Conditions.{CanWrite}
-use Rattle.gimli_write.specs.NewTables.{needs_empty, strings_behind, line_strings_behind}
+use Rattle.gimli_write.specs.Version5Tables.{needs_empty, strings_behind, line_strings_behind}
 use Rattle.gimli_write.proofs.ReadyTexts.{within_behind}
 
 -- ---- what is there stays

@@ -8,7 +8,7 @@ use Rattle.std.proofs.lemmas.Bool.{ltb-true, leb-true, leb-false, lt-ltb, lt-leb
 use Rattle.std.proofs.lemmas.List.{append-nil}
 use Rattle.gimli_core.specs.Notation.{Notation}
 use Rattle.gimli_core.specs.Numbers.{SpellsNumber, SpellsInitialLength, number_bytes, word_size, is_address_size}
-use Rattle.gimli_core.specs.Line.{Line, ◌>>=◌, done, check, choose, byte, offset_word, unit_length, fits_offset}
+use Rattle.gimli_core.specs.Production.{Production, ◌>>=◌, done, check, choose, byte, offset_word, unit_length, fits_offset}
 use Rattle.gimli_core.specs.declared.common.LineEncoding.{LineEncoding}
 use Rattle.gimli_core.specs.declared.common.Format.{Format}
 use Rattle.gimli_core.specs.declared.common.Format.TheVariants.{Dwarf32, Dwarf64}
@@ -18,8 +18,8 @@ use Rattle.gimli_core.proofs.Written.{number_spelled}
 use Rattle.gimli_bytes.specs.Number.{udata, length_word}
 use Rattle.gimli_bytes.specs.declared.error.Error.{Error}
 use Rattle.gimli_bytes.specs.declared.error.Error.TheVariants.{NeedVersion, UnsupportedVersion, ValueTooLarge, InitialLengthOverflow}
-use Rattle.gimli_line.specs.Lines.{positive}
-use Rattle.gimli_line.specs.HeaderGrammar.{version_line, address_size_line, line_encoding_line}
+use Rattle.gimli_line.specs.Productions.{positive}
+use Rattle.gimli_line.specs.HeaderGrammar.{version_production, address_size_production, line_encoding_production}
 use Rattle.gimli_write.specs.Advance.{CanEncode}
 use Rattle.gimli_write.specs.Joined.{joined}
 use Rattle.gimli_write.specs.Unit.{version_bytes, operations_bytes, flag_byte, base_byte, line_encoding_bytes, escape_bytes}
@@ -32,11 +32,11 @@ positive-spelled n d some =
     let other : nat_eq n 0 ≡ false = ne_eqb n 0 (λ e. absurd (omega (arith, some))) in
     (n, n ∷ [], [], refl, refl, (tt, [], [], refl, (refl, ap not other), (refl, refl)))
 
-pub first-chosen : {A : Type 0} (b : Bool) (l m : Line A) (bytes : List ℕ) (x : A) → b ≡ true → l.Spells bytes x → (choose b l m).Spells bytes x
+pub first-chosen : {A : Type 0} (b : Bool) (l m : Production A) (bytes : List ℕ) (x : A) → b ≡ true → l.Spells bytes x → (choose b l m).Spells bytes x
 first-chosen true l m bytes x is s = s
 first-chosen false l m bytes x is s = absurd cc
 
-pub second-chosen : {A : Type 0} (b : Bool) (l m : Line A) (bytes : List ℕ) (x : A) → b ≡ false → m.Spells bytes x → (choose b l m).Spells bytes x
+pub second-chosen : {A : Type 0} (b : Bool) (l m : Production A) (bytes : List ℕ) (x : A) → b ≡ false → m.Spells bytes x → (choose b l m).Spells bytes x
 second-chosen true l m bytes x is s = absurd cc
 second-chosen false l m bytes x is s = s
 
@@ -51,7 +51,7 @@ unfolding base_byte
 base_read base fits = to_z-of_z w8 base fits
 
 -- behind the operations
-abbrev rest_line : ℕ → ℕ → Line LineEncoding
+abbrev rest_line : ℕ → ℕ → Production LineEncoding
 rest_line minimum maximum = do
   statement ← byte
   base ← byte
@@ -99,7 +99,7 @@ rest_spelled e can =
       ),
     )
 
-abbrev operations_line : ℕ → Line ℕ
+abbrev operations_line : ℕ → Production ℕ
 operations_line version = choose (nat_le version 3) (done 1) (positive MaximumOperationsPerInstructionZero)
 
 operations_spelled : (version n : ℕ) (bytes : List ℕ) → 0 < n → operations_bytes version n ≡ Ok bytes → (operations_line version).Spells bytes n
@@ -117,7 +117,7 @@ operations_spelled version n bytes some is = by (nat_le 4 version) refl (nat_eq 
         first-chosen (nat_le version 3) (done 1) (positive MaximumOperationsPerInstructionZero) bytes n (le-leb version 3 (omega (arith, below))) (same_written [] bytes is, only)
     by false low false t is = absurd cc
 
-pub encoding-spelled : (version : ℕ) (e : LineEncoding) (bytes : List ℕ) → CanEncode e → line_encoding_bytes version e ≡ Ok bytes → (line_encoding_line version).Spells bytes e
+pub encoding-spelled : (version : ℕ) (e : LineEncoding) (bytes : List ℕ) → CanEncode e → line_encoding_bytes version e ≡ Ok bytes → (line_encoding_production version).Spells bytes e
 encoding-spelled version e bytes can is =
     let last = flag_byte e.default_is_stmt ∷ base_byte e.line_base ∷ e.line_range ∷ [] in
     let a = behind_written (e.minimum_instruction_length ∷ []) (joined (operations_bytes version e.maximum_operations_per_instruction) (Ok last)) bytes is in
@@ -148,7 +148,7 @@ version_written big version bytes is = by (nat_le 2 version && nat_le version 5)
 pub version-known : (big : Bool) (version : ℕ) (bytes : List ℕ) → version_bytes big version ≡ Ok bytes → version ≤ 5
 version-known big version bytes is = leb-true version 5 (both_true (nat_le 2 version) (nat_le version 5) (version_written big version bytes is).known)
 
-pub version-spelled : (big : Bool) (version : ℕ) (bytes : List ℕ) → version_bytes big version ≡ Ok bytes → (version_line big).Spells bytes version
+pub version-spelled : (big : Bool) (version : ℕ) (bytes : List ℕ) → version_bytes big version ≡ Ok bytes → (version_production big).Spells bytes version
 version-spelled big version bytes is =
     let w = version_written big version bytes is in
     let known = version-known big version bytes is in
@@ -159,10 +159,10 @@ version-spelled big version bytes is =
 
 -- up to version 4 no byte says it, and it is the one that is handed; in version 5 a byte does, and a 0 stands behind it
 pub address-spelled : (version handed size : ℕ) → handed ≡ size → IsTrue (is_address_size size)
-    → (address_size_line version handed).Spells (if nat_le version 4 then [] else size ∷ 0 ∷ []) size
+    → (address_size_production version handed).Spells (if nat_le version 4 then [] else size ∷ 0 ∷ []) size
 address-spelled version handed size same known = by (nat_le version 4)
   where
-    own : Line ℕ
+    own : Production ℕ
     own = do
       n ← byte
       allowed ← check (is_address_size n) (UnsupportedAddressSize n)

@@ -10,8 +10,8 @@ use Rattle.gimli_core.specs.declared.attribute_value.AttributeValue.TheVariants.
 use Rattle.gimli_bytes.specs.Number.{uleb}
 use Rattle.gimli_bytes.proofs.ShortestUleb.{uleb_shortest}
 use Rattle.gimli_line.specs.Instruction.{File as ReadFile}
-use Rattle.gimli_line.specs.HeaderGrammar.{Entry, entry_line, digest, file_of_entry}
-use Rattle.gimli_write.specs.NewTables.{when}
+use Rattle.gimli_line.specs.HeaderGrammar.{Entry, entry_production, digest, file_of_entry}
+use Rattle.gimli_write.specs.Version5Tables.{when}
 use Rattle.gimli_write.proofs.FormatForms.{read_format, formats_of, nested}
 
 -- ---- what is read
@@ -72,7 +72,7 @@ module _ (notation : Notation) (format : Format) where
   digest_spelled md5 whole = (md5, md5, [], sym (append-nil md5), (whole, refl), (refl, refl))
 
   abbrev pub IsSpelled : List (ℕ × ℕ) → List ℕ → Entry → Type 0
-  IsSpelled formats bytes entry = (entry_line notation format (map read_format formats)).Spells bytes entry
+  IsSpelled formats bytes entry = (entry_production notation format (map read_format formats)).Spells bytes entry
 
   -- a value, and the values behind it
   pub value-spelled : (content form : ℕ) (bytes : List ℕ) (v : Value) (formats : List (ℕ × ℕ)) (rest : List ℕ) (entry : Entry)

@@ -4,14 +4,14 @@ use Rattle.std.specs.Prelude.{min}
 use Rattle.std.specs.List.{flat_map, count_by}
 use Rattle.std.proofs.lemmas.Bool.{lt-ltb}
 use Rattle.std.proofs.lemmas.List.{append-nil}
-use Rattle.gimli_core.specs.Line.{times}
+use Rattle.gimli_core.specs.Production.{times}
 use Rattle.gimli_core.specs.Numbers.{SpellsUleb128}
 use Rattle.gimli_bytes.specs.Number.{uleb}
 use Rattle.gimli_bytes.proofs.ShortestUleb.{uleb_shortest}
-use Rattle.gimli_line.specs.HeaderGrammar.{format_line, is_content, SpellsFormats}
+use Rattle.gimli_line.specs.HeaderGrammar.{format_production, is_content, SpellsFormats}
 use Rattle.gimli_line.specs.declared.file_entry.FileEntryFormat.{FileEntryFormat}
 use Rattle.gimli_write.specs.LineText.{LineText, Inline, InStrings, InLineStrings}
-use Rattle.gimli_write.specs.NewTables.{text_form, first_form, path_texts, sources, formats_bytes, when, directory_formats, file_formats}
+use Rattle.gimli_write.specs.Version5Tables.{text_form, first_form, path_texts, sources, formats_bytes, when, directory_formats, file_formats}
 use Rattle.gimli_write.specs.Built.{Built}
 
 -- a content type and a form as they are read
@@ -37,7 +37,7 @@ small_spelled n small = rw (small_bytes n small) (record { groups = (small, refl
 abbrev one_bytes : ℕ × ℕ → List ℕ
 one_bytes f = uleb f.0 ++ uleb f.1
 
-one_spelled : (f : ℕ × ℕ) → IsFormat f → format_line.Spells (one_bytes f) (read_format f)
+one_spelled : (f : ℕ × ℕ) → IsFormat f → format_production.Spells (one_bytes f) (read_format f)
 one_spelled f is =
     (f.0, uleb f.0, uleb f.1, refl, (uleb_shortest f.0 is.fits).spells, (f.1, uleb f.1, [], sym (append-nil (uleb f.1)), small_spelled f.1 is.form, (refl, whole f.0 (min f.0 0xffff) is.content)))
   where
@@ -47,7 +47,7 @@ one_spelled f is =
 -- ---- some formats
 
 abbrev AreSpelled : List (ℕ × ℕ) → Type 0
-AreSpelled formats = (times (length formats) format_line).Spells (flat_map one_bytes formats) (map read_format formats)
+AreSpelled formats = (times (length formats) format_production).Spells (flat_map one_bytes formats) (map read_format formats)
 
 more_spelled : (f : ℕ × ℕ) (formats : List (ℕ × ℕ)) → IsFormat f → AreSpelled formats → AreSpelled (f ∷ formats)
 more_spelled f formats is rest =

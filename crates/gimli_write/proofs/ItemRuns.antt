@@ -16,7 +16,7 @@ use Rattle.gimli_write.specs.Built.{address_value}
 use Rattle.gimli_write.specs.Conditions.{AreBuilt}
 use Rattle.gimli_write.specs.Rows.{initial_row}
 use Rattle.gimli_write.specs.SameRow.{built_rules, behind_row, read_row, read_end}
-use Rattle.gimli_write.specs.Items.{items_instructions, items_rows, AreHeld}
+use Rattle.gimli_write.specs.Items.{items_instructions, items_rows, AddressesFit}
 use Rattle.gimli_write.proofs.RowRuns.{row-runs, end-runs, set-address-runs, start-is}
 
 -- where offsets begin to count
@@ -25,7 +25,7 @@ start_place e can = record { divides = mod-eq_of_lt (omega (arith, can.instructi
 
 module _ (encoding : Encoding) (e : LineEncoding) (known : IsTrue (is_address_size encoding.address_size)) (can : CanEncode e) (version : encoding.version ≤ 5) where
   pub items-run : (base : ℕ) (previous : LineRow) (items : List BuiltItem) → IsPlace e previous.address_offset previous.op_index → previous.line < 2 ^ 63
-      → AreBuilt e (previous.address_offset, previous.op_index) items → AreHeld encoding.address_size base (previous.address_offset, previous.op_index) items
+      → AreBuilt e (previous.address_offset, previous.op_index) items → AddressesFit encoding.address_size base (previous.address_offset, previous.op_index) items
       → run (built_rules encoding e) (behind_row encoding.version base previous) (items_instructions encoding.version e previous items) ≡ map row (items_rows encoding.version e base previous items)
   items-run base previous [] place line built held = refl
   items-run base previous (SetAddress a ∷ items) place line built held =

@@ -33,7 +33,7 @@ mod TextForms
 mod FormatForms
 mod EntryForms
 mod ReadyTexts
-mod NewTableSpellings
+mod Version5TableSpellings
 mod TablesBack
 mod UnitSpellings
 pub mod UnitHeader

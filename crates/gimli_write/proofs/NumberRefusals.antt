@@ -34,9 +34,9 @@ length-refusal big Dwarf32 n =
     ∙ ap (λ (b : Bool). first_of (cause_if b ValueTooLarge ∷ cause_if (not (nat_lt n 0xffff_fff0)) InitialLengthOverflow ∷ [])) (not_below n (2 ^ 32))
     ∙ ap (λ (b : Bool). first_of (cause_if (nat_le (2 ^ 32) n) ValueTooLarge ∷ cause_if b InitialLengthOverflow ∷ [])) (not_below n 0xffff_fff0)
   where
-    by : (plain held : Bool) → nat_lt n 0xffff_fff0 ≡ plain → nat_lt n (2 ^ 32) ≡ held
-        → refusal (if plain then Ok (number_bytes big 4 n) else (if held then Err InitialLengthOverflow else Err ValueTooLarge))
-        ≡ first_of (cause_if (not held) ValueTooLarge ∷ cause_if (not plain) InitialLengthOverflow ∷ [])
+    by : (keeps_bytes held : Bool) → nat_lt n 0xffff_fff0 ≡ keeps_bytes → nat_lt n (2 ^ 32) ≡ held
+        → refusal (if keeps_bytes then Ok (number_bytes big 4 n) else (if held then Err InitialLengthOverflow else Err ValueTooLarge))
+        ≡ first_of (cause_if (not held) ValueTooLarge ∷ cause_if (not keeps_bytes) InitialLengthOverflow ∷ [])
     by true true h k = refl
     by true false h k = let low = ltb-true n 0xffff_fff0 h in let high = ltb-false n (2 ^ 32) k in absurd (omega (arith, low, high))
     by false true h k = refl

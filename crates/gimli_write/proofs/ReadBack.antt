@@ -1,14 +1,14 @@
--- What is read of a written unit: its header, its cut, and its rows together.
+-- What is read of a written unit: its header, its decoding, and its rows together.
 use Rattle.std.proofs.Common.{◌≡◌, ℕ, ◌<◌, ◌≤◌, ◌^◌, Bool, List, ◌++◌, length, Ok, refl, ap, ◌∙◌, arith, length-append, if◌then◌else◌, [], ◌∷◌}
 use Rattle.std.specs.Prelude.{nat_le}
 use Rattle.gimli_core.specs.Notation.{Notation}
 use Rattle.gimli_core.specs.declared.common.Encoding.{Encoding}
 use Rattle.gimli_bytes.specs.Texts.{AreTexts}
-use Rattle.gimli_line.specs.Header.{Given}
+use Rattle.gimli_line.specs.Header.{UnitEntry}
 use Rattle.gimli_write.specs.Built.{Built}
 use Rattle.gimli_write.specs.Conditions.{IsBuilt, CanWrite}
 use Rattle.gimli_write.specs.Texts.{Sections}
-use Rattle.gimli_write.specs.NewTables.{strings_behind, line_strings_behind}
+use Rattle.gimli_write.specs.Version5Tables.{strings_behind, line_strings_behind}
 use Rattle.gimli_write.specs.ReadsBack.{ReadsBack, IsReadWell}
 use Rattle.gimli_write.specs.Joined.{joined}
 use Rattle.gimli_write.specs.Unit.{version_bytes, line_encoding_bytes, opcode_bytes, tables_bytes, fields_bytes, escape_bytes, whole_bytes, unit_bytes}
@@ -49,14 +49,14 @@ unit_known big p strings line_strings unit is =
     let b = before_written (version_bytes big p.encoding.version) address w.opening w.opening_is in
     version-known big p.encoding.version b.front b.front_is
 
-pub reads-back : (notation : Notation) (given : Given) (sections : Sections) (big : Bool) (unit_encoding : Encoding) (p : Built) (old_strings old_line_strings : List (List ℕ)) (unit : List ℕ)
+pub reads-back : (notation : Notation) (unit_entry : UnitEntry) (sections : Sections) (big : Bool) (unit_encoding : Encoding) (p : Built) (old_strings old_line_strings : List (List ℕ)) (unit : List ℕ)
     → length unit < 2 ^ 64 → IsBuilt p → CanWrite p old_strings old_line_strings → AreTexts (strings_behind p old_strings) → AreTexts (line_strings_behind p old_line_strings)
-    → unit_bytes big unit_encoding p old_strings old_line_strings ≡ Ok unit → IsReadWell notation given sections big p (strings_behind p old_strings) (line_strings_behind p old_line_strings) unit
-    → ReadsBack notation given sections p (strings_behind p old_strings) (line_strings_behind p old_line_strings) unit
-reads-back notation given sections big unit_encoding p old_strings old_line_strings unit small built can texts line_texts is well =
+    → unit_bytes big unit_encoding p old_strings old_line_strings ≡ Ok unit → IsReadWell notation unit_entry sections big p (strings_behind p old_strings) (line_strings_behind p old_line_strings) unit
+    → ReadsBack notation unit_entry sections p (strings_behind p old_strings) (line_strings_behind p old_line_strings) unit
+reads-back notation unit_entry sections big unit_encoding p old_strings old_line_strings unit small built can texts line_texts is well =
     let strings = strings_behind p old_strings in
     let line_strings = line_strings_behind p old_line_strings in
-    let h = header-back notation given sections big unit_encoding p old_strings old_line_strings unit small built can texts line_texts is well in
+    let h = header-back notation unit_entry sections big unit_encoding p old_strings old_line_strings unit small built can texts line_texts is well in
     let whole = whole_written big unit_encoding p old_strings old_line_strings unit is in
     let long = unit_long big p strings line_strings unit whole in
     let known = unit_known big p strings line_strings unit whole in
@@ -64,10 +64,10 @@ reads-back notation given sections big unit_encoding p old_strings old_line_stri
     record {
       header = h.header;
       is_unit = h.is_unit;
-      rules = h.rules;
+      parameters = h.parameters;
       counts = h.counts;
       directories = h.directories;
       files = h.files;
-      cut = cut-back notation h.header p built wide h.rules h.program;
-      rows = rows-back notation h.header p built known wide h.rules h.program;
+      decoding = cut-back notation h.header p built wide h.parameters h.program;
+      rows = rows-back notation h.header p built known wide h.parameters h.program;
     }

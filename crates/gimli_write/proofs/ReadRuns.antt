@@ -9,42 +9,42 @@ use Rattle.gimli_line.specs.declared.row.LineRow.{LineRow}
 use Rattle.gimli_line.specs.Header.{Header}
 use Rattle.gimli_line.specs.Instruction.{Ins, File}
 use Rattle.gimli_line.specs.Events.{Event, row, fault, Events, events_at, events_behind, end_events}
-use Rattle.gimli_line.specs.Left.{Left}
-use Rattle.gimli_line.specs.Passed.{ready}
+use Rattle.gimli_line.specs.RunState.{RunState}
+use Rattle.gimli_line.specs.Progress.{ready}
 use Rattle.gimli_line.specs.Rows.{FaultIs, events_left}
 use Rattle.gimli_line.specs.Sequences.{events_of, HasFirstFault}
-use Rattle.gimli_line.specs.Told.{Told, Tells, told_at, files_at, told_behind}
+use Rattle.gimli_line.specs.EventsWithFiles.{EventWithFiles, EventsWithFiles, with_files, files_at, events_with_files_behind}
 use Rattle.gimli_write.specs.declared.convert_error.ConvertError.{ConvertError}
 use Rattle.gimli_write.specs.declared.convert_error.ConvertError.TheVariants.{Read, OutOfMemory as NoMemory}
 use Rattle.gimli_write.specs.RoundTrip.{IsRunRefusal}
 
--- ---- the events among what is told
+-- ---- the events among events with their files
 
-events_of_at : (files : List File) (es : List Event) → events_of (told_at files es) ≡ es
+events_of_at : (files : List File) (es : List Event) → events_of (with_files files es) ≡ es
 events_of_at files [] = refl
 events_of_at files (e ∷ es) = ap (λ (xs : List Event). e ∷ xs) (events_of_at files es)
 
 events_of_behind : (a : Bool) (h : Header) (past list : List Ins) (end : Option Error)
-    → events_of (told_behind a h past list end) ≡ events_behind h.rules past list ++ end_events end
+    → events_of (events_with_files_behind a h past list end) ≡ events_behind h.parameters past list ++ end_events end
 events_of_behind a h past [] end = events_of_at (files_at a h.files past) (end_events end)
 events_of_behind a h past (i ∷ list) end =
     let files = files_at a h.files past in
-    let here = events_at h.rules past i in
-    map-append (λ (t : Told). t.event) (told_at files here) (told_behind a h (i ∷ past) list end)
-    ∙ ap (λ (xs : List Event). xs ++ events_of (told_behind a h (i ∷ past) list end)) (events_of_at files here)
+    let here = events_at h.parameters past i in
+    map-append (λ (t : EventWithFiles). t.event) (with_files files here) (events_with_files_behind a h (i ∷ past) list end)
+    ∙ ap (λ (xs : List Event). xs ++ events_of (events_with_files_behind a h (i ∷ past) list end)) (events_of_at files here)
     ∙ ap (λ (xs : List Event). here ++ xs) (events_of_behind a h (i ∷ past) list end)
-    ∙ sym (append_assoc here (events_behind h.rules (i ∷ past) list) (end_events end))
+    ∙ sym (append_assoc here (events_behind h.parameters (i ∷ past) list) (end_events end))
 
 -- ---- a run to its end
 
 -- rows behind which nothing comes are all that the program gives
-pub run_ended : (notation : Notation) (h : Header) (told left : List Told) (rows : List LineRow) → Tells notation true h h.program told
-    → events_of told ≡ map row rows ++ events_of left → left ≡ [] → Events notation h h.program (map row rows)
-run_ended notation h told left rows tells so_far none = record {
+pub run_ended : (notation : Notation) (h : Header) (events left : List EventWithFiles) (rows : List LineRow) → EventsWithFiles notation true h h.program events
+    → events_of events ≡ map row rows ++ events_of left → left ≡ [] → Events notation h h.program (map row rows)
+run_ended notation h events left rows tells so_far none = record {
   list = tells.list;
   end = tells.end;
-  cut = tells.cut;
-  given = sym (append-nil (map row rows)) ∙ ap (λ (l : List Told). map row rows ++ events_of l) (sym none) ∙ sym so_far
+  decoding = tells.decoding;
+  given = sym (append-nil (map row rows)) ∙ ap (λ (l : List EventWithFiles). map row rows ++ events_of l) (sym none) ∙ sym so_far
       ∙ ap events_of tells.given ∙ events_of_behind true h [] tells.list tells.end;
 }
 
@@ -55,24 +55,24 @@ pub is_memory : (e : Error) → (e ≡ OutOfMemory) ⊎ (e ≢ OutOfMemory)
 is_memory OutOfMemory = inl refl
 is_memory e = inr (λ is. absurd cc)
 
-first_fault : (notation : Notation) (h : Header) (told left rest : List Told) (rows : List LineRow) (files : List File) (e : Error) → Tells notation true h h.program told
-    → events_of told ≡ map row rows ++ events_of left → left ≡ record { event = fault e; files = files } ∷ rest → HasFirstFault notation h e
-first_fault notation h told left rest rows files e tells so_far next = record {
+first_fault : (notation : Notation) (h : Header) (events left rest : List EventWithFiles) (rows : List LineRow) (files : List File) (e : Error) → EventsWithFiles notation true h h.program events
+    → events_of events ≡ map row rows ++ events_of left → left ≡ record { event = fault e; files = files } ∷ rest → HasFirstFault notation h e
+first_fault notation h events left rest rows files e tells so_far next = record {
   list = tells.list;
   end = tells.end;
-  cut = tells.cut;
+  decoding = tells.decoding;
   rows = rows;
   rest = events_of rest;
   given = sym (events_of_behind true h [] tells.list tells.end) ∙ sym (ap events_of tells.given) ∙ so_far
-      ∙ ap (λ (l : List Told). map row rows ++ events_of l) next;
+      ∙ ap (λ (l : List EventWithFiles). map row rows ++ events_of l) next;
 }
 
 -- a refusal behind rows is the first fault, or want of memory, and has the name that conversions give it
-pub run_refused : (notation : Notation) (h : Header) (told : List Told) (old new : Left) (rows : List LineRow) (e : Error) (r : ConvertError)
-    → Tells notation true h h.program told → events_of told ≡ map row rows ++ events_of (events_left old) → FaultIs (ready old) new e
+pub run_refused : (notation : Notation) (h : Header) (events : List EventWithFiles) (old new : RunState) (rows : List LineRow) (e : Error) (r : ConvertError)
+    → EventsWithFiles notation true h h.program events → events_of events ≡ map row rows ++ events_of (events_left old) → FaultIs (ready old) new e
     → (e ≡ OutOfMemory → r ≡ NoMemory) → (e ≢ OutOfMemory → r ≡ Read e) → IsRunRefusal notation h r
-run_refused notation h told old new rows e r tells so_far (inl memory) named other = rw (named memory.0) tt
-run_refused notation h told old new rows e r tells so_far (inr next) named other = elim (is_memory e) [
+run_refused notation h events old new rows e r tells so_far (inl memory) named other = rw (named memory.0) tt
+run_refused notation h events old new rows e r tells so_far (inr next) named other = elim (is_memory e) [
   | inl memory ↦ rw (named memory) tt
-  | inr not_memory ↦ rw (other not_memory) (first_fault notation h told (events_left old) (events_left new) rows new.files e tells so_far next)
+  | inr not_memory ↦ rw (other not_memory) (first_fault notation h events (events_left old) (events_left new) rows new.files e tells so_far next)
 ]

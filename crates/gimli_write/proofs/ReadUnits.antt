@@ -8,7 +8,7 @@ use Rattle.gimli_core.specs.Notation.{Notation}
 use Rattle.gimli_core.specs.Values.{Value}
 use Rattle.gimli_core.specs.declared.error.Error.{Error}
 use Rattle.gimli_core.specs.declared.error.Error.TheVariants.{OutOfMemory}
-use Rattle.gimli_line.specs.Header.{Header, Given}
+use Rattle.gimli_line.specs.Header.{Header, UnitEntry}
 use Rattle.gimli_line.specs.HeaderGrammar.{SpellsUnit, HasHeaderFault}
 use Rattle.gimli_line.specs.Instruction.{File as ReadFile}
 use Rattle.gimli_line.proofs.HeaderLaws.{one_header, no_fault}
@@ -23,7 +23,7 @@ use Rattle.gimli_write.specs.ReadsBack.{IsDirectory, IsFile, ReadsBack, IsReadWe
 use Rattle.gimli_write.specs.declared.convert_error.ConvertError.{ConvertError}
 use Rattle.gimli_write.specs.declared.convert_error.ConvertError.TheVariants.{OutOfMemory as NoMemory}
 use Rattle.gimli_write.specs.declared.read_back.RoundTrip.{RoundTrip}
-use Rattle.gimli_write.specs.RoundTrip.{answers, AreAnswers, AnswersProgram, IsUnitOf, BeginsUnit, CanRead, HasTexts, IsRunRefusal, RefusesUnit, slice_notation, given_directory, given_of, sections_of}
+use Rattle.gimli_write.specs.RoundTrip.{answers, AreAnswers, AnswersProgram, IsUnitOf, BeginsUnit, CanRead, HasTexts, IsRunRefusal, RefusesUnit, slice_notation, unit_entry_with, unit_entry_of, sections_of}
 use Rattle.gimli_write.proofs.ReadRuns.{is_memory}
 
 -- ---- what a slice is read as
@@ -31,26 +31,26 @@ use Rattle.gimli_write.proofs.ReadRuns.{is_memory}
 -- the same notation, directory and bytes by another name
 pub same_unit : (limit size n : ℕ) (big other : Bool) (directory other_directory section other_section : List ℕ) (h : Header)
     → other ≡ big → other_directory ≡ directory → other_section ≡ section
-    → SpellsUnit (record { big = other; limit = limit }) (given_directory size other_directory) (drop n other_section) h
-    → BeginsUnit (record { big = big; limit = limit }) (given_directory size directory) (drop n section) h
+    → SpellsUnit (record { big = other; limit = limit }) (unit_entry_with size other_directory) (drop n other_section) h
+    → BeginsUnit (record { big = big; limit = limit }) (unit_entry_with size directory) (drop n section) h
 same_unit limit size n big other directory other_directory section other_section h b d s spelled =
-    subst (λ (x : Bool). BeginsUnit (record { big = x; limit = limit }) (given_directory size directory) (drop n section) h) b
-    (subst (λ (x : List ℕ). BeginsUnit (record { big = other; limit = limit }) (given_directory size x) (drop n section) h) d
-    (subst (λ (x : List ℕ). BeginsUnit (record { big = other; limit = limit }) (given_directory size other_directory) (drop n x) h) s
+    subst (λ (x : Bool). BeginsUnit (record { big = x; limit = limit }) (unit_entry_with size directory) (drop n section) h) b
+    (subst (λ (x : List ℕ). BeginsUnit (record { big = other; limit = limit }) (unit_entry_with size x) (drop n section) h) d
+    (subst (λ (x : List ℕ). BeginsUnit (record { big = other; limit = limit }) (unit_entry_with size other_directory) (drop n x) h) s
     (record { spelled = spelled })))
 
 -- a fault where a unit begins
-pub record BeginsFault (notation : Notation) (given : Given) (bytes : List ℕ) (e : Error) : Type 0 where
-  pub fault : HasHeaderFault notation given bytes e
+pub record BeginsFault (notation : Notation) (unit_entry : UnitEntry) (bytes : List ℕ) (e : Error) : Type 0 where
+  pub fault : HasHeaderFault notation unit_entry bytes e
 
 pub same_fault : (limit size n : ℕ) (big other : Bool) (directory other_directory section other_section : List ℕ) (e : Error)
     → other ≡ big → other_directory ≡ directory → other_section ≡ section
-    → HasHeaderFault (record { big = other; limit = limit }) (given_directory size other_directory) (drop n other_section) e
-    → BeginsFault (record { big = big; limit = limit }) (given_directory size directory) (drop n section) e
+    → HasHeaderFault (record { big = other; limit = limit }) (unit_entry_with size other_directory) (drop n other_section) e
+    → BeginsFault (record { big = big; limit = limit }) (unit_entry_with size directory) (drop n section) e
 same_fault limit size n big other directory other_directory section other_section e b d s fault =
-    subst (λ (x : Bool). BeginsFault (record { big = x; limit = limit }) (given_directory size directory) (drop n section) e) b
-    (subst (λ (x : List ℕ). BeginsFault (record { big = other; limit = limit }) (given_directory size x) (drop n section) e) d
-    (subst (λ (x : List ℕ). BeginsFault (record { big = other; limit = limit }) (given_directory size other_directory) (drop n x) e) s
+    subst (λ (x : Bool). BeginsFault (record { big = x; limit = limit }) (unit_entry_with size directory) (drop n section) e) b
+    (subst (λ (x : List ℕ). BeginsFault (record { big = other; limit = limit }) (unit_entry_with size x) (drop n section) e) d
+    (subst (λ (x : List ℕ). BeginsFault (record { big = other; limit = limit }) (unit_entry_with size other_directory) (drop n x) e) s
     (record { fault = fault })))
 
 pub same_sections : (strings other_strings line_strings other_line_strings : List ℕ) (s : Sections) → other_strings ≡ strings → other_line_strings ≡ line_strings
@@ -64,20 +64,20 @@ same_notation limit big other n is b = is ∙ ap (λ (x : Bool). let m : Notatio
 
 -- ---- one header
 
-module _ (notation : Notation) (given : Given) (bytes : List ℕ) where
-  pub same_header : (h k : Header) → BeginsUnit notation given bytes h → BeginsUnit notation given bytes k → h ≡ k
-  same_header h k s t = one_header notation given bytes h k s.spelled t.spelled
+module _ (notation : Notation) (unit_entry : UnitEntry) (bytes : List ℕ) where
+  pub same_header : (h k : Header) → BeginsUnit notation unit_entry bytes h → BeginsUnit notation unit_entry bytes k → h ≡ k
+  same_header h k s t = one_header notation unit_entry bytes h k s.spelled t.spelled
 
   -- the texts of the header that is read are there
-  pub texts_there : (sections : Sections) (k : Header) → CanRead notation given sections bytes → BeginsUnit notation given bytes k → HasTexts sections k
+  pub texts_there : (sections : Sections) (k : Header) → CanRead notation unit_entry sections bytes → BeginsUnit notation unit_entry bytes k → HasTexts sections k
   texts_there sections k can unit = subst (λ (h : Header). HasTexts sections h) (same_header can.header k can.unit unit) can.texts
 
   -- a header that is there isn't refused
-  pub header_refused : (h : Header) (e : Error) (r : ConvertError) → BeginsUnit notation given bytes h → (e ≢ OutOfMemory → BeginsFault notation given bytes e)
+  pub header_refused : (h : Header) (e : Error) (r : ConvertError) → BeginsUnit notation unit_entry bytes h → (e ≢ OutOfMemory → BeginsFault notation unit_entry bytes e)
       → (e ≡ OutOfMemory → r ≡ NoMemory) → IsRunRefusal notation h r
   header_refused h e r unit fault named = elim (is_memory e) [
     | inl memory ↦ rw (named memory) tt
-    | inr other ↦ absurd (no_fault notation given bytes h e unit.spelled (fault other).fault)
+    | inr other ↦ absurd (no_fault notation unit_entry bytes h e unit.spelled (fault other).fault)
   ]
 
 -- ---- answers of the same by another name
@@ -118,7 +118,7 @@ abbrev pub AreShort : List (List ℕ) → List (List ℕ) → Type 0
 AreShort strings line_strings = (byte_count strings < 2 ^ 64) × (byte_count line_strings < 2 ^ 64)
 
 module _ (big : Bool) (p : Built) (strings line_strings : List (List ℕ)) (section : List ℕ) (n : ℕ) (whole : IsUnitOf big p strings line_strings (drop n section)) (fits : length section < 2 ^ 64) (held : AreShort strings line_strings) where
-  read_well : IsReadWell (slice_notation big) (given_of p strings line_strings) (sections_of strings line_strings) big p strings line_strings (drop n section)
+  read_well : IsReadWell (slice_notation big) (unit_entry_of p strings line_strings) (sections_of strings line_strings) big p strings line_strings (drop n section)
   read_well = record {
     order = refl;
     address_size = refl;
@@ -129,42 +129,42 @@ module _ (big : Bool) (p : Built) (strings line_strings : List (List ℕ)) (sect
     holds = omega (arith, length-drop n section);
   }
 
-  pub read_back : ReadsBack (slice_notation big) (given_of p strings line_strings) (sections_of strings line_strings) p strings line_strings (drop n section)
+  pub read_back : ReadsBack (slice_notation big) (unit_entry_of p strings line_strings) (sections_of strings line_strings) p strings line_strings (drop n section)
   read_back = whole _ _ _ read_well
 
   -- want of memory before the unit is read
-  pub unread_refused : (e : ConvertError) → e ≡ NoMemory → RefusesUnit (slice_notation big) (given_of p strings line_strings) (drop n section) e
+  pub unread_refused : (e : ConvertError) → e ≡ NoMemory → RefusesUnit (slice_notation big) (unit_entry_of p strings line_strings) (drop n section) e
   unread_refused e is = rw is (read_back.header, read_back.is_unit, tt)
 
 -- what is handed to the reading of a program's unit, by the names of the program
 module _ (big other : Bool) (p : Built) (strings line_strings : List (List ℕ)) (section other_section : List ℕ) (n size : ℕ) (directory : List ℕ) (s : Sections)
     (order : other ≡ big) (there : other_section ≡ section) (sized : size ≡ p.encoding.address_size)
-    (directed : Some directory ≡ (given_of p strings line_strings).directory) (written : s ≡ sections_of strings line_strings)
+    (directed : Some directory ≡ (unit_entry_of p strings line_strings).directory) (written : s ≡ sections_of strings line_strings)
     (whole : IsUnitOf big p strings line_strings (drop n section)) (fits : length section < 2 ^ 64) (held : AreShort strings line_strings) where
-  back : ReadsBack (slice_notation big) (given_of p strings line_strings) (sections_of strings line_strings) p strings line_strings (drop n section)
+  back : ReadsBack (slice_notation big) (unit_entry_of p strings line_strings) (sections_of strings line_strings) p strings line_strings (drop n section)
   back = read_back big p strings line_strings section n whole fits held
 
-  is_given : given_directory size directory ≡ given_of p strings line_strings
-  is_given =
-      ap (λ (x : ℕ). given_directory x directory) sized
-      ∙ ap (λ (x : Option (List ℕ)). let g : Given = record { address_size = p.encoding.address_size; directory = x; name = None } in g) directed
+  is_unit_entry : unit_entry_with size directory ≡ unit_entry_of p strings line_strings
+  is_unit_entry =
+      ap (λ (x : ℕ). unit_entry_with x directory) sized
+      ∙ ap (λ (x : Option (List ℕ)). let g : UnitEntry = record { address_size = p.encoding.address_size; directory = x; name = None } in g) directed
 
   -- the unit by other names
-  moved : (P : Bool → Given → List ℕ → Sections → Type 0) → P big (given_of p strings line_strings) section (sections_of strings line_strings)
-      → P other (given_directory size directory) other_section s
+  moved : (P : Bool → UnitEntry → List ℕ → Sections → Type 0) → P big (unit_entry_of p strings line_strings) section (sections_of strings line_strings)
+      → P other (unit_entry_with size directory) other_section s
   moved P is =
-      subst (λ (x : Bool). P x (given_directory size directory) other_section s) (sym order)
-      (subst (λ (x : Given). P big x other_section s) (sym is_given)
-      (subst (λ (x : List ℕ). P big (given_of p strings line_strings) x s) (sym there)
-      (subst (λ (x : Sections). P big (given_of p strings line_strings) section x) (sym written) is)))
+      subst (λ (x : Bool). P x (unit_entry_with size directory) other_section s) (sym order)
+      (subst (λ (x : UnitEntry). P big x other_section s) (sym is_unit_entry)
+      (subst (λ (x : List ℕ). P big (unit_entry_of p strings line_strings) x s) (sym there)
+      (subst (λ (x : Sections). P big (unit_entry_of p strings line_strings) section x) (sym written) is)))
 
   moved_back : (P : Bool → Sections → Type 0) → P other s → P big (sections_of strings line_strings)
   moved_back P is = subst (λ (x : Bool). P x (sections_of strings line_strings)) order (subst (λ (x : Sections). P other x) written is)
 
-  begins : BeginsUnit (slice_notation big) (given_of p strings line_strings) (drop n section) back.header
+  begins : BeginsUnit (slice_notation big) (unit_entry_of p strings line_strings) (drop n section) back.header
   begins = record { spelled = (drop n section, [], sym (append-nil (drop n section)), back.is_unit.spelled) }
 
-  pub can_read : CanRead (slice_notation other) (given_directory size directory) s (drop n other_section)
+  pub can_read : CanRead (slice_notation other) (unit_entry_with size directory) s (drop n other_section)
   can_read = moved (λ b g xs t. CanRead (slice_notation b) g t (drop n xs)) (record {
     header = back.header;
     unit = begins;
@@ -174,19 +174,19 @@ module _ (big other : Bool) (p : Built) (strings line_strings : List (List ℕ))
     };
   })
 
-  begins_there : BeginsUnit (slice_notation other) (given_directory size directory) (drop n other_section) back.header
+  begins_there : BeginsUnit (slice_notation other) (unit_entry_with size directory) (drop n other_section) back.header
   begins_there = moved (λ b g xs t. BeginsUnit (slice_notation b) g (drop n xs) back.header) begins
 
   pub program_answered : (r : Result RoundTrip ConvertError)
-      → ((h : Header) → BeginsUnit (slice_notation other) (given_directory size directory) (drop n other_section) h → IfOk r (λ answer. AreAnswers (slice_notation other) s h (answers answer)))
+      → ((h : Header) → BeginsUnit (slice_notation other) (unit_entry_with size directory) (drop n other_section) h → IfOk r (λ answer. AreAnswers (slice_notation other) s h (answers answer)))
       → IfOk r (AnswersProgram big p strings line_strings (drop n section))
   program_answered r is =
       let answered = moved_back (λ b t. IfOk r (λ answer. AreAnswers (slice_notation b) t back.header (answers answer))) (is back.header begins_there) in
       IfOk-weaker r _ _ (λ answer a. record { header = back.header; is_unit = back.is_unit; answered = a }) answered
 
   pub program_refused : (r : Result RoundTrip ConvertError)
-      → ((h : Header) → BeginsUnit (slice_notation other) (given_directory size directory) (drop n other_section) h → IfErr r (IsRunRefusal (slice_notation other) h))
-      → IfErr r (RefusesUnit (slice_notation big) (given_of p strings line_strings) (drop n section))
+      → ((h : Header) → BeginsUnit (slice_notation other) (unit_entry_with size directory) (drop n other_section) h → IfErr r (IsRunRefusal (slice_notation other) h))
+      → IfErr r (RefusesUnit (slice_notation big) (unit_entry_of p strings line_strings) (drop n section))
   program_refused r is =
       let refused = moved_back (λ b t. IfErr r (IsRunRefusal (slice_notation b) back.header)) (is back.header begins_there) in
       MatchResult-weaker r refused (λ _ u. u) (λ e f. (back.header, back.is_unit, f))

@@ -13,7 +13,7 @@ use Rattle.gimli_write.specs.LineText.{LineText, Inline, InStrings, InLineString
 use Rattle.gimli_write.specs.Tables.{File, FitsFile}
 use Rattle.gimli_write.specs.Built.{Built}
 use Rattle.gimli_write.specs.Conditions.{IsBuilt, CanWrite}
-use Rattle.gimli_write.specs.NewTables.{first_form, sources, needs_empty, empty_text, strings_behind, line_strings_behind}
+use Rattle.gimli_write.specs.Version5Tables.{first_form, sources, needs_empty, empty_text, strings_behind, line_strings_behind}
 use Rattle.gimli_write.proofs.TextForms.{IsReady}
 
 -- ---- tables that gain the empty text

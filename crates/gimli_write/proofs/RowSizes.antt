@@ -10,7 +10,7 @@ use Rattle.gimli_core.specs.declared.common.Encoding.{Encoding}
 use Rattle.gimli_core.specs.declared.common.LineEncoding.{LineEncoding}
 use Rattle.gimli_line.specs.declared.instruction.LineInstruction.TheVariants.{Special, Copy, AdvancePc, AdvanceLine, SetFile, SetColumn, NegateStatement, SetBasicBlock, ConstAddPc, SetPrologueEnd, SetEpilogueBegin, SetIsa, SetDiscriminator}
 use Rattle.gimli_line.specs.Instruction.{Ins}
-use Rattle.gimli_line.specs.Pointer.{operation_advance}
+use Rattle.gimli_line.specs.OperationPointer.{operation_advance}
 use Rattle.gimli_write.specs.declared.row.LineRow.{LineRow}
 use Rattle.gimli_write.specs.FileNumber.{file_number}
 use Rattle.gimli_write.specs.Advance.{CanEncode, operations}

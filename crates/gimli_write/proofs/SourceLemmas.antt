@@ -4,7 +4,7 @@ use Rattle.std.specs.Option.{is_none}
 use Rattle.std.specs.List.{list_any}
 use Rattle.gimli_write.specs.LineText.{LineText}
 use Rattle.gimli_write.specs.Tables.{File}
-use Rattle.gimli_write.specs.NewTables.{text_form, first_form, path_texts, sources}
+use Rattle.gimli_write.specs.Version5Tables.{text_form, first_form, path_texts, sources}
 use Rattle.gimli_write.proofs.Joined.{next_at}
 
 module _ {A : Type 0} (test : A → Bool) (xs : List A) (i : ℕ) where

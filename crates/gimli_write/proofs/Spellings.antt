@@ -13,7 +13,7 @@ use Rattle.gimli_core.specs.declared.common.LineEncoding.{LineEncoding}
 use Rattle.gimli_core.specs.Notation.{Notation}
 use Rattle.gimli_core.specs.Numbers.{SpellsUleb128, SpellsNumber, number_bytes}
 use Rattle.gimli_core.specs.Reading.{seen}
-use Rattle.gimli_core.specs.Line.{below_limit, unsigned, Each}
+use Rattle.gimli_core.specs.Production.{below_limit, unsigned, Each}
 use Rattle.gimli_core.proofs.Written.{number_spelled}
 use Rattle.gimli_bytes.specs.Number.{uleb, sleb}
 use Rattle.gimli_bytes.specs.declared.error.Error.{Error}
@@ -23,7 +23,7 @@ use Rattle.gimli_bytes.proofs.ShortestUleb.{uleb_shortest}
 use Rattle.gimli_bytes.proofs.ShortestSleb.{sleb_shortest}
 use Rattle.gimli_line.specs.Header.{Header}
 use Rattle.gimli_line.specs.Instruction.{Ins}
-use Rattle.gimli_line.specs.InstructionGrammar.{standard_line, extended_operands, SpellsInstruction}
+use Rattle.gimli_line.specs.InstructionGrammar.{standard_production, extended_operands, SpellsInstruction}
 use Rattle.gimli_line.specs.declared.instruction.LineInstruction.TheVariants.{Special, Copy, AdvancePc, AdvanceLine, SetFile, SetColumn, NegateStatement, SetBasicBlock, ConstAddPc, SetPrologueEnd, SetEpilogueBegin, SetIsa, EndSequence, SetAddress, SetDiscriminator}
 use Rattle.gimli_write.specs.declared.row.LineRow.{LineRow}
 use Rattle.gimli_write.specs.FileNumber.{file_number}
@@ -31,12 +31,12 @@ use Rattle.gimli_write.specs.Advance.{CanEncode, CanFollow, operations}
 use Rattle.gimli_write.specs.Encode.{when, marks, changes, differ, line_part, line_opcode, is_special_advance, still_opcode, row_maker, constant_advance, operation_part, row_instructions, end_instructions}
 use Rattle.gimli_write.specs.InstructionBytes.{instruction_bytes, instructions_bytes, set_address_bytes, IsWritten, FitsInstructions}
 
-module _ (notation : Notation) (h : Header) (base : h.rules.opcode_base ≡ 13) (wide : 11 < notation.limit) where
+module _ (notation : Notation) (h : Header) (base : h.parameters.opcode_base ≡ 13) (wide : 11 < notation.limit) where
   -- an instruction by a standard opcode
-  standard : (x : ℕ) (rest : List ℕ) (i : Ins) → 0 < x → x < 13 → (standard_line notation h x).Spells rest i → SpellsInstruction notation h (x ∷ rest) i
+  standard : (x : ℕ) (rest : List ℕ) (i : Ins) → 0 < x → x < 13 → (standard_production notation h x).Spells rest i → SpellsInstruction notation h (x ∷ rest) i
   standard x rest i some low s =
       let opened : nat_eq x 0 ≡ false = ne_eqb x 0 (λ e. absurd (omega arith)) in
-      let below : nat_le h.rules.opcode_base x ≡ false = lt-leb h.rules.opcode_base x (omega (arith, base)) in
+      let below : nat_le h.parameters.opcode_base x ≡ false = lt-leb h.parameters.opcode_base x (omega (arith, base)) in
       (x, x ∷ [], rest, refl, refl, rw (opened, below) s)
 
   -- an instruction by an extended opcode
@@ -79,7 +79,7 @@ module _ (notation : Notation) (h : Header) (base : h.rules.opcode_base ≡ 13) 
   pub instruction-spelled : (i : Ins) → IsWritten i → SpellsInstruction notation h (instruction_bytes i) i
   instruction-spelled (Special o) w =
       let opened : nat_eq o 0 ≡ false = ne_eqb o 0 (λ e. absurd (omega (arith, w.0))) in
-      let above : nat_le h.rules.opcode_base o ≡ true = le-leb h.rules.opcode_base o (omega (arith, base, w.0)) in
+      let above : nat_le h.parameters.opcode_base o ≡ true = le-leb h.parameters.opcode_base o (omega (arith, base, w.0)) in
       (o, o ∷ [], [], refl, refl, rw (opened, above) (refl, refl))
   instruction-spelled Copy w = standard 1 [] Copy (lit< tt) (lit< tt) (refl, refl)
   instruction-spelled (AdvancePc n) w = standard 2 (uleb n) (AdvancePc n) (lit< tt) (lit< tt) (n, uleb n, [], sym (append-nil (uleb n)), unsigned_spelled n w, (refl, refl))
@@ -103,25 +103,25 @@ module _ (notation : Notation) (h : Header) (base : h.rules.opcode_base ≡ 13) 
 
   -- the operand of a set address, where there is one, is the number
   abbrev Operand : ℕ → List ℕ → Type 0
-  Operand a bytes = (size : ℕ) × (h.rules.encoding.address_size ≡ size) × (size ≤ 8) × (a < 256 ^ size) × (bytes ≡ 0 ∷ uleb (size + 1) ++ 2 ∷ number_bytes notation.big size a)
+  Operand a bytes = (size : ℕ) × (h.parameters.encoding.address_size ≡ size) × (size ≤ 8) × (a < 256 ^ size) × (bytes ≡ 0 ∷ uleb (size + 1) ++ 2 ∷ number_bytes notation.big size a)
 
   address_written : (a : ℕ) (bytes : List ℕ) → Operand a bytes → SpellsInstruction notation h bytes (SetAddress a)
   address_written a bytes (size, is, small, fits, written) =
       let operand : SpellsNumber notation.big size (number_bytes notation.big size a) a = number_spelled notation.big size a fits in
       let counted : length (number_bytes notation.big size a) + 1 ≡ size + 1 = ap (λ (n : ℕ). n + 1) operand.size_is in
-      let held : SpellsNumber notation.big h.rules.encoding.address_size (number_bytes notation.big size a) a = rw is operand in
+      let held : SpellsNumber notation.big h.parameters.encoding.address_size (number_bytes notation.big size a) a = rw is operand in
       let number : SpellsUleb128 64 (uleb (size + 1)) (length (number_bytes notation.big size a) + 1) = rw counted (unsigned_spelled (size + 1) (omega (arith, small))) in
       rw written (extended (uleb (size + 1)) 2 (number_bytes notation.big size a) (SetAddress a) number (omega (arith, counted, small, wide))
       ((SetAddress a, []), [], [], refl, (refl, (number_bytes notation.big size a, sym (append-nil (number_bytes notation.big size a)), (a, number_bytes notation.big size a, [], sym (append-nil (number_bytes notation.big size a)), held, (refl, refl)))), (refl, refl)))
 
   -- a set address that is written
-  address_operand : (a : ℕ) (bytes : List ℕ) → set_address_bytes notation.big (Constant a) h.rules.encoding.address_size ≡ Ok bytes → Operand a bytes
-  address_operand a bytes is = by h.rules.encoding.address_size refl is
+  address_operand : (a : ℕ) (bytes : List ℕ) → set_address_bytes notation.big (Constant a) h.parameters.encoding.address_size ≡ Ok bytes → Operand a bytes
+  address_operand a bytes is = by h.parameters.encoding.address_size refl is
     where
       sized : (size : ℕ) → (nat_eq size 1 || nat_eq size 2 || nat_eq size 3 || nat_eq size 4 || nat_eq size 8) ≡ true → size ≤ 8
       sized size t = grind (arith, nat_tests)
 
-      tested : (size : ℕ) → h.rules.encoding.address_size ≡ size → (b c : Bool) → (nat_eq size 1 || nat_eq size 2 || nat_eq size 3 || nat_eq size 4 || nat_eq size 8) ≡ b → nat_lt a (256 ^ size) ≡ c
+      tested : (size : ℕ) → h.parameters.encoding.address_size ≡ size → (b c : Bool) → (nat_eq size 1 || nat_eq size 2 || nat_eq size 3 || nat_eq size 4 || nat_eq size 8) ≡ b → nat_lt a (256 ^ size) ≡ c
           → (let r : Result (List ℕ) Error = if b then (if c then Ok (number_bytes notation.big size a) else Err ValueTooLarge) else Err (UnsupportedWordSize size) in seen (λ operand. 0 ∷ uleb (size + 1) ++ 2 ∷ operand) r) ≡ Ok bytes → Operand a bytes
       tested size same true true t u is =
           let written : 0 ∷ uleb (size + 1) ++ 2 ∷ number_bytes notation.big size a ≡ bytes = cc in
@@ -129,11 +129,11 @@ module _ (notation : Notation) (h : Header) (base : h.rules.opcode_base ≡ 13) 
       tested size same true false t u is = absurd cc
       tested size same false c t u is = absurd cc
 
-      by : (size : ℕ) → h.rules.encoding.address_size ≡ size → set_address_bytes notation.big (Constant a) size ≡ Ok bytes → Operand a bytes
+      by : (size : ℕ) → h.parameters.encoding.address_size ≡ size → set_address_bytes notation.big (Constant a) size ≡ Ok bytes → Operand a bytes
       by size same is = tested size same (nat_eq size 1 || nat_eq size 2 || nat_eq size 3 || nat_eq size 4 || nat_eq size 8) (nat_lt a (256 ^ size)) refl refl is
 
   -- a set address that is written spells it
-  pub address-spelled : (a : ℕ) (bytes : List ℕ) → set_address_bytes notation.big (Constant a) h.rules.encoding.address_size ≡ Ok bytes → SpellsInstruction notation h bytes (SetAddress a)
+  pub address-spelled : (a : ℕ) (bytes : List ℕ) → set_address_bytes notation.big (Constant a) h.parameters.encoding.address_size ≡ Ok bytes → SpellsInstruction notation h bytes (SetAddress a)
   address-spelled a bytes is = address_written a bytes (address_operand a bytes is)
 
   -- instructions one after the other

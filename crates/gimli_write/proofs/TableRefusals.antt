@@ -10,8 +10,8 @@ use Rattle.gimli_write.specs.LineText.{LineText, Inline, InStrings, InLineString
 use Rattle.gimli_write.specs.Tables.{File}
 use Rattle.gimli_write.specs.Built.{Built}
 use Rattle.gimli_write.specs.Joined.{joined, joined_parts}
-use Rattle.gimli_write.specs.OldTables.{name_bytes, directories_bytes, file_bytes, files_bytes}
-use Rattle.gimli_write.specs.NewTables.{text_form, first_form, path_texts, sources, empty_text, directory_formats, file_formats, formats_bytes, detail_bytes, text_bytes, text_in_form, directory_table_bytes, source_bytes, file_entry_bytes, file_table_bytes}
+use Rattle.gimli_write.specs.Version4Tables.{name_bytes, directories_bytes, file_bytes, files_bytes}
+use Rattle.gimli_write.specs.Version5Tables.{text_form, first_form, path_texts, sources, empty_text, directory_formats, file_formats, formats_bytes, detail_bytes, text_bytes, text_in_form, directory_table_bytes, source_bytes, file_entry_bytes, file_table_bytes}
 use Rattle.gimli_write.specs.Unit.{tables_bytes}
 use Rattle.gimli_write.specs.Cause.{cause_if, first_of, offset_cause, text_cause, file_texts, emitted_texts}
 use Rattle.gimli_write.proofs.Refusals.{refusal, or_first, first_before_none, first_apart, first_alone, causes_append, causes_map, causes_flat, joined-refusal, parts-refusal}

@@ -3,18 +3,18 @@ use Rattle.std.proofs.Common.{◌≡◌, ◌≢◌, ℕ, ◌<◌, ◌^◌, List,
 use Rattle.std.specs.Prelude.{All}
 use Rattle.std.proofs.lemmas.List.{append-nil}
 use Rattle.std.proofs.lemmas.List.Elements.{All-head, All-tail, recursion_from_All}
-use Rattle.gimli_core.specs.Line.{Line, ◌>>=◌, Each}
+use Rattle.gimli_core.specs.Production.{Production, ◌>>=◌, Each}
 use Rattle.gimli_core.specs.Numbers.{SpellsUleb128}
 use Rattle.gimli_bytes.specs.Number.{uleb}
 use Rattle.gimli_bytes.proofs.ShortestUleb.{uleb_shortest}
-use Rattle.gimli_line.specs.Lines.{name}
+use Rattle.gimli_line.specs.Productions.{name}
 use Rattle.gimli_line.specs.Header.{plain_file}
 use Rattle.gimli_line.specs.Instruction.{File as ReadFile}
-use Rattle.gimli_line.specs.HeaderGrammar.{SpellsPaths, SpellsFiles, file_line}
+use Rattle.gimli_line.specs.HeaderGrammar.{SpellsPaths, SpellsFiles, file_production}
 use Rattle.gimli_write.specs.LineText.{LineText, Inline, InStrings, InLineStrings, bytes_in, HasNoZero, IsNotEmpty}
 use Rattle.gimli_write.specs.Tables.{File, FitsFile, keys_of}
 use Rattle.gimli_write.specs.Joined.{joined_parts}
-use Rattle.gimli_write.specs.OldTables.{name_bytes, directories_bytes, file_bytes, files_bytes}
+use Rattle.gimli_write.specs.Version4Tables.{name_bytes, directories_bytes, file_bytes, files_bytes}
 use Rattle.gimli_write.proofs.WrittenParts.{same_written, both_written, before_written}
 
 unsigned_spelled : (n : ℕ) → n < 2 ^ 64 → SpellsUleb128 64 (uleb n) n
@@ -45,15 +45,15 @@ module _ (strings line_strings : List (List ℕ)) where
   -- ---- files
 
   -- a path, and what stands behind it
-  abbrev entry_line : Line ReadFile
-  entry_line = name >>= file_line
+  abbrev entry_production : Production ReadFile
+  entry_production = name >>= file_production
 
   -- what is read of a file up to version 4
   abbrev pub read_file : File → ReadFile
   read_file f = plain_file (bytes_in strings line_strings f.0.0) f.0.1 f.1.timestamp f.1.size
 
   numbers_spelled : (path : List ℕ) (directory time size : ℕ) → directory < 2 ^ 64 → time < 2 ^ 64 → size < 2 ^ 64
-      → (file_line path).Spells (uleb directory ++ uleb time ++ uleb size) (plain_file path directory time size)
+      → (file_production path).Spells (uleb directory ++ uleb time ++ uleb size) (plain_file path directory time size)
   numbers_spelled path directory time size d t s = (
     directory,
     uleb directory,
@@ -70,7 +70,7 @@ module _ (strings line_strings : List (List ℕ)) where
     ),
   )
 
-  file_spelled : (f : File) (bytes : List ℕ) → IsNotEmpty f.0.0 → HasNoZero f.0.0 → FitsFile f → file_bytes f ≡ Ok bytes → entry_line.Spells bytes (read_file f)
+  file_spelled : (f : File) (bytes : List ℕ) → IsNotEmpty f.0.0 → HasNoZero f.0.0 → FitsFile f → file_bytes f ≡ Ok bytes → entry_production.Spells bytes (read_file f)
   file_spelled f bytes some clean fits is =
       let b = before_written (name_bytes f.0.0) (uleb f.0.1 ++ uleb f.1.timestamp ++ uleb f.1.size) bytes is in
       let path = bytes_in strings line_strings f.0.0 in
@@ -78,7 +78,7 @@ module _ (strings line_strings : List (List ℕ)) where
       (path, b.front, uleb f.0.1 ++ uleb f.1.timestamp ++ uleb f.1.size, b.whole, name_spelled f.0.0 b.front some clean b.front_is, numbers)
 
   each_file_spelled : (fs : List File) (bytes : List ℕ) → All (λ k. IsNotEmpty k.0) (keys_of fs) → All (λ k. HasNoZero k.0) (keys_of fs) → All FitsFile fs → joined_parts file_bytes fs ≡ Ok bytes
-      → Each entry_line.Spells bytes (map read_file fs)
+      → Each entry_production.Spells bytes (map read_file fs)
   each_file_spelled [] bytes some clean fits is = same_written [] bytes is
   each_file_spelled (f ∷ fs) bytes some clean fits is =
       let b = both_written (file_bytes f) (joined_parts file_bytes fs) bytes is in

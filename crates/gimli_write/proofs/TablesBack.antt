@@ -10,7 +10,7 @@ use Rattle.gimli_core.specs.Values.{Value}
 use Rattle.gimli_core.specs.declared.attribute_value.AttributeValue.TheVariants.{String}
 use Rattle.gimli_bytes.specs.Texts.{AreTexts, table_bytes}
 use Rattle.gimli_bytes.specs.declared.error.Error.{Error}
-use Rattle.gimli_line.specs.Header.{Given}
+use Rattle.gimli_line.specs.Header.{UnitEntry}
 use Rattle.gimli_line.specs.Instruction.{File as ReadFile}
 use Rattle.gimli_line.specs.HeaderGrammar.{path_of, file_of_entry, taken, directory_table, file_table}
 use Rattle.gimli_line.specs.declared.file_entry.FileEntryFormat.{FileEntryFormat}
@@ -22,22 +22,22 @@ use Rattle.gimli_write.specs.Built.{Built}
 use Rattle.gimli_write.specs.Conditions.{IsBuilt}
 use Rattle.gimli_write.specs.ReadsBack.{IsDirectory, IsFile}
 use Rattle.gimli_write.specs.Joined.{joined}
-use Rattle.gimli_write.specs.OldTables.{directories_bytes, files_bytes}
-use Rattle.gimli_write.specs.NewTables.{directory_formats, file_formats, directory_table_bytes, file_table_bytes}
+use Rattle.gimli_write.specs.Version4Tables.{directories_bytes, files_bytes}
+use Rattle.gimli_write.specs.Version5Tables.{directory_formats, file_formats, directory_table_bytes, file_table_bytes}
 use Rattle.gimli_write.specs.Unit.{tables_bytes}
 use Rattle.gimli_write.proofs.WrittenParts.{both_written}
 use Rattle.gimli_write.proofs.TableSpellings.{read_file, directories-spelled, files-spelled}
 use Rattle.gimli_write.proofs.EncodingSpellings.{first-chosen, second-chosen}
 use Rattle.gimli_write.proofs.FormatForms.{read_format}
 use Rattle.gimli_write.proofs.ReadyTexts.{AreReady}
-use Rattle.gimli_write.proofs.NewTableSpellings.{directory_entry, file_entry, new-directories-spelled, new-files-spelled, new-directories-back, new-files-back}
+use Rattle.gimli_write.proofs.Version5TableSpellings.{directory_entry, file_entry, new-directories-spelled, new-files-spelled, new-directories-back, new-files-back}
 
 -- the directories from index 0 on: up to version 4 the one that was handed is the first
-abbrev from_zero : Built → Given → List Value → List Value
-from_zero p given directories = if nat_le p.encoding.version 4 then option_to_list (option_map String (taken p.encoding given.directory)) ++ directories else directories
+abbrev from_zero : Built → UnitEntry → List Value → List Value
+from_zero p given directories = if nat_le p.encoding.version 4 then option_to_list (option_map String (taken p.encoding unit_entry.directory)) ++ directories else directories
 
 -- what is read of the tables
-pub record TablesBack (notation : Notation) (given : Given) (sections : Sections) (p : Built) (strings line_strings : List (List ℕ)) (bytes : List ℕ) : Type 0 where
+pub record TablesBack (notation : Notation) (unit_entry : UnitEntry) (sections : Sections) (p : Built) (strings line_strings : List (List ℕ)) (bytes : List ℕ) : Type 0 where
   pub directory_formats : List FileEntryFormat
   pub directories : List Value
   pub file_formats : List FileEntryFormat
@@ -88,7 +88,7 @@ module _ (sections : Sections) (strings line_strings : List (List ℕ)) where
   files_back p [] old = tt
   files_back p (f ∷ fs) old = (file_back p f old, files_back p fs old)
 
-module _ (notation : Notation) (given : Given) (sections : Sections) (p : Built) (strings line_strings : List (List ℕ)) (built : IsBuilt p) where
+module _ (notation : Notation) (unit_entry : UnitEntry) (sections : Sections) (p : Built) (strings line_strings : List (List ℕ)) (built : IsBuilt p) where
   module _ (old : nat_le p.encoding.version 4 ≡ true) where
     old_directories_spelled : (bytes : List ℕ) → directories_bytes p.directories ≡ Ok bytes
         → (directory_table notation p.encoding).Spells bytes ([], map String (map (bytes_in strings line_strings) (drop 1 p.directories)))
@@ -102,12 +102,12 @@ module _ (notation : Notation) (given : Given) (sections : Sections) (p : Built)
         let spelled = files-spelled strings line_strings p.files bytes (built.is.paths_not_empty (leb-true p.encoding.version 4 old)) built.tables.paths_end built.files_fit is in
         first-chosen (nat_le p.encoding.version 4) _ _ bytes _ old (map (read_file strings line_strings) p.files, bytes, [], sym (append-nil bytes), spelled, (refl, refl))
 
-    old_back : given.directory ≡ option_map (bytes_in strings line_strings) (slice_get p.directories 0)
+    old_back : unit_entry.directory ≡ option_map (bytes_in strings line_strings) (slice_get p.directories 0)
         → OneByOne (IsDirectory sections strings line_strings) (from_zero p given (map String (map (bytes_in strings line_strings) (drop 1 p.directories)))) p.directories
     old_back known = rw (old, known) (handed_back sections strings line_strings p.directories (built.is.working_dir refl))
 
-    old_tables : (bytes : List ℕ) → given.directory ≡ option_map (bytes_in strings line_strings) (slice_get p.directories 0)
-        → joined (directories_bytes p.directories) (files_bytes p.files) ≡ Ok bytes → TablesBack notation given sections p strings line_strings bytes
+    old_tables : (bytes : List ℕ) → unit_entry.directory ≡ option_map (bytes_in strings line_strings) (slice_get p.directories 0)
+        → joined (directories_bytes p.directories) (files_bytes p.files) ≡ Ok bytes → TablesBack notation unit_entry sections p strings line_strings bytes
     old_tables bytes known is =
         let b = both_written (directories_bytes p.directories) (files_bytes p.files) bytes is in
         record {
@@ -147,7 +147,7 @@ module _ (notation : Notation) (given : Given) (sections : Sections) (p : Built)
 
     new_tables : (bytes : List ℕ) → length bytes < 2 ^ 64
         → joined (directory_table_bytes notation.big p.encoding.format strings line_strings p) (file_table_bytes notation.big p.encoding.format strings line_strings p) ≡ Ok bytes
-        → TablesBack notation given sections p strings line_strings bytes
+        → TablesBack notation unit_entry sections p strings line_strings bytes
     new_tables bytes small is =
         let b = both_written (directory_table_bytes notation.big p.encoding.format strings line_strings p) (file_table_bytes notation.big p.encoding.format strings line_strings p) bytes is in
         let whole = ap length b.whole ∙ length-append b.first b.rest in
@@ -169,7 +169,7 @@ module _ (notation : Notation) (given : Given) (sections : Sections) (p : Built)
 
   -- how the tables have to be read
   pub record AreReadWell : Type 0 where
-    pub directory : nat_le p.encoding.version 4 ≡ true → given.directory ≡ option_map (bytes_in strings line_strings) (slice_get p.directories 0)
+    pub directory : nat_le p.encoding.version 4 ≡ true → unit_entry.directory ≡ option_map (bytes_in strings line_strings) (slice_get p.directories 0)
     pub ready : nat_le p.encoding.version 4 ≡ false → AreReady p strings line_strings
     pub strings_are : sections.strings ≡ table_bytes strings
     pub line_strings_are : sections.line_strings ≡ table_bytes line_strings
@@ -178,14 +178,14 @@ module _ (notation : Notation) (given : Given) (sections : Sections) (p : Built)
     pub strings_held : nat_le p.encoding.version 4 ≡ false → length (table_bytes strings) < notation.limit
     pub line_strings_held : nat_le p.encoding.version 4 ≡ false → length (table_bytes line_strings) < notation.limit
 
-  pub tables-back : (bytes : List ℕ) → AreReadWell → length bytes < 2 ^ 64 → tables_bytes notation.big p strings line_strings ≡ Ok bytes → TablesBack notation given sections p strings line_strings bytes
+  pub tables-back : (bytes : List ℕ) → AreReadWell → length bytes < 2 ^ 64 → tables_bytes notation.big p strings line_strings ≡ Ok bytes → TablesBack notation unit_entry sections p strings line_strings bytes
   tables-back bytes well small is =
       by (nat_le p.encoding.version 4) refl (joined (directories_bytes p.directories) (files_bytes p.files))
       (joined (directory_table_bytes notation.big p.encoding.format strings line_strings p) (file_table_bytes notation.big p.encoding.format strings line_strings p)) refl refl is
     where
       by : (b : Bool) → nat_le p.encoding.version 4 ≡ b → (r s : Result (List ℕ) Error) → r ≡ joined (directories_bytes p.directories) (files_bytes p.files)
           → s ≡ joined (directory_table_bytes notation.big p.encoding.format strings line_strings p) (file_table_bytes notation.big p.encoding.format strings line_strings p)
-          → (if b then r else s) ≡ Ok bytes → TablesBack notation given sections p strings line_strings bytes
+          → (if b then r else s) ≡ Ok bytes → TablesBack notation unit_entry sections p strings line_strings bytes
       by true old r s first second is = old_tables old bytes (well.directory old) (sym first ∙ is)
       by false new r s first second is =
           new_tables new (well.ready new) well.strings_are well.line_strings_are well.texts well.line_texts (well.strings_held new) (well.line_strings_held new) bytes small (sym second ∙ is)

@@ -7,7 +7,7 @@ use Rattle.std.proofs.lemmas.List.Elements.{recursion_from_All}
 use Rattle.std.proofs.lemmas.Option.{slice_get-get_or}
 use Rattle.gimli_core.specs.Notation.{Notation}
 use Rattle.gimli_core.specs.Values.{Value}
-use Rattle.gimli_core.specs.Form.{form_line, SpellsForm}
+use Rattle.gimli_core.specs.Form.{form_production, SpellsForm}
 use Rattle.gimli_core.specs.declared.common.Format.{Format}
 use Rattle.gimli_core.specs.declared.attribute_value.AttributeValue.TheVariants.{String, DebugStrRef, DebugLineStrRef}
 use Rattle.gimli_bytes.specs.Texts.{AreTexts, table_bytes, offset_of}
@@ -16,7 +16,7 @@ use Rattle.gimli_bytes.specs.declared.error.Error.TheVariants.{LineStringFormMis
 use Rattle.gimli_bytes.proofs.TextLemmas.{table_bytes-at}
 use Rattle.gimli_write.specs.LineText.{LineText, Inline, InStrings, InLineStrings, IsWithin, HasNoZero, bytes_in}
 use Rattle.gimli_write.specs.Texts.{Sections, IsTextAt, IsText}
-use Rattle.gimli_write.specs.NewTables.{text_form, text_bytes, text_in_form}
+use Rattle.gimli_write.specs.Version5Tables.{text_form, text_bytes, text_in_form}
 use Rattle.gimli_write.proofs.WrittenParts.{same_written}
 use Rattle.gimli_write.proofs.EncodingSpellings.{offset-spelled, word-long}
 
@@ -58,7 +58,7 @@ pub record IsReady (strings line_strings : List (List ℕ)) (t : LineText) : Typ
 module _ (notation : Notation) (format : Format) (strings line_strings : List (List ℕ))
     (strings_held : length (table_bytes strings) < notation.limit) (line_strings_held : length (table_bytes line_strings) < notation.limit) where
   text_spelled : (t : LineText) (bytes : List ℕ) → HasNoZero t → IsWithin strings line_strings t → text_bytes notation.big format strings line_strings t ≡ Ok bytes
-      → (form_line notation format (text_form t)).Spells bytes (read_text strings line_strings t)
+      → (form_production notation format (text_form t)).Spells bytes (read_text strings line_strings t)
   text_spelled (Inline text) bytes clean within is =
       (text, bytes, [], sym (append-nil bytes), (recursion_from_All (λ b. b ≢ 0) text clean, same_written (text ++ 0 ∷ []) bytes is), (refl, refl))
   text_spelled (InStrings i) bytes clean within is =

@@ -7,12 +7,12 @@ use Rattle.gimli_core.specs.declared.common.Encoding.{Encoding}
 use Rattle.gimli_bytes.specs.Texts.{AreTexts}
 use Rattle.gimli_bytes.specs.declared.error.Error.{Error}
 use Rattle.gimli_bytes.specs.declared.error.Error.TheVariants.{IncompatibleLineProgramEncoding}
-use Rattle.gimli_line.specs.Header.{Header, Given}
+use Rattle.gimli_line.specs.Header.{Header, UnitEntry}
 use Rattle.gimli_write.specs.Texts.{Sections, OneByOne}
 use Rattle.gimli_write.specs.Built.{Built}
 use Rattle.gimli_write.specs.Conditions.{IsBuilt, CanWrite}
 use Rattle.gimli_write.specs.SameRow.{built_rules}
-use Rattle.gimli_write.specs.NewTables.{strings_behind, line_strings_behind}
+use Rattle.gimli_write.specs.Version5Tables.{strings_behind, line_strings_behind}
 use Rattle.gimli_write.specs.ReadsBack.{IsUnit, directories_from_zero, IsDirectory, IsFile, IsReadWell}
 use Rattle.gimli_write.specs.Unit.{operand_counts, program_bytes, whole_bytes, is_incompatible, unit_bytes}
 use Rattle.gimli_write.proofs.ReadyTexts.{tables-ready}
@@ -20,10 +20,10 @@ use Rattle.gimli_write.proofs.TablesBack.{AreReadWell, tables-back}
 use Rattle.gimli_write.proofs.UnitSpellings.{UnitWritten, unit_written, fields_written, inside-short, fields-short, tables-short, header_of, unit-is}
 
 -- the bytes are a unit, and its header is what was built; its program is what was written of the items
-pub record HeaderBack (notation : Notation) (given : Given) (sections : Sections) (p : Built) (strings line_strings : List (List ℕ)) (unit : List ℕ) : Type 0 where
+pub record HeaderBack (notation : Notation) (unit_entry : UnitEntry) (sections : Sections) (p : Built) (strings line_strings : List (List ℕ)) (unit : List ℕ) : Type 0 where
   pub header : Header
-  pub is_unit : IsUnit notation given unit header
-  pub rules : header.rules ≡ built_rules p.encoding p.line_encoding
+  pub is_unit : IsUnit notation unit_entry unit header
+  pub parameters : header.parameters ≡ built_rules p.encoding p.line_encoding
   pub counts : header.operand_counts ≡ operand_counts
   pub directories : OneByOne (IsDirectory sections strings line_strings) (directories_from_zero header) p.directories
   pub files : OneByOne (IsFile sections p strings line_strings) header.files p.files
@@ -39,19 +39,19 @@ whole_written big unit_encoding p old_strings old_line_strings unit is =
     by true r is = absurd cc
     by false r is = is
 
-module _ (notation : Notation) (given : Given) (sections : Sections) (p : Built) (built : IsBuilt p) where
-  whole_back : (strings line_strings : List (List ℕ)) (unit : List ℕ) → AreReadWell notation given sections p strings line_strings built → given.address_size ≡ p.encoding.address_size
-      → length unit < notation.limit → length unit < 2 ^ 64 → UnitWritten notation.big p strings line_strings unit → HeaderBack notation given sections p strings line_strings unit
+module _ (notation : Notation) (unit_entry : UnitEntry) (sections : Sections) (p : Built) (built : IsBuilt p) where
+  whole_back : (strings line_strings : List (List ℕ)) (unit : List ℕ) → AreReadWell notation unit_entry sections p strings line_strings built → unit_entry.address_size ≡ p.encoding.address_size
+      → length unit < notation.limit → length unit < 2 ^ 64 → UnitWritten notation.big p strings line_strings unit → HeaderBack notation unit_entry sections p strings line_strings unit
   whole_back strings line_strings unit well same holds small w =
       let v = fields_written notation.big p strings line_strings w.fields w.fields_are in
       let inside = inside-short notation.big p strings line_strings unit w in
       let fields = fields-short notation.big p strings line_strings unit w in
       let tables = tables-short notation.big p strings line_strings w.fields v in
-      let t = tables-back notation given sections p strings line_strings built v.tables well (omega (arith, inside, fields, tables, small)) v.tables_are in
+      let t = tables-back notation unit_entry sections p strings line_strings built v.tables well (omega (arith, inside, fields, tables, small)) v.tables_are in
       record {
-        header = header_of notation given sections p strings line_strings built v.tables t (length w.inside) (length w.fields) w.program;
-        is_unit = unit-is notation given sections p strings line_strings built unit w v t same holds small;
-        rules = refl;
+        header = header_of notation unit_entry sections p strings line_strings built v.tables t (length w.inside) (length w.fields) w.program;
+        is_unit = unit-is notation unit_entry sections p strings line_strings built unit w v t same holds small;
+        parameters = refl;
         counts = refl;
         directories = t.directories_back;
         files = t.files_back;
@@ -60,8 +60,8 @@ module _ (notation : Notation) (given : Given) (sections : Sections) (p : Built)
 
   -- how the unit is read, the tables are
   read_well : (old_strings old_line_strings : List (List ℕ)) (unit : List ℕ) → CanWrite p old_strings old_line_strings → AreTexts (strings_behind p old_strings) → AreTexts (line_strings_behind p old_line_strings)
-      → IsReadWell notation given sections notation.big p (strings_behind p old_strings) (line_strings_behind p old_line_strings) unit
-      → AreReadWell notation given sections p (strings_behind p old_strings) (line_strings_behind p old_line_strings) built
+      → IsReadWell notation unit_entry sections notation.big p (strings_behind p old_strings) (line_strings_behind p old_line_strings) unit
+      → AreReadWell notation unit_entry sections p (strings_behind p old_strings) (line_strings_behind p old_line_strings) built
   read_well old_strings old_line_strings unit can texts line_texts well = record {
     directory = λ old. well.directory (leb-true p.encoding.version 4 old);
     ready = λ new. tables-ready p old_strings old_line_strings new built can;
@@ -77,16 +77,16 @@ module _ (notation : Notation) (given : Given) (sections : Sections) (p : Built)
       held new = let above = leb-false p.encoding.version 4 new in well.sections_held (omega (arith, above))
 
 -- a unit whose length 64 bits hold
-pub header-back : (notation : Notation) (given : Given) (sections : Sections) (big : Bool) (unit_encoding : Encoding) (p : Built) (old_strings old_line_strings : List (List ℕ)) (unit : List ℕ)
+pub header-back : (notation : Notation) (unit_entry : UnitEntry) (sections : Sections) (big : Bool) (unit_encoding : Encoding) (p : Built) (old_strings old_line_strings : List (List ℕ)) (unit : List ℕ)
     → length unit < 2 ^ 64 → IsBuilt p → CanWrite p old_strings old_line_strings → AreTexts (strings_behind p old_strings) → AreTexts (line_strings_behind p old_line_strings)
-    → unit_bytes big unit_encoding p old_strings old_line_strings ≡ Ok unit → IsReadWell notation given sections big p (strings_behind p old_strings) (line_strings_behind p old_line_strings) unit
-    → HeaderBack notation given sections p (strings_behind p old_strings) (line_strings_behind p old_line_strings) unit
-header-back notation given sections big unit_encoding p old_strings old_line_strings unit small built can texts line_texts is well =
+    → unit_bytes big unit_encoding p old_strings old_line_strings ≡ Ok unit → IsReadWell notation unit_entry sections big p (strings_behind p old_strings) (line_strings_behind p old_line_strings) unit
+    → HeaderBack notation unit_entry sections p (strings_behind p old_strings) (line_strings_behind p old_line_strings) unit
+header-back notation unit_entry sections big unit_encoding p old_strings old_line_strings unit small built can texts line_texts is well =
     let strings = strings_behind p old_strings in
     let line_strings = line_strings_behind p old_line_strings in
     let whole : whole_bytes notation.big p strings line_strings ≡ Ok unit =
     ap (λ (b : Bool). whole_bytes b p strings line_strings) well.order ∙ whole_written big unit_encoding p old_strings old_line_strings unit is in
-    let same : IsReadWell notation given sections notation.big p strings line_strings unit = record {
+    let same : IsReadWell notation unit_entry sections notation.big p strings line_strings unit = record {
       order = refl;
       address_size = well.address_size;
       directory = well.directory;
@@ -95,5 +95,5 @@ header-back notation given sections big unit_encoding p old_strings old_line_str
       holds = well.holds;
       sections_held = well.sections_held;
     } in
-    whole_back notation given sections p built strings line_strings unit (read_well notation given sections p built old_strings old_line_strings unit can texts line_texts same)
+    whole_back notation unit_entry sections p built strings line_strings unit (read_well notation unit_entry sections p built old_strings old_line_strings unit can texts line_texts same)
     same.address_size same.holds small (unit_written notation.big p strings line_strings unit whole)

@@ -7,8 +7,8 @@ use Rattle.gimli_core.specs.Numbers.{word_size}
 use Rattle.gimli_core.specs.declared.error.Error.TheVariants.{OpcodeBaseZero}
 use Rattle.gimli_bytes.specs.Number.{udata, length_word}
 use Rattle.gimli_bytes.specs.declared.error.Error.{Error}
-use Rattle.gimli_line.specs.Header.{Header, Given, plain_file}
-use Rattle.gimli_line.specs.HeaderGrammar.{Opening, taken, rules_line, opening_line, fields_line, header_line}
+use Rattle.gimli_line.specs.Header.{Header, UnitEntry, plain_file}
+use Rattle.gimli_line.specs.HeaderGrammar.{Opening, taken, parameters_production, opening_production, fields_production, header_production}
 use Rattle.gimli_write.specs.Built.{Built}
 use Rattle.gimli_write.specs.Conditions.{IsBuilt}
 use Rattle.gimli_write.specs.Texts.{Sections}
@@ -109,13 +109,13 @@ tables-short big p strings line_strings fields w =
 
 -- ---- the header
 
-module _ (notation : Notation) (given : Given) (sections : Sections) (p : Built) (strings line_strings : List (List ℕ)) (built : IsBuilt p) where
+module _ (notation : Notation) (unit_entry : UnitEntry) (sections : Sections) (p : Built) (strings line_strings : List (List ℕ)) (built : IsBuilt p) where
   abbrev pub Tables : List ℕ → Type 0
-  Tables bytes = TablesBack notation given sections p strings line_strings bytes
+  Tables bytes = TablesBack notation unit_entry sections p strings line_strings bytes
 
   abbrev pub header_of : (bytes : List ℕ) → Tables bytes → ℕ → ℕ → List ℕ → Header
   header_of bytes t unit_size fields_size program = record {
-    rules = built_rules p.encoding p.line_encoding;
+    parameters = built_rules p.encoding p.line_encoding;
     unit_length = unit_size;
     header_length = fields_size;
     operand_counts = operand_counts;
@@ -124,19 +124,19 @@ module _ (notation : Notation) (given : Given) (sections : Sections) (p : Built)
     file_formats = t.file_formats;
     files = t.files;
     program = program;
-    comp_dir = taken p.encoding given.directory;
-    comp_file = taken p.encoding (option_map (λ path. plain_file path 0 0 0) given.name);
+    comp_dir = taken p.encoding unit_entry.directory;
+    comp_file = taken p.encoding (option_map (λ path. plain_file path 0 0 0) unit_entry.name);
   }
 
   abbrev opening_of : List ℕ → Opening
   opening_of fields = record { encoding = p.encoding; header_length = length fields; fields = fields }
 
-  rules_spelled : (bytes : List ℕ) → line_encoding_bytes p.encoding.version p.line_encoding ≡ Ok bytes → (rules_line p.encoding).Spells (bytes ++ 13 ∷ []) (built_rules p.encoding p.line_encoding)
+  rules_spelled : (bytes : List ℕ) → line_encoding_bytes p.encoding.version p.line_encoding ≡ Ok bytes → (parameters_production p.encoding).Spells (bytes ++ 13 ∷ []) (built_rules p.encoding p.line_encoding)
   rules_spelled bytes is =
       (p.line_encoding, bytes, 13 ∷ [], refl, encoding-spelled p.encoding.version p.line_encoding bytes built.is.lines is, (13, 13 ∷ [], [], refl, positive-spelled 13 OpcodeBaseZero (omega arith), (refl, refl)))
 
   fields_spelled : (unit_size : ℕ) (fields program : List ℕ) (w : FieldsWritten notation.big p strings line_strings fields) (t : Tables w.tables)
-      → (fields_line notation given unit_size (opening_of fields) program).Spells fields (header_of w.tables t unit_size (length fields) program)
+      → (fields_production notation unit_entry unit_size (opening_of fields) program).Spells fields (header_of w.tables t unit_size (length fields) program)
   fields_spelled unit_size fields program w t = (
     built_rules p.encoding p.line_encoding,
     w.encoding ++ 13 ∷ [],
@@ -161,8 +161,8 @@ module _ (notation : Notation) (given : Given) (sections : Sections) (p : Built)
   )
 
   -- the fields in front of those, read with the address size of the program
-  opening_spelled : (opening size fields : List ℕ) → given.address_size ≡ p.encoding.address_size → length fields < notation.limit → opening_bytes notation.big p.encoding ≡ Ok opening
-      → udata notation.big (length fields) (word_size p.encoding.format) ≡ Ok size → (opening_line notation given.address_size p.encoding.format).Spells (opening ++ (size ++ fields)) (opening_of fields)
+  opening_spelled : (opening size fields : List ℕ) → unit_entry.address_size ≡ p.encoding.address_size → length fields < notation.limit → opening_bytes notation.big p.encoding ≡ Ok opening
+      → udata notation.big (length fields) (word_size p.encoding.format) ≡ Ok size → (opening_production notation unit_entry.address_size p.encoding.format).Spells (opening ++ (size ++ fields)) (opening_of fields)
   opening_spelled opening size fields same holds opening_is size_is =
       let address : List ℕ = if nat_le p.encoding.version 4 then [] else p.encoding.address_size ∷ 0 ∷ [] in
       let b = before_written (version_bytes notation.big p.encoding.version) address opening opening_is in (
@@ -176,7 +176,7 @@ module _ (notation : Notation) (given : Given) (sections : Sections) (p : Built)
           address,
           size ++ fields,
           refl,
-          address-spelled p.encoding.version given.address_size p.encoding.address_size same (built.is.address_size refl),
+          address-spelled p.encoding.version unit_entry.address_size p.encoding.address_size same (built.is.address_size refl),
           (
             length fields,
             size,
@@ -189,20 +189,20 @@ module _ (notation : Notation) (given : Given) (sections : Sections) (p : Built)
       )
 
   module _ (unit : List ℕ) (w : UnitWritten notation.big p strings line_strings unit) (v : FieldsWritten notation.big p strings line_strings w.fields) (t : Tables v.tables)
-      (same : given.address_size ≡ p.encoding.address_size) (holds : length unit < notation.limit) (small : length unit < 2 ^ 64) where
+      (same : unit_entry.address_size ≡ p.encoding.address_size) (holds : length unit < notation.limit) (small : length unit < 2 ^ 64) where
     abbrev header : Header
     header = header_of v.tables t (length w.inside) (length w.fields) w.program
 
-    unit_fields : (fields_line notation given (length w.inside) (opening_of w.fields) w.program).Spells w.fields header
+    unit_fields : (fields_production notation unit_entry (length w.inside) (opening_of w.fields) w.program).Spells w.fields header
     unit_fields = fields_spelled (length w.inside) w.fields w.program v t
 
-    unit_spelled : (header_line notation given).Spells unit header
+    unit_spelled : (header_production notation unit_entry).Spells unit header
     unit_spelled =
         let inside = inside-short notation.big p strings line_strings unit w in
         let fields = fields-short notation.big p strings line_strings unit w in
         let length_spelled = length-spelled notation p.encoding.format (length w.inside) w.length_bytes (omega (arith, inside, holds)) (omega (arith, inside, small)) w.length_is in
         let opened = opening_spelled w.opening w.size w.fields same (omega (arith, inside, fields, holds)) w.opening_is w.size_is in
-        let cut : w.inside ≡ (w.opening ++ (w.size ++ w.fields)) ++ w.program = w.inside_is ∙ sym (append_assoc w.opening (w.size ++ w.fields) w.program) in (
+        let decoding : w.inside ≡ (w.opening ++ (w.size ++ w.fields)) ++ w.program = w.inside_is ∙ sym (append_assoc w.opening (w.size ++ w.fields) w.program) in (
           (length w.inside, p.encoding.format),
           escape_bytes notation.big p.encoding.format ++ w.length_bytes,
           w.inside,
@@ -219,7 +219,7 @@ module _ (notation : Notation) (given : Given) (sections : Sections) (p : Built)
               [],
               [],
               refl,
-              (refl, (w.opening ++ (w.size ++ w.fields), cut, opened)),
+              (refl, (w.opening ++ (w.size ++ w.fields), decoding, opened)),
               ((header, []), [], [], refl, (refl, (w.fields, sym (append-nil w.fields), unit_fields)), (refl, refl)),
             ),
           ),
@@ -235,7 +235,7 @@ module _ (notation : Notation) (given : Given) (sections : Sections) (p : Built)
         ∙ sym (append_assoc front ((w.opening ++ w.size) ++ w.fields) w.program)
         ∙ ap (λ (l : List ℕ). l ++ w.program) (sym (append_assoc front (w.opening ++ w.size) w.fields))
 
-    pub unit-is : IsUnit notation given unit (header_of v.tables t (length w.inside) (length w.fields) w.program)
+    pub unit-is : IsUnit notation unit_entry unit (header_of v.tables t (length w.inside) (length w.fields) w.program)
     unit-is = record {
       spelled = unit_spelled;
       opening = opening_of w.fields;

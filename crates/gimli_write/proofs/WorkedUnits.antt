@@ -11,7 +11,7 @@ use Rattle.gimli_write.specs.LineText.{LineText, Inline, InLineStrings}
 use Rattle.gimli_write.specs.Tables.{File, no_details}
 use Rattle.gimli_write.specs.Built.{Built, started}
 use Rattle.gimli_write.specs.Rows.{initial_row}
-use Rattle.gimli_write.specs.NewTables.{line_strings_behind}
+use Rattle.gimli_write.specs.Version5Tables.{line_strings_behind}
 use Rattle.gimli_write.specs.Unit.{base_byte, unit_bytes}
 use Rattle.gimli_write.specs.Cause.{first_cause}
 use Rattle.gimli_write.specs.declared.items.BuiltItem.{BuiltItem}

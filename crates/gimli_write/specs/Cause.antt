@@ -12,7 +12,7 @@ use Rattle.gimli_bytes.specs.Texts.{offset_of}
 use Rattle.gimli_write.specs.LineText.{LineText, Inline, InStrings, InLineStrings}
 use Rattle.gimli_write.specs.Tables.{File}
 use Rattle.gimli_write.specs.Built.{Built}
-use Rattle.gimli_write.specs.NewTables.{text_form, first_form, path_texts, sources, empty_text, strings_behind, line_strings_behind, directory_formats, file_formats, formats_bytes, detail_bytes}
+use Rattle.gimli_write.specs.Version5Tables.{text_form, first_form, path_texts, sources, empty_text, strings_behind, line_strings_behind, directory_formats, file_formats, formats_bytes, detail_bytes}
 use Rattle.gimli_write.specs.Unit.{is_incompatible, program_bytes}
 use Rattle.gimli_write.specs.declared.items.BuiltItem.{BuiltItem}
 use Rattle.gimli_write.specs.declared.items.BuiltItem.TheVariants.{SetAddress}

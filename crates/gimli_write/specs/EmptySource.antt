@@ -2,7 +2,7 @@
 use Rattle.std.specs.Prelude.{◌≡◌, ℕ, true, List}
 use Rattle.gimli_write.specs.LineText.{LineText, IsWithin}
 use Rattle.gimli_write.specs.Built.{Built}
-use Rattle.gimli_write.specs.NewTables.{first_form, sources, needs_empty, empty_text}
+use Rattle.gimli_write.specs.Version5Tables.{first_form, sources, needs_empty, empty_text}
 
 -- it is the empty text in the form of the other sources, and is in these tables
 pub record IsEmptySource (p : Built) (strings line_strings : List (List ℕ)) (t : LineText) : Type 0 where

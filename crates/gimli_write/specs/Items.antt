@@ -42,11 +42,11 @@ items_rows version e base previous (End offset op_index ∷ items) = read_end ve
 
 -- addresses hold them, and none of them hides: each set address is at least the address reached, and isn't one of the
 -- two greatest, which stand for nothing
-abbrev pub AreHeld : ℕ → ℕ → ℕ × ℕ → List BuiltItem → Type 0
-AreHeld size base place [] = Unit {0}
-AreHeld size base place (SetAddress a ∷ items) = (base + place.0 ≤ address_value a) × (address_value a < 2 ^ (8 * size) - 2) × AreHeld size (address_value a) (place_after (SetAddress a)) items
-AreHeld size base place (Row r ∷ items) = (base + r.address_offset < 2 ^ (8 * size)) × AreHeld size base (place_after (Row r)) items
-AreHeld size base place (End offset op_index ∷ items) = (base + offset < 2 ^ (8 * size)) × AreHeld size 0 (place_after (End offset op_index)) items
+abbrev pub AddressesFit : ℕ → ℕ → ℕ × ℕ → List BuiltItem → Type 0
+AddressesFit size base place [] = Unit {0}
+AddressesFit size base place (SetAddress a ∷ items) = (base + place.0 ≤ address_value a) × (address_value a < 2 ^ (8 * size) - 2) × AddressesFit size (address_value a) (place_after (SetAddress a)) items
+AddressesFit size base place (Row r ∷ items) = (base + r.address_offset < 2 ^ (8 * size)) × AddressesFit size base (place_after (Row r)) items
+AddressesFit size base place (End offset op_index ∷ items) = (base + offset < 2 ^ (8 * size)) × AddressesFit size 0 (place_after (End offset op_index)) items
 
 -- ---- their bytes
 

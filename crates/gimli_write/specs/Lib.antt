@@ -17,8 +17,8 @@ pub mod Sizes
 pub mod Conditions
 pub mod BuiltInside
 pub mod LentRow
-pub mod OldTables
-pub mod NewTables
+pub mod Version4Tables
+pub mod Version5Tables
 pub mod EmptySource
 pub mod Unit
 pub mod Cause

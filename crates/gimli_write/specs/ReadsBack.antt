@@ -4,10 +4,10 @@ use Rattle.std.specs.Option.{option_to_list}
 use Rattle.gimli_core.specs.Notation.{Notation}
 use Rattle.gimli_core.specs.Values.{Value}
 use Rattle.gimli_core.specs.declared.attribute_value.AttributeValue.TheVariants.{String}
-use Rattle.gimli_line.specs.Header.{Header, Given}
-use Rattle.gimli_line.specs.HeaderGrammar.{Opening, header_line, fields_line}
+use Rattle.gimli_line.specs.Header.{Header, UnitEntry}
+use Rattle.gimli_line.specs.HeaderGrammar.{Opening, header_production, fields_production}
 use Rattle.gimli_line.specs.Instruction.{File as ReadFile}
-use Rattle.gimli_line.specs.InstructionGrammar.{Cuts}
+use Rattle.gimli_line.specs.InstructionGrammar.{Decodes}
 use Rattle.gimli_line.specs.Events.{Events, row}
 use Rattle.gimli_line.specs.declared.row.LineRow.{LineRow as ReadRow}
 use Rattle.gimli_bytes.specs.Texts.{table_bytes}
@@ -16,24 +16,24 @@ use Rattle.gimli_write.specs.Tables.{File}
 use Rattle.gimli_write.specs.Texts.{Sections, IsText, IsOptionalText, OneByOne}
 use Rattle.gimli_write.specs.Stored.{stored}
 use Rattle.gimli_write.specs.Rows.{initial_row}
-use Rattle.gimli_write.specs.Items.{items_instructions, AreHeld}
-use Rattle.gimli_write.specs.SameRow.{built_rules, AreSame}
+use Rattle.gimli_write.specs.Items.{items_instructions, AddressesFit}
+use Rattle.gimli_write.specs.SameRow.{built_rules, RowsMatch}
 use Rattle.gimli_write.specs.Built.{Built}
 use Rattle.gimli_write.specs.Unit.{operand_counts}
 
 -- the bytes are a unit with this header and nothing behind it, and between the tables and the program there is nothing
-pub record IsUnit (notation : Notation) (given : Given) (unit : List ℕ) (h : Header) : Type 0 where
-  pub spelled : (header_line notation given).Spells unit h
+pub record IsUnit (notation : Notation) (unit_entry : UnitEntry) (unit : List ℕ) (h : Header) : Type 0 where
+  pub spelled : (header_production notation unit_entry).Spells unit h
   -- the version, the header length and so on; its `fields` are the bytes that the header length counts
   pub opening : Opening
   pub before : List ℕ
   pub parts : unit ≡ before ++ opening.fields ++ h.program
-  pub no_slack : (fields_line notation given h.unit_length opening h.program).Spells opening.fields h
+  pub no_slack : (fields_production notation unit_entry h.unit_length opening h.program).Spells opening.fields h
 
 -- the directories from index 0 on: up to version 4 the one that was handed is the first
 abbrev pub directories_from_zero : Header → List Value
 directories_from_zero h =
-    if nat_le h.rules.encoding.version 4 then option_to_list (option_map String h.comp_dir) ++ h.directories else h.directories
+    if nat_le h.parameters.encoding.version 4 then option_to_list (option_map String h.comp_dir) ++ h.directories else h.directories
 
 -- a read directory stands for a built one
 abbrev pub IsDirectory : Sections → List (List ℕ) → List (List ℕ) → Value → LineText → Type 0
@@ -51,25 +51,25 @@ pub record IsFile (sections : Sections) (p : Built) (strings line_strings : List
 -- the bytes are a unit, and what is read of it is what was built: the encodings, the directories and the files with
 -- these tables and these sections, and the instructions of each item, up to the end of the program. Where addresses hold
 -- the items, and none hides, its events are the built rows and ends
-pub record ReadsBack (notation : Notation) (given : Given) (sections : Sections) (p : Built) (strings line_strings : List (List ℕ)) (unit : List ℕ) : Type 0 where
+pub record ReadsBack (notation : Notation) (unit_entry : UnitEntry) (sections : Sections) (p : Built) (strings line_strings : List (List ℕ)) (unit : List ℕ) : Type 0 where
   pub header : Header
-  pub is_unit : IsUnit notation given unit header
-  pub rules : header.rules ≡ built_rules p.encoding p.line_encoding
+  pub is_unit : IsUnit notation unit_entry unit header
+  pub parameters : header.parameters ≡ built_rules p.encoding p.line_encoding
   pub counts : header.operand_counts ≡ operand_counts
   pub directories : OneByOne (IsDirectory sections strings line_strings) (directories_from_zero header) p.directories
   pub files : OneByOne (IsFile sections p strings line_strings) header.files p.files
-  pub cut : Cuts notation header header.program
+  pub decoding : Decodes notation header header.program
       (items_instructions p.encoding.version p.line_encoding (initial_row p.encoding.version p.line_encoding.default_is_stmt) p.items) None
-  pub rows : AreHeld p.encoding.address_size 0 (0, 0) p.items
-      → (rows : List ReadRow) × Events notation header header.program (map row rows) × AreSame p.encoding.version [] p.items rows
+  pub rows : AddressesFit p.encoding.address_size 0 (0, 0) p.items
+      → (rows : List ReadRow) × Events notation header header.program (map row rows) × RowsMatch p.encoding.version [] p.items rows
 
 -- how such a unit has to be read: in the order in which it was written, with its address size, up to version 4 with the
 -- working directory, and beside the sections of its tables; by a reader whose offsets hold its length, and from version 5
 -- on those of the sections
-pub record IsReadWell (notation : Notation) (given : Given) (sections : Sections) (big : Bool) (p : Built) (strings line_strings : List (List ℕ)) (unit : List ℕ) : Type 0 where
+pub record IsReadWell (notation : Notation) (unit_entry : UnitEntry) (sections : Sections) (big : Bool) (p : Built) (strings line_strings : List (List ℕ)) (unit : List ℕ) : Type 0 where
   pub order : notation.big ≡ big
-  pub address_size : given.address_size ≡ p.encoding.address_size
-  pub directory : p.encoding.version ≤ 4 → given.directory ≡ option_map (bytes_in strings line_strings) (slice_get p.directories 0)
+  pub address_size : unit_entry.address_size ≡ p.encoding.address_size
+  pub directory : p.encoding.version ≤ 4 → unit_entry.directory ≡ option_map (bytes_in strings line_strings) (slice_get p.directories 0)
   pub strings_are : sections.strings ≡ table_bytes strings
   pub line_strings_are : sections.line_strings ≡ table_bytes line_strings
   pub holds : length unit < notation.limit

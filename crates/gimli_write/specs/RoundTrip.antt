@@ -1,7 +1,7 @@
 -- What is answered of a unit that was written and read again.
 use Rattle.std.specs.Prelude.{◌≡◌, ℕ, ◌^◌, List, ◌++◌, map, slice_get, Option, Some, None, option_map, Bool, All}
 use Rattle.gimli_core.specs.Notation.{Notation}
-use Rattle.gimli_line.specs.Header.{Header, Given}
+use Rattle.gimli_line.specs.Header.{Header, UnitEntry}
 use Rattle.gimli_line.specs.HeaderGrammar.{SpellsUnit}
 use Rattle.gimli_line.specs.Instruction.{File as ReadFile}
 use Rattle.gimli_line.specs.Events.{Events, row}
@@ -72,9 +72,9 @@ pub record AreAnswers (notation : Notation) (sections : Sections) (h : Header) (
   pub rows : Events notation h h.program (map row a.rows)
 
 -- the bytes are a unit and nothing else, and what is read of it is answered
-pub record AnswersUnit (notation : Notation) (given : Given) (sections : Sections) (unit : List ℕ) (a : Answers) : Type 0 where
+pub record AnswersUnit (notation : Notation) (unit_entry : UnitEntry) (sections : Sections) (unit : List ℕ) (a : Answers) : Type 0 where
   pub header : Header
-  pub is_unit : IsUnit notation given unit header
+  pub is_unit : IsUnit notation unit_entry unit header
   pub answered : AreAnswers notation sections header a
 
 -- ---- how a program is read again
@@ -84,12 +84,12 @@ abbrev pub slice_notation : Bool → Notation
 slice_notation big = record { big = big; limit = 2 ^ 64 }
 
 -- with this address size and working directory, and no name
-abbrev pub given_directory : ℕ → List ℕ → Given
-given_directory size directory = record { address_size = size; directory = Some directory; name = None }
+abbrev pub unit_entry_with : ℕ → List ℕ → UnitEntry
+unit_entry_with size directory = record { address_size = size; directory = Some directory; name = None }
 
 -- with those of the program
-abbrev pub given_of : Built → List (List ℕ) → List (List ℕ) → Given
-given_of p strings line_strings = record {
+abbrev pub unit_entry_of : Built → List (List ℕ) → List (List ℕ) → UnitEntry
+unit_entry_of p strings line_strings = record {
   address_size = p.encoding.address_size;
   directory = option_map (bytes_in strings line_strings) (slice_get p.directories 0);
   name = None;
@@ -102,13 +102,13 @@ sections_of strings line_strings = record { strings = table_bytes strings; line_
 -- the bytes are a unit and nothing else, and what is read of it is answered, where it is read as a program's unit is
 abbrev pub AnswersProgram : Bool → Built → List (List ℕ) → List (List ℕ) → List ℕ → RoundTrip → Type 0
 AnswersProgram big p strings line_strings unit answer =
-    AnswersUnit (slice_notation big) (given_of p strings line_strings) (sections_of strings line_strings) unit (answers answer)
+    AnswersUnit (slice_notation big) (unit_entry_of p strings line_strings) (sections_of strings line_strings) unit (answers answer)
 
 -- the bytes are the unit of a program, which is read back however it is read well
 abbrev pub IsUnitOf : Bool → Built → List (List ℕ) → List (List ℕ) → List ℕ → Type 0
-IsUnitOf big p strings line_strings unit = (notation : Notation) (given : Given) (sections : Sections)
-    → IsReadWell notation given sections big p strings line_strings unit
-    → ReadsBack notation given sections p strings line_strings unit
+IsUnitOf big p strings line_strings unit = (notation : Notation) (unit_entry : UnitEntry) (sections : Sections)
+    → IsReadWell notation unit_entry sections big p strings line_strings unit
+    → ReadsBack notation unit_entry sections p strings line_strings unit
 
 -- ---- what was built
 
@@ -126,8 +126,8 @@ built_file p strings line_strings f = record {
 -- ---- refusals
 
 -- the bytes begin with a unit that has this header
-pub record BeginsUnit (notation : Notation) (given : Given) (bytes : List ℕ) (h : Header) : Type 0 where
-  pub spelled : SpellsUnit notation given bytes h
+pub record BeginsUnit (notation : Notation) (unit_entry : UnitEntry) (bytes : List ℕ) (h : Header) : Type 0 where
+  pub spelled : SpellsUnit notation unit_entry bytes h
 
 -- the texts of a header are there
 pub record HasTexts (sections : Sections) (h : Header) : Type 0 where
@@ -135,9 +135,9 @@ pub record HasTexts (sections : Sections) (h : Header) : Type 0 where
   pub files : All (HasFileTexts sections) h.files
 
 -- the bytes begin with a unit whose texts are there
-pub record CanRead (notation : Notation) (given : Given) (sections : Sections) (bytes : List ℕ) : Type 0 where
+pub record CanRead (notation : Notation) (unit_entry : UnitEntry) (sections : Sections) (bytes : List ℕ) : Type 0 where
   pub header : Header
-  pub unit : BeginsUnit notation given bytes header
+  pub unit : BeginsUnit notation unit_entry bytes header
   pub texts : HasTexts sections header
 
 -- why the rows of a program aren't answered: its first fault, or want of memory
@@ -147,12 +147,12 @@ IsRunRefusal notation h (Read fault) = HasFirstFault notation h fault
 IsRunRefusal notation h e = ⊥
 
 -- the bytes are a unit and nothing else, and why its rows aren't answered
-abbrev pub RefusesUnit : Notation → Given → List ℕ → ConvertError → Type 0
-RefusesUnit notation given unit e = (h : Header) × IsUnit notation given unit h × IsRunRefusal notation h e
+abbrev pub RefusesUnit : Notation → UnitEntry → List ℕ → ConvertError → Type 0
+RefusesUnit notation unit_entry unit e = (h : Header) × IsUnit notation unit_entry unit h × IsRunRefusal notation h e
 
 -- why a program isn't written or not read again: the cause why it can't be written, if there is one; the first fault of
 -- the unit that was appended; or want of memory
-abbrev pub IsRefusal : Bool → Option Error → Given → List ℕ → List ℕ → ConvertError → Type 0
+abbrev pub IsRefusal : Bool → Option Error → UnitEntry → List ℕ → List ℕ → ConvertError → Type 0
 IsRefusal big cause given old new OutOfMemory = Unit {0}
 IsRefusal big cause given old new (Write e) = cause ≡ Some e
 IsRefusal big cause given old new (Read fault) =

@@ -3,7 +3,7 @@ use Rattle.std.specs.Prelude.{◌≡◌, ℕ, ◌+◌, true, false, List, [], �
 use Rattle.gimli_core.specs.declared.common.Encoding.{Encoding}
 use Rattle.gimli_core.specs.declared.common.LineEncoding.{LineEncoding}
 use Rattle.gimli_line.specs.declared.row.LineRow.{LineRow as ReadRow}
-use Rattle.gimli_line.specs.Rules.{Rules}
+use Rattle.gimli_line.specs.Parameters.{Parameters}
 use Rattle.gimli_write.specs.declared.row.LineRow.{LineRow}
 use Rattle.gimli_write.specs.FileNumber.{file_number}
 use Rattle.gimli_write.specs.Built.{base_of}
@@ -11,13 +11,13 @@ use Rattle.gimli_write.specs.declared.items.BuiltItem.{BuiltItem}
 use Rattle.gimli_write.specs.declared.items.BuiltItem.TheVariants.{SetAddress, Row, End}
 
 -- what the instructions of a built program are executed by
-abbrev pub built_rules : Encoding → LineEncoding → Rules
+abbrev pub built_rules : Encoding → LineEncoding → Parameters
 built_rules encoding e = record { encoding = encoding; line_encoding = e; opcode_base = 13 }
 
 -- a row, where the address `base` was set before it
 abbrev pub read_row : ℕ → ℕ → LineRow → ReadRow
 read_row version base row = record {
-  tombstone = false;
+  hidden = false;
   address = base + row.address_offset;
   op_index = row.op_index;
   file = file_number version row.file;
@@ -51,9 +51,9 @@ pub record IsSameEnd (base offset op_index : ℕ) (read : ReadRow) : Type 0 wher
   pub ends : read.end_sequence ≡ true
 
 -- the rows are the built rows and ends one by one, behind items, the nearest first
-abbrev pub AreSame : ℕ → List BuiltItem → List BuiltItem → List ReadRow → Type 0
-AreSame version past [] rows = rows ≡ []
-AreSame version past (SetAddress a ∷ items) rows = AreSame version (SetAddress a ∷ past) items rows
-AreSame version past (Row r ∷ items) (read ∷ rows) = IsSameRow version (base_of past) r read × AreSame version (Row r ∷ past) items rows
-AreSame version past (End offset op_index ∷ items) (read ∷ rows) = IsSameEnd (base_of past) offset op_index read × AreSame version (End offset op_index ∷ past) items rows
-AreSame version past (item ∷ items) [] = ⊥
+abbrev pub RowsMatch : ℕ → List BuiltItem → List BuiltItem → List ReadRow → Type 0
+RowsMatch version past [] rows = rows ≡ []
+RowsMatch version past (SetAddress a ∷ items) rows = RowsMatch version (SetAddress a ∷ past) items rows
+RowsMatch version past (Row r ∷ items) (read ∷ rows) = IsSameRow version (base_of past) r read × RowsMatch version (Row r ∷ past) items rows
+RowsMatch version past (End offset op_index ∷ items) (read ∷ rows) = IsSameEnd (base_of past) offset op_index read × RowsMatch version (End offset op_index ∷ past) items rows
+RowsMatch version past (item ∷ items) [] = ⊥

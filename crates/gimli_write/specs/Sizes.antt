@@ -1,18 +1,18 @@
 -- What a row needs few bytes for (DWARF 5, section 6.2.5.1).
 use Rattle.std.specs.Prelude.{◌≡◌, ℕ, ◌≤◌, false, Some, ℤ}
 use Rattle.gimli_line.specs.declared.instruction.LineInstruction.TheVariants.{Special}
-use Rattle.gimli_line.specs.Rules.{Rules}
+use Rattle.gimli_line.specs.Parameters.{Parameters}
 use Rattle.gimli_line.specs.Registers.{line_advance}
-use Rattle.gimli_line.specs.Pointer.{operation_advance}
+use Rattle.gimli_line.specs.OperationPointer.{operation_advance}
 use Rattle.gimli_write.specs.declared.row.LineRow.{LineRow}
 
 -- a special opcode advances the line so, and so many operations
-pub record HasSpecial (rules : Rules) (d : ℤ) (n : ℕ) : Type 0 where
+pub record HasSpecial (parameters : Parameters) (d : ℤ) (n : ℕ) : Type 0 where
   pub opcode : ℕ
-  pub least : rules.opcode_base ≤ opcode
+  pub least : parameters.opcode_base ≤ opcode
   pub greatest : opcode ≤ 255
-  pub line : line_advance rules (Special opcode) ≡ Some d
-  pub operations : operation_advance rules (Special opcode) ≡ Some n
+  pub line : line_advance parameters (Special opcode) ≡ Some d
+  pub operations : operation_advance parameters (Special opcode) ≡ Some n
 
 -- a row differs from the row before it in its place and its line alone, and nothing stands for it alone
 pub record OnlyMoves (previous built : LineRow) : Type 0 where

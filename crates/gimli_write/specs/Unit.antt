@@ -10,8 +10,8 @@ use Rattle.gimli_bytes.specs.Number.{udata, length_word}
 use Rattle.gimli_bytes.specs.declared.error.Error.{Error}
 use Rattle.gimli_bytes.specs.declared.error.Error.TheVariants.{IncompatibleLineProgramEncoding, UnsupportedVersion, NeedVersion}
 use Rattle.gimli_write.specs.Joined.{joined, behind_length}
-use Rattle.gimli_write.specs.OldTables.{directories_bytes, files_bytes}
-use Rattle.gimli_write.specs.NewTables.{strings_behind, line_strings_behind, directory_table_bytes, file_table_bytes}
+use Rattle.gimli_write.specs.Version4Tables.{directories_bytes, files_bytes}
+use Rattle.gimli_write.specs.Version5Tables.{strings_behind, line_strings_behind, directory_table_bytes, file_table_bytes}
 use Rattle.gimli_write.specs.Rows.{initial_row}
 use Rattle.gimli_write.specs.Items.{items_bytes}
 use Rattle.gimli_write.specs.Built.{Built}

@@ -122,6 +122,3 @@ pub(crate) fn from_write(error: Error) -> ConvertError
 
 /// What a call of conversion answers.
 pub type ConvertResult<T> = std::result::Result<T, ConvertError>;
-
-#[cfg(test)]
-mod tests;

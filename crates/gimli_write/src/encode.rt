@@ -33,11 +33,11 @@ pub(crate) fn write_items<W: Writer>(
     requires built { AreBuilt line_encoding (0, 0) items.now }
     ensures keeps { Begins (W.contents w.old) (W.contents w.new) }
     ensures ordered { W.big w.new ≡ W.big w.old }
-    ensures ok { IsTrue W.plain → OnOk result
+    ensures ok { IsTrue W.keeps_bytes → OnOk result
         (Appends (items_bytes (W.big w.old) encoding line_encoding
         (initial_row encoding.version line_encoding.default_is_stmt) items.now)
         (W.contents w.old) (W.contents w.new)) }
-    ensures err { IsTrue W.plain → IsTrue W.steady → IfErr result
+    ensures err { IsTrue W.keeps_bytes → IsTrue W.fails_for_memory_alone → IfErr result
         (λ e. (e ≡ OutOfMemory) ⊎ (items_bytes (W.big w.old) encoding line_encoding
         (initial_row encoding.version line_encoding.default_is_stmt) items.now ≡ Err e)) }
     ensures fit { OnOk result (AreFit encoding.version items.now) }
@@ -64,10 +64,10 @@ fn write_item<W: Writer>(
     requires built { CanBuild line_encoding (previous.now.address_offset, previous.now.op_index) item.now }
     ensures keeps { Begins (W.contents w.old) (W.contents w.new) }
     ensures ordered { W.big w.new ≡ W.big w.old }
-    ensures ok { IsTrue W.plain → OnOk result
+    ensures ok { IsTrue W.keeps_bytes → OnOk result
         (Appends (item_bytes (W.big w.old) encoding line_encoding previous.now item.now)
         (W.contents w.old) (W.contents w.new)) }
-    ensures err { IsTrue W.steady → IfErr result (λ e. (e ≡ OutOfMemory)
+    ensures err { IsTrue W.fails_for_memory_alone → IfErr result (λ e. (e ≡ OutOfMemory)
         ⊎ (item_bytes (W.big w.old) encoding line_encoding previous.now item.now ≡ Err e)) }
     ensures fit { OnOk result (FitsItem encoding.version item.now) }
 {
@@ -118,11 +118,11 @@ pub(crate) fn write_row<W: Writer>(
     requires line { row.now.line < 2 ^ 63 }
     ensures keeps { Begins (W.contents w.old) (W.contents w.new) }
     ensures ordered { W.big w.new ≡ W.big w.old }
-    ensures ok { IsTrue W.plain → OnOk result
+    ensures ok { IsTrue W.keeps_bytes → OnOk result
         (Appends (Ok (instructions_bytes
         (row_instructions encoding.version line_encoding previous.now row.now)))
         (W.contents w.old) (W.contents w.new)) }
-    ensures err { IsTrue W.steady → IfErr result
+    ensures err { IsTrue W.fails_for_memory_alone → IfErr result
         (Refuses (Ok (instructions_bytes
         (row_instructions encoding.version line_encoding previous.now row.now)))) }
     ensures fit { OnOk result (FitsInstructions encoding.version row.now) }
@@ -149,11 +149,11 @@ pub(crate) fn write_end<W: Writer>(
         address_offset op_index }
     ensures keeps { Begins (W.contents w.old) (W.contents w.new) }
     ensures ordered { W.big w.new ≡ W.big w.old }
-    ensures ok { IsTrue W.plain → OnOk result
+    ensures ok { IsTrue W.keeps_bytes → OnOk result
         (Appends (Ok (instructions_bytes
         (end_instructions line_encoding previous.now address_offset op_index)))
         (W.contents w.old) (W.contents w.new)) }
-    ensures err { IsTrue W.steady → IfErr result
+    ensures err { IsTrue W.fails_for_memory_alone → IfErr result
         (Refuses (Ok (instructions_bytes
         (end_instructions line_encoding previous.now address_offset op_index)))) }
 {
@@ -167,9 +167,9 @@ pub(crate) fn write_end<W: Writer>(
 fn write_marks<W: Writer>(w: &mut W, row: &LineRow) -> Result<()>
     ensures keeps { Begins (W.contents w.old) (W.contents w.new) }
     ensures ordered { W.big w.new ≡ W.big w.old }
-    ensures ok { IsTrue W.plain → OnOk result
+    ensures ok { IsTrue W.keeps_bytes → OnOk result
         (Appends (Ok (instructions_bytes (marks row.now))) (W.contents w.old) (W.contents w.new)) }
-    ensures err { IsTrue W.steady →
+    ensures err { IsTrue W.fails_for_memory_alone →
         IfErr result (Refuses (Ok (instructions_bytes (marks row.now)))) }
     ensures fit { OnOk result (row.now.discriminator < 2 ^ 64) }
 {
@@ -191,10 +191,10 @@ fn write_changes<W: Writer>(
 ) -> Result<()>
     ensures keeps { Begins (W.contents w.old) (W.contents w.new) }
     ensures ordered { W.big w.new ≡ W.big w.old }
-    ensures ok { IsTrue W.plain → OnOk result
+    ensures ok { IsTrue W.keeps_bytes → OnOk result
         (Appends (Ok (instructions_bytes (changes version previous.now row.now)))
         (W.contents w.old) (W.contents w.new)) }
-    ensures err { IsTrue W.steady →
+    ensures err { IsTrue W.fails_for_memory_alone →
         IfErr result (Refuses (Ok (instructions_bytes (changes version previous.now row.now)))) }
     ensures fit { OnOk result ((file_number version row.now.file < 2 ^ 64)
         × (row.now.column < 2 ^ 64) × (row.now.isa < 2 ^ 64)) }
@@ -221,10 +221,10 @@ fn write_line<W: Writer>(w: &mut W, line_encoding: &LineEncoding, advance: i64) 
     requires can { CanEncode line_encoding.now }
     ensures keeps { Begins (W.contents w.old) (W.contents w.new) }
     ensures ordered { W.big w.new ≡ W.big w.old }
-    ensures ok { IsTrue W.plain → OnOk result
+    ensures ok { IsTrue W.keeps_bytes → OnOk result
         (Appends (Ok (instructions_bytes (line_part line_encoding.now advance)))
         (W.contents w.old) (W.contents w.new)) }
-    ensures err { IsTrue W.steady →
+    ensures err { IsTrue W.fails_for_memory_alone →
         IfErr result (Refuses (Ok (instructions_bytes (line_part line_encoding.now advance)))) }
     ensures opcode { IfOk result (λ s. s ≡ line_opcode line_encoding.now advance) }
 {
@@ -254,10 +254,10 @@ fn write_operations<W: Writer>(
     requires can { CanEncode line_encoding.now }
     ensures keeps { Begins (W.contents w.old) (W.contents w.new) }
     ensures ordered { W.big w.new ≡ W.big w.old }
-    ensures ok { IsTrue W.plain → OnOk result
+    ensures ok { IsTrue W.keeps_bytes → OnOk result
         (Appends (Ok (instructions_bytes (operation_part line_encoding.now opcode count)))
         (W.contents w.old) (W.contents w.new)) }
-    ensures err { IsTrue W.steady → IfErr result
+    ensures err { IsTrue W.fails_for_memory_alone → IfErr result
         (Refuses (Ok (instructions_bytes (operation_part line_encoding.now opcode count)))) }
 {
     let range = u64::from(line_encoding.line_range);
@@ -316,6 +316,3 @@ fn line_advance(from: u64, to: u64) -> i64
 {
     to as i64 - from as i64
 }
-
-#[cfg(test)]
-mod tests;

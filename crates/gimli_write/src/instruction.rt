@@ -35,9 +35,9 @@ pub(crate) enum LineInstruction {
 pub(crate) fn write_instruction<W: Writer>(w: &mut W, instruction: LineInstruction) -> Result<()>
     ensures keeps { Begins (W.contents w.old) (W.contents w.new) }
     ensures ordered { W.big w.new ≡ W.big w.old }
-    ensures ok { IsTrue W.plain → OnOk result
+    ensures ok { IsTrue W.keeps_bytes → OnOk result
         (Appends (Ok (instruction_bytes (read_as instruction))) (W.contents w.old) (W.contents w.new)) }
-    ensures err { IsTrue W.steady →
+    ensures err { IsTrue W.fails_for_memory_alone →
         IfErr result (Refuses (Ok (instruction_bytes (read_as instruction)))) }
 {
     match instruction {
@@ -62,10 +62,10 @@ pub(crate) fn write_instruction<W: Writer>(w: &mut W, instruction: LineInstructi
 pub(crate) fn write_if<W: Writer>(w: &mut W, due: bool, instruction: LineInstruction) -> Result<()>
     ensures keeps { Begins (W.contents w.old) (W.contents w.new) }
     ensures ordered { W.big w.new ≡ W.big w.old }
-    ensures ok { IsTrue W.plain → OnOk result
+    ensures ok { IsTrue W.keeps_bytes → OnOk result
         (Appends (Ok (instructions_bytes (when due (read_as instruction))))
         (W.contents w.old) (W.contents w.new)) }
-    ensures err { IsTrue W.steady →
+    ensures err { IsTrue W.fails_for_memory_alone →
         IfErr result (Refuses (Ok (instructions_bytes (when due (read_as instruction))))) }
 {
     if due {
@@ -79,10 +79,10 @@ pub(crate) fn write_if<W: Writer>(w: &mut W, due: bool, instruction: LineInstruc
 pub(crate) fn write_set_address<W: Writer>(w: &mut W, address: Address, size: u8) -> Result<()>
     ensures keeps { Begins (W.contents w.old) (W.contents w.new) }
     ensures ordered { W.big w.new ≡ W.big w.old }
-    ensures ok { IsTrue W.plain → OnOk result
+    ensures ok { IsTrue W.keeps_bytes → OnOk result
         (Appends (set_address_bytes (W.big w.old) address size)
         (W.contents w.old) (W.contents w.new)) }
-    ensures err { IsTrue W.steady → IfErr result
+    ensures err { IsTrue W.fails_for_memory_alone → IfErr result
         (λ e. (e ≡ OutOfMemory) ⊎ (set_address_bytes (W.big w.old) address size ≡ Err e)) }
 {
     write_byte(w, 0)?;
@@ -95,10 +95,10 @@ pub(crate) fn write_set_address<W: Writer>(w: &mut W, address: Address, size: u8
 fn write_discriminator<W: Writer>(w: &mut W, discriminator: u64) -> Result<()>
     ensures keeps { Begins (W.contents w.old) (W.contents w.new) }
     ensures ordered { W.big w.new ≡ W.big w.old }
-    ensures ok { IsTrue W.plain → OnOk result
+    ensures ok { IsTrue W.keeps_bytes → OnOk result
         (Appends (Ok (instruction_bytes (SetDiscriminator discriminator)))
         (W.contents w.old) (W.contents w.new)) }
-    ensures err { IsTrue W.steady →
+    ensures err { IsTrue W.fails_for_memory_alone →
         IfErr result (Refuses (Ok (instruction_bytes (SetDiscriminator discriminator)))) }
 {
     let operand = Leb128::unsigned(discriminator);
@@ -112,9 +112,9 @@ fn write_discriminator<W: Writer>(w: &mut W, discriminator: u64) -> Result<()>
 fn write_unsigned<W: Writer>(w: &mut W, opcode: DwLns, operand: u64) -> Result<()>
     ensures keeps { Begins (W.contents w.old) (W.contents w.new) }
     ensures ordered { W.big w.new ≡ W.big w.old }
-    ensures ok { IsTrue W.plain → OnOk result
+    ensures ok { IsTrue W.keeps_bytes → OnOk result
         (Appends (Ok (opcode.0 ∷ uleb operand)) (W.contents w.old) (W.contents w.new)) }
-    ensures err { IsTrue W.steady → IfErr result (Refuses (Ok (opcode.0 ∷ uleb operand))) }
+    ensures err { IsTrue W.fails_for_memory_alone → IfErr result (Refuses (Ok (opcode.0 ∷ uleb operand))) }
 {
     write_byte(w, opcode.0)?;
     w.write_uleb128(operand)
@@ -124,9 +124,9 @@ fn write_unsigned<W: Writer>(w: &mut W, opcode: DwLns, operand: u64) -> Result<(
 fn write_signed<W: Writer>(w: &mut W, opcode: DwLns, operand: i64) -> Result<()>
     ensures keeps { Begins (W.contents w.old) (W.contents w.new) }
     ensures ordered { W.big w.new ≡ W.big w.old }
-    ensures ok { IsTrue W.plain → OnOk result
+    ensures ok { IsTrue W.keeps_bytes → OnOk result
         (Appends (Ok (opcode.0 ∷ sleb operand)) (W.contents w.old) (W.contents w.new)) }
-    ensures err { IsTrue W.steady → IfErr result (Refuses (Ok (opcode.0 ∷ sleb operand))) }
+    ensures err { IsTrue W.fails_for_memory_alone → IfErr result (Refuses (Ok (opcode.0 ∷ sleb operand))) }
 {
     write_byte(w, opcode.0)?;
     w.write_sleb128(operand)
@@ -136,9 +136,9 @@ fn write_signed<W: Writer>(w: &mut W, opcode: DwLns, operand: i64) -> Result<()>
 pub(crate) fn write_byte<W: Writer>(w: &mut W, byte: u8) -> Result<()>
     ensures keeps { Begins (W.contents w.old) (W.contents w.new) }
     ensures ordered { W.big w.new ≡ W.big w.old }
-    ensures ok { IsTrue W.plain → OnOk result
+    ensures ok { IsTrue W.keeps_bytes → OnOk result
         (Appends (Ok (byte ∷ [])) (W.contents w.old) (W.contents w.new)) }
-    ensures err { IsTrue W.steady → IfErr result (Refuses (Ok (byte ∷ []))) }
+    ensures err { IsTrue W.fails_for_memory_alone → IfErr result (Refuses (Ok (byte ∷ []))) }
 {
     w.write(&[byte])
 }

@@ -4,7 +4,7 @@
 ghost use Rattle.std.specs.Prelude.{◌≡◌, ℕ, ◌+◌, ◌-◌, ◌*◌, ◌<◌, ◌≤◌, ◌^◌, List, ◌∷◌, ◌++◌, length, map, IsTrue, Ok, Some, pos, ◌-ℤ◌};
 ghost use Rattle.gimli_core.specs.Numbers.{is_address_size};
 ghost use Rattle.gimli_core.specs.Notation.{Notation};
-ghost use Rattle.gimli_core.specs.Line.{Each};
+ghost use Rattle.gimli_core.specs.Production.{Each};
 ghost use Rattle.gimli_core.specs.declared.common.Encoding.{Encoding};
 ghost use Rattle.gimli_core.specs.declared.common.LineEncoding.{LineEncoding};
 ghost use Rattle.gimli_bytes.specs.declared.address.Address.TheVariants.{Constant};
@@ -13,7 +13,7 @@ ghost use Rattle.gimli_line.specs.Instruction.{Ins};
 ghost use Rattle.gimli_line.specs.InstructionGrammar.{SpellsInstruction};
 ghost use Rattle.gimli_line.specs.Events.{row};
 ghost use Rattle.gimli_line.specs.Machine.{run, initial};
-ghost use Rattle.gimli_line.specs.Pointer.{operation_advance};
+ghost use Rattle.gimli_line.specs.OperationPointer.{operation_advance};
 ghost use Rattle.gimli_line.specs.declared.instruction.LineInstruction.TheVariants.{SetAddress, ConstAddPc};
 ghost use Rattle.gimli_write.specs.declared.row.LineRow.{LineRow};
 ghost use Rattle.gimli_write.specs.declared.items.BuiltItem.{BuiltItem};
@@ -21,7 +21,7 @@ ghost use Rattle.gimli_write.specs.Advance.{CanEncode, IsPlace, CanFollow, opera
 ghost use Rattle.gimli_write.specs.Encode.{row_instructions, end_instructions};
 ghost use Rattle.gimli_write.specs.InstructionBytes.{instruction_bytes, instructions_bytes, set_address_bytes, IsWritten, FitsInstructions};
 ghost use Rattle.gimli_write.specs.Conditions.{AreBuilt};
-ghost use Rattle.gimli_write.specs.Items.{items_instructions, items_rows, items_bytes, AreHeld, AreFit};
+ghost use Rattle.gimli_write.specs.Items.{items_instructions, items_rows, items_bytes, AddressesFit, AreFit};
 ghost use Rattle.gimli_write.specs.Rows.{initial_row};
 ghost use Rattle.gimli_write.specs.SameRow.{built_rules, read_row, behind_row, read_end};
 ghost use Rattle.gimli_write.specs.Sizes.{HasSpecial, OnlyMoves};
@@ -69,21 +69,21 @@ pub fn start_is_initial()
 /// The bytes of an instruction of a row or an end spell it, in each unit with the opcode base 13 whose reader
 /// has offsets that hold the length of the longest.
 pub fn instruction_is_spelled()
-    ensures { (notation : Notation) (h : Header) (i : Ins) → h.rules.opcode_base ≡ 13 → 11 < notation.limit → IsWritten i →
+    ensures { (notation : Notation) (h : Header) (i : Ins) → h.parameters.opcode_base ≡ 13 → 11 < notation.limit → IsWritten i →
         SpellsInstruction notation h (instruction_bytes i) i }
 {}
 
 /// So do those of a set address, whose size is the unit's.
 pub fn set_address_is_spelled()
-    ensures { (notation : Notation) (h : Header) (address : ℕ) (bytes : List ℕ) → h.rules.opcode_base ≡ 13 → 11 < notation.limit →
-        set_address_bytes notation.big (Constant address) h.rules.encoding.address_size ≡ Ok bytes →
+    ensures { (notation : Notation) (h : Header) (address : ℕ) (bytes : List ℕ) → h.parameters.opcode_base ≡ 13 → 11 < notation.limit →
+        set_address_bytes notation.big (Constant address) h.parameters.encoding.address_size ≡ Ok bytes →
         SpellsInstruction notation h bytes (SetAddress address) }
 {}
 
 /// The bytes of a row are the spellings of its instructions, one after the other.
 pub fn row_is_spelled()
     ensures { (notation : Notation) (h : Header) (version : ℕ) (e : LineEncoding) (previous built : LineRow) →
-        h.rules.opcode_base ≡ 13 → 11 < notation.limit → CanEncode e →
+        h.parameters.opcode_base ≡ 13 → 11 < notation.limit → CanEncode e →
         CanFollow e previous.address_offset previous.op_index built.address_offset built.op_index →
         previous.line < 2 ^ 63 → FitsInstructions version built →
         Each (SpellsInstruction notation h) (instructions_bytes (row_instructions version e previous built)) (row_instructions version e previous built) }
@@ -92,7 +92,7 @@ pub fn row_is_spelled()
 /// So are those of an end.
 pub fn end_is_spelled()
     ensures { (notation : Notation) (h : Header) (e : LineEncoding) (previous : LineRow) (offset op_index : ℕ) →
-        h.rules.opcode_base ≡ 13 → 11 < notation.limit → CanFollow e previous.address_offset previous.op_index offset op_index →
+        h.parameters.opcode_base ≡ 13 → 11 < notation.limit → CanFollow e previous.address_offset previous.op_index offset op_index →
         Each (SpellsInstruction notation h) (instructions_bytes (end_instructions e previous offset op_index)) (end_instructions e previous offset op_index) }
 {}
 
@@ -123,7 +123,7 @@ pub fn items_run()
         IsTrue (is_address_size encoding.address_size) → CanEncode e → encoding.version ≤ 5 →
         IsPlace e previous.address_offset previous.op_index → previous.line < 2 ^ 63 →
         AreBuilt e (previous.address_offset, previous.op_index) items →
-        AreHeld encoding.address_size base (previous.address_offset, previous.op_index) items →
+        AddressesFit encoding.address_size base (previous.address_offset, previous.op_index) items →
         run (built_rules encoding e) (behind_row encoding.version base previous) (items_instructions encoding.version e previous items)
         ≡ map row (items_rows encoding.version e base previous items) }
 {}
@@ -132,7 +132,7 @@ pub fn items_run()
 pub fn program_runs()
     ensures { (encoding : Encoding) (e : LineEncoding) (items : List BuiltItem) →
         IsTrue (is_address_size encoding.address_size) → CanEncode e → encoding.version ≤ 5 →
-        AreBuilt e (0, 0) items → AreHeld encoding.address_size 0 (0, 0) items →
+        AreBuilt e (0, 0) items → AddressesFit encoding.address_size 0 (0, 0) items →
         run (built_rules encoding e) (initial (built_rules encoding e))
         (items_instructions encoding.version e (initial_row encoding.version e.default_is_stmt) items)
         ≡ map row (items_rows encoding.version e 0 (initial_row encoding.version e.default_is_stmt) items) }
@@ -141,8 +141,8 @@ pub fn program_runs()
 /// The bytes of built items, where they are written, are the spellings of their instructions, one after the other.
 pub fn items_are_spelled()
     ensures { (notation : Notation) (h : Header) (e : LineEncoding) (previous : LineRow) (items : List BuiltItem) (bytes : List ℕ) →
-        h.rules.opcode_base ≡ 13 → 11 < notation.limit → CanEncode e → previous.line < 2 ^ 63 →
-        AreBuilt e (previous.address_offset, previous.op_index) items → AreFit h.rules.encoding.version items →
-        items_bytes notation.big h.rules.encoding e previous items ≡ Ok bytes →
-        Each (SpellsInstruction notation h) bytes (items_instructions h.rules.encoding.version e previous items) }
+        h.parameters.opcode_base ≡ 13 → 11 < notation.limit → CanEncode e → previous.line < 2 ^ 63 →
+        AreBuilt e (previous.address_offset, previous.op_index) items → AreFit h.parameters.encoding.version items →
+        items_bytes notation.big h.parameters.encoding e previous items ≡ Ok bytes →
+        Each (SpellsInstruction notation h) bytes (items_instructions h.parameters.encoding.version e previous items) }
 {}

@@ -540,6 +540,3 @@ fn can_follow(
     }
     (offset - previous_offset) / length <= (u64::MAX - op_index) / operations
 }
-
-#[cfg(test)]
-mod tests;

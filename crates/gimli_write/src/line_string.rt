@@ -17,7 +17,7 @@ pub enum LineString {
 
 impl LineString {
     ghost use Rattle.gimli_write.specs.LineText.{line_text, made_text, made_table, IsWithin, bytes_in};
-    ghost use Rattle.gimli_write.specs.NewTables.{text_form};
+    ghost use Rattle.gimli_write.specs.Version5Tables.{text_form};
 
     /// Makes a text of bytes without a zero byte, in the form that is usual for programs of this encoding:
     /// up to version 4 a copy of the bytes, in the later ones a text of the table, to which it is added.
@@ -84,6 +84,3 @@ impl Clone for LineString {
         }
     }
 }
-
-#[cfg(test)]
-mod tests;

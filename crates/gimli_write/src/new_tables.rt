@@ -12,7 +12,7 @@ ghost use Rattle.gimli_write.specs.Tables.{FitsFile};
 ghost use Rattle.gimli_write.specs.TablesInside.{details};
 ghost use Rattle.gimli_write.specs.Conditions.{CanWrite};
 ghost use Rattle.gimli_write.specs.Joined.{joined_parts, RefusesFor};
-ghost use Rattle.gimli_write.specs.NewTables.{first_form, path_texts, sources, needs_empty, empty_text, strings_behind, line_strings_behind, formats_bytes, file_formats, text_in_form, directory_table_bytes, source_bytes, file_entry_bytes, file_table_bytes};
+ghost use Rattle.gimli_write.specs.Version5Tables.{first_form, path_texts, sources, needs_empty, empty_text, strings_behind, line_strings_behind, formats_bytes, file_formats, text_in_form, directory_table_bytes, source_bytes, file_entry_bytes, file_table_bytes};
 ghost use Rattle.gimli_write.specs.EmptySource.{IsEmptySource, StandsForNone};
 
 use crate::files::{DirectoryId, FileInfo, FileTable};
@@ -149,11 +149,11 @@ pub(crate) fn write_directory_table<W: Writer>(
     requires { All (IsWithin strings.now line_strings.now) program.now.directories }
     ensures keeps { Begins (W.contents w.old) (W.contents w.new) }
     ensures ordered { W.big w.new ≡ W.big w.old }
-    ensures ok { IsTrue W.plain → OnOk result
+    ensures ok { IsTrue W.keeps_bytes → OnOk result
         (Appends (directory_table_bytes (W.big w.old) program.now.encoding.format
         strings.now line_strings.now program.now)
         (W.contents w.old) (W.contents w.new)) }
-    ensures err { IsTrue W.plain → IsTrue W.steady → IfErr result
+    ensures err { IsTrue W.keeps_bytes → IsTrue W.fails_for_memory_alone → IfErr result
         (RefusesFor (directory_table_bytes (W.big w.old) program.now.encoding.format
         strings.now line_strings.now program.now)) }
 {
@@ -174,10 +174,10 @@ pub(crate) fn write_directory_table<W: Writer>(
 fn write_directory_formats<W: Writer>(w: &mut W, form: DwForm, count: usize) -> Result<()>
     ensures keeps { Begins (W.contents w.old) (W.contents w.new) }
     ensures ordered { W.big w.new ≡ W.big w.old }
-    ensures ok { IsTrue W.plain → OnOk result
+    ensures ok { IsTrue W.keeps_bytes → OnOk result
         (Appends (Ok (formats_bytes ((0x0001, form.0) ∷ []) ++ uleb count))
         (W.contents w.old) (W.contents w.new)) }
-    ensures err { IsTrue W.plain → IsTrue W.steady → IfErr result
+    ensures err { IsTrue W.keeps_bytes → IsTrue W.fails_for_memory_alone → IfErr result
         (RefusesFor (Ok (formats_bytes ((0x0001, form.0) ∷ []) ++ uleb count))) }
 {
     write_byte(w, 1)?;
@@ -189,10 +189,10 @@ fn write_directory_formats<W: Writer>(w: &mut W, form: DwForm, count: usize) -> 
 fn write_format<W: Writer>(w: &mut W, content: DwLnct, form: DwForm) -> Result<()>
     ensures keeps { Begins (W.contents w.old) (W.contents w.new) }
     ensures ordered { W.big w.new ≡ W.big w.old }
-    ensures ok { IsTrue W.plain → OnOk result
+    ensures ok { IsTrue W.keeps_bytes → OnOk result
         (Appends (Ok (uleb content.0 ++ uleb form.0))
         (W.contents w.old) (W.contents w.new)) }
-    ensures err { IsTrue W.plain → IsTrue W.steady → IfErr result
+    ensures err { IsTrue W.keeps_bytes → IsTrue W.fails_for_memory_alone → IfErr result
         (RefusesFor (Ok (uleb content.0 ++ uleb form.0))) }
 {
     w.write_uleb128(u64::from(content.0))?;
@@ -211,11 +211,11 @@ fn write_texts<W: Writer>(
     requires { All (IsWithin strings.now line_strings.now) (map line_text texts.now) }
     ensures keeps { Begins (W.contents w.old) (W.contents w.new) }
     ensures ordered { W.big w.new ≡ W.big w.old }
-    ensures ok { IsTrue W.plain → OnOk result
+    ensures ok { IsTrue W.keeps_bytes → OnOk result
         (Appends (joined_parts (text_in_form (W.big w.old) format
         strings.now line_strings.now form.0) (map line_text texts.now))
         (W.contents w.old) (W.contents w.new)) }
-    ensures err { IsTrue W.plain → IsTrue W.steady → IfErr result
+    ensures err { IsTrue W.keeps_bytes → IsTrue W.fails_for_memory_alone → IfErr result
         (RefusesFor (joined_parts (text_in_form (W.big w.old) format
         strings.now line_strings.now form.0) (map line_text texts.now))) }
 {
@@ -237,11 +237,11 @@ fn write_line_string<W: Writer>(
     requires { IsWithin strings.now line_strings.now (line_text text.now) }
     ensures keeps { Begins (W.contents w.old) (W.contents w.new) }
     ensures ordered { W.big w.new ≡ W.big w.old }
-    ensures ok { IsTrue W.plain → OnOk result
+    ensures ok { IsTrue W.keeps_bytes → OnOk result
         (Appends (text_in_form (W.big w.old) format
         strings.now line_strings.now form.0 (line_text text.now))
         (W.contents w.old) (W.contents w.new)) }
-    ensures err { IsTrue W.plain → IsTrue W.steady → IfErr result
+    ensures err { IsTrue W.keeps_bytes → IsTrue W.fails_for_memory_alone → IfErr result
         (RefusesFor (text_in_form (W.big w.old) format
         strings.now line_strings.now form.0 (line_text text.now))) }
 {
@@ -275,11 +275,11 @@ pub(crate) fn write_file_table<W: Writer>(
     requires version { 5 ≤ program.now.encoding.version }
     ensures keeps { Begins (W.contents w.old) (W.contents w.new) }
     ensures ordered { W.big w.new ≡ W.big w.old }
-    ensures ok { IsTrue W.plain → OnOk result
+    ensures ok { IsTrue W.keeps_bytes → OnOk result
         (Appends (file_table_bytes (W.big w.old) program.now.encoding.format
         strings.now line_strings.now program.now)
         (W.contents w.old) (W.contents w.new)) }
-    ensures err { IsTrue W.plain → IsTrue W.steady → IfErr result
+    ensures err { IsTrue W.keeps_bytes → IsTrue W.fails_for_memory_alone → IfErr result
         (RefusesFor (file_table_bytes (W.big w.old) program.now.encoding.format
         strings.now line_strings.now program.now)) }
     ensures fit { OnOk result (All FitsFile program.now.files) }
@@ -298,10 +298,10 @@ fn write_file_formats<W: Writer>(
     requires { source_form.0 ≡ first_form (sources program.now.files) }
     ensures keeps { Begins (W.contents w.old) (W.contents w.new) }
     ensures ordered { W.big w.new ≡ W.big w.old }
-    ensures ok { IsTrue W.plain → OnOk result
+    ensures ok { IsTrue W.keeps_bytes → OnOk result
         (Appends (Ok (formats_bytes (file_formats program.now) ++ uleb (length program.now.files)))
         (W.contents w.old) (W.contents w.new)) }
-    ensures err { IsTrue W.plain → IsTrue W.steady → IfErr result
+    ensures err { IsTrue W.keeps_bytes → IsTrue W.fails_for_memory_alone → IfErr result
         (RefusesFor (Ok (formats_bytes (file_formats program.now) ++ uleb (length program.now.files)))) }
 {
     write_key_formats(w, program)?;
@@ -319,11 +319,11 @@ fn write_file_formats<W: Writer>(
 fn write_key_formats<W: Writer>(w: &mut W, program: &LineProgram) -> Result<()>
     ensures keeps { Begins (W.contents w.old) (W.contents w.new) }
     ensures ordered { W.big w.new ≡ W.big w.old }
-    ensures ok { IsTrue W.plain → OnOk result
+    ensures ok { IsTrue W.keeps_bytes → OnOk result
         (Appends (Ok (length (file_formats program.now)
         ∷ (uleb 0x0001 ++ uleb (first_form (path_texts program.now.files))) ++ uleb 0x0002 ++ uleb 0x0f))
         (W.contents w.old) (W.contents w.new)) }
-    ensures err { IsTrue W.plain → IsTrue W.steady → IfErr result (λ e. e ≡ OutOfMemory) }
+    ensures err { IsTrue W.keeps_bytes → IsTrue W.fails_for_memory_alone → IfErr result (λ e. e ≡ OutOfMemory) }
 {
     write_byte(w, format_count(program))?;
     write_format(w, constants::DW_LNCT_path, path_form(program.tables()))?;
@@ -348,12 +348,12 @@ fn format_count(program: &LineProgram) -> u8
 fn write_detail_formats<W: Writer>(w: &mut W, program: &LineProgram) -> Result<()>
     ensures keeps { Begins (W.contents w.old) (W.contents w.new) }
     ensures ordered { W.big w.new ≡ W.big w.old }
-    ensures ok { IsTrue W.plain → OnOk result
+    ensures ok { IsTrue W.keeps_bytes → OnOk result
         (Appends (Ok ((if program.now.file_has_timestamp then uleb 0x0003 ++ uleb 0x0f else [])
         ++ (if program.now.file_has_size then uleb 0x0004 ++ uleb 0x0f else [])
         ++ (if program.now.file_has_md5 then uleb 0x0005 ++ uleb 0x1e else [])))
         (W.contents w.old) (W.contents w.new)) }
-    ensures err { IsTrue W.plain → IsTrue W.steady → IfErr result (λ e. e ≡ OutOfMemory) }
+    ensures err { IsTrue W.keeps_bytes → IsTrue W.fails_for_memory_alone → IfErr result (λ e. e ≡ OutOfMemory) }
 {
     let udata = constants::DW_FORM_udata;
     let data16 = constants::DW_FORM_data16;
@@ -371,10 +371,10 @@ fn write_detail_formats<W: Writer>(w: &mut W, program: &LineProgram) -> Result<(
 fn write_format_if<W: Writer>(w: &mut W, due: bool, content: DwLnct, form: DwForm) -> Result<()>
     ensures keeps { Begins (W.contents w.old) (W.contents w.new) }
     ensures ordered { W.big w.new ≡ W.big w.old }
-    ensures ok { IsTrue W.plain → OnOk result
+    ensures ok { IsTrue W.keeps_bytes → OnOk result
         (Appends (Ok (if due then uleb content.0 ++ uleb form.0 else []))
         (W.contents w.old) (W.contents w.new)) }
-    ensures err { IsTrue W.plain → IsTrue W.steady → IfErr result (λ e. e ≡ OutOfMemory) }
+    ensures err { IsTrue W.keeps_bytes → IsTrue W.fails_for_memory_alone → IfErr result (λ e. e ≡ OutOfMemory) }
 {
     if !due {
         return Ok(());
@@ -397,11 +397,11 @@ fn write_file_entries<W: Writer>(
     requires source_form { source_form.0 ≡ first_form (sources program.now.files) }
     ensures keeps { Begins (W.contents w.old) (W.contents w.new) }
     ensures ordered { W.big w.new ≡ W.big w.old }
-    ensures ok { IsTrue W.plain → OnOk result
+    ensures ok { IsTrue W.keeps_bytes → OnOk result
         (Appends (joined_parts (file_entry_bytes (W.big w.old) program.now.encoding.format
         strings.now line_strings.now program.now) program.now.files)
         (W.contents w.old) (W.contents w.new)) }
-    ensures err { IsTrue W.plain → IsTrue W.steady → IfErr result
+    ensures err { IsTrue W.keeps_bytes → IsTrue W.fails_for_memory_alone → IfErr result
         (RefusesFor (joined_parts (file_entry_bytes (W.big w.old) program.now.encoding.format
         strings.now line_strings.now program.now) program.now.files)) }
     ensures fit { OnOk result (All FitsFile program.now.files) }
@@ -431,11 +431,11 @@ fn write_file_entry<W: Writer>(
     requires source_form { source_form.0 ≡ first_form (sources program.now.files) }
     ensures keeps { Begins (W.contents w.old) (W.contents w.new) }
     ensures ordered { W.big w.new ≡ W.big w.old }
-    ensures ok { IsTrue W.plain → OnOk result
+    ensures ok { IsTrue W.keeps_bytes → OnOk result
         (Appends (file_entry_bytes (W.big w.old) program.now.encoding.format
         strings.now line_strings.now program.now ((line_text file.entry.0.now, file.entry.1), details file.entry.2.now))
         (W.contents w.old) (W.contents w.new)) }
-    ensures err { IsTrue W.plain → IsTrue W.steady → IfErr result
+    ensures err { IsTrue W.keeps_bytes → IsTrue W.fails_for_memory_alone → IfErr result
         (RefusesFor (file_entry_bytes (W.big w.old) program.now.encoding.format
         strings.now line_strings.now program.now ((line_text file.entry.0.now, file.entry.1), details file.entry.2.now))) }
     ensures fit { OnOk result (FitsFile ((line_text file.entry.0.now, file.entry.1), details file.entry.2.now)) }
@@ -463,13 +463,13 @@ fn write_details<W: Writer>(
 ) -> Result<()>
     ensures keeps { Begins (W.contents w.old) (W.contents w.new) }
     ensures ordered { W.big w.new ≡ W.big w.old }
-    ensures ok { IsTrue W.plain → OnOk result
+    ensures ok { IsTrue W.keeps_bytes → OnOk result
         (Appends (Ok (uleb directory
         ++ (if program.now.file_has_timestamp then uleb info.now.timestamp else [])
         ++ (if program.now.file_has_size then uleb info.now.size else [])
         ++ (if program.now.file_has_md5 then info.now.md5 else [])))
         (W.contents w.old) (W.contents w.new)) }
-    ensures err { IsTrue W.plain → IsTrue W.steady → IfErr result (λ e. e ≡ OutOfMemory) }
+    ensures err { IsTrue W.keeps_bytes → IsTrue W.fails_for_memory_alone → IfErr result (λ e. e ≡ OutOfMemory) }
     ensures fit { OnOk result (FitsFile ((Inline [], directory), details info.now)) }
 {
     w.write_uleb128(directory.index() as u64)?;
@@ -482,10 +482,10 @@ fn write_details<W: Writer>(
 fn write_number_if<W: Writer>(w: &mut W, due: bool, number: u64) -> Result<()>
     ensures keeps { Begins (W.contents w.old) (W.contents w.new) }
     ensures ordered { W.big w.new ≡ W.big w.old }
-    ensures ok { IsTrue W.plain → OnOk result
+    ensures ok { IsTrue W.keeps_bytes → OnOk result
         (Appends (Ok (if due then uleb number else []))
         (W.contents w.old) (W.contents w.new)) }
-    ensures err { IsTrue W.plain → IsTrue W.steady → IfErr result (λ e. e ≡ OutOfMemory) }
+    ensures err { IsTrue W.keeps_bytes → IsTrue W.fails_for_memory_alone → IfErr result (λ e. e ≡ OutOfMemory) }
 {
     if !due {
         return Ok(());
@@ -497,10 +497,10 @@ fn write_number_if<W: Writer>(w: &mut W, due: bool, number: u64) -> Result<()>
 fn write_digest_if<W: Writer>(w: &mut W, due: bool, digest: &[u8; 16]) -> Result<()>
     ensures keeps { Begins (W.contents w.old) (W.contents w.new) }
     ensures ordered { W.big w.new ≡ W.big w.old }
-    ensures ok { IsTrue W.plain → OnOk result
+    ensures ok { IsTrue W.keeps_bytes → OnOk result
         (Appends (Ok (if due then digest.now else []))
         (W.contents w.old) (W.contents w.new)) }
-    ensures err { IsTrue W.plain → IsTrue W.steady → IfErr result (λ e. e ≡ OutOfMemory) }
+    ensures err { IsTrue W.keeps_bytes → IsTrue W.fails_for_memory_alone → IfErr result (λ e. e ≡ OutOfMemory) }
 {
     if !due {
         return Ok(());
@@ -524,11 +524,11 @@ fn write_source<W: Writer>(
     requires form { form.0 ≡ first_form (sources program.now.files) }
     ensures keeps { Begins (W.contents w.old) (W.contents w.new) }
     ensures ordered { W.big w.new ≡ W.big w.old }
-    ensures ok { IsTrue W.plain → OnOk result
+    ensures ok { IsTrue W.keeps_bytes → OnOk result
         (Appends (source_bytes (W.big w.old) program.now.encoding.format
         strings.now line_strings.now program.now ((Inline [], 0), details info.now))
         (W.contents w.old) (W.contents w.new)) }
-    ensures err { IsTrue W.plain → IsTrue W.steady → IfErr result
+    ensures err { IsTrue W.keeps_bytes → IsTrue W.fails_for_memory_alone → IfErr result
         (RefusesFor (source_bytes (W.big w.old) program.now.encoding.format
         strings.now line_strings.now program.now ((Inline [], 0), details info.now))) }
 {
@@ -548,6 +548,3 @@ fn source_or<'a>(info: &'a FileInfo, empty: &'a LineString) -> &'a LineString
         None => empty,
     }
 }
-
-#[cfg(test)]
-mod tests;

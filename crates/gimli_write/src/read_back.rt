@@ -9,11 +9,11 @@ ghost use Rattle.gimli_line.specs.Instruction.{file_seen};
 ghost use Rattle.gimli_line.specs.Events.{Events, row};
 ghost use Rattle.gimli_write.specs.LineText.{IsWithin, bytes_in};
 ghost use Rattle.gimli_write.specs.Conditions.{CanWrite};
-ghost use Rattle.gimli_write.specs.Items.{AreHeld};
-ghost use Rattle.gimli_write.specs.SameRow.{AreSame};
+ghost use Rattle.gimli_write.specs.Items.{AddressesFit};
+ghost use Rattle.gimli_write.specs.SameRow.{RowsMatch};
 ghost use Rattle.gimli_write.specs.Unit.{unit_bytes};
 ghost use Rattle.gimli_bytes.specs.Texts.{byte_count};
-ghost use Rattle.gimli_write.specs.NewTables.{strings_behind, line_strings_behind};
+ghost use Rattle.gimli_write.specs.Version5Tables.{strings_behind, line_strings_behind};
 ghost use Rattle.gimli_write.specs.Cause.{first_cause};
 ghost use Rattle.gimli_write.specs.Texts.{Sections, IsText, IsOptionalText, OneByOne};
 ghost use Rattle.gimli_write.specs.TextReading.{HasText, HasOptionalText, HasFileTexts};
@@ -62,7 +62,7 @@ pub struct RoundTripFile {
     pub source: Option<Vec<u8>>,
 }
 
-ghost use Rattle.gimli_write.specs.RoundTrip.{answers, file_answer, IsFileAnswer, AreAnswers, HasTexts, slice_notation, given_of, sections_of, IsRunRefusal, RefusesUnit, IsRefusal, IsWriteRefusal, built_file, IsUnitOf, AnswersProgram, given_directory, BeginsUnit, CanRead};
+ghost use Rattle.gimli_write.specs.RoundTrip.{answers, file_answer, IsFileAnswer, AreAnswers, HasTexts, slice_notation, unit_entry_of, sections_of, IsRunRefusal, RefusesUnit, IsRefusal, IsWriteRefusal, built_file, IsUnitOf, AnswersProgram, unit_entry_with, BeginsUnit, CanRead};
 
 /// The working directory of a program.
 fn working_directory<'a>(
@@ -72,7 +72,7 @@ fn working_directory<'a>(
 ) -> &'a [u8]
     requires program { program.now.is_none ≡ false }
     requires within { All (IsWithin strings.now line_strings.now) program.now.directories }
-    ensures { Some result.now ≡ (given_of program.now strings.now line_strings.now).directory }
+    ensures { Some result.now ≡ (unit_entry_of program.now strings.now line_strings.now).directory }
 {
     let directory = program.default_directory();
     program.get_directory(directory).get(strings, line_strings)
@@ -291,14 +291,14 @@ fn read_section<'x, E: Endianity>(
     sections: &'x StringSections,
 ) -> ConvertResult<RoundTrip>
     requires size { IsTrue (is_address_size address_size) }
-    requires unit { CanRead (slice_notation (E.big endian)) (given_directory address_size directory.now) sections.now
+    requires unit { CanRead (slice_notation (E.big endian)) (unit_entry_with address_size directory.now) sections.now
         (drop offset.0 section.now) }
     ensures offset { IfOk result (λ answer. answer.offset ≡ offset) }
     ensures ok { (h : Header)
-        → BeginsUnit (slice_notation (E.big endian)) (given_directory address_size directory.now) (drop offset.0 section.now) h
+        → BeginsUnit (slice_notation (E.big endian)) (unit_entry_with address_size directory.now) (drop offset.0 section.now) h
         → IfOk result (λ answer. AreAnswers (slice_notation (E.big endian)) sections.now h (answers answer)) }
     ensures err { (h : Header)
-        → BeginsUnit (slice_notation (E.big endian)) (given_directory address_size directory.now) (drop offset.0 section.now) h
+        → BeginsUnit (slice_notation (E.big endian)) (unit_entry_with address_size directory.now) (drop offset.0 section.now) h
         → IfErr result (IsRunRefusal (slice_notation (E.big endian)) h) }
 {
     let texts = TextSections {
@@ -330,14 +330,14 @@ fn read_unit<E: Endianity>(
     ensures ok { IfOk result (AnswersProgram (E.big section.now.endian) program.now strings.now line_strings.now
         (drop offset.0 section.now.bytes)) }
     ensures err { IfErr result (RefusesUnit (slice_notation (E.big section.now.endian))
-        (given_of program.now strings.now line_strings.now) (drop offset.0 section.now.bytes)) }
+        (unit_entry_of program.now strings.now line_strings.now) (drop offset.0 section.now.bytes)) }
     ensures directories { IfOk result (λ answer. map (λ text. text.items) answer.directories.items
         ≡ map (bytes_in strings.now line_strings.now) program.now.directories) }
     ensures files { IfOk result (λ answer. map file_answer answer.files.items
         ≡ map (built_file program.now strings.now line_strings.now) program.now.files) }
-    ensures built { IfOk result (λ answer. AreHeld program.now.encoding.address_size 0 (0, 0) program.now.items
-        → AreSame program.now.encoding.version [] program.now.items answer.rows.items) }
-    ensures never_read { AreHeld program.now.encoding.address_size 0 (0, 0) program.now.items
+    ensures built { IfOk result (λ answer. AddressesFit program.now.encoding.address_size 0 (0, 0) program.now.items
+        → RowsMatch program.now.encoding.version [] program.now.items answer.rows.items) }
+    ensures never_read { AddressesFit program.now.encoding.address_size 0 (0, 0) program.now.items
         → IfErr result (λ e. e ≡ ConvertError.OutOfMemory) }
 {
     let alloc = *line_strings.allocator();
@@ -385,16 +385,16 @@ pub fn round_trip<E: Endianity>(
         ≡ map (bytes_in strings.new line_strings.new) program.now.directories) }
     ensures files { IfOk result (λ answer. map file_answer answer.files.items
         ≡ map (built_file program.now strings.new line_strings.new) program.now.files) }
-    ensures built { IfOk result (λ answer. AreHeld program.now.encoding.address_size 0 (0, 0) program.now.items
-        → AreSame program.now.encoding.version [] program.now.items answer.rows.items) }
+    ensures built { IfOk result (λ answer. AddressesFit program.now.encoding.address_size 0 (0, 0) program.now.items
+        → RowsMatch program.now.encoding.version [] program.now.items answer.rows.items) }
     ensures no_cause { OnOk result (first_cause (E.big w.old.0.endian) encoding program.now
         strings.old line_strings.old ≡ None) }
-    ensures never_read { AreHeld program.now.encoding.address_size 0 (0, 0) program.now.items
+    ensures never_read { AddressesFit program.now.encoding.address_size 0 (0, 0) program.now.items
         → IfErr result (IsWriteRefusal (first_cause (E.big w.old.0.endian) encoding program.now
         strings.old line_strings.old)) }
     ensures refusal { IfErr result (IsRefusal (E.big w.old.0.endian)
         (first_cause (E.big w.old.0.endian) encoding program.now strings.old line_strings.old)
-        (given_of program.now strings.new line_strings.new) w.old.0.bytes w.new.0.bytes) }
+        (unit_entry_of program.now strings.new line_strings.new) w.old.0.bytes w.new.0.bytes) }
     ensures strings { OnOk result (strings.new ≡ strings_behind program.now strings.old) }
     ensures line_strings { OnOk result (line_strings.new ≡ line_strings_behind program.now line_strings.old) }
     ensures strings_kept { (strings.new ≡ strings.old) ⊎ (strings.new ≡ strings_behind program.now strings.old) }
@@ -406,6 +406,3 @@ pub fn round_trip<E: Endianity>(
         Err(e) => Err(from_write(e)),
     }
 }
-
-#[cfg(test)]
-mod tests;

@@ -5,14 +5,14 @@ ghost use Rattle.gimli_core.specs.Notation.{Notation};
 ghost use Rattle.gimli_bytes.specs.Number.{uleb};
 ghost use Rattle.gimli_bytes.specs.Written.{Begins, Appends};
 ghost use Rattle.gimli_bytes.specs.declared.error.Error.TheVariants.{OutOfMemory};
-ghost use Rattle.gimli_line.specs.Header.{Given};
+ghost use Rattle.gimli_line.specs.Header.{UnitEntry};
 ghost use Rattle.gimli_write.specs.LineText.{Inline, line_text};
 ghost use Rattle.gimli_write.specs.Tables.{FitsFile};
 ghost use Rattle.gimli_write.specs.TablesInside.{details};
 ghost use Rattle.gimli_write.specs.Conditions.{CanWrite, IsBuilt};
 ghost use Rattle.gimli_write.specs.Joined.{joined, joined_parts, RefusesFor};
-ghost use Rattle.gimli_write.specs.OldTables.{name_bytes, directories_bytes, file_bytes, files_bytes};
-ghost use Rattle.gimli_write.specs.NewTables.{strings_behind, line_strings_behind};
+ghost use Rattle.gimli_write.specs.Version4Tables.{name_bytes, directories_bytes, file_bytes, files_bytes};
+ghost use Rattle.gimli_write.specs.Version5Tables.{strings_behind, line_strings_behind};
 ghost use Rattle.gimli_write.specs.EmptySource.{StandsForNone};
 ghost use Rattle.gimli_write.specs.Unit.{version_bytes, opening_bytes, operations_bytes, line_encoding_bytes, tables_bytes, fields_bytes, header_bytes, inside_bytes, whole_bytes, is_incompatible, unit_bytes};
 ghost use Rattle.gimli_write.specs.Cause.{first_cause};
@@ -53,17 +53,17 @@ impl LineProgram {
         ensures keeps { Begins (W.contents w.old.0) (W.contents w.new.0) }
         ensures ordered { W.big w.new.0 ≡ W.big w.old.0 }
         ensures offset { IfOk result (λ offset. offset.0 ≡ length (W.contents w.old.0)) }
-        ensures unit { IsTrue W.plain → OnOk result
+        ensures unit { IsTrue W.keeps_bytes → OnOk result
             (Appends (unit_bytes (W.big w.old.0) encoding self.now strings.old line_strings.old)
             (W.contents w.old.0) (W.contents w.new.0)) }
-        ensures reads_back { IsTrue W.plain → OnOk result ((unit : List ℕ)
+        ensures reads_back { IsTrue W.keeps_bytes → OnOk result ((unit : List ℕ)
             × (W.contents w.new.0 ≡ W.contents w.old.0 ++ unit)
-            × ((notation : Notation) (given : Given) (sections : Sections) →
-            IsReadWell notation given sections (W.big w.old.0) self.now strings.new line_strings.new unit →
-            ReadsBack notation given sections self.now strings.new line_strings.new unit)) }
-        ensures no_cause { IsTrue W.plain → OnOk result
+            × ((notation : Notation) (unit_entry : UnitEntry) (sections : Sections) →
+            IsReadWell notation unit_entry sections (W.big w.old.0) self.now strings.new line_strings.new unit →
+            ReadsBack notation unit_entry sections self.now strings.new line_strings.new unit)) }
+        ensures no_cause { IsTrue W.keeps_bytes → OnOk result
             (first_cause (W.big w.old.0) encoding self.now strings.old line_strings.old ≡ None) }
-        ensures err { IsTrue W.plain → IsTrue W.steady → IfErr result (λ e.
+        ensures err { IsTrue W.keeps_bytes → IsTrue W.fails_for_memory_alone → IfErr result (λ e.
             (e ≡ OutOfMemory)
             ⊎ (first_cause (W.big w.old.0) encoding self.now strings.old line_strings.old ≡ Some e)) }
         ensures incompatible { IsTrue (is_incompatible encoding self.now.encoding) →
@@ -107,10 +107,10 @@ fn write_whole<W: Writer>(
     requires empty { StandsForNone program.now strings.now line_strings.now (line_text empty.now) }
     ensures keeps { Begins (W.contents w.old) (W.contents w.new) }
     ensures ordered { W.big w.new ≡ W.big w.old }
-    ensures ok { IsTrue W.plain → OnOk result
+    ensures ok { IsTrue W.keeps_bytes → OnOk result
         (Appends (whole_bytes (W.big w.old) program.now strings.now line_strings.now)
         (W.contents w.old) (W.contents w.new)) }
-    ensures err { IsTrue W.plain → IsTrue W.steady → IfErr result
+    ensures err { IsTrue W.keeps_bytes → IsTrue W.fails_for_memory_alone → IfErr result
         (RefusesFor (whole_bytes (W.big w.old) program.now strings.now line_strings.now)) }
     ensures built { OnOk result (IsBuilt program.now) }
     ensures short { OnOk result (length (W.contents w.new) < 2 ^ 64) }
@@ -135,10 +135,10 @@ fn write_inside<W: Writer>(
     requires empty { StandsForNone program.now strings.now line_strings.now (line_text empty.now) }
     ensures keeps { Begins (W.contents w.old) (W.contents w.new) }
     ensures ordered { W.big w.new ≡ W.big w.old }
-    ensures ok { IsTrue W.plain → OnOk result
+    ensures ok { IsTrue W.keeps_bytes → OnOk result
         (Appends (inside_bytes (W.big w.old) program.now strings.now line_strings.now)
         (W.contents w.old) (W.contents w.new)) }
-    ensures err { IsTrue W.plain → IsTrue W.steady → IfErr result
+    ensures err { IsTrue W.keeps_bytes → IsTrue W.fails_for_memory_alone → IfErr result
         (RefusesFor (inside_bytes (W.big w.old) program.now strings.now line_strings.now)) }
     ensures built { OnOk result (IsBuilt program.now) }
 {
@@ -156,10 +156,10 @@ fn write_inside<W: Writer>(
 fn write_opening<W: Writer>(w: &mut W, encoding: Encoding) -> Result<()>
     ensures keeps { Begins (W.contents w.old) (W.contents w.new) }
     ensures ordered { W.big w.new ≡ W.big w.old }
-    ensures ok { IsTrue W.plain → OnOk result
+    ensures ok { IsTrue W.keeps_bytes → OnOk result
         (Appends (opening_bytes (W.big w.old) encoding)
         (W.contents w.old) (W.contents w.new)) }
-    ensures err { IsTrue W.plain → IsTrue W.steady → IfErr result
+    ensures err { IsTrue W.keeps_bytes → IsTrue W.fails_for_memory_alone → IfErr result
         (RefusesFor (opening_bytes (W.big w.old) encoding)) }
 {
     write_version(w, encoding.version)?;
@@ -173,10 +173,10 @@ fn write_opening<W: Writer>(w: &mut W, encoding: Encoding) -> Result<()>
 fn write_version<W: Writer>(w: &mut W, version: u16) -> Result<()>
     ensures keeps { Begins (W.contents w.old) (W.contents w.new) }
     ensures ordered { W.big w.new ≡ W.big w.old }
-    ensures ok { IsTrue W.plain → OnOk result
+    ensures ok { IsTrue W.keeps_bytes → OnOk result
         (Appends (version_bytes (W.big w.old) version)
         (W.contents w.old) (W.contents w.new)) }
-    ensures err { IsTrue W.plain → IsTrue W.steady → IfErr result
+    ensures err { IsTrue W.keeps_bytes → IsTrue W.fails_for_memory_alone → IfErr result
         (RefusesFor (version_bytes (W.big w.old) version)) }
 {
     if !(2..=5).contains(&version) {
@@ -197,10 +197,10 @@ fn write_header<W: Writer>(
     requires empty { StandsForNone program.now strings.now line_strings.now (line_text empty.now) }
     ensures keeps { Begins (W.contents w.old) (W.contents w.new) }
     ensures ordered { W.big w.new ≡ W.big w.old }
-    ensures ok { IsTrue W.plain → OnOk result
+    ensures ok { IsTrue W.keeps_bytes → OnOk result
         (Appends (header_bytes (W.big w.old) program.now strings.now line_strings.now)
         (W.contents w.old) (W.contents w.new)) }
-    ensures err { IsTrue W.plain → IsTrue W.steady → IfErr result
+    ensures err { IsTrue W.keeps_bytes → IsTrue W.fails_for_memory_alone → IfErr result
         (RefusesFor (header_bytes (W.big w.old) program.now strings.now line_strings.now)) }
     ensures fit { OnOk result (All FitsFile program.now.files) }
 {
@@ -225,10 +225,10 @@ fn write_fields<W: Writer>(
     requires empty { StandsForNone program.now strings.now line_strings.now (line_text empty.now) }
     ensures keeps { Begins (W.contents w.old) (W.contents w.new) }
     ensures ordered { W.big w.new ≡ W.big w.old }
-    ensures ok { IsTrue W.plain → OnOk result
+    ensures ok { IsTrue W.keeps_bytes → OnOk result
         (Appends (fields_bytes (W.big w.old) program.now strings.now line_strings.now)
         (W.contents w.old) (W.contents w.new)) }
-    ensures err { IsTrue W.plain → IsTrue W.steady → IfErr result
+    ensures err { IsTrue W.keeps_bytes → IsTrue W.fails_for_memory_alone → IfErr result
         (RefusesFor (fields_bytes (W.big w.old) program.now strings.now line_strings.now)) }
     ensures fit { OnOk result (All FitsFile program.now.files) }
 {
@@ -249,10 +249,10 @@ fn write_tables<W: Writer>(
     requires empty { StandsForNone program.now strings.now line_strings.now (line_text empty.now) }
     ensures keeps { Begins (W.contents w.old) (W.contents w.new) }
     ensures ordered { W.big w.new ≡ W.big w.old }
-    ensures ok { IsTrue W.plain → OnOk result
+    ensures ok { IsTrue W.keeps_bytes → OnOk result
         (Appends (tables_bytes (W.big w.old) program.now strings.now line_strings.now)
         (W.contents w.old) (W.contents w.new)) }
-    ensures err { IsTrue W.plain → IsTrue W.steady → IfErr result
+    ensures err { IsTrue W.keeps_bytes → IsTrue W.fails_for_memory_alone → IfErr result
         (RefusesFor (tables_bytes (W.big w.old) program.now strings.now line_strings.now)) }
     ensures fit { OnOk result (All FitsFile program.now.files) }
 {
@@ -267,10 +267,10 @@ fn write_tables<W: Writer>(
 fn write_old_tables<W: Writer>(w: &mut W, tables: &FileTable) -> Result<()>
     ensures keeps { Begins (W.contents w.old) (W.contents w.new) }
     ensures ordered { W.big w.new ≡ W.big w.old }
-    ensures ok { IsTrue W.plain → OnOk result
+    ensures ok { IsTrue W.keeps_bytes → OnOk result
         (Appends (joined (directories_bytes tables.now.directories) (files_bytes tables.now.files))
         (W.contents w.old) (W.contents w.new)) }
-    ensures err { IsTrue W.plain → IsTrue W.steady → IfErr result
+    ensures err { IsTrue W.keeps_bytes → IsTrue W.fails_for_memory_alone → IfErr result
         (RefusesFor (joined (directories_bytes tables.now.directories) (files_bytes tables.now.files))) }
     ensures fit { OnOk result (All FitsFile tables.now.files) }
 {
@@ -286,10 +286,10 @@ fn write_line_encoding<W: Writer>(
 ) -> Result<()>
     ensures keeps { Begins (W.contents w.old) (W.contents w.new) }
     ensures ordered { W.big w.new ≡ W.big w.old }
-    ensures ok { IsTrue W.plain → OnOk result
+    ensures ok { IsTrue W.keeps_bytes → OnOk result
         (Appends (line_encoding_bytes version line_encoding)
         (W.contents w.old) (W.contents w.new)) }
-    ensures err { IsTrue W.plain → IsTrue W.steady → IfErr result
+    ensures err { IsTrue W.keeps_bytes → IsTrue W.fails_for_memory_alone → IfErr result
         (RefusesFor (line_encoding_bytes version line_encoding)) }
 {
     write_byte(w, line_encoding.minimum_instruction_length)?;
@@ -305,10 +305,10 @@ fn write_line_encoding<W: Writer>(
 fn write_operations<W: Writer>(w: &mut W, version: u16, operations: u8) -> Result<()>
     ensures keeps { Begins (W.contents w.old) (W.contents w.new) }
     ensures ordered { W.big w.new ≡ W.big w.old }
-    ensures ok { IsTrue W.plain → OnOk result
+    ensures ok { IsTrue W.keeps_bytes → OnOk result
         (Appends (operations_bytes version operations)
         (W.contents w.old) (W.contents w.new)) }
-    ensures err { IsTrue W.plain → IsTrue W.steady → IfErr result
+    ensures err { IsTrue W.keeps_bytes → IsTrue W.fails_for_memory_alone → IfErr result
         (RefusesFor (operations_bytes version operations)) }
 {
     if version >= 4 {
@@ -324,10 +324,10 @@ fn write_operations<W: Writer>(w: &mut W, version: u16, operations: u8) -> Resul
 fn write_directories<W: Writer>(w: &mut W, directories: &[LineString]) -> Result<()>
     ensures keeps { Begins (W.contents w.old) (W.contents w.new) }
     ensures ordered { W.big w.new ≡ W.big w.old }
-    ensures ok { IsTrue W.plain → OnOk result
+    ensures ok { IsTrue W.keeps_bytes → OnOk result
         (Appends (directories_bytes (map line_text directories.now))
         (W.contents w.old) (W.contents w.new)) }
-    ensures err { IsTrue W.plain → IsTrue W.steady → IfErr result
+    ensures err { IsTrue W.keeps_bytes → IsTrue W.fails_for_memory_alone → IfErr result
         (RefusesFor (directories_bytes (map line_text directories.now))) }
 {
     write_names(w, others(directories))?;
@@ -348,10 +348,10 @@ fn others(directories: &[LineString]) -> &[LineString]
 fn write_names<W: Writer>(w: &mut W, names: &[LineString]) -> Result<()>
     ensures keeps { Begins (W.contents w.old) (W.contents w.new) }
     ensures ordered { W.big w.new ≡ W.big w.old }
-    ensures ok { IsTrue W.plain → OnOk result
+    ensures ok { IsTrue W.keeps_bytes → OnOk result
         (Appends (joined_parts name_bytes (map line_text names.now))
         (W.contents w.old) (W.contents w.new)) }
-    ensures err { IsTrue W.plain → IsTrue W.steady → IfErr result
+    ensures err { IsTrue W.keeps_bytes → IsTrue W.fails_for_memory_alone → IfErr result
         (RefusesFor (joined_parts name_bytes (map line_text names.now))) }
 {
     for name in names {
@@ -364,10 +364,10 @@ fn write_names<W: Writer>(w: &mut W, names: &[LineString]) -> Result<()>
 fn write_name<W: Writer>(w: &mut W, name: &LineString) -> Result<()>
     ensures keeps { Begins (W.contents w.old) (W.contents w.new) }
     ensures ordered { W.big w.new ≡ W.big w.old }
-    ensures ok { IsTrue W.plain → OnOk result
+    ensures ok { IsTrue W.keeps_bytes → OnOk result
         (Appends (name_bytes (line_text name.now))
         (W.contents w.old) (W.contents w.new)) }
-    ensures err { IsTrue W.plain → IsTrue W.steady → IfErr result
+    ensures err { IsTrue W.keeps_bytes → IsTrue W.fails_for_memory_alone → IfErr result
         (RefusesFor (name_bytes (line_text name.now))) }
 {
     match name {
@@ -380,10 +380,10 @@ fn write_name<W: Writer>(w: &mut W, name: &LineString) -> Result<()>
 pub(crate) fn write_text<W: Writer>(w: &mut W, text: &[u8]) -> Result<()>
     ensures keeps { Begins (W.contents w.old) (W.contents w.new) }
     ensures ordered { W.big w.new ≡ W.big w.old }
-    ensures ok { IsTrue W.plain → OnOk result
+    ensures ok { IsTrue W.keeps_bytes → OnOk result
         (Appends (Ok (text.now ++ 0 ∷ []))
         (W.contents w.old) (W.contents w.new)) }
-    ensures err { IsTrue W.plain → IsTrue W.steady → IfErr result
+    ensures err { IsTrue W.keeps_bytes → IsTrue W.fails_for_memory_alone → IfErr result
         (RefusesFor (Ok (text.now ++ 0 ∷ []))) }
 {
     w.write(text)?;
@@ -394,10 +394,10 @@ pub(crate) fn write_text<W: Writer>(w: &mut W, text: &[u8]) -> Result<()>
 fn write_files<W: Writer>(w: &mut W, tables: &FileTable) -> Result<()>
     ensures keeps { Begins (W.contents w.old) (W.contents w.new) }
     ensures ordered { W.big w.new ≡ W.big w.old }
-    ensures ok { IsTrue W.plain → OnOk result
+    ensures ok { IsTrue W.keeps_bytes → OnOk result
         (Appends (files_bytes tables.now.files)
         (W.contents w.old) (W.contents w.new)) }
-    ensures err { IsTrue W.plain → IsTrue W.steady → IfErr result
+    ensures err { IsTrue W.keeps_bytes → IsTrue W.fails_for_memory_alone → IfErr result
         (RefusesFor (files_bytes tables.now.files)) }
     ensures fit { OnOk result (All FitsFile tables.now.files) }
 {
@@ -409,10 +409,10 @@ fn write_files<W: Writer>(w: &mut W, tables: &FileTable) -> Result<()>
 fn write_each_file<W: Writer>(w: &mut W, tables: &FileTable) -> Result<()>
     ensures keeps { Begins (W.contents w.old) (W.contents w.new) }
     ensures ordered { W.big w.new ≡ W.big w.old }
-    ensures ok { IsTrue W.plain → OnOk result
+    ensures ok { IsTrue W.keeps_bytes → OnOk result
         (Appends (joined_parts file_bytes tables.now.files)
         (W.contents w.old) (W.contents w.new)) }
-    ensures err { IsTrue W.plain → IsTrue W.steady → IfErr result
+    ensures err { IsTrue W.keeps_bytes → IsTrue W.fails_for_memory_alone → IfErr result
         (RefusesFor (joined_parts file_bytes tables.now.files)) }
     ensures fit { OnOk result (All FitsFile tables.now.files) }
 {
@@ -432,10 +432,10 @@ fn write_file<W: Writer>(
 ) -> Result<()>
     ensures keeps { Begins (W.contents w.old) (W.contents w.new) }
     ensures ordered { W.big w.new ≡ W.big w.old }
-    ensures ok { IsTrue W.plain → OnOk result
+    ensures ok { IsTrue W.keeps_bytes → OnOk result
         (Appends (file_bytes ((line_text path.now, directory), details info.now))
         (W.contents w.old) (W.contents w.new)) }
-    ensures err { IsTrue W.plain → IsTrue W.steady → IfErr result
+    ensures err { IsTrue W.keeps_bytes → IsTrue W.fails_for_memory_alone → IfErr result
         (RefusesFor (file_bytes ((line_text path.now, directory), details info.now))) }
     ensures fit { OnOk result (FitsFile ((line_text path.now, directory), details info.now)) }
 {
@@ -447,16 +447,13 @@ fn write_file<W: Writer>(
 fn write_numbers<W: Writer>(w: &mut W, directory: DirectoryId, info: &FileInfo) -> Result<()>
     ensures keeps { Begins (W.contents w.old) (W.contents w.new) }
     ensures ordered { W.big w.new ≡ W.big w.old }
-    ensures ok { IsTrue W.plain → OnOk result
+    ensures ok { IsTrue W.keeps_bytes → OnOk result
         (Appends (Ok (uleb directory ++ uleb info.now.timestamp ++ uleb info.now.size))
         (W.contents w.old) (W.contents w.new)) }
-    ensures err { IsTrue W.plain → IsTrue W.steady → IfErr result (λ e. e ≡ OutOfMemory) }
+    ensures err { IsTrue W.keeps_bytes → IsTrue W.fails_for_memory_alone → IfErr result (λ e. e ≡ OutOfMemory) }
     ensures fit { OnOk result (FitsFile ((Inline [], directory), details info.now)) }
 {
     w.write_uleb128(directory.index() as u64)?;
     w.write_uleb128(info.timestamp)?;
     w.write_uleb128(info.size)
 }
-
-#[cfg(test)]
-mod tests;

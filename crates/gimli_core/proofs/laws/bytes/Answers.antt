@@ -1,4 +1,4 @@
-use Rattle.gimli_core.proofs.LineLaws.{reads_some_bytes}
+use Rattle.gimli_core.proofs.ProductionLaws.{reads_some_bytes}
 use Rattle.gimli_core.proofs.laws.bytes.Goals as goal
 
 pub returns : goal.returns

@@ -1,4 +1,4 @@
-use Rattle.gimli_core.proofs.LineLaws.{reads_byte}
+use Rattle.gimli_core.proofs.ProductionLaws.{reads_byte}
 use Rattle.gimli_core.proofs.laws.single_bytes.Goals as goal
 
 pub returns : goal.returns

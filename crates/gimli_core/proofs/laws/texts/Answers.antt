@@ -1,4 +1,4 @@
-use Rattle.gimli_core.proofs.LineLaws.{reads_text}
+use Rattle.gimli_core.proofs.ProductionLaws.{reads_text}
 use Rattle.gimli_core.proofs.laws.texts.Goals as goal
 
 pub returns : goal.returns

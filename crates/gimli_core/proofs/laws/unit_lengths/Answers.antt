@@ -1,4 +1,4 @@
-use Rattle.gimli_core.proofs.LineLaws.{reads_unit_length}
+use Rattle.gimli_core.proofs.ProductionLaws.{reads_unit_length}
 use Rattle.gimli_core.proofs.laws.unit_lengths.Goals as goal
 
 pub returns : goal.returns

@@ -1,4 +1,4 @@
-use Rattle.gimli_core.proofs.LineLaws.{reads_offset_word}
+use Rattle.gimli_core.proofs.ProductionLaws.{reads_offset_word}
 use Rattle.gimli_core.proofs.laws.words.Goals as goal
 
 pub returns : goal.returns

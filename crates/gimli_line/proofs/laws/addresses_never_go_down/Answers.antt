@@ -1,4 +1,4 @@
-use Rattle.gimli_line.proofs.RisingLaws.{never_down}
+use Rattle.gimli_line.proofs.NonDecreasingLaws.{never_down}
 use Rattle.gimli_line.proofs.laws.addresses_never_go_down.Goals as goal
 
 pub returns : goal.returns

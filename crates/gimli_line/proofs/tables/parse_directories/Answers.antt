@@ -3,8 +3,8 @@ use Rattle.std.proofs.lemmas.List.{map_push}
 use Rattle.std.proofs.lemmas.Result.{err_from_is_err_and}
 use Rattle.gimli_core.specs.Reading.{text_at}
 use Rattle.gimli_core.specs.declared.attribute_value.AttributeValue.TheVariants.{String}
-use Rattle.gimli_line.specs.Gives.{viewed}
-use Rattle.gimli_line.specs.Lines.{name}
+use Rattle.gimli_line.specs.Outcome.{viewed}
+use Rattle.gimli_line.specs.Productions.{name}
 use Rattle.gimli_line.proofs.Closed.{reads_name}
 use Rattle.gimli_line.proofs.Loops.{closed_goes_on, closed_ends, closed_done, text_closed, text_free, text_refused}
 use Rattle.gimli_line.proofs.tables.parse_directories.Goals as goal

@@ -1,10 +1,10 @@
 use Rattle.std.proofs.Common.{◌≡◌, length, map}
 use Rattle.gimli_core.specs.Values.{value_seen}
 use Rattle.gimli_core.specs.declared.attribute_value.AttributeValue.TheVariants.{String}
-use Rattle.gimli_line.specs.Gives.{viewed}
+use Rattle.gimli_line.specs.Outcome.{viewed}
 use Rattle.gimli_line.specs.HeaderReading.{paths_at}
 use Rattle.gimli_line.proofs.Loops.{collected}
-use Rattle.gimli_line.proofs.tables.parse_directories.Given as goal
+use Rattle.gimli_line.proofs.tables.parse_directories.UnitEntry as goal
 
 abbrev pub invariant-loop-directories : goal.invariant-loop-directories
 invariant-loop-directories g l = record {

@@ -15,7 +15,7 @@ loop-item-init g c =
       ordered = refl;
       fit = tt;
       way = rw c.initial-previous.ensures (record { place = start_place e c.requires.can; line = lit< tt; built = c.requires.built });
-      put = λ plain. rw c.initial-previous.ensures (standing_start (g.W.Writer.big c.args.w.now) c.args.encoding e (g.W.Writer.contents c.args.w.now) first c.args.items.now);
+      put = λ keeps_bytes. rw c.initial-previous.ensures (standing_start (g.W.Writer.big c.args.w.now) c.args.encoding e (g.W.Writer.contents c.args.w.now) first c.args.items.now);
     }
 
 pub loop-item-preserved : goal.loop-item-preserved
@@ -35,8 +35,8 @@ loop-item-preserved g c =
       ordered = c.in_ok-write_item.ensures.ordered ∙ c.loop-item.invariant.ordered;
       fit = rw (taken_next items i item lt c.item-item.is) (fit_more c.args.encoding.version (take i items) item c.loop-item.invariant.fit c.in_ok-write_item.ensures.fit);
       way = rw c.behind_item-previous.ensures (way_on c.args.encoding.version e c.requires.can c.loop-item.previous item (drop (i + 1) items) way);
-      put = λ plain.
-          let so = rw split at (c.loop-item.invariant.put plain) in
-          let more = rw c.loop-item.invariant.ordered at (c.in_ok-write_item.ensures.ok plain) in
+      put = λ keeps_bytes.
+          let so = rw split at (c.loop-item.invariant.put keeps_bytes) in
+          let more = rw c.loop-item.invariant.ordered at (c.in_ok-write_item.ensures.ok keeps_bytes) in
           rw c.behind_item-previous.ensures (standing_more big c.args.encoding e whole (contents c.args.w.now) (contents c.loop-item.w) (contents c.write_item.new.w) c.loop-item.previous item (drop (i + 1) items) so more);
     }

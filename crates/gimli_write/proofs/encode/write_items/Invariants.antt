@@ -3,7 +3,7 @@ use Rattle.gimli_bytes.specs.Written.{Begins}
 use Rattle.gimli_write.specs.Items.{items_bytes, AreFit}
 use Rattle.gimli_write.specs.Rows.{initial_row}
 use Rattle.gimli_write.proofs.ItemsWritten.{OnTheWay, Standing}
-use Rattle.gimli_write.proofs.encode.write_items.Given as goal
+use Rattle.gimli_write.proofs.encode.write_items.UnitEntry as goal
 
 abbrev pub invariant-loop-item : goal.invariant-loop-item
 invariant-loop-item g l =
@@ -15,5 +15,5 @@ invariant-loop-item g l =
       ordered : g.W.Writer.big l.w ≡ big;
       fit : AreFit l.encoding.version (take l.item-index l.items);
       way : OnTheWay l.line_encoding l.previous (drop l.item-index l.items);
-      put : IsTrue g.W.Writer.plain → Standing big l.encoding l.line_encoding (items_bytes big l.encoding l.line_encoding first l.items) (contents l.fn.w) (contents l.w) l.previous (drop l.item-index l.items);
+      put : IsTrue g.W.Writer.keeps_bytes → Standing big l.encoding l.line_encoding (items_bytes big l.encoding l.line_encoding first l.items) (contents l.fn.w) (contents l.w) l.previous (drop l.item-index l.items);
     }

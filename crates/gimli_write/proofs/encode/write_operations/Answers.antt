@@ -6,7 +6,7 @@ use Rattle.gimli_write.proofs.Joins.{by_advance, two_parts}
 use Rattle.gimli_write.proofs.encode.write_operations.Goals as goal
 
 pub returns-clause-ok : goal.returns-clause-ok
-returns-clause-ok g c = λ plain.
+returns-clause-ok g c = λ keeps_bytes.
     let contents = g.W.Writer.contents in
     let e = c.args.line_encoding.now in
     let s = c.args.opcode in
@@ -14,7 +14,7 @@ returns-clause-ok g c = λ plain.
     let some : 1 ≤ e.line_range = omega (arith, ints, c.requires.can.base, c.requires.can.above) in
     let over : (255 - s) / e.line_range < n = rw (c.from.ensures, c.from-range.ensures) at c.if-count-room.false in
     let rest : (255 - s) / e.line_range < n - constant_advance e = rw (c.from.ensures, c.from-range.ensures, c.saturating_sub-rest.ensures, c.from-2.ensures, c.from-range.ensures) at c.if-rest-room.false in
-    let h1 = c.in_ok-write_instruction-2.ensures.ok plain in
-    let h2 = rw c.maker-2.ensures at (c.in_ok-write_instruction-3.ensures.ok plain) in
+    let h1 = c.in_ok-write_instruction-2.ensures.ok keeps_bytes in
+    let h2 = rw c.maker-2.ensures at (c.in_ok-write_instruction-3.ensures.ok keeps_bytes) in
     two_parts (contents c.args.w.now) (contents c.write_instruction-2.new.w) (contents c.write_instruction-3.new.w) (AdvancePc n) (row_maker e s) (operation_part e s n)
     h1 h2 (by_advance e s n some (omega arith) over rest)

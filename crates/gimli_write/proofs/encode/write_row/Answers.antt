@@ -6,7 +6,7 @@ use Rattle.gimli_write.proofs.Joins.{four_parts}
 use Rattle.gimli_write.proofs.encode.write_row.Goals as goal
 
 pub returns-clause-ok : goal.returns-clause-ok
-returns-clause-ok g c = λ plain.
+returns-clause-ok g c = λ keeps_bytes.
     let contents = g.W.Writer.contents in
     let e = c.args.line_encoding in
     let version = c.args.encoding.version in
@@ -16,11 +16,11 @@ returns-clause-ok g c = λ plain.
     let n = operations e previous.address_offset previous.op_index row.address_offset row.op_index in
     let fits : to_z w64 (of_z w64 c.line_advance.result) ≡ c.line_advance.result = omega (arith, ints) in
     let back : to_z w64 (of_z w64 c.line_advance.result) ≡ d = fits ∙ c.line_advance.ensures in
-    let h1 = c.in_ok-write_marks.ensures.ok plain in
-    let h2 = c.in_ok-write_changes.ensures.ok plain in
-    let h3 = rw back at (c.in_ok-opcode.ensures.ok plain) in
+    let h1 = c.in_ok-write_marks.ensures.ok keeps_bytes in
+    let h2 = c.in_ok-write_changes.ensures.ok keeps_bytes in
+    let h3 = rw back at (c.in_ok-opcode.ensures.ok keeps_bytes) in
     let o = rw back at c.in_ok-opcode.ensures.opcode in
-    let h4 = rw (o, c.operation_advance-count.ensures) at (c.in_ok-write_operations.ensures.ok plain) in
+    let h4 = rw (o, c.operation_advance-count.ensures) at (c.in_ok-write_operations.ensures.ok keeps_bytes) in
     four_parts (contents c.args.w.now) (contents c.write_marks.new.w) (contents c.write_changes.new.w) (contents c.write_line.new.w) (contents c.write_operations.new.w)
     (marks row) (changes version previous row) (line_part e d) (operation_part e (line_opcode e d) n)
     h1 h2 h3 h4

@@ -1,9 +1,9 @@
 use Rattle.std.proofs.Common.{◌≡◌, IsTrue, drop, take, All}
 use Rattle.gimli_bytes.specs.Written.{Begins}
 use Rattle.gimli_write.specs.Tables.{FitsFile}
-use Rattle.gimli_write.specs.NewTables.{file_entry_bytes}
+use Rattle.gimli_write.specs.Version5Tables.{file_entry_bytes}
 use Rattle.gimli_write.proofs.Joined.{SoFar}
-use Rattle.gimli_write.proofs.new_tables.write_file_entries.Given as goal
+use Rattle.gimli_write.proofs.new_tables.write_file_entries.UnitEntry as goal
 
 abbrev pub invariant-loop-index : goal.invariant-loop-index
 invariant-loop-index g l =
@@ -12,5 +12,5 @@ invariant-loop-index g l =
       keeps : Begins (contents l.fn.w) (contents l.w);
       ordered : g.W.Writer.big l.w ≡ g.W.Writer.big l.fn.w;
       fit : All FitsFile (take l.index l.program.files);
-      put : IsTrue g.W.Writer.plain → SoFar (file_entry_bytes (g.W.Writer.big l.fn.w) l.program.encoding.format l.strings l.line_strings l.program) l.program.files (drop l.index l.program.files) (contents l.fn.w) (contents l.w);
+      put : IsTrue g.W.Writer.keeps_bytes → SoFar (file_entry_bytes (g.W.Writer.big l.fn.w) l.program.encoding.format l.strings l.line_strings l.program) l.program.files (drop l.index l.program.files) (contents l.fn.w) (contents l.w);
     }

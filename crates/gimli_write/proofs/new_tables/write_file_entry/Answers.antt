@@ -3,12 +3,12 @@ use Rattle.gimli_write.specs.LineText.{line_text}
 use Rattle.gimli_write.specs.Tables.{File}
 use Rattle.gimli_write.specs.TablesInside.{details}
 use Rattle.gimli_write.specs.Joined.{joined}
-use Rattle.gimli_write.specs.NewTables.{first_form, path_texts, detail_bytes, text_in_form, source_bytes}
+use Rattle.gimli_write.specs.Version5Tables.{first_form, path_texts, detail_bytes, text_in_form, source_bytes}
 use Rattle.gimli_write.proofs.Joined.{on_ok, always_ok, appends_joined}
 use Rattle.gimli_write.proofs.new_tables.write_file_entry.Goals as goal
 
 pub returns-clause-ok : goal.returns-clause-ok
-returns-clause-ok g c = λ plain.
+returns-clause-ok g c = λ keeps_bytes.
     let contents = g.W.Writer.contents in
     let big = g.W.Writer.big c.args.w.now in
     let p = c.args.program.now in
@@ -18,10 +18,10 @@ returns-clause-ok g c = λ plain.
     let file : File = ((line_text c.args.file.0.now, c.args.file.1), details c.args.file.2.now) in
     let form = c.path_form-form.ensures ∙ ap (λ (files : List File). first_form (path_texts files)) c.tables.ensures.files in
     let path = text_in_form big format strings line_strings (first_form (path_texts p.files)) file.0.0 in
-    let first = rw (form, c.format.ensures) at (c.in_ok-write_line_string.ensures.ok plain) in
-    let second = c.in_ok-write_details.ensures.ok plain in
+    let first = rw (form, c.format.ensures) at (c.in_ok-write_line_string.ensures.ok keeps_bytes) in
+    let second = c.in_ok-write_details.ensures.ok keeps_bytes in
     let source = source_bytes big format strings line_strings p file in
-    let third = rw (c.in_ok-write_details.ensures.ordered ∙ c.in_ok-write_line_string.ensures.ordered) at (c.write_source.ensures.ok plain) in
+    let third = rw (c.in_ok-write_details.ensures.ordered ∙ c.in_ok-write_line_string.ensures.ordered) at (c.write_source.ensures.ok keeps_bytes) in
     on_ok c.write_source.result
     (λ last.
     appends_joined path (joined (Ok (detail_bytes p file)) source) (contents c.args.w.now) (contents c.write_line_string.new.w) (contents c.write_source.new.w) first

@@ -2,13 +2,13 @@ use Rattle.std.proofs.Common.{[], ◌∷◌, ◌++◌, length, if◌then◌else�
 use Rattle.gimli_bytes.specs.Number.{uleb}
 use Rattle.gimli_write.specs.Built.{Built}
 use Rattle.gimli_write.specs.Joined.{joined}
-use Rattle.gimli_write.specs.NewTables.{first_form, path_texts, sources, file_formats}
+use Rattle.gimli_write.specs.Version5Tables.{first_form, path_texts, sources, file_formats}
 use Rattle.gimli_write.proofs.Joined.{on_ok, appends_joined}
 use Rattle.gimli_write.proofs.FormatLemmas.{formats-grouped}
 use Rattle.gimli_write.proofs.new_tables.write_file_formats.Goals as goal
 
 pub returns-clause-ok : goal.returns-clause-ok
-returns-clause-ok g c = λ plain.
+returns-clause-ok g c = λ keeps_bytes.
     let contents = g.W.Writer.contents in
     let p = c.args.program.now in
     let path = first_form (path_texts p.files) in
@@ -23,12 +23,12 @@ returns-clause-ok g c = λ plain.
     let c3 = contents c.write_format_if.new.w in
     let c4 = contents c.write_uleb128.new.self in
     let has = ap (λ (q : Built). q.file_has_source) c.program.view_is in
-    let third = rw (has, c.requires) at (c.in_ok-write_format_if.ensures.ok plain) in
-    let fourth = rw (c.file_count.ensures.count, c.tables.ensures.files) at (c.write_uleb128.ensures.ok plain) in
+    let third = rw (has, c.requires) at (c.in_ok-write_format_if.ensures.ok keeps_bytes) in
+    let fourth = rw (c.file_count.ensures.count, c.tables.ensures.files) at (c.write_uleb128.ensures.ok keeps_bytes) in
     rw (← formats-grouped (0x0001, path) (0x0002, 0x0f) (0x0003, 0x0f) (0x0004, 0x0f) (0x0005, 0x1e) (0x2001, source) p.file_has_timestamp p.file_has_size p.file_has_md5 p.file_has_source count)
     (on_ok c.write_uleb128.result
     (λ last.
-    appends_joined (Ok keys) (joined (Ok details) (joined (Ok own) (Ok count))) c0 c1 c4 (c.in_ok-write_key_formats.ensures.ok plain)
-    (appends_joined (Ok details) (joined (Ok own) (Ok count)) c1 c2 c4 (c.in_ok-write_detail_formats.ensures.ok plain)
+    appends_joined (Ok keys) (joined (Ok details) (joined (Ok own) (Ok count))) c0 c1 c4 (c.in_ok-write_key_formats.ensures.ok keeps_bytes)
+    (appends_joined (Ok details) (joined (Ok own) (Ok count)) c1 c2 c4 (c.in_ok-write_detail_formats.ensures.ok keeps_bytes)
     (appends_joined (Ok own) (Ok count) c2 c3 c4 third last)))
     fourth)

@@ -1,9 +1,9 @@
 use Rattle.std.proofs.Common.{◌≡◌, IsTrue, drop, take, All}
 use Rattle.gimli_bytes.specs.Written.{Begins}
 use Rattle.gimli_write.specs.Tables.{FitsFile}
-use Rattle.gimli_write.specs.OldTables.{file_bytes}
+use Rattle.gimli_write.specs.Version4Tables.{file_bytes}
 use Rattle.gimli_write.proofs.Joined.{SoFar}
-use Rattle.gimli_write.proofs.unit.write_each_file.Given as goal
+use Rattle.gimli_write.proofs.unit.write_each_file.UnitEntry as goal
 
 abbrev pub invariant-loop-index : goal.invariant-loop-index
 invariant-loop-index g l =
@@ -12,5 +12,5 @@ invariant-loop-index g l =
       keeps : Begins (contents l.fn.w) (contents l.w);
       ordered : g.W.Writer.big l.w ≡ g.W.Writer.big l.fn.w;
       fit : All FitsFile (take l.index l.tables.files);
-      put : IsTrue g.W.Writer.plain → SoFar file_bytes l.tables.files (drop l.index l.tables.files) (contents l.fn.w) (contents l.w);
+      put : IsTrue g.W.Writer.keeps_bytes → SoFar file_bytes l.tables.files (drop l.index l.tables.files) (contents l.fn.w) (contents l.w);
     }

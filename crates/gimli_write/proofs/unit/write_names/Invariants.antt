@@ -1,9 +1,9 @@
 use Rattle.std.proofs.Common.{◌≡◌, IsTrue, drop, map}
 use Rattle.gimli_bytes.specs.Written.{Begins}
 use Rattle.gimli_write.specs.LineText.{line_text}
-use Rattle.gimli_write.specs.OldTables.{name_bytes}
+use Rattle.gimli_write.specs.Version4Tables.{name_bytes}
 use Rattle.gimli_write.proofs.Joined.{SoFar}
-use Rattle.gimli_write.proofs.unit.write_names.Given as goal
+use Rattle.gimli_write.proofs.unit.write_names.UnitEntry as goal
 
 abbrev pub invariant-loop-name : goal.invariant-loop-name
 invariant-loop-name g l =
@@ -11,5 +11,5 @@ invariant-loop-name g l =
     record {
       keeps : Begins (contents l.fn.w) (contents l.w);
       ordered : g.W.Writer.big l.w ≡ g.W.Writer.big l.fn.w;
-      put : IsTrue g.W.Writer.plain → SoFar name_bytes (map line_text l.names) (drop l.name-index (map line_text l.names)) (contents l.fn.w) (contents l.w);
+      put : IsTrue g.W.Writer.keeps_bytes → SoFar name_bytes (map line_text l.names) (drop l.name-index (map line_text l.names)) (contents l.fn.w) (contents l.w);
     }

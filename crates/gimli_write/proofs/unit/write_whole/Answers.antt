@@ -17,7 +17,7 @@ returns-clause-keeps g c =
     c.in_ok-length.ensures.after c.write_initial_length_at.ensures.before
 
 pub returns-clause-ok : goal.returns-clause-ok
-returns-clause-ok g c = λ plain.
+returns-clause-ok g c = λ keeps_bytes.
     let contents = g.W.Writer.contents in
     let big = g.W.Writer.big c.args.w.now in
     let format = c.args.program.now.encoding.format in
@@ -25,18 +25,18 @@ returns-clause-ok g c = λ plain.
     let c1 = contents c.write_initial_length.new.self in
     let c2 = contents c.write_inside.new.w in
     let n = c.len.result - c.len-start.result in
-    let opened = rw c.format-format.ensures at (c.in_ok-length.ensures.ok plain) ∙ ap (λ l. old ++ l) (escape_is big format) ∙ sym (append_assoc old (escape_bytes big format) (open_word big format)) in
-    let at = rw c.format-format.ensures at (c.in_ok-length.ensures.place plain) ∙ ap (λ k. length old + k) (sym (escape_long big format)) in
-    let written = rw c.in_ok-length.ensures.ordered at (c.in_ok-write_inside.ensures.ok plain) in
+    let opened = rw c.format-format.ensures at (c.in_ok-length.ensures.ok keeps_bytes) ∙ ap (λ l. old ++ l) (escape_is big format) ∙ sym (append_assoc old (escape_bytes big format) (open_word big format)) in
+    let at = rw c.format-format.ensures at (c.in_ok-length.ensures.place keeps_bytes) ∙ ap (λ k. length old + k) (sym (escape_long big format)) in
+    let written = rw c.in_ok-length.ensures.ordered at (c.in_ok-write_inside.ensures.ok keeps_bytes) in
     let counted : n ≡ length c2 - length c1 = omega (arith, c.len.ensures, c.len-start.ensures) in
     let ordered = c.in_ok-write_inside.ensures.ordered ∙ c.in_ok-length.ensures.ordered in
     on_ok c.write_initial_length_at.result
     (framed (λ k. joined (Ok (escape_bytes big format)) (length_word big format k)) (length_word big format) (escape_bytes big format) (open_word big format) old c1 c2 (contents c.write_initial_length_at.new.self) c.in_ok-length.length.0 n
     (inside_bytes big c.args.program.now c.args.strings.now c.args.line_strings.now) (λ k. refl) opened at written counted (λ word is. length_word_long big format n word is))
-    (rw (ordered, c.format-format.ensures) at (c.write_initial_length_at.ensures.ok plain))
+    (rw (ordered, c.format-format.ensures) at (c.write_initial_length_at.ensures.ok keeps_bytes))
 
 pub returns-clause-err : goal.returns-clause-err
-returns-clause-err g c = λ plain steady.
+returns-clause-err g c = λ keeps_bytes fails_for_memory_alone.
     let contents = g.W.Writer.contents in
     let big = g.W.Writer.big c.args.w.now in
     let format = c.args.program.now.encoding.format in
@@ -44,12 +44,12 @@ returns-clause-err g c = λ plain steady.
     let c1 = contents c.write_initial_length.new.self in
     let c2 = contents c.write_inside.new.w in
     let n = c.len.result - c.len-start.result in
-    let opened = rw c.format-format.ensures at (c.in_ok-length.ensures.ok plain) ∙ ap (λ l. old ++ l) (escape_is big format) ∙ sym (append_assoc old (escape_bytes big format) (open_word big format)) in
-    let at = rw c.format-format.ensures at (c.in_ok-length.ensures.place plain) ∙ ap (λ k. length old + k) (sym (escape_long big format)) in
-    let written = rw c.in_ok-length.ensures.ordered at (c.in_ok-write_inside.ensures.ok plain) in
+    let opened = rw c.format-format.ensures at (c.in_ok-length.ensures.ok keeps_bytes) ∙ ap (λ l. old ++ l) (escape_is big format) ∙ sym (append_assoc old (escape_bytes big format) (open_word big format)) in
+    let at = rw c.format-format.ensures at (c.in_ok-length.ensures.place keeps_bytes) ∙ ap (λ k. length old + k) (sym (escape_long big format)) in
+    let written = rw c.in_ok-length.ensures.ordered at (c.in_ok-write_inside.ensures.ok keeps_bytes) in
     let counted : n ≡ length c2 - length c1 = omega (arith, c.len.ensures, c.len-start.ensures) in
     let ordered = c.in_ok-write_inside.ensures.ordered ∙ c.in_ok-length.ensures.ordered in
     if_err c.write_initial_length_at.result
     (λ e refused. inr (frame_refused (λ k. joined (Ok (escape_bytes big format)) (length_word big format k)) (length_word big format) (escape_bytes big format) (open_word big format) old c1 c2 (contents c.write_initial_length_at.new.self) c.in_ok-length.length.0 n
     (inside_bytes big c.args.program.now c.args.strings.now c.args.line_strings.now) (λ k. refl) opened at written counted (λ word is. length_word_long big format n word is) e refused))
-    (rw (ordered, c.format-format.ensures) at (c.write_initial_length_at.ensures.err steady))
+    (rw (ordered, c.format-format.ensures) at (c.write_initial_length_at.ensures.err fails_for_memory_alone))

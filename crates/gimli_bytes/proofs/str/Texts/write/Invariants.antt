@@ -2,7 +2,7 @@ use Rattle.std.proofs.Common.{◌≡◌, ◌++◌, IsTrue, take}
 use Rattle.gimli_bytes.specs.Texts.{table_bytes}
 use Rattle.gimli_bytes.specs.TextsInside.{texts_of}
 use Rattle.gimli_bytes.specs.Written.{Begins}
-use Rattle.gimli_bytes.proofs.str.Texts.write.Given as goal
+use Rattle.gimli_bytes.proofs.str.Texts.write.UnitEntry as goal
 
 abbrev pub invariant-loop-text : goal.invariant-loop-text
 invariant-loop-text g l =
@@ -10,5 +10,5 @@ invariant-loop-text g l =
     record {
       keeps : Begins (contents l.fn.w) (contents l.w);
       ordered : g.W.Writer.big l.w ≡ g.W.Writer.big l.fn.w;
-      put : IsTrue g.W.Writer.plain → contents l.w ≡ contents l.fn.w ++ table_bytes (texts_of (take l.text-index l.text-items));
+      put : IsTrue g.W.Writer.keeps_bytes → contents l.w ≡ contents l.fn.w ++ table_bytes (texts_of (take l.text-index l.text-items));
     }

@@ -3,7 +3,7 @@ use Rattle.gimli_line.specs.declared.row.LineRow.{LineRow}
 use Rattle.gimli_line.specs.Header.{Header}
 use Rattle.gimli_line.specs.Events.{row}
 use Rattle.gimli_line.specs.Machine.{reset_row}
-use Rattle.gimli_line.specs.Passed.{ready}
+use Rattle.gimli_line.specs.Progress.{ready}
 use Rattle.gimli_line.proofs.Runs.{state, none_to_come, passes_none, passes_both, refused_behind}
 use Rattle.gimli_line.proofs.rows.LineRows.advance.Goals as goal
 
@@ -17,7 +17,7 @@ instructions-init g c =
       appends = search rules;
       notation = search rules;
       offset = search rules;
-      passes = rw (← c.self.view_is) (passes_none (ready (at_row c.self.inside.row)) (at_row c.reset.new.self) (ap at_row (c.reset.ensures ∙ ap (λ (k : Header). reset_row k.rules c.self.inside.row) c.header.ensures.meaning)));
+      passes = rw (← c.self.view_is) (passes_none (ready (at_row c.self.inside.row)) (at_row c.reset.new.self) (ap at_row (c.reset.ensures ∙ ap (λ (k : Header). reset_row k.parameters c.self.inside.row) c.header.ensures.meaning)));
     }
 
 pub returns-in-Err-clause-err : goal.returns-in-Err-clause-err

@@ -3,8 +3,8 @@ use Rattle.std.proofs.lemmas.List.{map-append, append-nil}
 use Rattle.std.proofs.lemmas.Result.{err_from_is_err_and}
 use Rattle.gimli_line.specs.Events.{Event, row}
 use Rattle.gimli_line.specs.Header.{bare}
-use Rattle.gimli_line.specs.Source.{Source}
-use Rattle.gimli_line.specs.Passed.{Passes, ready}
+use Rattle.gimli_line.specs.Unread.{Unread}
+use Rattle.gimli_line.specs.Progress.{Progress, ready}
 use Rattle.gimli_line.specs.Rows.{started}
 use Rattle.gimli_line.proofs.Runs.{passes_none, passes_both}
 use Rattle.gimli_line.proofs.SequenceLaws.{starts_cutting, goes_cutting, has_front, row_takes, are_sequences, has_first_fault}
@@ -14,12 +14,12 @@ pub rows-init : goal.rows-init
 rows-init g c =
     let h = c.args.self.meaning in
     let at_offset = g.R.Offset.ReaderOffset.number c.args.self.offset.0 in
-    let source : Source = record { bytes = h.program; notation = c.args.self.notation } in
-    let first = ready (started true h c.args.self.notation at_offset source) in
+    let unread : Unread = record { bytes = h.program; notation = c.args.self.notation } in
+    let first = ready (started true h c.args.self.notation at_offset unread) in
     record {
       behind = (
         [],
-        rw (c.new-cutter.ensures, c.clone.ensures ∙ c.instructions.ensures, c.rows-rows.ensures.start) (starts_cutting h c.args.self.notation at_offset source),
+        rw (c.new-cutter.ensures, c.clone.ensures ∙ c.instructions.ensures, c.rows-rows.ensures.start) (starts_cutting h c.args.self.notation at_offset unread),
         rw c.rows-rows.ensures.start (passes_none first first refl),
       );
       notation = rw c.rows-rows.ensures.start refl;
@@ -50,7 +50,7 @@ pub rows-preserved : goal.rows-preserved
 rows-preserved g c =
     let h = c.args.self.meaning in
     let at_offset = g.R.Offset.ReaderOffset.number c.args.self.offset.0 in
-    let source : Source = record { bytes = h.program; notation = c.args.self.notation } in
+    let unread : Unread = record { bytes = h.program; notation = c.args.self.notation } in
     let m = rw c.if-branch.true at c.in_ok-advance.ensures.passes in
     let b = c.rows.invariant.behind in
     let next = c.advance.new.self in
@@ -58,8 +58,8 @@ rows-preserved g c =
       behind = (
         b.0 ++ next.row ∷ [],
         rw (c.in_ok-row.ensures.ok, c.row.ensures, c.instructions-in-rows.ensures) (goes_cutting h c.rows.cutter b.0 (ready c.rows.rows) next b.1 m),
-        subst (λ (es : List Event). Passes (ready (started true h c.args.self.notation at_offset source)) (ready next) es) (sym (map-append row b.0 (next.row ∷ [])))
-            (passes_both (ready (started true h c.args.self.notation at_offset source)) (ready c.rows.rows) (ready next) (map row b.0) (row next.row ∷ []) b.2 m),
+        subst (λ (es : List Event). Progress (ready (started true h c.args.self.notation at_offset unread)) (ready next) es) (sym (map-append row b.0 (next.row ∷ [])))
+            (passes_both (ready (started true h c.args.self.notation at_offset unread)) (ready c.rows.rows) (ready next) (map row b.0) (row next.row ∷ []) b.2 m),
       );
       notation = c.in_ok-advance.ensures.notation ∙ c.rows.invariant.notation;
       offset = c.in_ok-advance.ensures.offset ∙ c.rows.invariant.offset;
@@ -69,12 +69,12 @@ pub returns-clause-ok : goal.returns-clause-ok
 returns-clause-ok g c =
     let h = c.args.self.meaning in
     let at_offset = g.R.Offset.ReaderOffset.number c.args.self.offset.0 in
-    let source : Source = record { bytes = h.program; notation = c.args.self.notation } in
+    let unread : Unread = record { bytes = h.program; notation = c.args.self.notation } in
     let m = rw c.if-branch.false at c.in_ok-advance.ensures.passes in
     let b = c.rows.invariant.behind in
     let last = c.advance.new.self in
-    let whole = subst (λ (es : List Event). Passes (ready (started true h c.args.self.notation at_offset source)) last es) (append-nil (map row b.0))
-    (passes_both (ready (started true h c.args.self.notation at_offset source)) (ready c.rows.rows) last (map row b.0) [] b.2 m.1) in
+    let whole = subst (λ (es : List Event). Progress (ready (started true h c.args.self.notation at_offset unread)) last es) (append-nil (map row b.0))
+    (passes_both (ready (started true h c.args.self.notation at_offset unread)) (ready c.rows.rows) last (map row b.0) [] b.2 m.1) in
     rw c.into_sequences.ensures (are_sequences c.args.self.notation at_offset h c.header.inside.header.meaning c.rows.cutter b.0 (ready c.rows.rows) last b.1 whole m.0
     (ap (λ v. bare v.meaning) c.header.view_is ∙ c.into_program.ensures.header) (ap (λ v. v.meaning.files) c.header.view_is ∙ c.into_program.ensures.files))
 

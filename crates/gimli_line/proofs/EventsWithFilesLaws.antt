@@ -1,0 +1,51 @@
+-- The machine gives what is found by looking back, with the files at each place.
+use Rattle.std.proofs.Common.{◌≡◌, Bool, true, false, not, ◌||◌, if◌then◌else◌, List, [], ◌∷◌, ◌++◌, Option, refl, ap, ◌∙◌}
+use Rattle.gimli_core.specs.declared.error.Error.{Error}
+use Rattle.gimli_line.specs.declared.row.LineRow.{LineRow}
+use Rattle.gimli_line.specs.Parameters.{Parameters}
+use Rattle.gimli_line.specs.Header.{Header, files_behind}
+use Rattle.gimli_line.specs.Instruction.{Ins, File, makes_row}
+use Rattle.gimli_line.specs.declared.instruction.LineInstruction.TheVariants.{DefineFile}
+use Rattle.gimli_line.specs.OperationPointer.{is_hidden, overflows}
+use Rattle.gimli_line.specs.Events.{row, row_at, events_at}
+use Rattle.gimli_line.specs.Machine.{initial, reset_row, stepped, is_refused}
+use Rattle.gimli_line.specs.EventsWithFiles.{EventWithFiles, with_files, files_at, events_with_files_behind, step_events, next_registers, events_with_files_from}
+use Rattle.gimli_line.proofs.Backwards.{registers, goes_on, starts_anew, goes_past, row_is}
+
+-- what an instruction gives
+given_row : (h : Parameters) (past : List Ins) (i : Ins) → makes_row i ≡ true → (hidden : Bool) → is_hidden h past ≡ hidden
+    → (if not hidden then row (stepped h i (registers h past)) ∷ [] else []) ≡ (if not hidden then row (row_at h past i) ∷ [] else [])
+given_row h past i loud true hides = refl
+given_row h past i loud false seen = ap (λ r. row r ∷ []) (row_is h past i loud seen)
+
+pub gives : (h : Parameters) (past : List Ins) (i : Ins) (o m : Bool) → overflows h past i ≡ o → makes_row i ≡ m
+    → step_events h i (registers h past) ≡ events_at h past i
+gives h past i true m large loud = rw large refl
+gives h past i false true fits loud = rw (fits, loud) (given_row h past i loud (is_hidden h past) refl)
+gives h past i false false fits quiet = rw (fits, quiet) refl
+
+-- and the registers behind it
+goes_to : (h : Parameters) (i : Ins) (r : LineRow) (b : Bool) → (is_refused h i r || makes_row i) ≡ b → next_registers h i r ≡ (if b then reset_row h (stepped h i r) else stepped h i r)
+goes_to h i r b is = ap (λ (b : Bool). if b then reset_row h (stepped h i r) else stepped h i r) is
+
+pub goes : (h : Parameters) (past : List Ins) (i : Ins) (o m : Bool) → overflows h past i ≡ o → makes_row i ≡ m → next_registers h i (registers h past) ≡ registers h (i ∷ past)
+goes h past i true m large loud = goes_to h i (registers h past) true (rw large refl) ∙ goes_past h past i large
+goes h past i false true fits loud = goes_to h i (registers h past) true (rw (fits, loud) refl) ∙ starts_anew h past i loud
+goes h past i false false fits quiet = goes_to h i (registers h past) false (rw (fits, quiet) refl) ∙ goes_on h past i fits quiet
+
+-- and the files
+files_go : (a : Bool) (files : List File) (past : List Ins) (i : Ins) → files_behind a i (files_at a files past) ≡ files_at a files (i ∷ past)
+files_go true files past (DefineFile f) = refl
+files_go false files past (DefineFile f) = refl
+files_go a files past i = refl
+
+pub events_with_files_are : (a : Bool) (h : Header) (past list : List Ins) (end : Option Error) → events_with_files_from a h.parameters (registers h.parameters past) (files_at a h.files past) list end ≡ events_with_files_behind a h past list end
+events_with_files_are a h past [] end = refl
+events_with_files_are a h past (i ∷ list) end =
+    rw (gives h.parameters past i (overflows h.parameters past i) (makes_row i) refl refl, goes h.parameters past i (overflows h.parameters past i) (makes_row i) refl refl, files_go a h.files past i)
+    (ap (λ (rest : List EventWithFiles). with_files (files_at a h.files past) (events_at h.parameters past i) ++ rest) (events_with_files_are a h (i ∷ past) list end))
+
+-- from the start
+pub events_with_files_start : (a : Bool) (h : Header) (list : List Ins) (end : Option Error) → events_with_files_from a h.parameters (reset_row h.parameters (initial h.parameters)) h.files list end ≡ events_with_files_behind a h [] list end
+events_with_files_start true h list end = events_with_files_are true h [] list end
+events_with_files_start false h list end = events_with_files_are false h [] list end

@@ -1,0 +1,20 @@
+-- What a call answers of what is read.
+use Rattle.std.specs.Prelude.{◌≡◌, ◌≢◌, ℕ, List, Result, Ok, Err}
+use Rattle.gimli_core.specs.Reading.{Read, ◌>>=◌}
+use Rattle.gimli_core.specs.declared.error.Error.{Error}
+use Rattle.gimli_core.specs.declared.error.Error.TheVariants.{OutOfMemory}
+
+-- what a call answered, its value seen by view, and the bytes that it left are what reading gives, unless memory
+-- was wanting
+abbrev pub IsOutcome : {X Y : Type 0} → (X → Y) → Result X Error → List ℕ → Read Y → Type 0
+IsOutcome view (Ok x) left read = read ≡ (Ok (view x), left)
+IsOutcome view (Err e) left read = e ≢ OutOfMemory → read.0 ≡ Err e
+
+-- the same of the answer alone
+abbrev pub IsAnswer : {X Y : Type 0} → (X → Y) → Result X Error → Result Y Error → Type 0
+IsAnswer view (Ok x) read = read ≡ Ok (view x)
+IsAnswer view (Err e) read = e ≢ OutOfMemory → read ≡ Err e
+
+-- what is read, its value seen by f
+abbrev pub viewed : {A B : Type 0} → (A → B) → Read A → Read B
+viewed f r = r >>= λ x rest. (Ok (f x), rest)

@@ -1,0 +1,31 @@
+-- Further productions of a format, beside those of the core.
+use Rattle.std.specs.Prelude.{◌≡◌, ◌≢◌, ℕ, List, [], ◌∷◌, nat_eq, not, Option, Some, None, if◌then◌else◌}
+use Rattle.gimli_core.specs.Production.{Production, ◌>>=◌, done, check, byte, text}
+use Rattle.gimli_core.specs.declared.error.Error.{Error}
+
+-- ---- put together
+
+-- the bytes of a production, in the place of its value
+abbrev pub bytes_of : {A : Type 0} → Production A → Production (List ℕ)
+bytes_of l = record {
+  Spells = λ bytes xs. (xs ≡ bytes) × ((x : _) × l.Spells bytes x);
+  Fault = l.Fault;
+}
+
+-- what stands beside a number in a table
+abbrev pub among : {A : Type 0} → ℕ → List (ℕ × A) → Option A
+among n [] = None
+among n (row ∷ rows) = if nat_eq n row.0 then Some row.1 else among n rows
+
+-- ---- single productions
+
+-- a text that isn't empty, and its zero byte
+abbrev pub name : Production (List ℕ)
+name = record { Spells = λ bytes xs. (xs ≢ []) × text.Spells bytes xs; Fault = text.Fault }
+
+-- a byte that isn't 0
+abbrev pub positive : Error → Production ℕ
+positive d = do
+  n ← byte
+  some ← check (not (nat_eq n 0)) d
+  done n
