@@ -1,7 +1,7 @@
 use Rattle.std.proofs.Common.{◌≡◌, ◌-◌}
 use Rattle.gimli_core.specs.Reading.{times_at, unsigned_at}
 use Rattle.gimli_line.specs.InstructionReading.{passed_over}
-use Rattle.gimli_line.proofs.instruction.skip_operands.UnitEntry as goal
+use Rattle.gimli_line.proofs.instruction.skip_operands.Given as goal
 
 abbrev pub invariant-loop : goal.invariant-loop
 invariant-loop g l = record {

@@ -2,7 +2,7 @@ use Rattle.gimli_core.specs.Reading.{times_at}
 use Rattle.std.proofs.Common.{◌≡◌, ◌-◌}
 use Rattle.gimli_line.specs.HeaderReading.{format_at}
 use Rattle.gimli_line.proofs.Loops.{collected}
-use Rattle.gimli_line.proofs.tables.parse_all_formats.UnitEntry as goal
+use Rattle.gimli_line.proofs.tables.parse_all_formats.Given as goal
 
 abbrev pub invariant-loop : goal.invariant-loop
 invariant-loop g l = record {

@@ -4,7 +4,7 @@ use Rattle.gimli_core.specs.declared.attribute_value.AttributeValue.TheVariants.
 use Rattle.gimli_line.specs.Outcome.{viewed}
 use Rattle.gimli_line.specs.HeaderReading.{paths_at}
 use Rattle.gimli_line.proofs.Loops.{collected}
-use Rattle.gimli_line.proofs.tables.parse_directories.UnitEntry as goal
+use Rattle.gimli_line.proofs.tables.parse_directories.Given as goal
 
 abbrev pub invariant-loop-directories : goal.invariant-loop-directories
 invariant-loop-directories g l = record {

@@ -6,7 +6,7 @@ use Rattle.gimli_line.specs.Outcome.{viewed}
 use Rattle.gimli_line.specs.HeaderGrammar.{path_of}
 use Rattle.gimli_line.specs.HeaderReading.{entry_at, entries_at}
 use Rattle.gimli_line.proofs.Loops.{collected}
-use Rattle.gimli_line.proofs.tables.parse_directories_v5.UnitEntry as goal
+use Rattle.gimli_line.proofs.tables.parse_directories_v5.Given as goal
 
 abbrev pub invariant-loop : goal.invariant-loop
 invariant-loop g l =

@@ -5,7 +5,7 @@ use Rattle.gimli_line.specs.HeaderGrammar.{file_of_entry}
 use Rattle.gimli_line.specs.HeaderReading.{entry_at}
 use Rattle.gimli_line.specs.Outcome.{viewed}
 use Rattle.gimli_line.specs.EntryReading.{file_with, folded_at}
-use Rattle.gimli_line.proofs.tables.parse_file_v5.UnitEntry as goal
+use Rattle.gimli_line.proofs.tables.parse_file_v5.Given as goal
 
 abbrev pub invariant-loop-entry_format : goal.invariant-loop-entry_format
 invariant-loop-entry_format g l =

@@ -2,7 +2,7 @@ use Rattle.std.proofs.Common.{◌≡◌, length, map}
 use Rattle.gimli_line.specs.Instruction.{file_seen}
 use Rattle.gimli_line.specs.HeaderReading.{files_at}
 use Rattle.gimli_line.proofs.Loops.{collected}
-use Rattle.gimli_line.proofs.tables.parse_files.UnitEntry as goal
+use Rattle.gimli_line.proofs.tables.parse_files.Given as goal
 
 abbrev pub invariant-loop-files : goal.invariant-loop-files
 invariant-loop-files g l = record {

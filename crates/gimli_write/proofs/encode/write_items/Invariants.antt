@@ -3,7 +3,7 @@ use Rattle.gimli_bytes.specs.Written.{Begins}
 use Rattle.gimli_write.specs.Items.{items_bytes, AreFit}
 use Rattle.gimli_write.specs.Rows.{initial_row}
 use Rattle.gimli_write.proofs.ItemsWritten.{OnTheWay, Standing}
-use Rattle.gimli_write.proofs.encode.write_items.UnitEntry as goal
+use Rattle.gimli_write.proofs.encode.write_items.Given as goal
 
 abbrev pub invariant-loop-item : goal.invariant-loop-item
 invariant-loop-item g l =

@@ -3,7 +3,7 @@ use Rattle.gimli_bytes.specs.Written.{Begins}
 use Rattle.gimli_write.specs.Tables.{FitsFile}
 use Rattle.gimli_write.specs.Version5Tables.{file_entry_bytes}
 use Rattle.gimli_write.proofs.Joined.{SoFar}
-use Rattle.gimli_write.proofs.new_tables.write_file_entries.UnitEntry as goal
+use Rattle.gimli_write.proofs.new_tables.write_file_entries.Given as goal
 
 abbrev pub invariant-loop-index : goal.invariant-loop-index
 invariant-loop-index g l =

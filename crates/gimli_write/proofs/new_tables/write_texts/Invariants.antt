@@ -3,7 +3,7 @@ use Rattle.gimli_bytes.specs.Written.{Begins}
 use Rattle.gimli_write.specs.LineText.{line_text}
 use Rattle.gimli_write.specs.Version5Tables.{text_in_form}
 use Rattle.gimli_write.proofs.Joined.{SoFar}
-use Rattle.gimli_write.proofs.new_tables.write_texts.UnitEntry as goal
+use Rattle.gimli_write.proofs.new_tables.write_texts.Given as goal
 
 abbrev pub invariant-loop-text : goal.invariant-loop-text
 invariant-loop-text g l =

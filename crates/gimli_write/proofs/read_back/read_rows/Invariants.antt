@@ -2,7 +2,7 @@ use Rattle.std.proofs.Common.{◌≡◌, ◌++◌, length, map}
 use Rattle.gimli_line.specs.Events.{row}
 use Rattle.gimli_line.specs.Rows.{events_left}
 use Rattle.gimli_line.specs.Sequences.{events_of}
-use Rattle.gimli_write.proofs.read_back.read_rows.UnitEntry as goal
+use Rattle.gimli_write.proofs.read_back.read_rows.Given as goal
 
 abbrev pub invariant-rows : goal.invariant-rows
 invariant-rows g l = events_of (events_left l.initial.rows) ≡ map row l.answers.items ++ events_of (events_left l.rows)

@@ -3,7 +3,7 @@ use Rattle.gimli_bytes.specs.Written.{Begins}
 use Rattle.gimli_write.specs.Tables.{FitsFile}
 use Rattle.gimli_write.specs.Version4Tables.{file_bytes}
 use Rattle.gimli_write.proofs.Joined.{SoFar}
-use Rattle.gimli_write.proofs.unit.write_each_file.UnitEntry as goal
+use Rattle.gimli_write.proofs.unit.write_each_file.Given as goal
 
 abbrev pub invariant-loop-index : goal.invariant-loop-index
 invariant-loop-index g l =

@@ -3,7 +3,7 @@ use Rattle.gimli_bytes.specs.Written.{Begins}
 use Rattle.gimli_write.specs.LineText.{line_text}
 use Rattle.gimli_write.specs.Version4Tables.{name_bytes}
 use Rattle.gimli_write.proofs.Joined.{SoFar}
-use Rattle.gimli_write.proofs.unit.write_names.UnitEntry as goal
+use Rattle.gimli_write.proofs.unit.write_names.Given as goal
 
 abbrev pub invariant-loop-name : goal.invariant-loop-name
 invariant-loop-name g l =

@@ -1,6 +1,6 @@
 use Rattle.std.proofs.Common.{◌≡◌, ◌++◌, ◌-◌, take, length}
 use Rattle.gimli_bytes.specs.Number.{sleb_within}
-use Rattle.gimli_bytes.proofs.leb128.Leb128.signed.UnitEntry as goal
+use Rattle.gimli_bytes.proofs.leb128.Leb128.signed.Given as goal
 
 abbrev pub invariant-loop-len : goal.invariant-loop-len
 invariant-loop-len l = record {

@@ -2,7 +2,7 @@ use Rattle.std.proofs.Common.{◌≡◌, ◌++◌, IsTrue, take}
 use Rattle.gimli_bytes.specs.Texts.{table_bytes}
 use Rattle.gimli_bytes.specs.TextsInside.{texts_of}
 use Rattle.gimli_bytes.specs.Written.{Begins}
-use Rattle.gimli_bytes.proofs.str.Texts.write.UnitEntry as goal
+use Rattle.gimli_bytes.proofs.str.Texts.write.Given as goal
 
 abbrev pub invariant-loop-text : goal.invariant-loop-text
 invariant-loop-text g l =

@@ -1,7 +1,7 @@
 use Rattle.std.proofs.Common.{◌≡◌, ◌*◌, ◌^◌, ◌<◌, ◌-◌}
 use Rattle.gimli_core.specs.Reading.{uleb_at}
 use Rattle.gimli_core.proofs.Leb.{grown}
-use Rattle.gimli_core.proofs.reader.Reader.read_uleb128.UnitEntry as goal
+use Rattle.gimli_core.proofs.reader.Reader.read_uleb128.Given as goal
 
 abbrev pub invariant-loop-group : goal.invariant-loop-group
 invariant-loop-group g l = record {

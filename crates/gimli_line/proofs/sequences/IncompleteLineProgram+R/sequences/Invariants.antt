@@ -4,7 +4,7 @@ use Rattle.gimli_line.specs.Events.{row}
 use Rattle.gimli_line.specs.Progress.{Progress, ready}
 use Rattle.gimli_line.specs.Rows.{started}
 use Rattle.gimli_line.proofs.SequenceLaws.{Cutting}
-use Rattle.gimli_line.proofs.sequences.IncompleteLineProgram+R.sequences.UnitEntry as goal
+use Rattle.gimli_line.proofs.sequences.IncompleteLineProgram+R.sequences.Given as goal
 
 abbrev pub invariant-rows : goal.invariant-rows
 invariant-rows g l = record {
