@@ -1,14 +1,14 @@
 -- The machine's registers are those that are found by looking back.
 use Rattle.std.proofs.Common.{◌≡◌, Bool, true, false, not, if◌then◌else◌, List, [], ◌∷◌, ◌++◌, refl, sym, ap, ◌∙◌}
 use Rattle.std.specs.List.{list_any}
-use Rattle.gimli_line.specs.declared.row.LineRow.{LineRow}
-use Rattle.gimli_line.specs.declared.instruction.LineInstruction.TheVariants.{Special, Copy, AdvancePc, AdvanceLine, SetFile, SetColumn, NegateStatement, SetBasicBlock, ConstAddPc, FixedAddPc, SetPrologueEnd, SetEpilogueBegin, SetIsa, UnknownStandard0, UnknownStandard1, UnknownStandardN, EndSequence, SetAddress, DefineFile, SetDiscriminator, UnknownExtended}
-use Rattle.gimli_line.specs.Parameters.{Parameters}
-use Rattle.gimli_line.specs.Instruction.{Ins, makes_row}
-use Rattle.gimli_line.specs.Registers.{sequence, nearest, is_odd, negates_statement, sets_basic_block, sets_prologue_end, sets_epilogue_begin, discriminator_operand, file_at, column_at, isa_at, is_stmt_at, line_after}
-use Rattle.gimli_line.specs.OperationPointer.{pointer_at, is_hidden, overflows, recent}
-use Rattle.gimli_line.specs.Events.{Event, row, row_at, events_behind}
-use Rattle.gimli_line.specs.Machine.{initial, reset_row, stepped, run}
+use Rattle.gimli_line.specs.declared.run.row.LineRow.{LineRow}
+use Rattle.gimli_line.specs.declared.run.instruction.LineInstruction.TheVariants.{Special, Copy, AdvancePc, AdvanceLine, SetFile, SetColumn, NegateStatement, SetBasicBlock, ConstAddPc, FixedAddPc, SetPrologueEnd, SetEpilogueBegin, SetIsa, UnknownStandard0, UnknownStandard1, UnknownStandardN, EndSequence, SetAddress, DefineFile, SetDiscriminator, UnknownExtended}
+use Rattle.gimli_line.specs.header.Parameters.{Parameters}
+use Rattle.gimli_line.specs.run.Instruction.{Ins, makes_row}
+use Rattle.gimli_line.specs.run.Registers.{sequence, nearest, is_odd, negates_statement, sets_basic_block, sets_prologue_end, sets_epilogue_begin, discriminator_operand, file_at, column_at, isa_at, is_stmt_at, line_after}
+use Rattle.gimli_line.specs.run.OperationPointer.{pointer_at, is_hidden, overflows, recent}
+use Rattle.gimli_line.specs.run.Events.{Event, row, row_at, events_behind}
+use Rattle.gimli_line.specs.run.Machine.{initial, reset_row, stepped, run}
 
 -- the registers before a place
 abbrev pub registers : Parameters → List Ins → LineRow

@@ -12,8 +12,8 @@ use Rattle.gimli_core.specs.Production.{Production, times, refuse}
 use Rattle.gimli_core.specs.Form.{Shape, fixed, three_bytes, word_offset, leb, signed_leb, leb_offset, block, counted, leb_counted, string, shape_among, shapes, shape_production, form_production}
 use Rattle.gimli_core.specs.declared.common.Format.{Format}
 use Rattle.gimli_core.specs.declared.common.Format.TheVariants.{Dwarf32, Dwarf64}
-use Rattle.gimli_line.specs.HeaderGrammar.{Entry, is_content, formats_production, entry_production, entries_production}
-use Rattle.gimli_line.specs.declared.file_entry.FileEntryFormat.{FileEntryFormat}
+use Rattle.gimli_line.specs.header.HeaderGrammar.{Entry, is_content, formats_production, entry_production, entries_production}
+use Rattle.gimli_line.specs.declared.header.file_entry.FileEntryFormat.{FileEntryFormat}
 
 -- ---- a value in a form has bytes
 

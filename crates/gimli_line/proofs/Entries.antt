@@ -6,14 +6,14 @@ use Rattle.gimli_core.specs.Values.{Value, udata_value}
 use Rattle.gimli_core.specs.Reading.{Read, ◌>>=◌}
 use Rattle.gimli_core.specs.declared.common.Format.{Format}
 use Rattle.gimli_core.specs.declared.attribute_value.AttributeValue.TheVariants.{String}
-use Rattle.gimli_line.specs.Outcome.{viewed}
-use Rattle.gimli_line.specs.Instruction.{File}
-use Rattle.gimli_line.specs.Header.{plain_file}
-use Rattle.gimli_line.specs.HeaderGrammar.{Entry, last_value, digest, path_of, file_of_entry}
-use Rattle.gimli_line.specs.FormReading.{form_at}
-use Rattle.gimli_line.specs.HeaderReading.{entry_at}
-use Rattle.gimli_line.specs.EntryReading.{updated, path_with, file_with, folded, folded_at}
-use Rattle.gimli_line.specs.declared.file_entry.FileEntryFormat.{FileEntryFormat}
+use Rattle.gimli_line.specs.header.Outcome.{viewed}
+use Rattle.gimli_line.specs.header.File.{File}
+use Rattle.gimli_line.specs.header.Header.{plain_file}
+use Rattle.gimli_line.specs.header.HeaderGrammar.{Entry, last_value, digest, path_of, file_of_entry}
+use Rattle.gimli_line.specs.header.FormReading.{form_at}
+use Rattle.gimli_line.specs.header.HeaderReading.{entry_at}
+use Rattle.gimli_line.specs.header.EntryReading.{updated, path_with, file_with, folded, folded_at}
+use Rattle.gimli_line.specs.declared.header.file_entry.FileEntryFormat.{FileEntryFormat}
 
 -- the last value of an entry, from its first value on
 last_of : {A : Type 0} (wanted : ℕ) (pick : Value → Option A) (first : A) (content : ℕ) (value : Value) (entry : Entry)

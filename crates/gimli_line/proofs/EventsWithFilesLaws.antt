@@ -1,15 +1,17 @@
 -- The machine gives what is found by looking back, with the files at each place.
 use Rattle.std.proofs.Common.{◌≡◌, Bool, true, false, not, ◌||◌, if◌then◌else◌, List, [], ◌∷◌, ◌++◌, Option, refl, ap, ◌∙◌}
 use Rattle.gimli_core.specs.declared.error.Error.{Error}
-use Rattle.gimli_line.specs.declared.row.LineRow.{LineRow}
-use Rattle.gimli_line.specs.Parameters.{Parameters}
-use Rattle.gimli_line.specs.Header.{Header, files_behind}
-use Rattle.gimli_line.specs.Instruction.{Ins, File, makes_row}
-use Rattle.gimli_line.specs.declared.instruction.LineInstruction.TheVariants.{DefineFile}
-use Rattle.gimli_line.specs.OperationPointer.{is_hidden, overflows}
-use Rattle.gimli_line.specs.Events.{row, row_at, events_at}
-use Rattle.gimli_line.specs.Machine.{initial, reset_row, stepped, is_refused}
-use Rattle.gimli_line.specs.EventsWithFiles.{EventWithFiles, with_files, files_at, events_with_files_behind, step_events, next_registers, events_with_files_from}
+use Rattle.gimli_line.specs.declared.run.row.LineRow.{LineRow}
+use Rattle.gimli_line.specs.header.Parameters.{Parameters}
+use Rattle.gimli_line.specs.header.Header.{Header}
+use Rattle.gimli_line.specs.run.Instruction.{files_behind}
+use Rattle.gimli_line.specs.run.Instruction.{Ins, makes_row}
+use Rattle.gimli_line.specs.header.File.{File}
+use Rattle.gimli_line.specs.declared.run.instruction.LineInstruction.TheVariants.{DefineFile}
+use Rattle.gimli_line.specs.run.OperationPointer.{is_hidden, overflows}
+use Rattle.gimli_line.specs.run.Events.{row, row_at, events_at}
+use Rattle.gimli_line.specs.run.Machine.{initial, reset_row, stepped, is_refused}
+use Rattle.gimli_line.specs.run.EventsWithFiles.{EventWithFiles, with_files, files_at, events_with_files_behind, step_events, next_registers, events_with_files_from}
 use Rattle.gimli_line.proofs.Backwards.{registers, goes_on, starts_anew, goes_past, row_is}
 
 -- what an instruction gives

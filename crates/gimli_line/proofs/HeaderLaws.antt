@@ -15,13 +15,13 @@ use Rattle.gimli_core.proofs.Productions.{reads_both, reads_done, reads_refuse, 
 use Rattle.gimli_core.proofs.ProductionLaws.{reads_byte, reads_some_bytes, reads_number, reads_text, reads_below_limit, reads_offset_word, reads_unit_length}
 use Rattle.gimli_core.proofs.UnsignedLeb.{reads_unsigned, reads_unsigned_16}
 use Rattle.gimli_core.proofs.SignedLaws.{reads_signed}
-use Rattle.gimli_line.specs.Instruction.{File}
-use Rattle.gimli_line.specs.Header.{Header, UnitEntry, plain_file}
-use Rattle.gimli_line.specs.Productions.{name, positive}
-use Rattle.gimli_line.specs.FormReading.{block_at, shape_at, form_at}
-use Rattle.gimli_line.specs.HeaderGrammar.{is_content, Opening, paths_production, file_production, files_production, format_production, formats_production, entry_production, entries_production, table_production, version_production, address_size_production, opening_production, line_encoding_production, parameters_production, directory_table, file_table, fields_production, header_production, SpellsUnit, HasHeaderFault}
-use Rattle.gimli_line.specs.HeaderReading.{positive_at, paths_at, plain_file_at, named_file_at, files_at, format_at, formats_at, entry_at, entries_at, table_at, version_at, own_address_size_at, size_at, opening_at, operations_at, line_encoding_at, rules_at, directories_at, file_names_at, fields_at, header_at}
-use Rattle.gimli_line.specs.declared.file_entry.FileEntryFormat.{FileEntryFormat}
+use Rattle.gimli_line.specs.header.File.{File}
+use Rattle.gimli_line.specs.header.Header.{Header, UnitEntry, plain_file}
+use Rattle.gimli_line.specs.header.Productions.{name, positive}
+use Rattle.gimli_line.specs.header.FormReading.{block_at, shape_at, form_at}
+use Rattle.gimli_line.specs.header.HeaderGrammar.{is_content, Opening, paths_production, file_production, files_production, format_production, formats_production, entry_production, entries_production, table_production, version_production, address_size_production, opening_production, line_encoding_production, parameters_production, directory_table, file_table, fields_production, header_production, SpellsUnit, HasHeaderFault}
+use Rattle.gimli_line.specs.header.HeaderReading.{positive_at, paths_at, plain_file_at, named_file_at, files_at, format_at, formats_at, entry_at, entries_at, table_at, version_at, own_address_size_at, size_at, opening_at, operations_at, line_encoding_at, rules_at, directories_at, file_names_at, fields_at, header_at}
+use Rattle.gimli_line.specs.declared.header.file_entry.FileEntryFormat.{FileEntryFormat}
 use Rattle.gimli_line.proofs.Closed.{ReadsOpen, reads_name, reads_open_both, reads_closed}
 
 -- ---- a test, and behind it a production

@@ -8,14 +8,14 @@ use Rattle.gimli_core.specs.declared.common.Format.TheVariants.{Dwarf32, Dwarf64
 use Rattle.gimli_core.specs.declared.attribute_value.AttributeValue.TheVariants.{String}
 use Rattle.gimli_core.specs.declared.error.Error.{Error}
 use Rattle.gimli_core.specs.declared.error.Error.TheVariants.{UnexpectedEof, BadUnsignedLeb128, UnknownReservedLength, UnknownVersion, UnsupportedAddressSize, UnsupportedSegmentSize, MinimumInstructionLengthZero, MaximumOperationsPerInstructionZero, LineRangeZero, OpcodeBaseZero, MissingFileEntryFormatPath, UnknownForm}
-use Rattle.gimli_line.specs.declared.file_entry.FileEntryFormat.{FileEntryFormat}
-use Rattle.gimli_line.specs.Parameters.{Parameters}
-use Rattle.gimli_line.specs.Instruction.{File}
-use Rattle.gimli_line.specs.Header.{Header, UnitEntry, plain_file}
-use Rattle.gimli_line.specs.HeaderGrammar.{SpellsUnit, HasHeaderFault}
-use Rattle.gimli_line.specs.TableReading.{closed_below}
-use Rattle.gimli_line.specs.FormReading.{form_at}
-use Rattle.gimli_line.specs.HeaderReading.{positive_at, plain_file_at, format_at, formats_at, entries_at, table_at, version_at, own_address_size_at, opening_at, line_encoding_at, rules_at, directories_at, file_names_at, fields_at, header_at}
+use Rattle.gimli_line.specs.declared.header.file_entry.FileEntryFormat.{FileEntryFormat}
+use Rattle.gimli_line.specs.header.Parameters.{Parameters}
+use Rattle.gimli_line.specs.header.File.{File}
+use Rattle.gimli_line.specs.header.Header.{Header, UnitEntry, plain_file}
+use Rattle.gimli_line.specs.header.HeaderGrammar.{SpellsUnit, HasHeaderFault}
+use Rattle.gimli_line.specs.header.TableReading.{closed_below}
+use Rattle.gimli_line.specs.header.FormReading.{form_at}
+use Rattle.gimli_line.specs.header.HeaderReading.{positive_at, plain_file_at, format_at, formats_at, entries_at, table_at, version_at, own_address_size_at, opening_at, line_encoding_at, rules_at, directories_at, file_names_at, fields_at, header_at}
 use Rattle.gimli_line.proofs.HeaderLaws.{reads_header, unit_found}
 
 abbrev little : Notation

@@ -10,13 +10,13 @@ use Rattle.gimli_core.proofs.Productions.{reads_both, reads_done, reads_if, read
 use Rattle.gimli_core.proofs.ProductionLaws.{reads_byte, reads_some_bytes, reads_number, reads_text, reads_below_limit}
 use Rattle.gimli_core.proofs.UnsignedLeb.{reads_unsigned}
 use Rattle.gimli_core.proofs.SignedLaws.{reads_signed}
-use Rattle.gimli_line.specs.declared.instruction.LineInstruction.TheVariants.{Special, UnknownStandard0, UnknownStandard1, UnknownStandardN, UnknownExtended}
-use Rattle.gimli_line.specs.Instruction.{Ins}
-use Rattle.gimli_line.specs.Header.{Header}
-use Rattle.gimli_line.specs.Productions.{bytes_of, among}
-use Rattle.gimli_line.specs.HeaderGrammar.{file_production}
-use Rattle.gimli_line.specs.InstructionGrammar.{Operand, none, uleb, sleb, half, address, file, standard_opcodes, extended_opcodes, operand_production, unknown_production, standard_production, extended_operands, extended_production, instruction_production, SpellsInstruction, Decodes}
-use Rattle.gimli_line.specs.InstructionReading.{bytes_at, operand_at, unknown_at, standard_at, extended_operands_at, extended_at, ins_at, decoded_behind, decoded_upto, decoded_at}
+use Rattle.gimli_line.specs.declared.run.instruction.LineInstruction.TheVariants.{Special, UnknownStandard0, UnknownStandard1, UnknownStandardN, UnknownExtended}
+use Rattle.gimli_line.specs.run.Instruction.{Ins}
+use Rattle.gimli_line.specs.header.Header.{Header}
+use Rattle.gimli_line.specs.header.Productions.{bytes_of, among}
+use Rattle.gimli_line.specs.header.HeaderGrammar.{file_production}
+use Rattle.gimli_line.specs.run.InstructionGrammar.{Operand, none, uleb, sleb, half, address, file, standard_opcodes, extended_opcodes, operand_production, unknown_production, standard_production, extended_operands, extended_production, instruction_production, SpellsInstruction, Decodes}
+use Rattle.gimli_line.specs.run.InstructionReading.{bytes_at, operand_at, unknown_at, standard_at, extended_operands_at, extended_at, ins_at, decoded_behind, decoded_upto, decoded_at}
 use Rattle.gimli_line.proofs.HeaderLaws.{reads_file, given_ok, given_err, answer_of}
 
 -- ---- the bytes of a production

@@ -5,7 +5,7 @@ use Rattle.std.specs.Option.{option_copied}
 use Rattle.std.proofs.Common.{Bor, sym}
 use Rattle.std.proofs.lemmas.Bool.{le-leb}
 use Rattle.std.proofs.lemmas.Option.{slice_get-map}
-use Rattle.gimli_line.specs.Header.{Header, from_one, directory_of, file_of}
+use Rattle.gimli_line.specs.header.Header.{Header, from_one, directory_of, file_of}
 
 above : {A : Type 0} (first : Option A) (entries : List A) (i : ℕ) → 0 < i → from_one first entries i ≡ slice_get entries (i - 1)
 above first entries zero lt = absurd (omega arith)

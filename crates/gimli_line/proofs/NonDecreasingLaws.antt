@@ -3,12 +3,12 @@ use Rattle.std.proofs.Common.{◌≡◌, ℕ, ◌+◌, ◌*◌, ◌/◌, ◌%◌
 use Rattle.std.specs.Prelude.{nat_eq, nat_lt, nat_le}
 use Rattle.std.proofs.lemmas.Bool.{ltb-false}
 use Rattle.gimli_core.specs.declared.error.Error.TheVariants.{AddressOverflow}
-use Rattle.gimli_line.specs.declared.instruction.LineInstruction.TheVariants.{Special, AdvancePc, ConstAddPc, FixedAddPc, EndSequence, SetAddress}
-use Rattle.gimli_line.specs.Parameters.{Parameters}
-use Rattle.gimli_line.specs.Instruction.{Ins, is_end}
-use Rattle.gimli_line.specs.OperationPointer.{OperationPointer, operations_on, exceeds, stopped, next_pointer, pointer_at, is_hidden, overflows}
-use Rattle.gimli_line.specs.Events.{Event, row, fault, row_at, events_behind}
-use Rattle.gimli_line.specs.NonDecreasing.{NeverBelow, AreOneSequence}
+use Rattle.gimli_line.specs.declared.run.instruction.LineInstruction.TheVariants.{Special, AdvancePc, ConstAddPc, FixedAddPc, EndSequence, SetAddress}
+use Rattle.gimli_line.specs.header.Parameters.{Parameters}
+use Rattle.gimli_line.specs.run.Instruction.{Ins, is_end}
+use Rattle.gimli_line.specs.run.OperationPointer.{OperationPointer, operations_on, exceeds, stopped, next_pointer, pointer_at, is_hidden, overflows}
+use Rattle.gimli_line.specs.run.Events.{Event, row, fault, row_at, events_behind}
+use Rattle.gimli_line.specs.run.NonDecreasing.{NeverBelow, AreOneSequence}
 
 -- ---- a pointer that goes on isn't lower
 

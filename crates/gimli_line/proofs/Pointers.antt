@@ -1,9 +1,9 @@
 -- The pointers that are found by looking back are the one pointer list.
 use Rattle.std.proofs.Common.{◌≡◌, List, [], ◌∷◌, zip, refl, sym, ap}
-use Rattle.gimli_line.specs.declared.instruction.LineInstruction.TheVariants.{EndSequence, SetAddress}
-use Rattle.gimli_line.specs.Parameters.{Parameters}
-use Rattle.gimli_line.specs.Instruction.{Ins}
-use Rattle.gimli_line.specs.OperationPointer.{OperationPointer, next_pointer, pointer_at, is_hidden, hidden_behind, pointers_before, pointers, IsPointerList}
+use Rattle.gimli_line.specs.declared.run.instruction.LineInstruction.TheVariants.{EndSequence, SetAddress}
+use Rattle.gimli_line.specs.header.Parameters.{Parameters}
+use Rattle.gimli_line.specs.run.Instruction.{Ins}
+use Rattle.gimli_line.specs.run.OperationPointer.{OperationPointer, next_pointer, pointer_at, is_hidden, hidden_behind, pointers_before, pointers, IsPointerList}
 
 -- a place is hidden where the pointers beside the past say so
 hidden_is : (parameters : Parameters) (past : List Ins) → hidden_behind parameters (zip past (pointers_before parameters past)) ≡ is_hidden parameters past

@@ -7,16 +7,17 @@ use Rattle.gimli_core.specs.declared.common.Format.TheVariants.{Dwarf32}
 use Rattle.gimli_core.specs.declared.attribute_value.AttributeValue.TheVariants.{String}
 use Rattle.gimli_core.specs.declared.error.Error.{Error}
 use Rattle.gimli_core.specs.declared.error.Error.TheVariants.{AddressOverflow, UnexpectedEof}
-use Rattle.gimli_line.specs.declared.instruction.LineInstruction.TheVariants.{Special, Copy, AdvancePc, AdvanceLine, SetFile, EndSequence, SetAddress, DefineFile, FixedAddPc}
-use Rattle.gimli_line.specs.declared.row.LineRow.{LineRow}
-use Rattle.gimli_line.specs.Instruction.{Ins, File}
-use Rattle.gimli_line.specs.Header.{Header, UnitEntry, plain_file}
-use Rattle.gimli_line.specs.HeaderGrammar.{SpellsUnit}
-use Rattle.gimli_line.specs.InstructionGrammar.{Decodes}
-use Rattle.gimli_line.specs.TableReading.{closed_below}
-use Rattle.gimli_line.specs.HeaderReading.{positive_at, plain_file_at, version_at, opening_at, line_encoding_at, rules_at, directories_at, file_names_at, fields_at, header_at}
-use Rattle.gimli_line.specs.InstructionReading.{standard_at, extended_operands_at, extended_at, ins_at, decoded_upto, decoded_at}
-use Rattle.gimli_line.specs.Events.{Event, row, fault, Events, program_events}
+use Rattle.gimli_line.specs.declared.run.instruction.LineInstruction.TheVariants.{Special, Copy, AdvancePc, AdvanceLine, SetFile, EndSequence, SetAddress, DefineFile, FixedAddPc}
+use Rattle.gimli_line.specs.declared.run.row.LineRow.{LineRow}
+use Rattle.gimli_line.specs.run.Instruction.{Ins}
+use Rattle.gimli_line.specs.header.File.{File}
+use Rattle.gimli_line.specs.header.Header.{Header, UnitEntry, plain_file}
+use Rattle.gimli_line.specs.header.HeaderGrammar.{SpellsUnit}
+use Rattle.gimli_line.specs.run.InstructionGrammar.{Decodes}
+use Rattle.gimli_line.specs.header.TableReading.{closed_below}
+use Rattle.gimli_line.specs.header.HeaderReading.{positive_at, plain_file_at, version_at, opening_at, line_encoding_at, rules_at, directories_at, file_names_at, fields_at, header_at}
+use Rattle.gimli_line.specs.run.InstructionReading.{standard_at, extended_operands_at, extended_at, ins_at, decoded_upto, decoded_at}
+use Rattle.gimli_line.specs.run.Events.{Event, row, fault, Events, program_events}
 use Rattle.gimli_line.proofs.HeaderLaws.{unit_found}
 use Rattle.gimli_line.proofs.InstructionLaws.{cuts}
 

@@ -5,20 +5,22 @@ use Rattle.gimli_core.specs.Notation.{Notation}
 use Rattle.gimli_core.specs.Production.{Each}
 use Rattle.gimli_core.specs.declared.error.Error.{Error}
 use Rattle.gimli_core.specs.declared.error.Error.TheVariants.{AddressOverflow, OutOfMemory}
-use Rattle.gimli_line.specs.declared.row.LineRow.{LineRow}
-use Rattle.gimli_line.specs.declared.instruction.LineInstruction.TheVariants.{Special, Copy, EndSequence, DefineFile}
-use Rattle.gimli_line.specs.Parameters.{Parameters}
-use Rattle.gimli_line.specs.Header.{Header, bare, files_behind}
-use Rattle.gimli_line.specs.Instruction.{Ins, File, makes_row, defines_file}
-use Rattle.gimli_line.specs.InstructionGrammar.{SpellsInstruction, instruction_production, IsEnd, Decodes}
-use Rattle.gimli_line.specs.InstructionReading.{decoded_upto, decoded_at}
-use Rattle.gimli_line.specs.Events.{Event, row, fault}
-use Rattle.gimli_line.specs.Machine.{stepped, reset_row, is_refused}
-use Rattle.gimli_line.specs.EventsWithFiles.{EventWithFiles, step_events, next_registers}
-use Rattle.gimli_line.specs.Unread.{Unread}
-use Rattle.gimli_line.specs.RunState.{RunState}
-use Rattle.gimli_line.specs.Progress.{Progress, ready, events_from, registers_behind, files_from}
-use Rattle.gimli_line.specs.Rows.{live_events, events_left, WantsMemory, FaultIs}
+use Rattle.gimli_line.specs.declared.run.row.LineRow.{LineRow}
+use Rattle.gimli_line.specs.declared.run.instruction.LineInstruction.TheVariants.{Special, Copy, EndSequence, DefineFile}
+use Rattle.gimli_line.specs.header.Parameters.{Parameters}
+use Rattle.gimli_line.specs.header.Header.{Header, bare}
+use Rattle.gimli_line.specs.run.Instruction.{files_behind}
+use Rattle.gimli_line.specs.run.Instruction.{Ins, makes_row, defines_file}
+use Rattle.gimli_line.specs.header.File.{File}
+use Rattle.gimli_line.specs.run.InstructionGrammar.{SpellsInstruction, instruction_production, IsEnd, Decodes}
+use Rattle.gimli_line.specs.run.InstructionReading.{decoded_upto, decoded_at}
+use Rattle.gimli_line.specs.run.Events.{Event, row, fault}
+use Rattle.gimli_line.specs.run.Machine.{stepped, reset_row, is_refused}
+use Rattle.gimli_line.specs.run.EventsWithFiles.{EventWithFiles, step_events, next_registers}
+use Rattle.gimli_line.specs.run.Unread.{Unread}
+use Rattle.gimli_line.specs.run.RunState.{RunState}
+use Rattle.gimli_line.specs.run.Progress.{Progress, ready, events_from, registers_behind, files_from}
+use Rattle.gimli_line.specs.run.Rows.{live_events, events_left, WantsMemory, FaultIs}
 use Rattle.gimli_line.proofs.InstructionLaws.{cuts, one_decoding, takes_bytes}
 
 -- ---- what a program is decoded into, by its front

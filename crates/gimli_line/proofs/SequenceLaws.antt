@@ -6,23 +6,25 @@ use Rattle.std.proofs.lemmas.List.{length-append, append-nil, map-append, take_a
 use Rattle.gimli_core.specs.Notation.{Notation}
 use Rattle.gimli_core.specs.Production.{Each}
 use Rattle.gimli_core.specs.declared.error.Error.{Error}
-use Rattle.gimli_line.specs.declared.row.LineRow.{LineRow}
-use Rattle.gimli_line.specs.declared.instruction.LineInstruction.TheVariants.{DefineFile}
-use Rattle.gimli_line.specs.Parameters.{Parameters}
-use Rattle.gimli_line.specs.Header.{Header, bare, files_behind}
-use Rattle.gimli_line.specs.Instruction.{Ins, File, makes_row}
-use Rattle.gimli_line.specs.InstructionGrammar.{SpellsInstruction}
-use Rattle.gimli_line.specs.InstructionReading.{decoded_at}
-use Rattle.gimli_line.specs.OperationPointer.{overflows}
-use Rattle.gimli_line.specs.Events.{Event, row, fault, events_at, events_behind, end_events, program_events, defined_files, ends_sequence, through_last_end}
-use Rattle.gimli_line.specs.Machine.{initial, reset_row}
-use Rattle.gimli_line.specs.EventsWithFiles.{EventWithFiles, with_files, events_with_files_from, step_events, next_registers}
-use Rattle.gimli_line.specs.Unread.{Unread, in_front}
-use Rattle.gimli_line.specs.RunState.{RunState}
-use Rattle.gimli_line.specs.Progress.{Progress, ready, events_from, registers_behind, files_from}
-use Rattle.gimli_line.specs.Rows.{live_events, events_left, started, event_of}
-use Rattle.gimli_line.specs.Sequences.{Part, events_of, resumed, first_address, IsSequence, behind, AreSequences, HasFirstFault}
-use Rattle.gimli_line.specs.SequenceSplit.{SequenceSplit, with_row}
+use Rattle.gimli_line.specs.declared.run.row.LineRow.{LineRow}
+use Rattle.gimli_line.specs.declared.run.instruction.LineInstruction.TheVariants.{DefineFile}
+use Rattle.gimli_line.specs.header.Parameters.{Parameters}
+use Rattle.gimli_line.specs.header.Header.{Header, bare}
+use Rattle.gimli_line.specs.run.Instruction.{files_behind}
+use Rattle.gimli_line.specs.run.Instruction.{Ins, makes_row}
+use Rattle.gimli_line.specs.header.File.{File}
+use Rattle.gimli_line.specs.run.InstructionGrammar.{SpellsInstruction}
+use Rattle.gimli_line.specs.run.InstructionReading.{decoded_at}
+use Rattle.gimli_line.specs.run.OperationPointer.{overflows}
+use Rattle.gimli_line.specs.run.Events.{Event, row, fault, events_at, events_behind, end_events, program_events, defined_files, ends_sequence, through_last_end}
+use Rattle.gimli_line.specs.run.Machine.{initial, reset_row}
+use Rattle.gimli_line.specs.run.EventsWithFiles.{EventWithFiles, with_files, events_with_files_from, step_events, next_registers}
+use Rattle.gimli_line.specs.run.Unread.{Unread, in_front}
+use Rattle.gimli_line.specs.run.RunState.{RunState}
+use Rattle.gimli_line.specs.run.Progress.{Progress, ready, events_from, registers_behind, files_from}
+use Rattle.gimli_line.specs.run.Rows.{live_events, events_left, started, event_of}
+use Rattle.gimli_line.specs.run.Sequences.{Part, events_of, resumed, first_address, IsSequence, behind, AreSequences, HasFirstFault}
+use Rattle.gimli_line.specs.run.SequenceSplit.{SequenceSplit, with_row}
 use Rattle.gimli_line.proofs.Backwards.{registers}
 use Rattle.gimli_line.proofs.EventsWithFilesLaws.{gives, goes}
 use Rattle.gimli_line.proofs.InstructionLaws.{cuts, one_decoding, takes_bytes}

@@ -3,12 +3,13 @@ use Rattle.std.proofs.Common.{◌≡◌, ℕ, Bool, true, false, List, [], ◌�
 use Rattle.std.specs.Prelude.{pos, negsuc}
 use Rattle.gimli_core.specs.declared.common.Format.TheVariants.{Dwarf32}
 use Rattle.gimli_core.specs.declared.error.Error.TheVariants.{AddressOverflow}
-use Rattle.gimli_line.specs.declared.instruction.LineInstruction.TheVariants.{Special, Copy, AdvancePc, AdvanceLine, SetFile, SetColumn, NegateStatement, SetBasicBlock, EndSequence, SetAddress, DefineFile, SetDiscriminator, FixedAddPc, ConstAddPc, SetPrologueEnd, SetEpilogueBegin}
-use Rattle.gimli_line.specs.Parameters.{Parameters}
-use Rattle.gimli_line.specs.declared.row.LineRow.{LineRow}
-use Rattle.gimli_line.specs.Instruction.{Ins, File}
-use Rattle.gimli_line.specs.Header.{plain_file}
-use Rattle.gimli_line.specs.Events.{Event, row, fault, program_events, through_last_end, defined_files}
+use Rattle.gimli_line.specs.declared.run.instruction.LineInstruction.TheVariants.{Special, Copy, AdvancePc, AdvanceLine, SetFile, SetColumn, NegateStatement, SetBasicBlock, EndSequence, SetAddress, DefineFile, SetDiscriminator, FixedAddPc, ConstAddPc, SetPrologueEnd, SetEpilogueBegin}
+use Rattle.gimli_line.specs.header.Parameters.{Parameters}
+use Rattle.gimli_line.specs.declared.run.row.LineRow.{LineRow}
+use Rattle.gimli_line.specs.run.Instruction.{Ins}
+use Rattle.gimli_line.specs.header.File.{File}
+use Rattle.gimli_line.specs.header.Header.{plain_file}
+use Rattle.gimli_line.specs.run.Events.{Event, row, fault, program_events, through_last_end, defined_files}
 
 -- opcode base 13, with the default line encoding but for the operations
 abbrev rules_13 : ℕ → ℕ → Parameters

@@ -1,9 +1,9 @@
 ghost use Rattle.std.specs.Prelude.{◌≡◌, ◌≢◌, IfErr, IfOk, IsTrue, drop, option_map};
 ghost use Rattle.gimli_core.specs.Numbers.{is_address_size};
-ghost use Rattle.gimli_line.specs.HeaderGrammar.{HasHeaderFault, SpellsUnit};
+ghost use Rattle.gimli_line.specs.header.HeaderGrammar.{HasHeaderFault, SpellsUnit};
 
-use crate::header::LineProgramHeader;
-use crate::program::IncompleteLineProgram;
+use crate::header::program_header::LineProgramHeader;
+use crate::run::program::IncompleteLineProgram;
 use gimli_core::{
     DebugLineOffset, EndianSlice, Endianity, Error, Reader, ReaderOffset, Result, Section,
     SectionId,

@@ -5,15 +5,15 @@ ghost use Rattle.std.specs.Prelude.{◌≡◌, ◌≢◌, ◌≤◌, ◌⊎◌, 
 ghost use Rattle.gimli_core.specs.Notation.{Notation};
 ghost use Rattle.gimli_core.specs.declared.common.Format.{Format};
 ghost use Rattle.gimli_core.specs.declared.error.Error.{Error};
-ghost use Rattle.gimli_line.specs.Header.{Header, UnitEntry};
-ghost use Rattle.gimli_line.specs.HeaderGrammar.{Entry, SpellsUnit, HasHeaderFault, SpellsEntries};
-ghost use Rattle.gimli_line.specs.Events.{events_behind};
-ghost use Rattle.gimli_line.specs.Instruction.{Ins};
-ghost use Rattle.gimli_line.specs.InstructionGrammar.{Decodes};
-ghost use Rattle.gimli_line.specs.Machine.{run, initial};
-ghost use Rattle.gimli_line.specs.NonDecreasing.{AreOneSequence, NeverBelow};
-ghost use Rattle.gimli_line.specs.Parameters.{Parameters};
-ghost use Rattle.gimli_line.specs.declared.file_entry.FileEntryFormat.{FileEntryFormat};
+ghost use Rattle.gimli_line.specs.header.Header.{Header, UnitEntry};
+ghost use Rattle.gimli_line.specs.header.HeaderGrammar.{Entry, SpellsUnit, HasHeaderFault, SpellsEntries};
+ghost use Rattle.gimli_line.specs.run.Events.{events_behind};
+ghost use Rattle.gimli_line.specs.run.Instruction.{Ins};
+ghost use Rattle.gimli_line.specs.run.InstructionGrammar.{Decodes};
+ghost use Rattle.gimli_line.specs.run.Machine.{run, initial};
+ghost use Rattle.gimli_line.specs.run.NonDecreasing.{AreOneSequence, NeverBelow};
+ghost use Rattle.gimli_line.specs.header.Parameters.{Parameters};
+ghost use Rattle.gimli_line.specs.declared.header.file_entry.FileEntryFormat.{FileEntryFormat};
 
 /// Bytes begin with a unit, or they have a refusal.
 pub fn unit_or_refusal()

@@ -2,23 +2,15 @@
 #![tactic(auto)]
 
 mod debug_line;
-mod file_entry;
-mod forms;
 mod header;
-mod instruction;
 pub mod laws;
-mod parse;
-mod program;
-mod row;
-mod rows;
-mod sequences;
-mod tables;
+mod run;
 
 pub use debug_line::DebugLine;
-pub use file_entry::{FileEntry, FileEntryFormat};
-pub use header::LineProgramHeader;
-pub use instruction::{LineInstruction, LineInstructions};
-pub use program::{CompleteLineProgram, IncompleteLineProgram, LineProgram};
-pub use row::{ColumnType, LineRow};
-pub use rows::{LineRows, OneShotLineRows, ResumedLineRows};
-pub use sequences::LineSequence;
+pub use header::file_entry::{FileEntry, FileEntryFormat};
+pub use header::program_header::LineProgramHeader;
+pub use run::instruction::{LineInstruction, LineInstructions};
+pub use run::program::{CompleteLineProgram, IncompleteLineProgram, LineProgram};
+pub use run::row::{ColumnType, LineRow};
+pub use run::rows::{LineRows, OneShotLineRows, ResumedLineRows};
+pub use run::sequences::LineSequence;

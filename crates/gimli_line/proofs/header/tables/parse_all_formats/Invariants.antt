@@ -1,0 +1,11 @@
+use Rattle.gimli_core.specs.Reading.{times_at}
+use Rattle.std.proofs.Common.{◌≡◌, ◌-◌}
+use Rattle.gimli_line.specs.header.HeaderReading.{format_at}
+use Rattle.gimli_line.proofs.Loops.{collected}
+use Rattle.gimli_line.proofs.header.tables.parse_all_formats.Given as goal
+
+abbrev pub invariant-loop : goal.invariant-loop
+invariant-loop g l = record {
+  so_far : collected l.formats.items (λ x. x) (times_at (l.count - l.counter) format_at (g.R.Reader.bytes l.input)) ≡ times_at l.count format_at (g.R.Reader.bytes l.initial.input);
+  order : g.R.Reader.big l.input ≡ g.R.Reader.big l.initial.input;
+}

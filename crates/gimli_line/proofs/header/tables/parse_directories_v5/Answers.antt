@@ -1,0 +1,27 @@
+use Rattle.std.proofs.Common.{rules}
+use Rattle.std.proofs.lemmas.List.{map_push}
+use Rattle.std.proofs.lemmas.Result.{err_from_is_err_and}
+use Rattle.gimli_line.specs.header.HeaderGrammar.{path_of}
+use Rattle.gimli_line.proofs.Loops.{times_goes_on, times_ends, times_done, entries_start, entry_kept}
+use Rattle.gimli_line.proofs.header.tables.parse_directories_v5.Goals as goal
+
+pub loop-init : goal.loop-init
+loop-init g c = record {
+  so_far = rw c.new-directories.ensures.items (entries_start _ _ path_of _ _ _ _ c.in_ok-count.ensures.read);
+  order = search rules;
+}
+
+pub returns-in_err-directory-clause-read : goal.returns-in_err-directory-clause-read
+returns-in_err-directory-clause-read g c =
+    let p = err_from_is_err_and c.from_residual-in_err-directory.result c.from_residual-in_err-directory.ensures.1 in
+    let is = entry_kept _ path_of _ _ _ _ _ _ c.loop.invariant.order c.in_err-directory.ensures.read in
+    rw (p.1, p.2) (λ _. times_ends path_of _ _ _ c.loop.counter _ _ _ _ c.loop-test.true is c.loop.invariant.so_far)
+
+pub loop-preserved : goal.loop-preserved
+loop-preserved g c = record {
+  so_far = let is = entry_kept _ path_of _ _ _ _ _ _ c.loop.invariant.order c.in_ok-directory.ensures.read in rw (c.in_ok-push.ensures.ok, map_push) (times_goes_on path_of _ _ _ c.loop.counter _ _ _ _ c.loop-test.true is c.loop.invariant.so_far);
+  order = search rules;
+}
+
+pub returns-clause-read : goal.returns-clause-read
+returns-clause-read g c = times_done path_of _ _ _ c.loop.counter _ _ c.loop-test.false c.loop.invariant.so_far

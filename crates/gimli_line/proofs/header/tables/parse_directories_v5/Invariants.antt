@@ -1,0 +1,18 @@
+use Rattle.gimli_core.specs.Reading.{times_at}
+use Rattle.std.proofs.Common.{◌≡◌, ◌-◌, map}
+use Rattle.gimli_core.specs.Notation.{Notation}
+use Rattle.gimli_core.specs.Values.{value_seen}
+use Rattle.gimli_line.specs.header.Outcome.{viewed}
+use Rattle.gimli_line.specs.header.HeaderGrammar.{path_of}
+use Rattle.gimli_line.specs.header.HeaderReading.{entry_at, entries_at}
+use Rattle.gimli_line.proofs.Loops.{collected}
+use Rattle.gimli_line.proofs.header.tables.parse_directories_v5.Given as goal
+
+abbrev pub invariant-loop : goal.invariant-loop
+invariant-loop g l =
+    let notation : Notation = record { big = g.R.Reader.big l.fn.input; limit = g.R.Offset.ReaderOffset.limit } in
+    record {
+      so_far : collected (map (value_seen g.R.Reader.bytes g.R.Offset.ReaderOffset.number) l.directories.items) path_of (times_at (l.count - l.counter) (entry_at notation l.format l.formats) (g.R.Reader.bytes l.input))
+          ≡ viewed (map path_of) (entries_at notation l.format l.formats (g.R.Reader.bytes l.fn.input));
+      order : g.R.Reader.big l.input ≡ g.R.Reader.big l.fn.input;
+    }

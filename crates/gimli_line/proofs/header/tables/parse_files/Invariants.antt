@@ -1,0 +1,14 @@
+use Rattle.std.proofs.Common.{◌≡◌, length, map}
+use Rattle.gimli_line.specs.header.File.{file_seen}
+use Rattle.gimli_line.specs.header.HeaderReading.{files_at}
+use Rattle.gimli_line.proofs.Loops.{collected}
+use Rattle.gimli_line.proofs.header.tables.parse_files.Given as goal
+
+abbrev pub invariant-loop-files : goal.invariant-loop-files
+invariant-loop-files g l = record {
+  so_far : collected (map (file_seen g.R.Reader.bytes g.R.Offset.ReaderOffset.number) l.files.items) (λ x. x) (files_at (g.R.Reader.bytes l.input)) ≡ files_at (g.R.Reader.bytes l.initial.input);
+  order : g.R.Reader.big l.input ≡ g.R.Reader.big l.initial.input;
+}
+
+abbrev pub decreases-loop-files : goal.decreases-loop-files
+decreases-loop-files g l = length (g.R.Reader.bytes l.input)

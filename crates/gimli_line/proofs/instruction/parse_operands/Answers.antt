@@ -1,5 +1,0 @@
-use Rattle.gimli_line.proofs.Operands.{passed_front}
-use Rattle.gimli_line.proofs.instruction.parse_operands.Goals as goal
-
-pub offset_from-len-requires : goal.offset_from-len-requires
-offset_from-len-requires g c = passed_front _ _ _ _ c.in_ok-skip_operands.ensures.read

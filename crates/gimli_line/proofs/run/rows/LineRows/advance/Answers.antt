@@ -1,0 +1,52 @@
+use Rattle.std.proofs.Common.{rules, [], ◌∷◌, ap, ◌∙◌}
+use Rattle.gimli_line.specs.declared.run.row.LineRow.{LineRow}
+use Rattle.gimli_line.specs.header.Header.{Header}
+use Rattle.gimli_line.specs.run.Events.{row}
+use Rattle.gimli_line.specs.run.Machine.{reset_row}
+use Rattle.gimli_line.specs.run.Progress.{ready}
+use Rattle.gimli_line.proofs.Runs.{state, none_to_come, passes_none, passes_both, refused_behind}
+use Rattle.gimli_line.proofs.run.rows.LineRows.advance.Goals as goal
+
+pub instructions-init : goal.instructions-init
+instructions-init g c =
+    let h = g.P.LineProgram.meaning c.self.inside.program in
+    let at_row = λ (r : LineRow). state g.P.LineProgram.appends h (g.P.LineProgram.notation c.self.inside.program) (g.P.LineProgram.offset c.self.inside.program) r c.self.inside.instructions in
+    record {
+      events = search rules;
+      fixed = search rules;
+      appends = search rules;
+      notation = search rules;
+      offset = search rules;
+      passes = rw (← c.self.view_is) (passes_none (ready (at_row c.self.inside.row)) (at_row c.reset.new.self) (ap at_row (c.reset.ensures ∙ ap (λ (k : Header). reset_row k.parameters c.self.inside.row) c.header.ensures.meaning)));
+    }
+
+pub returns-in-Err-clause-err : goal.returns-in-Err-clause-err
+returns-in-Err-clause-err g c =
+    refused_behind (ready c.args.self.now) c.instructions.self c.step.new.self c.in-Err.e c.instructions.invariant.events c.instructions.invariant.passes c.in-Err.ensures.err
+
+pub returns-in-Ok-Done-clause-row : goal.returns-in-Ok-Done-clause-row
+returns-in-Ok-Done-clause-row g c =
+    let d = rw c.in-Ok-Done.field-0-is at c.in-Ok-Done.ensures.ok in
+    (c.instructions.invariant.events ∙ d.0, none_to_come c.step.new.self d.1)
+
+pub returns-in-Ok-Done-clause-passes : goal.returns-in-Ok-Done-clause-passes
+returns-in-Ok-Done-clause-passes g c =
+    let d = rw c.in-Ok-Done.field-0-is at c.in-Ok-Done.ensures.ok in
+    (d.1, passes_both (ready c.args.self.now) c.instructions.self c.step.new.self [] [] c.instructions.invariant.passes d.2)
+
+pub returns-in-Ok-Made-clause-passes : goal.returns-in-Ok-Made-clause-passes
+returns-in-Ok-Made-clause-passes g c =
+    let m = rw c.in-Ok-Made.field-0-is at c.in-Ok-Made.ensures.ok in
+    passes_both (ready c.args.self.now) c.instructions.self (ready c.step.new.self) [] (row c.step.new.self.row ∷ []) c.instructions.invariant.passes m.1
+
+pub instructions-preserved : goal.instructions-preserved
+instructions-preserved g c =
+    let m = rw c.in-Ok-More.field-0-is at c.in-Ok-More.ensures.ok in
+    record {
+      events = c.instructions.invariant.events ∙ m.0;
+      fixed = c.in-Ok-More.ensures.fixed ∙ c.instructions.invariant.fixed;
+      appends = c.in-Ok-More.ensures.appends ∙ c.instructions.invariant.appends;
+      notation = c.in-Ok-More.ensures.notation ∙ c.instructions.invariant.notation;
+      offset = c.in-Ok-More.ensures.offset ∙ c.instructions.invariant.offset;
+      passes = passes_both (ready c.args.self.now) c.instructions.self c.step.new.self [] [] c.instructions.invariant.passes m.2;
+    }

@@ -1,0 +1,17 @@
+use Rattle.std.proofs.Common.{◌≡◌, [], length}
+use Rattle.gimli_line.specs.run.Progress.{Progress, ready}
+use Rattle.gimli_line.specs.run.Rows.{events_left, live_events}
+use Rattle.gimli_line.proofs.run.rows.LineRows.advance.Given as goal
+
+abbrev pub invariant-instructions : goal.invariant-instructions
+invariant-instructions g l = record {
+  events : events_left l.fn.self ≡ live_events l.self;
+  fixed : l.self.fixed ≡ l.fn.self.fixed;
+  appends : l.self.appends ≡ l.fn.self.appends;
+  notation : l.self.notation ≡ l.fn.self.notation;
+  offset : l.self.offset ≡ l.fn.self.offset;
+  passes : Progress (ready l.fn.self) l.self [];
+}
+
+abbrev pub decreases-instructions : goal.decreases-instructions
+decreases-instructions g l = length l.self.unread.bytes

@@ -1,0 +1,23 @@
+use Rattle.std.proofs.Common.{refl, ◌∙◌}
+use Rattle.gimli_line.specs.run.Rows.{KeepsHeader}
+use Rattle.gimli_line.proofs.run.rows.LineRows.next_row.Goals as goal
+
+pub returns-in-Ok-true : goal.returns-in-Ok-true
+returns-in-Ok-true g c =
+    let r = rw c.in-Ok-true.field-0-test at c.in-Ok-true.ensures.row in
+    let keeps : KeepsHeader c.args.self.now c.advance.new.self = record {
+      fixed = c.in-Ok-true.ensures.fixed;
+      appends = c.in-Ok-true.ensures.appends;
+      notation = c.in-Ok-true.ensures.notation;
+      offset = c.in-Ok-true.ensures.offset;
+    } in (
+      (refl, λ _. tt, (keeps, rw (c.current.ensures.row, c.current.ensures.files) r)),
+      record {
+        after = tt;
+        header = (
+          c.current.ensures.header ∙ c.in-Ok-true.ensures.fixed,
+          c.current.ensures.notation ∙ c.in-Ok-true.ensures.notation,
+          c.current.ensures.offset ∙ c.in-Ok-true.ensures.offset,
+        );
+      },
+    )

@@ -1,0 +1,86 @@
+use Rattle.std.proofs.Common.{[], ◌∷◌, ◌++◌, true, map, List, refl, sym, ap, subst, ◌∙◌, inl, inr}
+use Rattle.std.proofs.lemmas.List.{map-append, append-nil}
+use Rattle.std.proofs.lemmas.Result.{err_from_is_err_and}
+use Rattle.gimli_line.specs.run.Events.{Event, row}
+use Rattle.gimli_line.specs.header.Header.{bare}
+use Rattle.gimli_line.specs.run.Unread.{Unread}
+use Rattle.gimli_line.specs.run.Progress.{Progress, ready}
+use Rattle.gimli_line.specs.run.Rows.{started}
+use Rattle.gimli_line.proofs.Runs.{passes_none, passes_both}
+use Rattle.gimli_line.proofs.SequenceLaws.{starts_cutting, goes_cutting, has_front, row_takes, are_sequences, has_first_fault}
+use Rattle.gimli_line.proofs.run.sequences.IncompleteLineProgram+R.sequences.Goals as goal
+
+pub rows-init : goal.rows-init
+rows-init g c =
+    let h = c.args.self.meaning in
+    let at_offset = g.R.Offset.ReaderOffset.number c.args.self.offset.0 in
+    let unread : Unread = record { bytes = h.program; notation = c.args.self.notation } in
+    let first = ready (started true h c.args.self.notation at_offset unread) in
+    record {
+      behind = (
+        [],
+        rw (c.new-cutter.ensures, c.clone.ensures ∙ c.instructions.ensures, c.rows-rows.ensures.start) (starts_cutting h c.args.self.notation at_offset unread),
+        rw c.rows-rows.ensures.start (passes_none first first refl),
+      );
+      notation = rw c.rows-rows.ensures.start refl;
+      offset = rw c.rows-rows.ensures.start refl;
+    }
+
+pub returns-in_err-advance-clause-err : goal.returns-in_err-advance-clause-err
+returns-in_err-advance-clause-err g c =
+    let p = err_from_is_err_and c.from_residual.result c.from_residual.ensures.1 in
+    let b = c.rows.invariant.behind in
+    rw (p.1, p.2) (λ other. elim c.in_err-advance.ensures.err [
+      | inl m ↦ absurd (other m.0)
+      | inr f ↦ has_first_fault c.args.self.notation (g.R.Offset.ReaderOffset.number c.args.self.offset.0) c.args.self.meaning b.0 c.rows.rows c.advance.new.self _ b.2 f
+    ])
+
+pub row-requires-in-rows : goal.row-requires-in-rows
+row-requires-in-rows g c =
+    let m = rw c.if-branch.true at c.in_ok-advance.ensures.passes in
+    let b = c.rows.invariant.behind in
+    rw c.instructions-in-rows.ensures (has_front c.args.self.meaning c.rows.cutter b.0 (ready c.rows.rows) c.advance.new.self b.1 m)
+
+pub rows-smaller : goal.rows-smaller
+rows-smaller g c =
+    let m = rw c.if-branch.true at c.in_ok-advance.ensures.passes in
+    row_takes (ready c.rows.rows) (ready c.advance.new.self) (row c.advance.new.self.row) [] m
+
+pub rows-preserved : goal.rows-preserved
+rows-preserved g c =
+    let h = c.args.self.meaning in
+    let at_offset = g.R.Offset.ReaderOffset.number c.args.self.offset.0 in
+    let unread : Unread = record { bytes = h.program; notation = c.args.self.notation } in
+    let m = rw c.if-branch.true at c.in_ok-advance.ensures.passes in
+    let b = c.rows.invariant.behind in
+    let next = c.advance.new.self in
+    record {
+      behind = (
+        b.0 ++ next.row ∷ [],
+        rw (c.in_ok-row.ensures.ok, c.row.ensures, c.instructions-in-rows.ensures) (goes_cutting h c.rows.cutter b.0 (ready c.rows.rows) next b.1 m),
+        subst (λ (es : List Event). Progress (ready (started true h c.args.self.notation at_offset unread)) (ready next) es) (sym (map-append row b.0 (next.row ∷ [])))
+            (passes_both (ready (started true h c.args.self.notation at_offset unread)) (ready c.rows.rows) (ready next) (map row b.0) (row next.row ∷ []) b.2 m),
+      );
+      notation = c.in_ok-advance.ensures.notation ∙ c.rows.invariant.notation;
+      offset = c.in_ok-advance.ensures.offset ∙ c.rows.invariant.offset;
+    }
+
+pub returns-clause-ok : goal.returns-clause-ok
+returns-clause-ok g c =
+    let h = c.args.self.meaning in
+    let at_offset = g.R.Offset.ReaderOffset.number c.args.self.offset.0 in
+    let unread : Unread = record { bytes = h.program; notation = c.args.self.notation } in
+    let m = rw c.if-branch.false at c.in_ok-advance.ensures.passes in
+    let b = c.rows.invariant.behind in
+    let last = c.advance.new.self in
+    let whole = subst (λ (es : List Event). Progress (ready (started true h c.args.self.notation at_offset unread)) last es) (append-nil (map row b.0))
+    (passes_both (ready (started true h c.args.self.notation at_offset unread)) (ready c.rows.rows) last (map row b.0) [] b.2 m.1) in
+    rw c.into_sequences.ensures (are_sequences c.args.self.notation at_offset h c.header.inside.header.meaning c.rows.cutter b.0 (ready c.rows.rows) last b.1 whole m.0
+    (ap (λ v. bare v.meaning) c.header.view_is ∙ c.into_program.ensures.header) (ap (λ v. v.meaning.files) c.header.view_is ∙ c.into_program.ensures.files))
+
+pub returns-clause-notation : goal.returns-clause-notation
+returns-clause-notation g c = ap (λ v. v.notation) c.header.view_is ∙ c.into_program.ensures.notation ∙ c.in_ok-advance.ensures.notation ∙ c.rows.invariant.notation
+
+pub returns-clause-offset : goal.returns-clause-offset
+returns-clause-offset g c =
+    ap (λ v. g.R.Offset.ReaderOffset.number v.offset.0) c.header.view_is ∙ c.into_program.ensures.offset ∙ c.in_ok-advance.ensures.offset ∙ c.rows.invariant.offset

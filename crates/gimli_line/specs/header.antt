@@ -1,0 +1,11 @@
+-- Headers of line programs: what they say, how they are spelled, and how they are read.
+pub mod Parameters
+pub mod File
+pub mod Header
+pub mod Productions
+pub mod HeaderGrammar
+pub mod TableReading
+pub mod FormReading
+pub mod Outcome
+pub mod HeaderReading
+pub mod EntryReading

@@ -1,0 +1,100 @@
+-- A header: what it says, and how contracts see it.
+use Rattle.std.specs.Prelude.{ℕ, zero, suc, Bool, List, [], ◌∷◌, ◌++◌, Option, None, option_map, replicate, nat_le, nat_eq, if◌then◌else◌, slice_get}
+use Rattle.std.specs.List.{list_any}
+use Rattle.std.specs.declared.vec.Vec.{Vec}
+use Rattle.std.specs.declared.alloc.Global.{Global}
+use Rattle.gimli_core.specs.Values.{Value}
+use Rattle.gimli_core.specs.declared.attribute_value.AttributeValue.{AttributeValue}
+use Rattle.gimli_core.specs.declared.attribute_value.AttributeValue.TheVariants.{String}
+use Rattle.gimli_core.specs.declared.common.DebugLineOffset.{DebugLineOffset}
+use Rattle.gimli_core.specs.Notation.{Notation}
+use Rattle.gimli_line.specs.header.Parameters.{Parameters}
+use Rattle.gimli_line.specs.header.File.{File}
+use Rattle.gimli_line.specs.declared.header.file_entry.FileEntry.{FileEntry}
+use Rattle.gimli_line.specs.declared.header.file_entry.FileEntryFormat.{FileEntryFormat}
+
+-- what a header says, with lists of bytes in the place of readers
+pub record Header : Type 0 where
+  pub parameters : Parameters
+  pub unit_length : ℕ
+  pub header_length : ℕ
+  -- how many LEB128 operands each standard opcode has, from opcode 1 on
+  pub operand_counts : List ℕ
+  pub directory_formats : List FileEntryFormat
+  pub directories : List Value
+  pub file_formats : List FileEntryFormat
+  pub files : List File
+  pub program : List ℕ
+  -- the directory and the file at index 0 up to version 4
+  pub comp_dir : Option (List ℕ)
+  pub comp_file : Option File
+
+-- what the caller of a parse hands in
+pub record UnitEntry : Type 0 where
+  pub address_size : ℕ
+  pub directory : Option (List ℕ)
+  pub name : Option (List ℕ)
+
+-- a file of which the tables up to version 4 tell nothing more
+abbrev pub plain_file : List ℕ → ℕ → ℕ → ℕ → File
+plain_file path directory time size = record {
+  path_name = String path;
+  directory_index = directory;
+  timestamp = time;
+  size = size;
+  md5 = replicate 16 0;
+  source = None;
+}
+
+-- ---- look-ups by index (DWARF 5, section 6.2.4, and DWARF 4, section 6.2.4)
+
+-- the entry of an index in a table that begins at 1, behind one that may stand at 0
+abbrev pub from_one : {A : Type 0} → Option A → List A → ℕ → Option A
+from_one first entries zero = first
+from_one first entries (suc i) = slice_get entries i
+
+-- up to version 4 the tables begin at 1, and the handed directory and file stand at 0; in version 5 they begin at 0
+abbrev pub directory_of : Header → ℕ → Option Value
+directory_of h i =
+    if nat_le h.parameters.encoding.version 4
+    then from_one (option_map String h.comp_dir) h.directories i
+    else slice_get h.directories i
+
+abbrev pub file_of : Header → ℕ → Option File
+file_of h i =
+    if nat_le h.parameters.encoding.version 4
+    then from_one h.comp_file h.files i
+    else slice_get h.files i
+
+-- a format of this content type is there
+abbrev pub has_content : ℕ → List FileEntryFormat → Bool
+has_content content formats = list_any (λ f. nat_eq f.content_type.0 content) formats
+
+-- ---- files that a program defines
+
+-- a header apart from its files, which alone change in a run
+abbrev pub bare : Header → Header
+bare h = record h { files = [] }
+
+-- a file behind the others; a list that is complete has it already
+abbrev pub added : Bool → File → List File → List File
+added appends f files = if appends then files ++ f ∷ [] else files
+
+-- ---- how contracts see a header
+
+-- what it says, the notation of its program, and its parts as they are
+pub record SeenHeader (R Offset Endian : Type 0) : Type 0 where
+  pub meaning : Header
+  pub notation : Notation
+  pub parameters : Parameters
+  pub offset : DebugLineOffset Offset
+  pub unit_length : Offset
+  pub header_length : Offset
+  pub standard_opcode_lengths : R
+  pub directory_entry_format : Vec FileEntryFormat Global
+  pub include_directories : Vec (AttributeValue R Offset Endian) Global
+  pub file_name_entry_format : Vec FileEntryFormat Global
+  pub file_names : Vec (FileEntry R Offset Endian) Global
+  pub program_buf : R
+  pub comp_dir : Option R
+  pub comp_file : Option (FileEntry R Offset Endian)

@@ -1,0 +1,256 @@
+-- How the header of a unit is spelled, production by production, and which refusal comes where a production isn't there
+-- (DWARF 5, section 6.2.4; DWARF 4, section 6.2.4).
+use Rattle.std.specs.Prelude.{◌≡◌, ℕ, ◌-◌, List, [], ◌∷◌, ◌++◌, length, map, replicate, min, count_by, Bool, not, ◌&&◌, nat_eq, nat_le, if◌then◌else◌, Option, Some, None, option_map}
+use Rattle.std.specs.Int.{w8, cast_signed}
+use Rattle.gimli_core.specs.Numbers.{is_address_size}
+use Rattle.gimli_core.specs.Values.{Value, udata_value}
+use Rattle.gimli_core.specs.Production.{Production, ◌>>=◌, done, check, choose, times, closed, within, byte, number, some_bytes, unsigned, unsigned_16, offset_word, unit_length}
+use Rattle.gimli_core.specs.Form.{form_production}
+use Rattle.gimli_core.specs.declared.common.Encoding.{Encoding}
+use Rattle.gimli_core.specs.declared.common.LineEncoding.{LineEncoding}
+use Rattle.gimli_core.specs.declared.common.Format.{Format}
+use Rattle.gimli_core.specs.declared.attribute_value.AttributeValue.TheVariants.{Block, String}
+use Rattle.gimli_core.specs.declared.error.Error.{Error}
+use Rattle.gimli_core.specs.declared.error.Error.TheVariants.{UnknownVersion, UnsupportedAddressSize, UnsupportedSegmentSize, MinimumInstructionLengthZero, MaximumOperationsPerInstructionZero, LineRangeZero, OpcodeBaseZero, MissingFileEntryFormatPath}
+use Rattle.gimli_core.specs.Notation.{Notation}
+use Rattle.gimli_line.specs.header.Parameters.{Parameters}
+use Rattle.gimli_line.specs.header.File.{File}
+use Rattle.gimli_line.specs.header.Header.{Header, UnitEntry, plain_file}
+use Rattle.gimli_line.specs.header.Productions.{name, positive}
+use Rattle.gimli_line.specs.declared.header.file_entry.FileEntryFormat.{FileEntryFormat}
+
+-- ---- tables up to version 4 (DWARF 4, section 6.2.4, parts 11 and 12)
+
+-- directories: texts that aren't empty, closed by a zero byte
+abbrev pub paths_production : Production (List (List ℕ))
+paths_production = closed name
+
+-- behind the path of a file: its directory, its timestamp and its size
+abbrev pub file_production : List ℕ → Production File
+file_production path = do
+  directory ← unsigned
+  time ← unsigned
+  size ← unsigned
+  done (plain_file path directory time size)
+
+-- files: each a path that isn't empty and three numbers, closed by a zero byte
+abbrev pub files_production : Production (List File)
+files_production = closed (do
+  path ← name
+  file_production path)
+
+-- ---- tables of version 5 (DWARF 5, section 6.2.4, parts 14 to 19)
+
+-- one format: a content type, those that are too large as ffff, and a form
+abbrev pub format_production : Production FileEntryFormat
+format_production = do
+  content ← unsigned
+  form ← unsigned_16
+  done (record { content_type = record { 0 = min content 0xffff }; form = record { 0 = form } })
+
+-- whether a format is of this content type
+abbrev pub is_content : ℕ → FileEntryFormat → Bool
+is_content content format = nat_eq format.content_type.0 content
+
+-- a count and so many formats, exactly one of which is a path
+abbrev pub formats_production : Production (List FileEntryFormat)
+formats_production = do
+  count ← byte
+  formats ← times count format_production
+  path ← check (nat_eq (count_by (is_content 0x0001) formats) 1) MissingFileEntryFormatPath
+  done formats
+
+-- the values of an entry, each beside its content type
+abbrev pub Entry : Type 0
+Entry = List (ℕ × Value)
+
+module _ (notation : Notation) (format : Format) where
+  -- an entry: a value for each format
+  abbrev pub entry_production : List FileEntryFormat → Production Entry
+  entry_production [] = done []
+  entry_production (f ∷ formats) = do
+    value ← form_production notation format f.form.0
+    values ← entry_production formats
+    done ((f.content_type.0, value) ∷ values)
+
+  -- a count and so many entries
+  abbrev pub entries_production : List FileEntryFormat → Production (List Entry)
+  entries_production formats = do
+    count ← unsigned
+    times count (entry_production formats)
+
+  -- a table: its formats and its entries
+  abbrev pub table_production : Production (List FileEntryFormat × List Entry)
+  table_production = do
+    formats ← formats_production
+    entries ← entries_production formats
+    done (formats, entries)
+
+-- the last value of a content type that is of use, else what stands at first
+abbrev pub last_value : {A : Type 0} → ℕ → (Value → Option A) → A → Entry → A
+last_value content pick first [] = first
+last_value content pick first (v ∷ entry) =
+    elim (if nat_eq v.0 content then pick v.1 else None) [ Some x ↦ last_value content pick x entry | None ↦ last_value content pick first entry ]
+
+-- the bytes of an MD5 digest: a block of exactly sixteen bytes
+abbrev pub digest : Value → Option (List ℕ)
+digest (Block bytes) = if nat_eq (length bytes) 16 then Some bytes else None
+digest v = None
+
+abbrev pub path_of : Entry → Value
+path_of entry = last_value 0x0001 Some (String []) entry
+
+abbrev pub file_of_entry : Entry → File
+file_of_entry entry = record {
+  path_name = path_of entry;
+  directory_index = last_value 0x0002 udata_value 0 entry;
+  timestamp = last_value 0x0003 udata_value 0 entry;
+  size = last_value 0x0004 udata_value 0 entry;
+  md5 = last_value 0x0005 digest (replicate 16 0) entry;
+  source = last_value 0x2001 (λ v. Some (Some v)) None entry;
+}
+
+-- ---- the parts of a header
+
+-- from version 2 to version 5
+abbrev pub version_production : Bool → Production ℕ
+version_production big = do
+  version ← number big 2
+  known ← check (nat_le 2 version && nat_le version 5) (UnknownVersion version)
+  done version
+
+-- up to version 4 the handed address size; in version 5 the unit's own, and behind it a segment selector size of 0
+abbrev pub address_size_production : ℕ → ℕ → Production ℕ
+address_size_production version handed =
+    choose (nat_le version 4) (done handed) (do
+      size ← byte
+      allowed ← check (is_address_size size) (UnsupportedAddressSize size)
+      selector ← byte
+      none ← check (nat_eq selector 0) (UnsupportedSegmentSize selector)
+      done size)
+
+-- the fields in front of the header length, and the bytes of that length
+pub record Opening : Type 0 where
+  pub encoding : Encoding
+  pub header_length : ℕ
+  pub fields : List ℕ
+
+abbrev pub opening_production : Notation → ℕ → Format → Production Opening
+opening_production notation handed format = do
+  version ← version_production notation.big
+  address_size ← address_size_production version handed
+  header_length ← offset_word notation format
+  fields ← some_bytes header_length
+  done (record {
+    encoding = record { address_size = address_size; format = format; version = version };
+    header_length = header_length;
+    fields = fields;
+  })
+
+-- up to version 3 an instruction of the machine is one operation
+abbrev pub line_encoding_production : ℕ → Production LineEncoding
+line_encoding_production version = do
+  minimum ← positive MinimumInstructionLengthZero
+  maximum ← choose (nat_le version 3) (done 1) (positive MaximumOperationsPerInstructionZero)
+  statement ← byte
+  base ← byte
+  range ← positive LineRangeZero
+  done (record {
+    minimum_instruction_length = minimum;
+    maximum_operations_per_instruction = maximum;
+    default_is_stmt = not (nat_eq statement 0);
+    line_base = cast_signed w8 base;
+    line_range = range;
+  })
+
+-- what the instructions are executed by
+abbrev pub parameters_production : Encoding → Production Parameters
+parameters_production encoding = do
+  line_encoding ← line_encoding_production encoding.version
+  opcode_base ← positive OpcodeBaseZero
+  done (record { encoding = encoding; line_encoding = line_encoding; opcode_base = opcode_base })
+
+-- the directories, with their formats
+abbrev pub directory_table : Notation → Encoding → Production (List FileEntryFormat × List Value)
+directory_table notation encoding =
+    choose (nat_le encoding.version 4)
+    (do
+      paths ← paths_production
+      done ([], map String paths))
+    (do
+      table ← table_production notation encoding.format
+      done (table.0, map path_of table.1))
+
+-- the files, with their formats
+abbrev pub file_table : Notation → Encoding → Production (List FileEntryFormat × List File)
+file_table notation encoding =
+    choose (nat_le encoding.version 4)
+    (do
+      files ← files_production
+      done ([], files))
+    (do
+      table ← table_production notation encoding.format
+      done (table.0, map file_of_entry table.1))
+
+-- what was handed in, where the version takes it
+abbrev pub taken : {A : Type 0} → Encoding → Option A → Option A
+taken encoding handed = if nat_le encoding.version 4 then handed else None
+
+-- the further fields of a header, whose program was found already
+abbrev pub fields_production : Notation → UnitEntry → ℕ → Opening → List ℕ → Production Header
+fields_production notation unit_entry unit opening program = do
+  parameters ← parameters_production opening.encoding
+  counts ← some_bytes (parameters.opcode_base - 1)
+  directories ← directory_table notation opening.encoding
+  files ← file_table notation opening.encoding
+  done (record {
+    parameters = parameters;
+    unit_length = unit;
+    header_length = opening.header_length;
+    operand_counts = counts;
+    directory_formats = directories.0;
+    directories = directories.1;
+    file_formats = files.0;
+    files = files.1;
+    program = program;
+    comp_dir = taken opening.encoding unit_entry.directory;
+    comp_file = taken opening.encoding (option_map (λ path. plain_file path 0 0 0) unit_entry.name);
+  })
+
+-- ---- the header
+
+-- a unit: its length, and that many bytes. At their front stand the version and so on, up to the fields that the
+-- header length counts, with slack behind the last of these; behind them stands the program
+abbrev pub header_production : Notation → UnitEntry → Production Header
+header_production notation given = do
+  unit ← unit_length notation
+  inside ← some_bytes unit.0
+  opened ← within inside (opening_production notation unit_entry.address_size unit.1)
+  fields ← within opened.0.fields (fields_production notation unit_entry unit.0 opened.0 opened.1)
+  done fields.0
+
+-- the bytes begin with a unit that has this header, whatever follows
+abbrev pub SpellsUnit : Notation → UnitEntry → List ℕ → Header → Type 0
+SpellsUnit notation unit_entry bytes h = (unit : List ℕ) × (after : List ℕ) × (bytes ≡ unit ++ after) × (header_production notation unit_entry).Spells unit h
+
+-- the bytes begin with no unit, and this is the refusal
+abbrev pub HasHeaderFault : Notation → UnitEntry → List ℕ → Error → Type 0
+HasHeaderFault notation unit_entry bytes e = (header_production notation unit_entry).Fault bytes e
+
+-- ---- what spells a table
+
+-- texts that aren't empty, closed by an empty one
+abbrev pub SpellsPaths : List ℕ → List (List ℕ) → Type 0
+SpellsPaths = paths_production.Spells
+
+-- files of the tables up to version 4
+abbrev pub SpellsFiles : List ℕ → List File → Type 0
+SpellsFiles = files_production.Spells
+
+-- the formats of a table of version 5
+abbrev pub SpellsFormats : List ℕ → List FileEntryFormat → Type 0
+SpellsFormats = formats_production.Spells
+
+-- the entries of a table of version 5
+abbrev pub SpellsEntries : Notation → Format → List FileEntryFormat → List ℕ → List Entry → Type 0
+SpellsEntries notation format formats = (entries_production notation format formats).Spells

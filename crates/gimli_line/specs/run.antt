@@ -1,0 +1,17 @@
+-- Runs of line programs: instructions, registers, rows and sequences.
+pub mod Instruction
+pub mod InstructionGrammar
+pub mod InstructionReading
+pub mod Unread
+pub mod Registers
+pub mod OperationPointer
+pub mod Events
+pub mod Machine
+pub mod Row
+pub mod EventsWithFiles
+pub mod RunState
+pub mod Progress
+pub mod Rows
+pub mod Sequences
+pub mod SequenceSplit
+pub mod NonDecreasing

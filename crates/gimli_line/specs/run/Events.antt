@@ -1,0 +1,85 @@
+-- What a program gives: its rows and faults in order.
+use Rattle.std.specs.Prelude.{◌≡◌, Bool, false, not, ◌&&◌, if◌then◌else◌, List, [], ◌∷◌, ◌++◌, ℕ, Option, Some, None}
+use Rattle.std.specs.List.{list_any}
+use Rattle.gimli_core.specs.declared.error.Error.{Error}
+use Rattle.gimli_core.specs.declared.error.Error.TheVariants.{AddressOverflow}
+use Rattle.gimli_line.specs.declared.run.instruction.LineInstruction.TheVariants.{DefineFile}
+use Rattle.gimli_line.specs.declared.run.row.LineRow.{LineRow}
+use Rattle.gimli_core.specs.Notation.{Notation}
+use Rattle.gimli_line.specs.header.Parameters.{Parameters}
+use Rattle.gimli_line.specs.run.Instruction.{Ins, is_end, makes_row}
+use Rattle.gimli_line.specs.header.File.{File}
+use Rattle.gimli_line.specs.header.Header.{Header}
+use Rattle.gimli_line.specs.run.InstructionGrammar.{Decodes}
+use Rattle.gimli_line.specs.run.Registers.{file_at, column_at, isa_at, is_stmt_at, line_at, nearest, discriminator_operand, sets_basic_block, sets_prologue_end, sets_epilogue_begin}
+use Rattle.gimli_line.specs.run.OperationPointer.{pointer_at, is_hidden, overflows, recent}
+
+-- the row of a place; that of an end has the pointer before it, any other the one after it
+abbrev pub row_at : Parameters → List Ins → Ins → LineRow
+row_at parameters past i =
+    let here = if is_end i then pointer_at parameters past else pointer_at parameters (i ∷ past) in
+    let marks = recent parameters past in
+    record {
+      hidden = false;
+      address = here.address;
+      op_index = here.op_index;
+      file = file_at past;
+      line = line_at parameters past i;
+      column = column_at past;
+      is_stmt = is_stmt_at parameters past;
+      basic_block = list_any sets_basic_block marks;
+      end_sequence = is_end i;
+      prologue_end = list_any sets_prologue_end marks;
+      epilogue_begin = list_any sets_epilogue_begin marks;
+      isa = isa_at past;
+      discriminator = nearest discriminator_operand 0 marks;
+    }
+
+pub data Event : Type 0 where
+  row : LineRow → Event
+  fault : Error → Event
+
+-- what a place gives: a fault where it overflows, else a row where it makes one and isn't hidden
+abbrev pub events_at : Parameters → List Ins → Ins → List Event
+events_at parameters past i =
+    if overflows parameters past i then fault AddressOverflow ∷ []
+    else (if makes_row i && not (is_hidden parameters past) then row (row_at parameters past i) ∷ [] else [])
+
+-- what these instructions give behind a past
+abbrev pub events_behind : Parameters → List Ins → List Ins → List Event
+events_behind parameters past [] = []
+events_behind parameters past (i ∷ list) = events_at parameters past i ++ events_behind parameters (i ∷ past) list
+
+-- what the end of a program gives
+abbrev pub end_events : Option Error → List Event
+end_events None = []
+end_events (Some e) = fault e ∷ []
+
+-- what a program gives that is decoded into these instructions and this end
+abbrev pub program_events : Parameters → List Ins → Option Error → List Event
+program_events parameters list end = events_behind parameters [] list ++ end_events end
+
+-- the events of a program's bytes
+pub record Events (notation : Notation) (h : Header) (bytes : List ℕ) (events : List Event) : Type 0 where
+  pub list : List Ins
+  pub end : Option Error
+  pub decoding : Decodes notation h bytes list end
+  pub given : events ≡ program_events h.parameters list end
+
+-- ---- files and ends
+
+-- the files at a place: those of the header, and then those that were defined before it, hidden or not
+abbrev pub defined_files : List File → List Ins → List File
+defined_files files [] = files
+defined_files files (DefineFile f ∷ past) = defined_files files past ++ f ∷ []
+defined_files files (i ∷ past) = defined_files files past
+
+-- a row that ends a sequence
+abbrev pub ends_sequence : Event → Bool
+ends_sequence (row r) = r.end_sequence
+ends_sequence (fault e) = false
+
+-- the events through the last row that ends a sequence
+abbrev pub through_last_end : List Event → List Event
+through_last_end [] = []
+through_last_end (e ∷ events) = if list_any ends_sequence (e ∷ events) then e ∷ through_last_end events else []

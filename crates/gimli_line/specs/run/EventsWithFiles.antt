@@ -1,0 +1,60 @@
+-- What a program gives, with the files of the header at each place.
+use Rattle.std.specs.Prelude.{◌≡◌, ℕ, Bool, not, ◌&&◌, ◌||◌, if◌then◌else◌, List, [], ◌∷◌, ◌++◌, map, Option}
+use Rattle.gimli_core.specs.declared.error.Error.{Error}
+use Rattle.gimli_core.specs.declared.error.Error.TheVariants.{AddressOverflow}
+use Rattle.gimli_core.specs.Notation.{Notation}
+use Rattle.gimli_line.specs.declared.run.row.LineRow.{LineRow}
+use Rattle.gimli_line.specs.header.Parameters.{Parameters}
+use Rattle.gimli_line.specs.run.Instruction.{Ins, makes_row}
+use Rattle.gimli_line.specs.header.File.{File}
+use Rattle.gimli_line.specs.header.Header.{Header}
+use Rattle.gimli_line.specs.run.Instruction.{files_behind}
+use Rattle.gimli_line.specs.run.InstructionGrammar.{Decodes}
+use Rattle.gimli_line.specs.run.Events.{Event, row, fault, events_at, end_events, defined_files}
+use Rattle.gimli_line.specs.run.Machine.{stepped, reset_row, is_refused}
+
+-- an event, and the files of the header at its place
+pub record EventWithFiles : Type 0 where
+  pub event : Event
+  pub files : List File
+
+-- events of a place with these files
+abbrev pub with_files : List File → List Event → List EventWithFiles
+with_files files events = map (λ e. record { event = e; files = files }) events
+
+-- ---- by looking back
+
+-- the files at a place: where the list is complete, they are all there from the start
+abbrev pub files_at : Bool → List File → List Ins → List File
+files_at appends files past = if appends then defined_files files past else files
+
+-- what these instructions and this end give behind a past
+abbrev pub events_with_files_behind : Bool → Header → List Ins → List Ins → Option Error → List EventWithFiles
+events_with_files_behind appends h past [] end = with_files (files_at appends h.files past) (end_events end)
+events_with_files_behind appends h past (i ∷ list) end =
+    with_files (files_at appends h.files past) (events_at h.parameters past i) ++ events_with_files_behind appends h (i ∷ past) list end
+
+-- what the bytes of a program give from its start
+pub record EventsWithFiles (notation : Notation) (appends : Bool) (h : Header) (bytes : List ℕ) (events : List EventWithFiles) : Type 0 where
+  pub list : List Ins
+  pub end : Option Error
+  pub decoding : Decodes notation h bytes list end
+  pub given : events ≡ events_with_files_behind appends h [] list end
+
+-- ---- by the machine
+
+-- what an instruction gives at these registers
+abbrev pub step_events : Parameters → Ins → LineRow → List Event
+step_events parameters i r =
+    if is_refused parameters i r then fault AddressOverflow ∷ []
+    else (if makes_row i && not r.hidden then row (stepped parameters i r) ∷ [] else [])
+
+-- the registers behind an instruction: they are reset behind a row and behind a refusal
+abbrev pub next_registers : Parameters → Ins → LineRow → LineRow
+next_registers parameters i r = if is_refused parameters i r || makes_row i then reset_row parameters (stepped parameters i r) else stepped parameters i r
+
+-- what these instructions and this end give from these registers and files on
+abbrev pub events_with_files_from : Bool → Parameters → LineRow → List File → List Ins → Option Error → List EventWithFiles
+events_with_files_from appends parameters r files [] end = with_files files (end_events end)
+events_with_files_from appends parameters r files (i ∷ list) end =
+    with_files files (step_events parameters i r) ++ events_with_files_from appends parameters (next_registers parameters i r) (files_behind appends i files) list end

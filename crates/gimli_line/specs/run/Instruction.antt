@@ -1,0 +1,59 @@
+-- Instructions, with lists of bytes in the place of readers and numbers in the place of offsets.
+use Rattle.std.specs.Prelude.{ℕ, List, Bool, true, false}
+use Rattle.gimli_line.specs.header.File.{File, file_seen}
+use Rattle.gimli_line.specs.header.Header.{added}
+use Rattle.gimli_line.specs.declared.run.instruction.LineInstruction.{LineInstruction}
+use Rattle.gimli_line.specs.declared.run.instruction.LineInstruction.TheVariants.{Special, Copy, AdvancePc, AdvanceLine, SetFile, SetColumn, NegateStatement, SetBasicBlock, ConstAddPc, FixedAddPc, SetPrologueEnd, SetEpilogueBegin, SetIsa, UnknownStandard0, UnknownStandard1, UnknownStandardN, EndSequence, SetAddress, DefineFile, SetDiscriminator, UnknownExtended}
+
+abbrev pub Ins : Type 0
+Ins = LineInstruction (List ℕ) ℕ (Unit {0})
+
+-- ---- instructions of readers, their readers seen by bytes and their offsets by number
+
+module _ {R Offset Endian : Type 0} (bytes : R → List ℕ) (number : Offset → ℕ) where
+  abbrev pub ins_seen : LineInstruction R Offset Endian → Ins
+  ins_seen (Special o) = Special o
+  ins_seen Copy = Copy
+  ins_seen (AdvancePc n) = AdvancePc n
+  ins_seen (AdvanceLine z) = AdvanceLine z
+  ins_seen (SetFile n) = SetFile n
+  ins_seen (SetColumn n) = SetColumn n
+  ins_seen NegateStatement = NegateStatement
+  ins_seen SetBasicBlock = SetBasicBlock
+  ins_seen ConstAddPc = ConstAddPc
+  ins_seen (FixedAddPc n) = FixedAddPc n
+  ins_seen SetPrologueEnd = SetPrologueEnd
+  ins_seen SetEpilogueBegin = SetEpilogueBegin
+  ins_seen (SetIsa n) = SetIsa n
+  ins_seen (UnknownStandard0 o) = UnknownStandard0 o
+  ins_seen (UnknownStandard1 o n) = UnknownStandard1 o n
+  ins_seen (UnknownStandardN o r) = UnknownStandardN o (bytes r)
+  ins_seen EndSequence = EndSequence
+  ins_seen (SetAddress a) = SetAddress a
+  ins_seen (DefineFile f) = DefineFile (file_seen bytes number f)
+  ins_seen (SetDiscriminator n) = SetDiscriminator n
+  ins_seen (UnknownExtended o r) = UnknownExtended o (bytes r)
+
+-- ---- kinds of instructions
+
+-- the end of a sequence
+abbrev pub is_end : Ins → Bool
+is_end EndSequence = true
+is_end i = false
+
+-- a place with such an instruction makes a row
+abbrev pub makes_row : Ins → Bool
+makes_row (Special o) = true
+makes_row Copy = true
+makes_row EndSequence = true
+makes_row i = false
+
+-- a file is added to the header's files
+abbrev pub defines_file : Ins → Bool
+defines_file (DefineFile f) = true
+defines_file i = false
+
+-- the files behind an instruction
+abbrev pub files_behind : Bool → Ins → List File → List File
+files_behind appends (DefineFile f) files = added appends f files
+files_behind appends i files = files

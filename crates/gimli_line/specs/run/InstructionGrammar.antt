@@ -1,0 +1,119 @@
+-- How instructions are spelled, and how a program is decoded into them (DWARF 5, sections 6.2.3 and 6.2.5).
+use Rattle.std.specs.Prelude.{◌≡◌, ◌≢◌, ℕ, zero, suc, ◌-◌, List, [], ◌∷◌, ◌++◌, nat_eq, nat_le, if◌then◌else◌, Option, Some, None, ℤ, slice_index}
+use Rattle.gimli_core.specs.Production.{Production, ◌>>=◌, done, choose, times, within, byte, number, some_bytes, text, unsigned, signed, below_limit, Each}
+use Rattle.gimli_core.specs.declared.error.Error.{Error}
+use Rattle.gimli_line.specs.declared.run.instruction.LineInstruction.TheVariants.{Special, Copy, AdvancePc, AdvanceLine, SetFile, SetColumn, NegateStatement, SetBasicBlock, ConstAddPc, FixedAddPc, SetPrologueEnd, SetEpilogueBegin, SetIsa, UnknownStandard0, UnknownStandard1, UnknownStandardN, EndSequence, SetAddress, DefineFile, SetDiscriminator, UnknownExtended}
+use Rattle.gimli_core.specs.Notation.{Notation}
+use Rattle.gimli_line.specs.run.Instruction.{Ins}
+use Rattle.gimli_line.specs.header.File.{File}
+use Rattle.gimli_line.specs.header.Header.{Header}
+use Rattle.gimli_line.specs.header.HeaderGrammar.{file_production}
+use Rattle.gimli_line.specs.header.Productions.{bytes_of, among}
+
+-- ---- opcodes and their operands
+
+-- what stands behind an opcode, and which instruction it is
+pub data Operand : Type 0 where
+  -- nothing
+  none : Ins → Operand
+  -- an unsigned LEB128 number, and a signed one
+  uleb : (ℕ → Ins) → Operand
+  sleb : (ℤ → Ins) → Operand
+  -- a number of two bytes
+  half : (ℕ → Ins) → Operand
+  -- an address of the header's size
+  address : (ℕ → Ins) → Operand
+  -- a text, which may be empty, and three numbers
+  file : (File → Ins) → Operand
+
+-- the standard opcodes (DWARF 5, section 6.2.5.2)
+abbrev pub standard_opcodes : List (ℕ × Operand)
+standard_opcodes =
+    (0x01, none Copy) ∷ (0x02, uleb AdvancePc) ∷ (0x03, sleb AdvanceLine) ∷ (0x04, uleb SetFile) ∷ (0x05, uleb SetColumn)
+    ∷ (0x06, none NegateStatement) ∷ (0x07, none SetBasicBlock) ∷ (0x08, none ConstAddPc) ∷ (0x09, half FixedAddPc)
+    ∷ (0x0a, none SetPrologueEnd) ∷ (0x0b, none SetEpilogueBegin) ∷ (0x0c, uleb SetIsa) ∷ []
+
+-- the extended opcodes (DWARF 5, section 6.2.5.3; DWARF 4, section 6.2.5.3); files are defined up to version 4
+abbrev pub extended_opcodes : ℕ → List (ℕ × Operand)
+extended_opcodes version =
+    (0x01, none EndSequence) ∷ (0x02, address SetAddress) ∷ (0x04, uleb SetDiscriminator)
+    ∷ (if nat_le version 4 then (0x03, file DefineFile) ∷ [] else [])
+
+module _ (notation : Notation) (h : Header) where
+  abbrev pub operand_production : Operand → Production Ins
+  operand_production (none i) = done i
+  operand_production (uleb make) = do
+    n ← unsigned
+    done (make n)
+  operand_production (sleb make) = do
+    z ← signed
+    done (make z)
+  operand_production (half make) = do
+    n ← number notation.big 2
+    done (make n)
+  operand_production (address make) = do
+    a ← number notation.big h.parameters.encoding.address_size
+    done (make a)
+  operand_production (file make) = do
+    path ← text
+    f ← file_production path
+    done (make f)
+
+  -- behind a standard opcode without a meaning here: as many LEB128 numbers as the header counts
+  abbrev pub unknown_production : ℕ → ℕ → Production Ins
+  unknown_production opcode zero = done (UnknownStandard0 (record { 0 = opcode }))
+  unknown_production opcode (suc zero) = do
+    n ← unsigned
+    done (UnknownStandard1 (record { 0 = opcode }) n)
+  unknown_production opcode (suc (suc more)) = do
+    operands ← bytes_of (times (suc (suc more)) unsigned)
+    done (UnknownStandardN (record { 0 = opcode }) operands)
+
+  -- behind an opcode below the opcode base
+  abbrev pub standard_production : ℕ → Production Ins
+  standard_production opcode = elim (among opcode standard_opcodes) [
+    | Some operand ↦ operand_production operand
+    | None ↦ unknown_production opcode (slice_index h.operand_counts (opcode - 1))
+  ]
+
+  -- an extended opcode, and the bytes behind it within its instruction; surplus ones are skipped
+  abbrev pub extended_operands : ℕ → List ℕ → Production Ins
+  extended_operands opcode operands = elim (among opcode (extended_opcodes h.parameters.encoding.version)) [
+    | Some operand ↦ within operands (operand_production operand) >>= λ read. done read.0
+    | None ↦ done (UnknownExtended (record { 0 = opcode }) operands)
+  ]
+
+  -- behind a zero byte: a length, and that many bytes, of which the first is the opcode
+  abbrev pub extended_production : Production Ins
+  extended_production = do
+    size ← below_limit notation unsigned
+    inside ← some_bytes size
+    opened ← within inside byte
+    extended_operands opened.0 opened.1
+
+  -- an instruction: a zero byte opens an extended one, a byte from the opcode base on is a special opcode, and any
+  -- other a standard opcode
+  abbrev pub instruction_production : Production Ins
+  instruction_production = do
+    opcode ← byte
+    choose (nat_eq opcode 0) extended_production
+        (choose (nat_le h.parameters.opcode_base opcode) (done (Special opcode)) (standard_production opcode))
+
+  -- the bytes are a spelling of the instruction
+  abbrev pub SpellsInstruction : List ℕ → Ins → Type 0
+  SpellsInstruction = instruction_production.Spells
+
+  -- ---- a program
+
+  -- what is left behind the last instruction: nothing, or bytes that begin with none, and this is the refusal
+  abbrev pub IsEnd : List ℕ → Option Error → Type 0
+  IsEnd rest None = rest ≡ []
+  IsEnd rest (Some e) = (rest ≢ []) × instruction_production.Fault rest e
+
+  -- the bytes are the spellings of these instructions one after the other, and then comes the end
+  pub record Decodes (bytes : List ℕ) (list : List Ins) (end : Option Error) : Type 0 where
+    pub front : List ℕ
+    pub rest : List ℕ
+    pub parts : bytes ≡ front ++ rest
+    pub spelled : Each SpellsInstruction front list
+    pub ended : IsEnd rest end

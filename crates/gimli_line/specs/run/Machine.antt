@@ -1,0 +1,89 @@
+-- The line machine: one register record, and what an instruction does to it (DWARF 5, sections 6.2.2 and 6.2.5).
+use Rattle.std.specs.Prelude.{◌≤◌, Bool, true, false, not, ◌&&◌, if◌then◌else◌, List, [], ◌∷◌, ◌++◌, Some, None}
+use Rattle.gimli_core.specs.declared.error.Error.TheVariants.{AddressOverflow}
+use Rattle.gimli_line.specs.declared.run.instruction.LineInstruction.TheVariants.{Special, AdvancePc, AdvanceLine, SetFile, SetColumn, NegateStatement, SetBasicBlock, ConstAddPc, FixedAddPc, SetPrologueEnd, SetEpilogueBegin, SetIsa, EndSequence, SetAddress, SetDiscriminator}
+use Rattle.gimli_line.specs.declared.run.row.LineRow.{LineRow}
+use Rattle.gimli_line.specs.header.Parameters.{Parameters}
+use Rattle.gimli_line.specs.run.Instruction.{Ins, makes_row}
+use Rattle.gimli_line.specs.run.Registers.{line_advance, advanced_line}
+use Rattle.gimli_line.specs.run.OperationPointer.{OperationPointer, next_pointer, target, exceeds, hides}
+use Rattle.gimli_line.specs.run.Events.{Event, row, fault}
+
+-- the registers at the start of a sequence
+abbrev pub initial : Parameters → LineRow
+initial parameters = record {
+  hidden = false;
+  address = 0;
+  op_index = 0;
+  file = 1;
+  line = 1;
+  column = 0;
+  is_stmt = parameters.line_encoding.default_is_stmt;
+  basic_block = false;
+  end_sequence = false;
+  prologue_end = false;
+  epilogue_begin = false;
+  isa = 0;
+  discriminator = 0;
+}
+
+-- the registers behind a row: an end starts all of them anew
+abbrev pub reset_row : Parameters → LineRow → LineRow
+reset_row parameters r =
+    if r.end_sequence then initial parameters
+    else record r { discriminator = 0; basic_block = false; prologue_end = false; epilogue_begin = false }
+
+-- the registers where addresses count from a set address
+abbrev pub rebased : LineRow → LineRow
+rebased r = record r { hidden = false; address = 0; op_index = 0 }
+
+-- the caller's condition: a special opcode is at least the opcode base
+abbrev pub IsAllowed : Parameters → Ins → Type 0
+IsAllowed parameters (Special o) = parameters.opcode_base ≤ o
+IsAllowed parameters i = Unit {0}
+
+abbrev pub pointer_of : LineRow → OperationPointer
+pointer_of r = record { address = r.address; op_index = r.op_index }
+
+abbrev pub at_pointer : OperationPointer → LineRow → LineRow
+at_pointer p r = record r { address = p.address; op_index = p.op_index }
+
+-- the pointer goes on
+abbrev pub moved : Parameters → Ins → LineRow → LineRow
+moved parameters i r = at_pointer (next_pointer parameters r.hidden i (pointer_of r)) r
+
+-- a register that an instruction sets, whatever the parameters are
+abbrev pub with_register : Ins → LineRow → LineRow
+with_register (AdvanceLine v) r = record r { line = advanced_line v r.line }
+with_register (SetFile n) r = record r { file = n }
+with_register (SetColumn n) r = record r { column = n }
+with_register NegateStatement r = record r { is_stmt = not r.is_stmt }
+with_register SetBasicBlock r = record r { basic_block = true }
+with_register SetPrologueEnd r = record r { prologue_end = true }
+with_register SetEpilogueBegin r = record r { epilogue_begin = true }
+with_register (SetIsa n) r = record r { isa = n }
+with_register (SetDiscriminator n) r = record r { discriminator = n }
+with_register EndSequence r = record r { end_sequence = true }
+with_register i r = r
+
+-- the registers after an instruction; at an end the pointer stays until the reset
+abbrev pub stepped : Parameters → Ins → LineRow → LineRow
+stepped parameters (Special o) r = record (moved parameters (Special o) r) { line = elim (line_advance parameters (Special o)) [ Some v ↦ advanced_line v r.line | None ↦ r.line ] }
+stepped parameters (AdvancePc n) r = moved parameters (AdvancePc n) r
+stepped parameters ConstAddPc r = moved parameters ConstAddPc r
+stepped parameters (FixedAddPc n) r = moved parameters (FixedAddPc n) r
+stepped parameters (SetAddress a) r = record (moved parameters (SetAddress a) r) { hidden = hides parameters a (pointer_of r) }
+stepped parameters i r = with_register i r
+
+-- whether an instruction is refused by `AddressOverflow`
+abbrev pub is_refused : Parameters → Ins → LineRow → Bool
+is_refused parameters i r = (elim (target parameters i (pointer_of r)) [ Some to ↦ exceeds parameters to | None ↦ false ]) && not r.hidden
+
+-- what a run gives from these registers on
+abbrev pub run : Parameters → LineRow → List Ins → List Event
+run parameters r [] = []
+run parameters r (i ∷ list) =
+    if is_refused parameters i r then fault AddressOverflow ∷ run parameters (reset_row parameters (stepped parameters i r)) list
+    else (if makes_row i
+    then (if r.hidden then [] else row (stepped parameters i r) ∷ []) ++ run parameters (reset_row parameters (stepped parameters i r)) list
+    else run parameters (stepped parameters i r) list)

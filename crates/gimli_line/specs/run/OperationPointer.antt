@@ -1,0 +1,123 @@
+-- The address and the op_index of each place, and which parts of a program are hidden (DWARF 5, sections 6.2.2 and
+-- 6.2.5). The past of a place is the list of the instructions before it, the nearest first.
+use Rattle.std.specs.Prelude.{◌≡◌, ℕ, ◌+◌, ◌-◌, ◌*◌, ◌/◌, ◌%◌, ◌^◌, Bool, false, not, ◌||◌, ◌&&◌, nat_lt, nat_le, nat_eq, if◌then◌else◌, List, [], ◌∷◌, zip, Option, Some, None, option_map, IsTrue}
+use Rattle.gimli_line.specs.declared.run.instruction.LineInstruction.TheVariants.{Special, AdvancePc, ConstAddPc, FixedAddPc, EndSequence, SetAddress}
+use Rattle.gimli_line.specs.header.Parameters.{Parameters}
+use Rattle.gimli_line.specs.run.Instruction.{Ins, makes_row}
+
+pub record OperationPointer : Type 0 where
+  pub address : ℕ
+  pub op_index : ℕ
+
+-- where each sequence starts
+abbrev pub start : OperationPointer
+start = record { address = 0; op_index = 0 }
+
+-- the first number that is too large for an address
+abbrev pub address_limit : Parameters → ℕ
+address_limit parameters = 2 ^ (8 * parameters.encoding.address_size)
+
+-- a set address hides what follows it: it is below the address before it, or one of the two greatest addresses,
+-- which stand for nothing
+abbrev pub hides : Parameters → ℕ → OperationPointer → Bool
+hides parameters a before = nat_lt a before.address || nat_le (address_limit parameters - 2) a
+
+-- ---- advances
+
+-- how many operations an instruction advances
+abbrev pub operation_advance : Parameters → Ins → Option ℕ
+operation_advance parameters (Special o) = Some ((o - parameters.opcode_base) / parameters.line_encoding.line_range)
+operation_advance parameters (AdvancePc n) = Some n
+operation_advance parameters ConstAddPc = Some ((255 - parameters.opcode_base) / parameters.line_encoding.line_range)
+operation_advance parameters i = None
+
+-- the pointer n operations further on, whatever an address holds; sums and products of operations are modulo 2 ^ 64
+abbrev pub operations_on : Parameters → ℕ → OperationPointer → OperationPointer
+operations_on parameters n p =
+    if nat_eq parameters.line_encoding.maximum_operations_per_instruction 1
+    then record { address = p.address + parameters.line_encoding.minimum_instruction_length * n % 2 ^ 64; op_index = 0 }
+    else (let s = (p.op_index + n) % 2 ^ 64 in
+    record {
+      address = p.address + parameters.line_encoding.minimum_instruction_length * (s / parameters.line_encoding.maximum_operations_per_instruction) % 2 ^ 64;
+      op_index = s % parameters.line_encoding.maximum_operations_per_instruction;
+    })
+
+-- where an instruction advances the pointer to, whatever an address holds
+abbrev pub target : Parameters → Ins → OperationPointer → Option OperationPointer
+target parameters (FixedAddPc n) p = Some (record { address = p.address + n; op_index = 0 })
+target parameters i p = option_map (λ n. operations_on parameters n p) (operation_advance parameters i)
+
+-- an address doesn't hold it
+abbrev pub exceeds : Parameters → OperationPointer → Bool
+exceeds parameters p = nat_le (address_limit parameters) p.address
+
+-- the pointer where its target exceeds: the address stays, and op_index too at a fixed advance
+abbrev pub stopped : Ins → OperationPointer → OperationPointer → OperationPointer
+stopped (FixedAddPc n) p to = p
+stopped i p to = record { address = p.address; op_index = to.op_index }
+
+-- the pointer after a place, which may be hidden, from the one before it
+abbrev pub next_pointer : Parameters → Bool → Ins → OperationPointer → OperationPointer
+next_pointer parameters hidden EndSequence p = start
+next_pointer parameters hidden (SetAddress a) p = if hides parameters a p then p else record { address = a; op_index = 0 }
+next_pointer parameters hidden i p = elim (target parameters i p) [
+  | None ↦ p
+  | Some to ↦ if hidden then p else (if exceeds parameters to then stopped i p to else to)
+]
+
+-- ---- looking back
+
+abbrev mutual
+  -- the pointer after these instructions
+  pub pointer_at : Parameters → List Ins → OperationPointer
+  pointer_at parameters [] = start
+  pointer_at parameters (i ∷ past) = next_pointer parameters (is_hidden parameters past) i (pointer_at parameters past)
+
+  -- whether a place is hidden: the last set address of its sequence hides
+  pub is_hidden : Parameters → List Ins → Bool
+  is_hidden parameters [] = false
+  is_hidden parameters (SetAddress a ∷ past) = hides parameters a (pointer_at parameters past)
+  is_hidden parameters (EndSequence ∷ past) = false
+  is_hidden parameters (i ∷ past) = is_hidden parameters past
+
+-- whether the target of a place exceeds, and the place isn't hidden
+abbrev pub overflows : Parameters → List Ins → Ins → Bool
+overflows parameters past i =
+    (elim (target parameters i (pointer_at parameters past)) [ Some to ↦ exceeds parameters to | None ↦ false ]) && not (is_hidden parameters past)
+
+abbrev pub IsHidden : Parameters → List Ins → Type 0
+IsHidden parameters past = IsTrue (is_hidden parameters past)
+
+abbrev pub Overflows : Parameters → List Ins → Ins → Type 0
+Overflows parameters past i = IsTrue (overflows parameters past i)
+
+-- what stands since the last place that made a row or overflowed
+abbrev pub recent : Parameters → List Ins → List Ins
+recent parameters [] = []
+recent parameters (i ∷ past) = if makes_row i || overflows parameters past i then [] else i ∷ recent parameters past
+
+-- ---- the pointer list
+
+-- the pointers before each of these instructions, the nearest first
+abbrev pub pointers_before : Parameters → List Ins → List OperationPointer
+pointers_before parameters [] = []
+pointers_before parameters (i ∷ past) = pointer_at parameters past ∷ pointers_before parameters past
+
+-- those, and the one after them
+abbrev pub pointers : Parameters → List Ins → List OperationPointer
+pointers parameters past = pointer_at parameters past ∷ pointers_before parameters past
+
+-- whether the last set address of the sequence hides, where the pointer before each instruction stands beside it
+abbrev pub hidden_behind : Parameters → List (Ins × OperationPointer) → Bool
+hidden_behind parameters [] = false
+hidden_behind parameters ((SetAddress a, before) ∷ trail) = hides parameters a before
+hidden_behind parameters ((EndSequence, before) ∷ trail) = false
+hidden_behind parameters ((i, before) ∷ trail) = hidden_behind parameters trail
+
+-- pointers, one at the end of these instructions and one before each, the nearest first: the farthest is the start,
+-- so is each behind an end, and each other follows from the one before it
+abbrev pub IsPointerList : Parameters → List Ins → List OperationPointer → Type 0
+IsPointerList parameters [] (p ∷ []) = p ≡ start
+IsPointerList parameters (i ∷ past) (after ∷ before ∷ pointers) =
+    (after ≡ next_pointer parameters (hidden_behind parameters (zip past pointers)) i before) × IsPointerList parameters past (before ∷ pointers)
+IsPointerList parameters past pointers = ⊥

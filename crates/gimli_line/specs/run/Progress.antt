@@ -1,0 +1,44 @@
+-- What a run passes over on its way.
+use Rattle.std.specs.Prelude.{◌≡◌, Bool, List, [], ◌∷◌, ◌++◌, ℕ}
+use Rattle.gimli_core.specs.Production.{Each}
+use Rattle.gimli_line.specs.declared.run.row.LineRow.{LineRow}
+use Rattle.gimli_line.specs.header.Parameters.{Parameters}
+use Rattle.gimli_line.specs.run.Instruction.{files_behind}
+use Rattle.gimli_line.specs.run.Instruction.{Ins}
+use Rattle.gimli_line.specs.header.File.{File}
+use Rattle.gimli_line.specs.run.InstructionGrammar.{SpellsInstruction}
+use Rattle.gimli_line.specs.run.Events.{Event}
+use Rattle.gimli_line.specs.run.Machine.{reset_row}
+use Rattle.gimli_line.specs.run.EventsWithFiles.{step_events, next_registers}
+use Rattle.gimli_line.specs.run.RunState.{RunState}
+
+-- what these instructions give from these registers on, and the registers behind them
+abbrev pub events_from : Parameters → LineRow → List Ins → List Event
+events_from parameters r [] = []
+events_from parameters r (i ∷ list) = step_events parameters i r ++ events_from parameters (next_registers parameters i r) list
+
+abbrev pub registers_behind : Parameters → LineRow → List Ins → LineRow
+registers_behind parameters r [] = r
+registers_behind parameters r (i ∷ list) = registers_behind parameters (next_registers parameters i r) list
+
+-- the files behind them
+abbrev pub files_from : Bool → List File → List Ins → List File
+files_from appends files [] = files
+files_from appends files (i ∷ list) = files_from appends (files_behind appends i files) list
+
+-- an iterator whose registers are reset, as they are before the next instruction
+abbrev pub ready : RunState → RunState
+ready a = record a { row = reset_row a.fixed.parameters a.row }
+
+-- from one state to another an iterator passes over instructions that give these events
+pub record Progress (old new : RunState) (events : List Event) : Type 0 where
+  pub list : List Ins
+  pub front : List ℕ
+  pub parts : old.unread.bytes ≡ front ++ new.unread.bytes
+  pub spelled : Each (SpellsInstruction old.unread.notation old.fixed) front list
+  pub notation : new.unread.notation ≡ old.unread.notation
+  pub fixed : new.fixed ≡ old.fixed
+  pub appends : new.appends ≡ old.appends
+  pub given : events_from old.fixed.parameters old.row list ≡ events
+  pub registers : new.row ≡ registers_behind old.fixed.parameters old.row list
+  pub files : new.files ≡ files_from old.appends old.files list

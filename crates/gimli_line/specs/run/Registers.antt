@@ -1,0 +1,93 @@
+-- What the registers are at a place of a program, each looked up by itself from the place backwards (DWARF 5,
+-- sections 6.2.2 and 6.2.5). The past of a place is the list of the instructions before it, the nearest first.
+use Rattle.std.specs.Prelude.{ℕ, suc, ◌+◌, ◌-◌, ◌%◌, ◌^◌, Bool, true, false, not, if◌then◌else◌, List, [], ◌∷◌, Option, Some, None, ℤ, pos, negsuc, ◌+ℤ◌}
+use Rattle.gimli_line.specs.declared.run.instruction.LineInstruction.TheVariants.{Special, AdvanceLine, SetFile, SetColumn, NegateStatement, SetBasicBlock, SetPrologueEnd, SetEpilogueBegin, SetIsa, SetDiscriminator}
+use Rattle.gimli_line.specs.header.Parameters.{Parameters}
+use Rattle.gimli_line.specs.run.Instruction.{Ins, is_end}
+
+-- the sequence of a place: the instructions after the last end
+abbrev pub sequence : List Ins → List Ins
+sequence [] = []
+sequence (i ∷ past) = if is_end i then [] else i ∷ sequence past
+
+-- ---- ways to look back
+
+-- the operand of the nearest instruction that has one of this kind
+abbrev pub nearest : (Ins → Option ℕ) → ℕ → List Ins → ℕ
+nearest operand default [] = default
+nearest operand default (i ∷ past) = elim (operand i) [ Some n ↦ n | None ↦ nearest operand default past ]
+
+-- whether their number is odd
+abbrev pub is_odd : (Ins → Bool) → List Ins → Bool
+is_odd test [] = false
+is_odd test (i ∷ past) = if test i then not (is_odd test past) else is_odd test past
+
+abbrev pub file_operand : Ins → Option ℕ
+file_operand (SetFile n) = Some n
+file_operand i = None
+
+abbrev pub column_operand : Ins → Option ℕ
+column_operand (SetColumn n) = Some n
+column_operand i = None
+
+abbrev pub isa_operand : Ins → Option ℕ
+isa_operand (SetIsa n) = Some n
+isa_operand i = None
+
+abbrev pub discriminator_operand : Ins → Option ℕ
+discriminator_operand (SetDiscriminator n) = Some n
+discriminator_operand i = None
+
+abbrev pub negates_statement : Ins → Bool
+negates_statement NegateStatement = true
+negates_statement i = false
+
+abbrev pub sets_basic_block : Ins → Bool
+sets_basic_block SetBasicBlock = true
+sets_basic_block i = false
+
+abbrev pub sets_prologue_end : Ins → Bool
+sets_prologue_end SetPrologueEnd = true
+sets_prologue_end i = false
+
+abbrev pub sets_epilogue_begin : Ins → Bool
+sets_epilogue_begin SetEpilogueBegin = true
+sets_epilogue_begin i = false
+
+-- ---- registers that keep what was set in the sequence
+
+abbrev pub file_at : List Ins → ℕ
+file_at past = nearest file_operand 1 (sequence past)
+
+abbrev pub column_at : List Ins → ℕ
+column_at past = nearest column_operand 0 (sequence past)
+
+abbrev pub isa_at : List Ins → ℕ
+isa_at past = nearest isa_operand 0 (sequence past)
+
+-- the default, turned where it was negated an odd number of times
+abbrev pub is_stmt_at : Parameters → List Ins → Bool
+is_stmt_at parameters past =
+    if is_odd negates_statement (sequence past) then not parameters.line_encoding.default_is_stmt else parameters.line_encoding.default_is_stmt
+
+-- ---- the line
+
+-- how far an instruction moves the line
+abbrev pub line_advance : Parameters → Ins → Option ℤ
+line_advance parameters (AdvanceLine v) = Some v
+line_advance parameters (Special o) = Some (parameters.line_encoding.line_base +ℤ pos ((o - parameters.opcode_base) % parameters.line_encoding.line_range))
+line_advance parameters i = None
+
+-- the line v further on, modulo 2 ^ 64; one that would go below 0 stops there
+abbrev pub advanced_line : ℤ → ℕ → ℕ
+advanced_line (pos v) line = (line + v) % 2 ^ 64
+advanced_line (negsuc v) line = line - suc v
+
+-- 1, and the advances of these instructions, the nearest last
+abbrev pub line_after : Parameters → List Ins → ℕ
+line_after parameters [] = 1
+line_after parameters (i ∷ past) = elim (line_advance parameters i) [ Some v ↦ advanced_line v (line_after parameters past) | None ↦ line_after parameters past ]
+
+-- the line at a place with this instruction, whose own advance counts
+abbrev pub line_at : Parameters → List Ins → Ins → ℕ
+line_at parameters past i = line_after parameters (i ∷ sequence past)

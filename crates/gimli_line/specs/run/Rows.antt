@@ -1,0 +1,65 @@
+-- What a row iterator still gives.
+use Rattle.std.specs.Prelude.{◌≡◌, ◌⊎◌, ◌<◌, ℕ, Bool, true, List, [], ◌∷◌, ◌++◌, length}
+use Rattle.gimli_core.specs.declared.error.Error.{Error}
+use Rattle.gimli_core.specs.declared.error.Error.TheVariants.{OutOfMemory}
+use Rattle.gimli_core.specs.Notation.{Notation}
+use Rattle.gimli_line.specs.declared.run.rows.Step.{Step}
+use Rattle.gimli_line.specs.declared.run.rows.Step.TheVariants.{Done, Made, More}
+use Rattle.gimli_line.specs.header.Header.{Header, bare}
+use Rattle.gimli_line.specs.run.Instruction.{Ins, defines_file}
+use Rattle.gimli_line.specs.run.InstructionGrammar.{SpellsInstruction}
+use Rattle.gimli_line.specs.run.InstructionReading.{decoded_at}
+use Rattle.gimli_line.specs.run.Events.{Event, row, fault}
+use Rattle.gimli_line.specs.run.Machine.{initial}
+use Rattle.gimli_line.specs.run.Unread.{Unread}
+use Rattle.gimli_line.specs.run.RunState.{RunState}
+use Rattle.gimli_line.specs.run.EventsWithFiles.{EventWithFiles, events_with_files_from}
+use Rattle.gimli_line.specs.run.Progress.{ready, Progress}
+
+-- what is still to come where the registers were reset
+abbrev pub live_events : RunState → List EventWithFiles
+live_events a = let c = decoded_at a.unread.notation a.fixed a.unread.bytes in events_with_files_from a.appends a.fixed.parameters a.row a.files c.0 c.1
+
+-- what is still to come: rows and faults, each with the files of the header at its place
+abbrev pub events_left : RunState → List EventWithFiles
+events_left a = live_events (ready a)
+
+-- an event, and the files that the header has then
+abbrev pub event_of : Event → RunState → EventWithFiles
+event_of e a = record { event = e; files = a.files }
+
+-- rows at the start of a sequence
+abbrev pub started : Bool → Header → Notation → ℕ → Unread → RunState
+started appends h notation offset unread = record { fixed = bare h; files = h.files; appends = appends; notation = notation; offset = offset; row = initial h.parameters; unread = unread }
+
+-- the header is the same but for its files
+pub record KeepsHeader (old new : RunState) : Type 0 where
+  pub fixed : new.fixed ≡ old.fixed
+  pub appends : new.appends ≡ old.appends
+  pub notation : new.notation ≡ old.notation
+  pub offset : new.offset ≡ old.offset
+
+-- what one instruction did
+abbrev pub StepIs : RunState → RunState → Step → Type 0
+StepIs old new Done = (live_events old ≡ []) × (new.unread.bytes ≡ []) × Progress old new []
+StepIs old new Made = (live_events old ≡ event_of (row new.row) new ∷ events_left new) × Progress old (ready new) (row new.row ∷ [])
+StepIs old new More = (live_events old ≡ live_events new) × (length new.unread.bytes < length old.unread.bytes) × Progress old new []
+
+-- memory was wanting for a file, whose definition comes behind instructions that give nothing; the files are those of
+-- its place, and nothing comes behind it
+pub record WantsMemory (old new : RunState) : Type 0 where
+  pub place : RunState
+  pub passed : Progress old place []
+  pub definition : Ins
+  pub front : List ℕ
+  pub rest : List ℕ
+  pub parts : place.unread.bytes ≡ front ++ rest
+  pub spelled : SpellsInstruction place.unread.notation place.fixed front definition
+  pub defines : defines_file definition ≡ true
+  pub appends : new.appends ≡ true
+  pub files : new.files ≡ place.files
+  pub none : events_left new ≡ []
+
+-- a refusal: want of memory for a file; or a fault, which came first
+abbrev pub FaultIs : RunState → RunState → Error → Type 0
+FaultIs old new e = ((e ≡ OutOfMemory) × WantsMemory old new) ⊎ (live_events old ≡ event_of (fault e) new ∷ events_left new)

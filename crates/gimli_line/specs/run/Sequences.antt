@@ -1,0 +1,71 @@
+-- The sequences of a program, each run by itself.
+use Rattle.std.specs.Prelude.{◌≡◌, ℕ, true, false, List, [], ◌∷◌, ◌++◌, map, Option, None}
+use Rattle.std.specs.List.{AllByRecursion, flat_map}
+use Rattle.gimli_core.specs.declared.error.Error.{Error}
+use Rattle.gimli_core.specs.Notation.{Notation}
+use Rattle.gimli_line.specs.declared.run.row.LineRow.{LineRow}
+use Rattle.gimli_line.specs.declared.run.sequences.LineSequence.{LineSequence}
+use Rattle.gimli_line.specs.header.Header.{Header}
+use Rattle.gimli_line.specs.run.Instruction.{Ins}
+use Rattle.gimli_line.specs.run.InstructionGrammar.{Decodes}
+use Rattle.gimli_line.specs.run.Events.{Event, row, fault, program_events, defined_files, through_last_end}
+use Rattle.gimli_line.specs.run.Unread.{Unread}
+use Rattle.gimli_line.specs.run.EventsWithFiles.{EventWithFiles}
+use Rattle.gimli_line.specs.run.Rows.{events_left, started}
+
+-- a sequence: the addresses that it tells, and the instructions that give its rows
+pub record Part : Type 0 where
+  pub start : ℕ
+  pub end : ℕ
+  pub unread : Unread
+
+abbrev pub part_of : {A B C : Type 0} → LineSequence A B C → Part
+part_of s = record { start = s.start; end = s.end; unread = s.instructions }
+
+-- the events among events with their files
+abbrev pub events_of : List EventWithFiles → List Event
+events_of events = map (λ t. t.event) events
+
+-- what a sequence gives that is resumed over a header, wherever the header stands
+abbrev pub resumed : Header → Part → List Event
+resumed h s = events_of (events_left (started false h s.unread.notation 0 s.unread))
+
+-- the address of the first row; 0 where there is none
+abbrev pub first_address : List LineRow → ℕ
+first_address [] = 0
+first_address (r ∷ rows) = r.address
+
+-- rows of one sequence: one end row, which is the last and has the end address; the first has the start address
+pub record IsSequence (events : List Event) (start end : ℕ) : Type 0 where
+  pub rows : List LineRow
+  pub last : LineRow
+  pub given : events ≡ map row rows ++ row last ∷ []
+  pub unended : AllByRecursion (λ r. r.end_sequence ≡ false) rows
+  pub ended : last.end_sequence ≡ true
+  pub start_is : start ≡ first_address rows
+  pub end_is : end ≡ last.address
+
+-- the instructions before the end of a program, the nearest first
+abbrev pub behind : List Ins → List Ins → List Ins
+behind past [] = past
+behind past (i ∷ list) = behind (i ∷ past) list
+
+-- the sequences of a program with the header h, over the complete header c: the program has no fault, c has its files,
+-- each sequence gives the rows of one, and all in order give those of the program through its last end
+pub record AreSequences (notation : Notation) (h c : Header) (parts : List Part) : Type 0 where
+  pub list : List Ins
+  pub decoding : Decodes notation h h.program list None
+  pub rows : List LineRow
+  pub given : program_events h.parameters list None ≡ map row rows
+  pub files : c ≡ record h { files = defined_files h.files (behind [] list) }
+  pub each : AllByRecursion (λ s. IsSequence (resumed c s) s.start s.end) parts
+  pub joined : flat_map (resumed c) parts ≡ through_last_end (program_events h.parameters list None)
+
+-- the first fault of a program, behind rows
+pub record HasFirstFault (notation : Notation) (h : Header) (e : Error) : Type 0 where
+  pub list : List Ins
+  pub end : Option Error
+  pub decoding : Decodes notation h h.program list end
+  pub rows : List LineRow
+  pub rest : List Event
+  pub given : program_events h.parameters list end ≡ map row rows ++ fault e ∷ rest

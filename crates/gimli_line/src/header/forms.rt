@@ -1,0 +1,131 @@
+ghost use Rattle.std.specs.Prelude.{◌≡◌};
+ghost use Rattle.gimli_core.specs.Reading.{seen, unsigned_at};
+ghost use Rattle.gimli_core.specs.Values.{value_seen};
+ghost use Rattle.gimli_line.specs.header.FormReading.{form_at, number_form_at, word_form_at, index_form_at, block_at, offset_at};
+
+use gimli_core::{
+    AttributeValue, DebugLineStrOffset, DebugStrOffset, DebugStrOffsetsIndex, DwForm, Error,
+    Format, Reader, ReaderOffset, Result, constants,
+};
+
+/// Takes a value in a form. Refused by `UnknownForm` at a form that line programs don't know.
+#[tactic(auto, unfolding(crate::specs::header::FormReading::form_at, crate::specs::header::FormReading::number_form_at))]
+pub(crate) fn parse_attribute<R: Reader>(
+    input: &mut R,
+    format: Format,
+    form: DwForm,
+) -> Result<AttributeValue<R>>
+    ensures read { (seen (value_seen R.bytes R.Offset.number) result, R.bytes input.new)
+        ≡ form_at (record { big = R.big input.old; limit = R.Offset.limit }) format form.0 (R.bytes input.old) }
+    ensures order { R.big input.new ≡ R.big input.old }
+{
+    match form {
+        constants::DW_FORM_block1 => {
+            let len = input.read_u8()?;
+            parse_block(input, R::Offset::from_u8(len))
+        }
+        constants::DW_FORM_block2 => {
+            let len = input.read_u16()?;
+            parse_block(input, R::Offset::from_u16(len))
+        }
+        constants::DW_FORM_block4 => {
+            let len = input.read_u32()?;
+            parse_block(input, R::Offset::from_u32(len))
+        }
+        constants::DW_FORM_block => {
+            let len = parse_offset(input)?;
+            parse_block(input, len)
+        }
+        constants::DW_FORM_data16 => parse_block(input, R::Offset::from_u8(16)),
+        _ => parse_number(input, format, form),
+    }
+}
+
+/// Takes a value in a form that isn't a block: a number, or what comes behind those.
+#[tactic(auto, unfolding(crate::specs::header::FormReading::number_form_at, crate::specs::header::FormReading::word_form_at))]
+fn parse_number<R: Reader>(input: &mut R, format: Format, form: DwForm) -> Result<AttributeValue<R>>
+    ensures read { (seen (value_seen R.bytes R.Offset.number) result, R.bytes input.new)
+        ≡ number_form_at (record { big = R.big input.old; limit = R.Offset.limit }) format form.0 (R.bytes input.old) }
+    ensures order { R.big input.new ≡ R.big input.old }
+{
+    match form {
+        constants::DW_FORM_data1 => Ok(AttributeValue::Data1(input.read_u8()?)),
+        constants::DW_FORM_data2 => Ok(AttributeValue::Data2(input.read_u16()?)),
+        constants::DW_FORM_data4 => Ok(AttributeValue::Data4(input.read_u32()?)),
+        constants::DW_FORM_data8 => Ok(AttributeValue::Data8(input.read_u64()?)),
+        constants::DW_FORM_udata => Ok(AttributeValue::Udata(input.read_uleb128()?)),
+        constants::DW_FORM_sdata => Ok(AttributeValue::Sdata(input.read_sleb128()?)),
+        constants::DW_FORM_flag => Ok(AttributeValue::Flag(input.read_u8()? != 0)),
+        _ => parse_word_or_text(input, format, form),
+    }
+}
+
+/// Takes a word of the format, a text, or what comes behind those: an index.
+#[tactic(auto, unfolding(crate::specs::header::FormReading::word_form_at, crate::specs::header::FormReading::index_form_at))]
+fn parse_word_or_text<R: Reader>(
+    input: &mut R,
+    format: Format,
+    form: DwForm,
+) -> Result<AttributeValue<R>>
+    ensures read { (seen (value_seen R.bytes R.Offset.number) result, R.bytes input.new)
+        ≡ word_form_at (record { big = R.big input.old; limit = R.Offset.limit }) format form.0 (R.bytes input.old) }
+    ensures order { R.big input.new ≡ R.big input.old }
+{
+    match form {
+        constants::DW_FORM_sec_offset => Ok(AttributeValue::SecOffset(input.read_offset(format)?)),
+        constants::DW_FORM_string => {
+            let text = input.read_null_terminated_slice()?;
+            Ok(AttributeValue::String(text))
+        }
+        constants::DW_FORM_strp => {
+            let offset = input.read_offset(format)?;
+            Ok(AttributeValue::DebugStrRef(DebugStrOffset(offset)))
+        }
+        constants::DW_FORM_strp_sup | constants::DW_FORM_GNU_strp_alt => {
+            let offset = input.read_offset(format)?;
+            Ok(AttributeValue::DebugStrRefSup(DebugStrOffset(offset)))
+        }
+        constants::DW_FORM_line_strp => {
+            let offset = input.read_offset(format)?;
+            Ok(AttributeValue::DebugLineStrRef(DebugLineStrOffset(offset)))
+        }
+        _ => parse_index(input, format, form),
+    }
+}
+
+/// Takes an index of a text. Refused by `UnknownForm` at a form that has none.
+#[tactic(auto, unfolding(crate::specs::header::FormReading::index_form_at))]
+fn parse_index<R: Reader>(input: &mut R, format: Format, form: DwForm) -> Result<AttributeValue<R>>
+    ensures read { (seen (value_seen R.bytes R.Offset.number) result, R.bytes input.new)
+        ≡ index_form_at (record { big = R.big input.old; limit = R.Offset.limit }) format form.0 (R.bytes input.old) }
+    ensures order { R.big input.new ≡ R.big input.old }
+{
+    let index = match form {
+        constants::DW_FORM_strx | constants::DW_FORM_GNU_str_index => parse_offset(input)?,
+        constants::DW_FORM_strx1 => R::Offset::from_u8(input.read_u8()?),
+        constants::DW_FORM_strx2 => R::Offset::from_u16(input.read_u16()?),
+        constants::DW_FORM_strx3 => R::Offset::from_u64(input.read_uint(3)?)?,
+        constants::DW_FORM_strx4 => R::Offset::from_u32(input.read_u32()?),
+        _ => return Err(Error::UnknownForm(form)),
+    };
+    Ok(AttributeValue::DebugStrOffsetsIndex(DebugStrOffsetsIndex(index)))
+}
+
+/// Takes so many bytes, as a block.
+fn parse_block<R: Reader>(input: &mut R, len: R::Offset) -> Result<AttributeValue<R>>
+    ensures read { (seen (value_seen R.bytes R.Offset.number) result, R.bytes input.new) ≡ block_at (R.Offset.number len) (R.bytes input.old) }
+    ensures order { R.big input.new ≡ R.big input.old }
+{
+    let block = input.split(len)?;
+    Ok(AttributeValue::Block(block))
+}
+
+/// Takes an unsigned LEB128 number as an offset. Refused by `UnsupportedOffset` where the offset type is too
+/// narrow.
+pub(crate) fn parse_offset<R: Reader>(input: &mut R) -> Result<R::Offset>
+    ensures read { (seen R.Offset.number result, R.bytes input.new) ≡ offset_at R.Offset.limit unsigned_at (R.bytes input.old) }
+    ensures order { R.big input.new ≡ R.big input.old }
+{
+    let number = input.read_uleb128()?;
+    R::Offset::from_u64(number)
+}

@@ -1,0 +1,262 @@
+//! The header of a unit, part by part.
+
+ghost use Rattle.std.specs.Prelude.{◌≡◌, ◌<◌, ◌≤◌, IfOk, IsTrue, option_map};
+ghost use Rattle.gimli_core.specs.Numbers.{is_address_size};
+ghost use Rattle.gimli_core.specs.Reading.{seen};
+ghost use Rattle.gimli_line.specs.header.HeaderReading.{positive_at, version_at, own_address_size_at, size_at, opening_at, operations_at, line_encoding_at, rules_at};
+ghost use Rattle.gimli_line.specs.header.Parameters.{IsLineEncoding};
+
+use crate::header::file_entry::FileEntry;
+use crate::header::parameters::Parameters;
+use crate::header::program_header::LineProgramHeader;
+use crate::header::tables::{parse_directory_table, parse_file_table};
+use gimli_core::{
+    DebugLineOffset, Encoding, Error, Format, LineEncoding, Reader, ReaderOffset, Result,
+};
+use std::alloc::Global;
+
+/// Takes a byte that isn't 0. Refused by `error` where it is.
+#[tactic(auto, unfolding(crate::specs::header::HeaderReading::positive_at))]
+fn parse_positive<R: Reader>(input: &mut R, error: Error) -> Result<u8>
+    ensures read { (result, R.bytes input.new) ≡ positive_at error (R.bytes input.old) }
+    ensures order { R.big input.new ≡ R.big input.old }
+    ensures positive { IfOk result (λ n. 0 < n) }
+{
+    let n = input.read_u8()?;
+    if n == 0 {
+        return Err(error);
+    }
+    Ok(n)
+}
+
+/// Takes a version, from 2 to 5. Refused by `UnknownVersion` at any other.
+#[tactic(auto, unfolding(crate::specs::header::HeaderReading::version_at))]
+fn parse_version<R: Reader>(input: &mut R) -> Result<u16>
+    ensures read { (result, R.bytes input.new) ≡ version_at (R.big input.old) (R.bytes input.old) }
+    ensures order { R.big input.new ≡ R.big input.old }
+{
+    let version = input.read_u16()?;
+    if version < 2 || version > 5 {
+        return Err(Error::UnknownVersion(u64::from(version)));
+    }
+    Ok(version)
+}
+
+/// The address size of a unit: the handed one up to version 4, else the unit's own, behind which a segment
+/// selector size of 0 stands.
+#[tactic(auto, unfolding(crate::specs::header::HeaderReading::own_address_size_at))]
+fn parse_address_size<R: Reader>(input: &mut R, version: u16, handed: u8) -> Result<u8>
+    requires { IsTrue (is_address_size handed) }
+    ensures read { (result, R.bytes input.new) ≡ size_at version handed (R.bytes input.old) }
+    ensures order { R.big input.new ≡ R.big input.old }
+    ensures size { IfOk result (λ n. IsTrue (is_address_size n)) }
+{
+    if version <= 4 {
+        return Ok(handed);
+    }
+    let address_size = input.read_address_size()?;
+    let segment_selector_size = input.read_u8()?;
+    if segment_selector_size != 0 {
+        return Err(Error::UnsupportedSegmentSize(segment_selector_size));
+    }
+    Ok(address_size)
+}
+
+/// Takes what rows are encoded by. Up to version 3 the maximum of operations isn't there, and is 1.
+#[tactic(auto, unfolding(crate::specs::header::HeaderReading::line_encoding_at))]
+fn parse_line_encoding<R: Reader>(input: &mut R, version: u16) -> Result<LineEncoding>
+    ensures read { (result, R.bytes input.new) ≡ line_encoding_at version (R.bytes input.old) }
+    ensures order { R.big input.new ≡ R.big input.old }
+    ensures allowed { IfOk result IsLineEncoding }
+{
+    let minimum_instruction_length = parse_positive(input, Error::MinimumInstructionLengthZero)?;
+    let maximum_operations_per_instruction = parse_operations(input, version)?;
+    let default_is_stmt = input.read_u8()? != 0;
+    let line_base = input.read_i8()?;
+    let line_range = parse_positive(input, Error::LineRangeZero)?;
+    Ok(LineEncoding {
+        minimum_instruction_length,
+        maximum_operations_per_instruction,
+        default_is_stmt,
+        line_base,
+        line_range,
+    })
+}
+
+/// The maximum of operations of an instruction.
+fn parse_operations<R: Reader>(input: &mut R, version: u16) -> Result<u8>
+    ensures read { (result, R.bytes input.new) ≡ operations_at version (R.bytes input.old) }
+    ensures order { R.big input.new ≡ R.big input.old }
+    ensures positive { IfOk result (λ n. 0 < n) }
+{
+    if version <= 3 {
+        return Ok(1);
+    }
+    parse_positive(input, Error::MaximumOperationsPerInstructionZero)
+}
+
+/// Takes what instructions are executed by.
+#[tactic(auto, unfolding(crate::specs::header::HeaderReading::rules_at))]
+fn parse_parameters<R: Reader>(input: &mut R, encoding: Encoding) -> Result<Parameters>
+    requires { IsTrue (is_address_size encoding.address_size) }
+    ensures read { (result, R.bytes input.new) ≡ rules_at encoding (R.bytes input.old) }
+    ensures order { R.big input.new ≡ R.big input.old }
+    ensures positive { IfOk result (λ parameters. 0 < parameters.opcode_base) }
+{
+    let line_encoding = parse_line_encoding(input, encoding.version)?;
+    let opcode_base = parse_positive(input, Error::OpcodeBaseZero)?;
+    Ok(Parameters {
+        encoding,
+        line_encoding,
+        opcode_base,
+    })
+}
+
+/// What stands in front of the header length, and what that length counts.
+#[derive(Drop)]
+struct Opening<R: Reader> {
+    encoding: Encoding,
+    header_length: R::Offset,
+    /// The further fields of the header.
+    fields: R,
+}
+
+/// Takes a unit up to the end of its header; what is left is its program.
+#[tactic(auto, unfolding(crate::specs::header::HeaderReading::opening_at))]
+fn parse_opening<R: Reader>(
+    input: &mut R,
+    handed: u8,
+    format: Format,
+) -> Result<Opening<R>>
+    requires { IsTrue (is_address_size handed) }
+    ensures read { (seen (λ opening. record { encoding = opening.encoding; header_length = R.Offset.number opening.header_length; fields = R.bytes opening.fields }) result, R.bytes input.new)
+        ≡ opening_at (record { big = R.big input.old; limit = R.Offset.limit }) handed format (R.bytes input.old) }
+    ensures order { R.big input.new ≡ R.big input.old }
+    ensures fields { IfOk result (λ opening. R.big opening.fields ≡ R.big input.old) }
+    ensures size { IfOk result (λ opening. IsTrue (is_address_size opening.encoding.address_size)) }
+{
+    let version = parse_version(input)?;
+    let address_size = parse_address_size(input, version, handed)?;
+    let header_length = input.read_length(format)?;
+    let fields = input.split(header_length)?;
+    Ok(Opening {
+        encoding: Encoding {
+            address_size,
+            format,
+            version,
+        },
+        header_length,
+        fields,
+    })
+}
+
+impl<R, Offset> LineProgramHeader<R, Offset>
+where
+    R: Reader<Offset = Offset>,
+    Offset: ReaderOffset,
+{
+    ghost use Rattle.gimli_line.specs.header.Outcome.{IsAnswer};
+    ghost use Rattle.gimli_line.specs.header.Header.{plain_file};
+    ghost use Rattle.gimli_line.specs.header.HeaderGrammar.{taken};
+    ghost use Rattle.gimli_line.specs.header.HeaderReading.{fields_at, header_at};
+    ghost use Rattle.gimli_line.specs.header.File.{file_seen};
+
+    /// Takes the header of a unit, and its program.
+    #[tactic(auto, unfolding(crate::specs::header::HeaderReading::header_at))]
+    pub(crate) fn parse(
+        alloc: Global,
+        input: &mut R,
+        offset: DebugLineOffset<Offset>,
+        address_size: u8,
+        comp_dir: Option<R>,
+        comp_name: Option<R>,
+    ) -> Result<Self>
+        requires { IsTrue (is_address_size address_size) }
+        ensures read { IsAnswer (λ header. header.meaning) result
+            (header_at (record { big = R.big input.old; limit = Offset.limit })
+            (record { address_size = address_size; directory = option_map R.bytes comp_dir; name = option_map R.bytes comp_name }) (R.bytes input.old)).0 }
+        ensures notation { IfOk result (λ header. header.notation ≡ record { big = R.big input.old; limit = Offset.limit }) }
+        ensures offset { IfOk result (λ header. header.offset ≡ offset) }
+    {
+        let (unit_length, format) = input.read_initial_length()?;
+        let mut program_buf = input.split(unit_length)?;
+        let opening = parse_opening(&mut program_buf, address_size, format)?;
+        Self::parse_fields(
+            alloc,
+            opening,
+            program_buf,
+            offset,
+            unit_length,
+            comp_dir,
+            comp_name,
+        )
+    }
+
+    /// Takes the fields of a header within its length.
+    #[tactic(auto, unfolding(crate::specs::header::HeaderReading::fields_at))]
+    fn parse_fields(
+        alloc: Global,
+        opening: Opening<R>,
+        program_buf: R,
+        offset: DebugLineOffset<Offset>,
+        unit_length: Offset,
+        comp_dir: Option<R>,
+        comp_name: Option<R>,
+    ) -> Result<Self>
+        requires size { IsTrue (is_address_size opening.encoding.address_size) }
+        requires order { R.big opening.fields ≡ R.big program_buf }
+        ensures read { IsAnswer (λ header. header.meaning) result
+            (fields_at (record { big = R.big program_buf; limit = Offset.limit })
+            (record { address_size = opening.encoding.address_size; directory = option_map R.bytes comp_dir; name = option_map R.bytes comp_name })
+            (Offset.number unit_length)
+            (record { encoding = opening.encoding; header_length = Offset.number opening.header_length; fields = R.bytes opening.fields })
+            (R.bytes program_buf) (R.bytes opening.fields)).0 }
+        ensures notation { IfOk result (λ header. header.notation ≡ record { big = R.big program_buf; limit = Offset.limit }) }
+        ensures offset { IfOk result (λ header. header.offset ≡ offset) }
+    {
+        let encoding = opening.encoding;
+        let mut input = opening.fields;
+        let parameters = parse_parameters(&mut input, encoding)?;
+        let standard_opcode_lengths = input.split(Offset::from_u8(parameters.opcode_base - 1))?;
+        let (directory_entry_format, include_directories) = parse_directory_table(
+            alloc, &mut input, encoding,
+        )?;
+        let (file_name_entry_format, file_names) = parse_file_table(alloc, &mut input, encoding)?;
+        Ok(LineProgramHeader {
+            parameters,
+            offset,
+            unit_length,
+            header_length: opening.header_length,
+            standard_opcode_lengths,
+            directory_entry_format,
+            include_directories,
+            file_name_entry_format,
+            file_names,
+            program_buf,
+            comp_dir: Self::comp_dir_of(encoding, comp_dir),
+            comp_file: Self::comp_file_of(encoding, comp_name),
+        })
+    }
+
+    /// The handed directory, where the version takes it.
+    fn comp_dir_of(encoding: Encoding, comp_dir: Option<R>) -> Option<R>
+        ensures { option_map R.bytes result ≡ taken encoding (option_map R.bytes comp_dir) }
+    {
+        if encoding.version <= 4 {
+            comp_dir
+        } else {
+            None
+        }
+    }
+
+    /// The file of the handed name, where the version takes it.
+    fn comp_file_of(encoding: Encoding, comp_name: Option<R>) -> Option<FileEntry<R, Offset>>
+        ensures { option_map (file_seen R.bytes Offset.number) result
+            ≡ taken encoding (option_map (λ path. plain_file path 0 0 0) (option_map R.bytes comp_name)) }
+    {
+        match comp_name {
+            Some(name) if encoding.version <= 4 => Some(FileEntry::of_path(name)),
+            _ => None,
+        }
+    }
+}

@@ -1,0 +1,248 @@
+//! The tables of directories and files.
+
+ghost use Rattle.std.specs.Prelude.{◌≡◌, [], ◌∷◌, ◌++◌, map, IfErr, OnErr, OnOk};
+ghost use Rattle.gimli_core.specs.Reading.{seen, times_at};
+ghost use Rattle.gimli_core.specs.Values.{value_seen};
+ghost use Rattle.gimli_core.specs.declared.attribute_value.AttributeValue.TheVariants.{String};
+ghost use Rattle.gimli_line.specs.header.Outcome.{IsOutcome, viewed};
+ghost use Rattle.gimli_line.specs.header.HeaderGrammar.{path_of, file_of_entry};
+ghost use Rattle.gimli_line.specs.header.HeaderReading.{format_at, formats_at, paths_at, files_at, entry_at, entries_at, directories_at, file_names_at};
+ghost use Rattle.gimli_line.specs.header.File.{file_seen};
+
+use crate::header::file_entry::{FileEntry, FileEntryFormat};
+use crate::header::forms::parse_attribute;
+use gimli_core::{
+    AttributeValue, DwForm, DwLnct, Encoding, Error, Format, Reader, Result, constants,
+};
+use std::alloc::Global;
+
+/// Adds an item at the end. Refused by `OutOfMemory` alone; the list is then as it was.
+pub(crate) fn push<T: Drop>(list: &mut Vec<T>, item: T) -> Result<()>
+    ensures ok { OnOk result (list.new.items ≡ list.old.items ++ item ∷ []) }
+    ensures err { IfErr result (λ e. e ≡ Error.OutOfMemory) }
+    ensures kept { OnErr result (list.new.items ≡ list.old.items) }
+{
+    match list.push(item) {
+        Ok(()) => Ok(()),
+        Err(_) => Err(Error::OutOfMemory),
+    }
+}
+
+// ---- formats
+
+/// Takes the formats of a table. Refused by `MissingFileEntryFormatPath` where not exactly one of them is a path.
+#[tactic(auto, unfolding(crate::specs::header::HeaderReading::formats_at))]
+pub(crate) fn parse_formats<R: Reader>(alloc: Global, input: &mut R) -> Result<Vec<FileEntryFormat>>
+    ensures read { IsOutcome (λ formats. formats.items) result (R.bytes input.new) (formats_at (R.bytes input.old)) }
+    ensures order { R.big input.new ≡ R.big input.old }
+{
+    let count = input.read_u8()?;
+    let formats = parse_all_formats(alloc, input, count)?;
+    let paths = formats
+        .iter()
+        .filter(|format| format.content_type == constants::DW_LNCT_path)
+        .count();
+    if paths != 1 {
+        return Err(Error::MissingFileEntryFormatPath);
+    }
+    Ok(formats)
+}
+
+/// Takes so many formats.
+fn parse_all_formats<R: Reader>(
+    alloc: Global,
+    input: &mut R,
+    count: u8,
+) -> Result<Vec<FileEntryFormat>>
+    ensures read { IsOutcome (λ formats. formats.items) result (R.bytes input.new) (times_at count format_at (R.bytes input.old)) }
+    ensures order { R.big input.new ≡ R.big input.old }
+{
+    let mut formats = Vec::new(alloc);
+    for _ in 0..count {
+        let format = parse_format(input)?;
+        push(&mut formats, format)?;
+    }
+    Ok(formats)
+}
+
+/// Takes a format. A content type that is too large becomes the greatest one.
+#[tactic(auto, unfolding(crate::specs::header::HeaderReading::format_at))]
+fn parse_format<R: Reader>(input: &mut R) -> Result<FileEntryFormat>
+    ensures read { (result, R.bytes input.new) ≡ format_at (R.bytes input.old) }
+    ensures order { R.big input.new ≡ R.big input.old }
+{
+    let content_type = input.read_uleb128()?.min(0xffff) as u16;
+    let form = input.read_uleb128_u16()?;
+    Ok(FileEntryFormat {
+        content_type: DwLnct(content_type),
+        form: DwForm(form),
+    })
+}
+
+// ---- tables up to version 4
+
+/// Takes directories up to an empty one.
+fn parse_directories<R: Reader>(alloc: Global, input: &mut R) -> Result<Vec<AttributeValue<R>>>
+    ensures read { IsOutcome (λ directories. map (value_seen R.bytes R.Offset.number) directories.items) result (R.bytes input.new)
+        (viewed (map String) (paths_at (R.bytes input.old))) }
+    ensures order { R.big input.new ≡ R.big input.old }
+{
+    let mut directories = Vec::new(alloc);
+    loop {
+        let directory = input.read_null_terminated_slice()?;
+        if directory.is_empty() {
+            return Ok(directories);
+        }
+        push(&mut directories, AttributeValue::String(directory))?;
+    }
+}
+
+/// Takes files up to one with an empty path.
+fn parse_files<R: Reader>(alloc: Global, input: &mut R) -> Result<Vec<FileEntry<R>>>
+    ensures read { IsOutcome (λ files. map (file_seen R.bytes R.Offset.number) files.items) result (R.bytes input.new)
+        (files_at (R.bytes input.old)) }
+    ensures order { R.big input.new ≡ R.big input.old }
+{
+    let mut files = Vec::new(alloc);
+    loop {
+        let path_name = input.read_null_terminated_slice()?;
+        if path_name.is_empty() {
+            return Ok(files);
+        }
+        let file = FileEntry::parse(input, path_name)?;
+        push(&mut files, file)?;
+    }
+}
+
+// ---- tables of version 5
+
+/// A reader in the place of an empty text.
+fn nothing<R: Reader>(input: &R) -> R
+    ensures { R.bytes result ≡ [] }
+{
+    let mut nothing = *input;
+    nothing.empty();
+    nothing
+}
+
+/// Takes an entry of a directory, and gives its path. Where no format is a path, that is empty.
+fn parse_directory_v5<R: Reader>(
+    input: &mut R,
+    format: Format,
+    formats: &[FileEntryFormat],
+) -> Result<AttributeValue<R>>
+    ensures read { (seen (value_seen R.bytes R.Offset.number) result, R.bytes input.new)
+        ≡ viewed path_of (entry_at (record { big = R.big input.old; limit = R.Offset.limit }) format formats.now (R.bytes input.old)) }
+    ensures order { R.big input.new ≡ R.big input.old }
+{
+    let mut path_name = AttributeValue::String(nothing(input));
+    for entry_format in formats {
+        let value = parse_attribute(input, format, entry_format.form)?;
+        if entry_format.content_type == constants::DW_LNCT_path {
+            path_name = value;
+        }
+    }
+    Ok(path_name)
+}
+
+/// Takes an entry of a file. Where no format is a path, its path is empty.
+fn parse_file_v5<R: Reader>(
+    input: &mut R,
+    format: Format,
+    formats: &[FileEntryFormat],
+) -> Result<FileEntry<R>>
+    ensures read { (seen (file_seen R.bytes R.Offset.number) result, R.bytes input.new)
+        ≡ viewed file_of_entry (entry_at (record { big = R.big input.old; limit = R.Offset.limit }) format formats.now (R.bytes input.old)) }
+    ensures order { R.big input.new ≡ R.big input.old }
+{
+    let mut file = FileEntry::of_path(nothing(input));
+    for entry_format in formats {
+        let value = parse_attribute(input, format, entry_format.form)?;
+        file.update(entry_format.content_type, value);
+    }
+    Ok(file)
+}
+
+/// Takes a count and so many directories.
+#[tactic(auto, unfolding(crate::specs::header::HeaderReading::entries_at))]
+fn parse_directories_v5<R: Reader>(
+    alloc: Global,
+    input: &mut R,
+    format: Format,
+    formats: &[FileEntryFormat],
+) -> Result<Vec<AttributeValue<R>>>
+    ensures read { IsOutcome (λ directories. map (value_seen R.bytes R.Offset.number) directories.items) result (R.bytes input.new)
+        (viewed (map path_of) (entries_at (record { big = R.big input.old; limit = R.Offset.limit }) format formats.now (R.bytes input.old))) }
+    ensures order { R.big input.new ≡ R.big input.old }
+{
+    let count = input.read_uleb128()?;
+    let mut directories = Vec::new(alloc);
+    for _ in 0..count {
+        let directory = parse_directory_v5(input, format, formats)?;
+        push(&mut directories, directory)?;
+    }
+    Ok(directories)
+}
+
+/// Takes a count and so many files.
+#[tactic(auto, unfolding(crate::specs::header::HeaderReading::entries_at))]
+fn parse_files_v5<R: Reader>(
+    alloc: Global,
+    input: &mut R,
+    format: Format,
+    formats: &[FileEntryFormat],
+) -> Result<Vec<FileEntry<R>>>
+    ensures read { IsOutcome (λ files. map (file_seen R.bytes R.Offset.number) files.items) result (R.bytes input.new)
+        (viewed (map file_of_entry) (entries_at (record { big = R.big input.old; limit = R.Offset.limit }) format formats.now (R.bytes input.old))) }
+    ensures order { R.big input.new ≡ R.big input.old }
+{
+    let count = input.read_uleb128()?;
+    let mut files = Vec::new(alloc);
+    for _ in 0..count {
+        let file = parse_file_v5(input, format, formats)?;
+        push(&mut files, file)?;
+    }
+    Ok(files)
+}
+
+// ---- tables of a version
+
+/// Takes the directories, with their formats.
+#[tactic(auto, unfolding(crate::specs::header::HeaderReading::directories_at, crate::specs::header::HeaderReading::table_at))]
+pub(crate) fn parse_directory_table<R: Reader>(
+    alloc: Global,
+    input: &mut R,
+    encoding: Encoding,
+) -> Result<(Vec<FileEntryFormat>, Vec<AttributeValue<R>>)>
+    ensures read { IsOutcome (λ table. (table.0.items, map (value_seen R.bytes R.Offset.number) table.1.items)) result (R.bytes input.new)
+        (directories_at (record { big = R.big input.old; limit = R.Offset.limit }) encoding (R.bytes input.old)) }
+    ensures order { R.big input.new ≡ R.big input.old }
+{
+    if encoding.version <= 4 {
+        let directories = parse_directories(alloc, input)?;
+        return Ok((Vec::new(alloc), directories));
+    }
+    let formats = parse_formats(alloc, input)?;
+    let directories = parse_directories_v5(alloc, input, encoding.format, &formats)?;
+    Ok((formats, directories))
+}
+
+/// Takes the files, with their formats.
+#[tactic(auto, unfolding(crate::specs::header::HeaderReading::file_names_at, crate::specs::header::HeaderReading::table_at))]
+pub(crate) fn parse_file_table<R: Reader>(
+    alloc: Global,
+    input: &mut R,
+    encoding: Encoding,
+) -> Result<(Vec<FileEntryFormat>, Vec<FileEntry<R>>)>
+    ensures read { IsOutcome (λ table. (table.0.items, map (file_seen R.bytes R.Offset.number) table.1.items)) result (R.bytes input.new)
+        (file_names_at (record { big = R.big input.old; limit = R.Offset.limit }) encoding (R.bytes input.old)) }
+    ensures order { R.big input.new ≡ R.big input.old }
+{
+    if encoding.version <= 4 {
+        let files = parse_files(alloc, input)?;
+        return Ok((Vec::new(alloc), files));
+    }
+    let formats = parse_formats(alloc, input)?;
+    let files = parse_files_v5(alloc, input, encoding.format, &formats)?;
+    Ok((formats, files))
+}

@@ -1,0 +1,7 @@
+//! Runs: instructions, registers, rows and sequences.
+
+pub(crate) mod instruction;
+pub(crate) mod program;
+pub(crate) mod row;
+pub(crate) mod rows;
+pub(crate) mod sequences;

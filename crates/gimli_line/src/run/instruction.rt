@@ -1,0 +1,328 @@
+ghost use Rattle.std.specs.Prelude.{◌≡◌, ◌-◌, IfSome, slice_index};
+ghost use Rattle.gimli_core.specs.Reading.{seen, times_at, unsigned_at};
+ghost use Rattle.gimli_line.specs.run.InstructionReading.{bytes_at, passed_over};
+
+use crate::header::file_entry::FileEntry;
+use crate::header::forms::parse_offset;
+use crate::header::program_header::LineProgramHeader;
+use gimli_core::{DwLne, DwLns, Reader, ReaderOffset, Result, constants};
+use std::marker::Model;
+
+/// An instruction of a line program.
+#[derive(Clone, Copy, Debug, PartialEq, Eq)]
+pub enum LineInstruction<R, Offset = <R as Reader>::Offset>
+where
+    R: Reader<Offset = Offset>,
+    Offset: ReaderOffset,
+{
+    /// An opcode from the opcode base on: advances address, op_index and line together, and makes a row.
+    Special(u8),
+    /// Makes a row.
+    Copy,
+    /// Advances address and op_index by so many operations.
+    AdvancePc(u64),
+    /// Advances the line.
+    AdvanceLine(i64),
+    /// Sets the file, by its index in the header.
+    SetFile(u64),
+    /// Sets the column; 0 is the left edge of the line.
+    SetColumn(u64),
+    /// Turns whether rows begin a statement.
+    NegateStatement,
+    /// The next row begins a basic block.
+    SetBasicBlock,
+    /// Advances address and op_index as special opcode 255 does.
+    ConstAddPc,
+    /// Adds so many bytes to the address, and sets op_index to 0.
+    FixedAddPc(u16),
+    /// The next row ends a function's prologue.
+    SetPrologueEnd,
+    /// The next row begins a function's epilogue.
+    SetEpilogueBegin,
+    /// Sets the instruction set.
+    SetIsa(u64),
+    /// A standard opcode that isn't known, without operands.
+    UnknownStandard0(DwLns),
+    /// A standard opcode that isn't known, with one operand.
+    UnknownStandard1(DwLns, u64),
+    /// A standard opcode that isn't known, with several operands, and the bytes of these.
+    UnknownStandardN(DwLns, R),
+    /// Makes the last row of a sequence. All registers start anew behind it.
+    EndSequence,
+    /// Sets the address, and op_index to 0; or hides the rows to come, where the address stands for nothing.
+    SetAddress(u64),
+    /// Adds a file to the header's files, up to version 4.
+    DefineFile(FileEntry<R, Offset>),
+    /// Sets the discriminator of the next row.
+    SetDiscriminator(u64),
+    /// An extended opcode that isn't known, and the bytes behind it.
+    UnknownExtended(DwLne, R),
+}
+
+impl<R, Offset> LineInstruction<R, Offset>
+where
+    R: Reader<Offset = Offset>,
+    Offset: ReaderOffset,
+{
+    ghost use Rattle.std.specs.Prelude.{◌≡◌, ◌<◌, ◌≤◌, ℕ, List, IfOk};
+    ghost use Rattle.gimli_core.specs.Reading.{seen};
+    ghost use Rattle.gimli_line.specs.run.Instruction.{ins_seen, makes_row};
+    ghost use Rattle.gimli_line.specs.run.InstructionReading.{ins_at, extended_at, extended_operands_at, standard_at, unknown_at};
+    ghost use Rattle.gimli_line.specs.run.Machine.{IsAllowed};
+
+    /// Whether it makes a row, hidden or not.
+    pub(crate) fn makes_row(&self) -> bool
+        ensures { result ≡ makes_row (ins_seen R.bytes Offset.number self.now) }
+    {
+        match self {
+            LineInstruction::Special(_) | LineInstruction::Copy | LineInstruction::EndSequence => {
+                true
+            }
+            _ => false,
+        }
+    }
+
+    /// Takes an instruction.
+    #[tactic(auto, unfolding(crate::specs::run::InstructionReading::ins_at))]
+    pub(crate) fn parse(header: &LineProgramHeader<R, Offset>, input: &mut R) -> Result<Self>
+        ensures read { (seen (ins_seen R.bytes Offset.number) result, R.bytes input.new)
+            ≡ ins_at (record { big = R.big input.old; limit = Offset.limit }) header.now.meaning (R.bytes input.old) }
+        ensures order { R.big input.new ≡ R.big input.old }
+        ensures allowed { IfOk result (λ i. IsAllowed header.now.meaning.parameters (ins_seen R.bytes Offset.number i)) }
+    {
+        let opcode = input.read_u8()?;
+        if opcode == 0 {
+            return Self::parse_extended(header, input);
+        }
+        if opcode >= header.opcode_base() {
+            return Ok(LineInstruction::Special(opcode));
+        }
+        Self::parse_standard(header, DwLns(opcode), input)
+    }
+
+    /// Takes what stands behind the zero byte of an extended instruction. Surplus bytes within its length are
+    /// skipped.
+    #[tactic(auto, unfolding(crate::specs::run::InstructionReading::extended_at))]
+    fn parse_extended(header: &LineProgramHeader<R, Offset>, input: &mut R) -> Result<Self>
+        ensures read { (seen (ins_seen R.bytes Offset.number) result, R.bytes input.new)
+            ≡ extended_at (record { big = R.big input.old; limit = Offset.limit }) header.now.meaning (R.bytes input.old) }
+        ensures order { R.big input.new ≡ R.big input.old }
+        ensures allowed { IfOk result (λ i. IsAllowed header.now.meaning.parameters (ins_seen R.bytes Offset.number i)) }
+    {
+        let length = parse_offset(input)?;
+        let mut inside = input.split(length)?;
+        let opcode = inside.read_u8()?;
+        Self::parse_extended_operands(header, DwLne(opcode), inside)
+    }
+
+    /// Takes the operands of an extended opcode, from the bytes behind it within its instruction.
+    #[tactic(auto, unfolding(crate::specs::run::InstructionReading::extended_operands_at))]
+    fn parse_extended_operands(
+        header: &LineProgramHeader<R, Offset>,
+        opcode: DwLne,
+        operands: R,
+    ) -> Result<Self>
+        ensures read { (behind : List ℕ) → (seen (ins_seen R.bytes Offset.number) result, behind)
+            ≡ extended_operands_at (record { big = R.big operands; limit = Offset.limit }) header.now.meaning opcode.0 (R.bytes operands) behind }
+        ensures allowed { IfOk result (λ i. IsAllowed header.now.meaning.parameters (ins_seen R.bytes Offset.number i)) }
+    {
+        let encoding = header.parameters.encoding;
+        let mut input = operands;
+        match opcode {
+            constants::DW_LNE_end_sequence => Ok(LineInstruction::EndSequence),
+            constants::DW_LNE_set_address => {
+                let address = input.read_address(encoding.address_size)?;
+                Ok(LineInstruction::SetAddress(address))
+            }
+            constants::DW_LNE_define_file if encoding.version <= 4 => {
+                let path_name = input.read_null_terminated_slice()?;
+                let file = FileEntry::parse(&mut input, path_name)?;
+                Ok(LineInstruction::DefineFile(file))
+            }
+            constants::DW_LNE_set_discriminator => {
+                let discriminator = input.read_uleb128()?;
+                Ok(LineInstruction::SetDiscriminator(discriminator))
+            }
+            _ => Ok(LineInstruction::UnknownExtended(opcode, operands)),
+        }
+    }
+
+    /// Takes the operands of an opcode below the opcode base.
+    #[tactic(auto, unfolding(crate::specs::run::InstructionReading::standard_at))]
+    fn parse_standard(
+        header: &LineProgramHeader<R, Offset>,
+        opcode: DwLns,
+        input: &mut R,
+    ) -> Result<Self>
+        requires { 0 < opcode.0 }
+        ensures read { (seen (ins_seen R.bytes Offset.number) result, R.bytes input.new)
+            ≡ standard_at (record { big = R.big input.old; limit = Offset.limit }) header.now.meaning opcode.0 (R.bytes input.old) }
+        ensures order { R.big input.new ≡ R.big input.old }
+        ensures allowed { IfOk result (λ i. IsAllowed header.now.meaning.parameters (ins_seen R.bytes Offset.number i)) }
+    {
+        match opcode {
+            constants::DW_LNS_copy => Ok(LineInstruction::Copy),
+            constants::DW_LNS_advance_pc => Ok(LineInstruction::AdvancePc(input.read_uleb128()?)),
+            constants::DW_LNS_advance_line => {
+                Ok(LineInstruction::AdvanceLine(input.read_sleb128()?))
+            }
+            constants::DW_LNS_set_file => Ok(LineInstruction::SetFile(input.read_uleb128()?)),
+            constants::DW_LNS_set_column => Ok(LineInstruction::SetColumn(input.read_uleb128()?)),
+            constants::DW_LNS_negate_stmt => Ok(LineInstruction::NegateStatement),
+            constants::DW_LNS_set_basic_block => Ok(LineInstruction::SetBasicBlock),
+            constants::DW_LNS_const_add_pc => Ok(LineInstruction::ConstAddPc),
+            constants::DW_LNS_fixed_advance_pc => {
+                Ok(LineInstruction::FixedAddPc(input.read_u16()?))
+            }
+            constants::DW_LNS_set_prologue_end => Ok(LineInstruction::SetPrologueEnd),
+            constants::DW_LNS_set_epilogue_begin => Ok(LineInstruction::SetEpilogueBegin),
+            constants::DW_LNS_set_isa => Ok(LineInstruction::SetIsa(input.read_uleb128()?)),
+            _ => Self::parse_unknown(header, opcode, input),
+        }
+    }
+
+    /// Takes as many operands of an opcode as the header counts.
+    #[tactic(auto, unfolding(crate::specs::run::InstructionReading::unknown_at))]
+    fn parse_unknown(
+        header: &LineProgramHeader<R, Offset>,
+        opcode: DwLns,
+        input: &mut R,
+    ) -> Result<Self>
+        requires { 0 < opcode.0 }
+        ensures read { (seen (ins_seen R.bytes Offset.number) result, R.bytes input.new)
+            ≡ unknown_at (record { big = R.big input.old; limit = Offset.limit }) header.now.meaning opcode.0 (slice_index header.now.meaning.operand_counts (opcode.0 - 1)) (R.bytes input.old) }
+        ensures order { R.big input.new ≡ R.big input.old }
+        ensures allowed { IfOk result (λ i. IsAllowed header.now.meaning.parameters (ins_seen R.bytes Offset.number i)) }
+    {
+        match header.operand_count(opcode) {
+            0 => Ok(LineInstruction::UnknownStandard0(opcode)),
+            1 => Ok(LineInstruction::UnknownStandard1(opcode, input.read_uleb128()?)),
+            count => {
+                let operands = parse_operands(input, count)?;
+                Ok(LineInstruction::UnknownStandardN(opcode, operands))
+            }
+        }
+    }
+}
+
+/// Takes so many LEB128 numbers, as the bytes that spell them.
+fn parse_operands<R: Reader>(input: &mut R, count: u8) -> Result<R>
+    ensures read { (seen R.bytes result, R.bytes input.new) ≡ bytes_at (times_at count unsigned_at) (R.bytes input.old) }
+    ensures order { R.big input.new ≡ R.big input.old }
+{
+    let mut operands = *input;
+    skip_operands(input, count)?;
+    let len = input.offset_from(&operands);
+    operands.truncate(len)?;
+    Ok(operands)
+}
+
+/// Takes so many LEB128 numbers.
+fn skip_operands<R: Reader>(input: &mut R, count: u8) -> Result<()>
+    ensures read { (result, R.bytes input.new) ≡ passed_over (times_at count unsigned_at (R.bytes input.old)) }
+    ensures order { R.big input.new ≡ R.big input.old }
+{
+    for _ in 0..count {
+        input.read_uleb128()?;
+    }
+    Ok(())
+}
+
+/// The instructions of a program that are still to come.
+#[derive(Clone, Debug, Drop)]
+pub struct LineInstructions<R: Reader> {
+    input: R,
+}
+
+impl<R: Reader> Model for LineInstructions<R> {
+    ghost use Rattle.gimli_line.specs.run.Unread.{Unread};
+
+    ghost Value = { Unread };
+
+    ghost view = { λ a. record { bytes = R.bytes a.input; notation = record { big = R.big a.input; limit = R.Offset.limit } } };
+}
+
+impl<R: Reader> LineInstructions<R> {
+    ghost use Rattle.std.specs.Prelude.{◌≡◌, ◌≢◌, [], ◌++◌, List, ℕ, IfOk, IfErr, MatchOption};
+    ghost use Rattle.gimli_line.specs.run.Instruction.{ins_seen};
+    ghost use Rattle.std.specs.Prelude.{Ok};
+    ghost use Rattle.gimli_line.specs.run.InstructionGrammar.{SpellsInstruction, instruction_production};
+    ghost use Rattle.gimli_line.specs.run.Machine.{IsAllowed};
+    ghost use Rattle.gimli_line.specs.run.Unread.{in_front};
+
+    /// The instructions of these bytes.
+    pub(crate) fn new(input: R) -> Self
+        ensures { result ≡ record { bytes = R.bytes input; notation = record { big = R.big input; limit = R.Offset.limit } } }
+    {
+        LineInstructions { input }
+    }
+
+    /// The same instructions.
+    pub fn clone(&self) -> Self
+        ensures { result ≡ self.now }
+    {
+        LineInstructions { input: self.input }
+    }
+
+    /// Lets all instructions go.
+    pub(crate) fn clear(&mut self)
+        ensures { self.new ≡ record self.old { bytes = [] } }
+    {
+        self.input.empty();
+    }
+
+    /// The instructions in front of a rest of these.
+    pub(crate) fn remove_trailing(&self, rest: &LineInstructions<R>) -> Result<LineInstructions<R>>
+        requires { (front : List ℕ) × (self.now.bytes ≡ front ++ rest.now.bytes) }
+        ensures { result ≡ Ok (in_front self.now rest.now) }
+    {
+        let len = rest.input.offset_from(&self.input);
+        let mut input = self.input;
+        input.truncate(len)?;
+        Ok(LineInstructions { input })
+    }
+
+    /// Takes the next instruction, by the header of its program; None where no bytes are left. Refused as the
+    /// first part of it that isn't there says: `UnexpectedEof`, `BadUnsignedLeb128`, `BadSignedLeb128`, or
+    /// `UnsupportedOffset` where a length is too large for the reader's offsets. Behind a refusal there are no
+    /// more instructions.
+    pub fn next_instruction(
+        &mut self,
+        header: &LineProgramHeader<R>,
+    ) -> Result<Option<LineInstruction<R>>>
+        ensures next { IfOk result (λ next. MatchOption next
+            ((self.old.bytes ≡ []) × (self.new.bytes ≡ []))
+            (λ i. (front : List ℕ) × (self.old.bytes ≡ front ++ self.new.bytes)
+            × SpellsInstruction self.old.notation header.now.meaning front (ins_seen R.bytes R.Offset.number i))) }
+        ensures refusal { IfErr result (λ e. (self.old.bytes ≢ []) × (self.new.bytes ≡ [])
+            × (instruction_production self.old.notation header.now.meaning).Fault self.old.bytes e) }
+        ensures allowed { IfOk result (λ next. IfSome next (λ i. IsAllowed header.now.meaning.parameters (ins_seen R.bytes R.Offset.number i))) }
+        ensures notation { self.new.notation ≡ self.old.notation }
+    {
+        if self.input.is_empty() {
+            return Ok(None);
+        }
+        match LineInstruction::parse(header, &mut self.input) {
+            Ok(instruction) => Ok(Some(instruction)),
+            Err(e) => {
+                self.input.empty();
+                Err(e)
+            }
+        }
+    }
+}
+
+impl<R, Offset> LineProgramHeader<R, Offset>
+where
+    R: Reader<Offset = Offset>,
+    Offset: ReaderOffset,
+{
+    ghost use Rattle.std.specs.Prelude.{◌≡◌};
+
+    /// The instructions of the program.
+    pub fn instructions(&self) -> LineInstructions<R>
+        ensures { result ≡ record { bytes = self.now.meaning.program; notation = self.now.notation } }
+    {
+        LineInstructions::new(self.program_buf)
+    }
+}

@@ -1,0 +1,397 @@
+ghost use Rattle.std.specs.Prelude.{◌≡◌, ◌≢◌, ◌≤◌, ◌+◌, true, false, IfErr, IfOk, IsTrue, MatchOption, OnErr, OnOk, option_map};
+ghost use Rattle.std.specs.Int.NonZero.{non_zero_u64_get};
+
+use crate::header::file_entry::FileEntry;
+use crate::header::parameters::Parameters;
+use crate::header::program_header::LineProgramHeader;
+use crate::run::instruction::LineInstruction;
+use crate::run::program::LineProgram;
+use gimli_core::{Error, Reader, ReaderAddress, ReaderOffset, Result};
+use std::num::NonZeroU64;
+
+/// A row, or the registers on the way to one.
+#[derive(Clone, Copy, Debug, PartialEq, Eq)]
+pub struct LineRow {
+    /// The last set address hides what follows it.
+    hidden: bool,
+    address: u64,
+    op_index: u64,
+    file: u64,
+    line: u64,
+    column: u64,
+    is_stmt: bool,
+    basic_block: bool,
+    end_sequence: bool,
+    prologue_end: bool,
+    epilogue_begin: bool,
+    isa: u64,
+    discriminator: u64,
+}
+
+/// The column of a row. The left edge is below all columns.
+#[derive(Clone, Copy, Debug, PartialEq, Eq, PartialOrd, Ord)]
+pub enum ColumnType {
+    /// The left edge of the line.
+    LeftEdge,
+    /// A column, from 1 on.
+    Column(NonZeroU64),
+}
+
+impl LineRow {
+    ghost use Rattle.gimli_line.specs.header.Header.{file_of};
+    ghost use Rattle.gimli_line.specs.run.Instruction.{files_behind};
+    ghost use Rattle.gimli_line.specs.run.Instruction.{ins_seen, makes_row, defines_file};
+    ghost use Rattle.gimli_line.specs.header.File.{file_seen};
+    ghost use Rattle.gimli_line.specs.run.Machine.{initial, reset_row, rebased, IsAllowed, is_refused, stepped, with_register};
+    ghost use Rattle.gimli_line.specs.run.OperationPointer.{exceeds};
+    ghost use Rattle.gimli_line.specs.run.Row.{IsColumn};
+    ghost use Rattle.gimli_line.specs.run.Registers.{advanced_line};
+
+    /// The registers at the start of a sequence.
+    pub fn new<R: Reader>(header: &LineProgramHeader<R>) -> Self
+        ensures { result ≡ initial header.now.meaning.parameters }
+    {
+        LineRow {
+            hidden: false,
+            address: 0,
+            op_index: 0,
+            file: 1,
+            line: 1,
+            column: 0,
+            is_stmt: header.default_is_stmt(),
+            basic_block: false,
+            end_sequence: false,
+            prologue_end: false,
+            epilogue_begin: false,
+            isa: 0,
+            discriminator: 0,
+        }
+    }
+
+    /// The address of the machine instruction, in bytes.
+    pub fn address(&self) -> u64
+        ensures { result ≡ self.now.address }
+    {
+        self.address
+    }
+
+    /// Which operation of the machine instruction, from 0 on.
+    pub fn op_index(&self) -> u64
+        ensures { result ≡ self.now.op_index }
+    {
+        self.op_index
+    }
+
+    /// The index of the source file in the header.
+    pub fn file_index(&self) -> u64
+        ensures { result ≡ self.now.file }
+    {
+        self.file
+    }
+
+    /// The source file, as far as the header has it.
+    pub fn file<'header, R: Reader>(
+        &self,
+        header: &'header LineProgramHeader<R>,
+    ) -> Option<&'header FileEntry<R>>
+        ensures { option_map (λ found. file_seen R.bytes R.Offset.number found.now) result ≡ file_of header.now.meaning self.now.file }
+    {
+        header.file(self.file)
+    }
+
+    /// The line, from 1 on; None where the instruction belongs to no line.
+    pub fn line(&self) -> Option<NonZeroU64>
+        ensures { MatchOption result (self.now.line ≡ 0) (λ line. non_zero_u64_get line ≡ self.now.line) }
+    {
+        NonZeroU64::new(self.line)
+    }
+
+    /// The column.
+    pub fn column(&self) -> ColumnType
+        ensures { IsColumn result self.now.column }
+    {
+        match NonZeroU64::new(self.column) {
+            Some(column) => ColumnType::Column(column),
+            None => ColumnType::LeftEdge,
+        }
+    }
+
+    /// Whether this is a good place for a breakpoint.
+    pub fn is_stmt(&self) -> bool
+        ensures { result ≡ self.now.is_stmt }
+    {
+        self.is_stmt
+    }
+
+    /// Whether a basic block begins here.
+    pub fn basic_block(&self) -> bool
+        ensures { result ≡ self.now.basic_block }
+    {
+        self.basic_block
+    }
+
+    /// Whether this is the first byte behind a sequence. What else the row says means nothing then.
+    pub fn end_sequence(&self) -> bool
+        ensures { result ≡ self.now.end_sequence }
+    {
+        self.end_sequence
+    }
+
+    /// Whether the prologue of a function ends here.
+    pub fn prologue_end(&self) -> bool
+        ensures { result ≡ self.now.prologue_end }
+    {
+        self.prologue_end
+    }
+
+    /// Whether the epilogue of a function begins here.
+    pub fn epilogue_begin(&self) -> bool
+        ensures { result ≡ self.now.epilogue_begin }
+    {
+        self.epilogue_begin
+    }
+
+    /// The instruction set of the machine instruction, by the machine's own numbers.
+    pub fn isa(&self) -> u64
+        ensures { result ≡ self.now.isa }
+    {
+        self.isa
+    }
+
+    /// Tells blocks of one source place apart.
+    pub fn discriminator(&self) -> u64
+        ensures { result ≡ self.now.discriminator }
+    {
+        self.discriminator
+    }
+
+    /// Whether the row is hidden.
+    pub(crate) fn is_hidden(&self) -> bool
+        ensures { result ≡ self.now.hidden }
+    {
+        self.hidden
+    }
+
+    /// Executes an instruction, and says whether it makes a row, which may be hidden. A file that it defines is
+    /// added to the program. Refused by `AddressOverflow` where the address would pass the greatest one of its
+    /// size; the address stays then, and line and op_index go on. Refused by `OutOfMemory` where a file can't be
+    /// added; nothing is changed then.
+    pub fn execute<R: Reader, P: LineProgram<R>>(
+        &mut self,
+        instruction: LineInstruction<R>,
+        program: &mut P,
+    ) -> Result<bool>
+        requires { IsAllowed (P.meaning program.old).parameters (ins_seen R.bytes R.Offset.number instruction) }
+        ensures made { IfOk result (λ made. made ≡ makes_row (ins_seen R.bytes R.Offset.number instruction)) }
+        ensures step { OnOk result (self.new ≡ stepped (P.meaning program.old).parameters (ins_seen R.bytes R.Offset.number instruction) self.old) }
+        ensures fits { OnOk result (is_refused (P.meaning program.old).parameters (ins_seen R.bytes R.Offset.number instruction) self.old ≡ false) }
+        ensures files { OnOk result (P.meaning program.new ≡ record (P.meaning program.old) { files = files_behind P.appends (ins_seen R.bytes R.Offset.number instruction) (P.meaning program.old).files }) }
+        ensures overflow { IfErr result (λ e. e ≡ Error.AddressOverflow →
+            (is_refused (P.meaning program.old).parameters (ins_seen R.bytes R.Offset.number instruction) self.old ≡ true)
+            × (self.new ≡ stepped (P.meaning program.old).parameters (ins_seen R.bytes R.Offset.number instruction) self.old)) }
+        ensures memory { IfErr result (λ e. e ≢ Error.AddressOverflow →
+            (e ≡ Error.OutOfMemory) × (P.appends ≡ true) × (defines_file (ins_seen R.bytes R.Offset.number instruction) ≡ true) × (self.new ≡ self.old)) }
+        ensures kept { OnErr result (P.meaning program.new ≡ P.meaning program.old) }
+        ensures notation { P.notation program.new ≡ P.notation program.old }
+        ensures offset { P.offset program.new ≡ P.offset program.old }
+    {
+        let parameters = program.header().parameters;
+        if let LineInstruction::DefineFile(file) = instruction {
+            program.add_file(file)?;
+            return Ok(false);
+        }
+        self.step(instruction, &parameters)?;
+        Ok(instruction.makes_row())
+    }
+
+    /// Executes an instruction on the registers alone.
+    fn step<R: Reader>(
+        &mut self,
+        instruction: LineInstruction<R>,
+        parameters: &Parameters,
+    ) -> Result<()>
+        requires { IsAllowed parameters.now (ins_seen R.bytes R.Offset.number instruction) }
+        ensures step { self.new ≡ stepped parameters.now (ins_seen R.bytes R.Offset.number instruction) self.old }
+        ensures fits { OnOk result (is_refused parameters.now (ins_seen R.bytes R.Offset.number instruction) self.old ≡ false) }
+        ensures overflow { IfErr result (λ e. (e ≡ Error.AddressOverflow) × (is_refused parameters.now (ins_seen R.bytes R.Offset.number instruction) self.old ≡ true)) }
+    {
+        match instruction {
+            LineInstruction::Special(opcode) => self.exec_special_opcode(opcode, parameters),
+            LineInstruction::AdvancePc(advance) => {
+                self.apply_operation_advance(advance, parameters)
+            }
+            LineInstruction::ConstAddPc => self.exec_const_add_pc(parameters),
+            LineInstruction::FixedAddPc(advance) => self.exec_fixed_add_pc(advance, parameters),
+            LineInstruction::SetAddress(address) => {
+                self.exec_set_address(address, parameters);
+                Ok(())
+            }
+            LineInstruction::Copy
+            | LineInstruction::AdvanceLine(_)
+            | LineInstruction::SetFile(_)
+            | LineInstruction::SetColumn(_)
+            | LineInstruction::NegateStatement
+            | LineInstruction::SetBasicBlock
+            | LineInstruction::SetPrologueEnd
+            | LineInstruction::SetEpilogueBegin
+            | LineInstruction::SetIsa(_)
+            | LineInstruction::EndSequence
+            | LineInstruction::DefineFile(_)
+            | LineInstruction::SetDiscriminator(_)
+            | LineInstruction::UnknownStandard0(_)
+            | LineInstruction::UnknownStandard1(_, _)
+            | LineInstruction::UnknownStandardN(_, _)
+            | LineInstruction::UnknownExtended(_, _) => {
+                self.set_register(instruction);
+                Ok(())
+            }
+        }
+    }
+
+    /// Executes an instruction that sets a register by its operand alone; any other changes nothing.
+    fn set_register<R: Reader>(&mut self, instruction: LineInstruction<R>)
+        ensures { self.new ≡ with_register (ins_seen R.bytes R.Offset.number instruction) self.old }
+    {
+        match instruction {
+            LineInstruction::AdvanceLine(advance) => self.apply_line_advance(advance),
+            LineInstruction::SetFile(file) => self.file = file,
+            LineInstruction::SetColumn(column) => self.column = column,
+            LineInstruction::NegateStatement => self.is_stmt = !self.is_stmt,
+            LineInstruction::SetBasicBlock => self.basic_block = true,
+            LineInstruction::SetPrologueEnd => self.prologue_end = true,
+            LineInstruction::SetEpilogueBegin => self.epilogue_begin = true,
+            LineInstruction::SetIsa(isa) => self.isa = isa,
+            LineInstruction::SetDiscriminator(discriminator) => self.discriminator = discriminator,
+            LineInstruction::EndSequence => self.end_sequence = true,
+            _ => {}
+        }
+    }
+
+    /// Makes the registers ready for what follows a row: those of a row alone are cleared, and behind an end all
+    /// start anew.
+    pub fn reset<R: Reader>(&mut self, header: &LineProgramHeader<R>)
+        ensures { self.new ≡ reset_row header.now.meaning.parameters self.old }
+    {
+        if self.end_sequence {
+            *self = Self::new(header);
+        } else {
+            self.discriminator = 0;
+            self.basic_block = false;
+            self.prologue_end = false;
+            self.epilogue_begin = false;
+        }
+    }
+
+    /// Sets the address and op_index to 0, and hides nothing from here on, so that addresses count from a set
+    /// address. Nothing else changes.
+    pub fn rebase(&mut self)
+        ensures { self.new ≡ rebased self.old }
+    {
+        self.hidden = false;
+        self.address = 0;
+        self.op_index = 0;
+    }
+
+    /// Moves the line; one that would go below 0 stops there.
+    fn apply_line_advance(&mut self, line_advance: i64)
+        ensures { self.new ≡ record self.old { line = advanced_line line_advance self.old.line } }
+    {
+        if line_advance < 0 {
+            self.line = self.line.saturating_sub(line_advance.unsigned_abs());
+        } else {
+            self.line = self.line.wrapping_add(line_advance as u64);
+        }
+    }
+
+    /// Moves the address and op_index by so many operations.
+    fn apply_operation_advance(
+        &mut self,
+        operation_advance: u64,
+        parameters: &Parameters,
+    ) -> Result<()>
+        ensures step { self.new ≡ stepped parameters.now (LineInstruction.AdvancePc operation_advance) self.old }
+        ensures fits { OnOk result (is_refused parameters.now (LineInstruction.AdvancePc operation_advance) self.old ≡ false) }
+        ensures overflow { IfErr result (λ e. (e ≡ Error.AddressOverflow) × (is_refused parameters.now (LineInstruction.AdvancePc operation_advance) self.old ≡ true)) }
+    {
+        if self.hidden {
+            return Ok(());
+        }
+        let encoding = parameters.line_encoding;
+        let minimum = u64::from(encoding.minimum_instruction_length);
+        let maximum = u64::from(encoding.maximum_operations_per_instruction);
+        let address_advance = if maximum == 1 {
+            self.op_index = 0;
+            minimum.wrapping_mul(operation_advance)
+        } else {
+            let operations = self.op_index.wrapping_add(operation_advance);
+            self.op_index = operations % maximum;
+            minimum.wrapping_mul(operations / maximum)
+        };
+        self.add_to_address(address_advance, parameters)
+    }
+
+    /// Adds to the address.
+    fn add_to_address(&mut self, length: u64, parameters: &Parameters) -> Result<()>
+        ensures ok { OnOk result ((exceeds parameters.now (record { address = self.old.address + length; op_index = self.old.op_index }) ≡ false)
+            × (self.new ≡ record self.old { address = self.old.address + length })) }
+        ensures overflow { IfErr result (λ e. (e ≡ Error.AddressOverflow)
+            × (exceeds parameters.now (record { address = self.old.address + length; op_index = self.old.op_index }) ≡ true) × (self.new ≡ self.old)) }
+    {
+        self.address = self
+            .address
+            .add_sized(length, parameters.encoding.address_size)?;
+        Ok(())
+    }
+
+    /// Adds bytes to the address, from operation 0 on.
+    fn exec_fixed_add_pc(&mut self, advance: u16, parameters: &Parameters) -> Result<()>
+        ensures step { self.new ≡ stepped parameters.now (LineInstruction.FixedAddPc advance) self.old }
+        ensures fits { OnOk result (is_refused parameters.now (LineInstruction.FixedAddPc advance) self.old ≡ false) }
+        ensures overflow { IfErr result (λ e. (e ≡ Error.AddressOverflow) × (is_refused parameters.now (LineInstruction.FixedAddPc advance) self.old ≡ true)) }
+    {
+        if self.hidden {
+            return Ok(());
+        }
+        self.add_to_address(u64::from(advance), parameters)?;
+        self.op_index = 0;
+        Ok(())
+    }
+
+    /// Moves on as special opcode 255 does, but for the line.
+    fn exec_const_add_pc(&mut self, parameters: &Parameters) -> Result<()>
+        ensures step { self.new ≡ stepped parameters.now LineInstruction.ConstAddPc self.old }
+        ensures fits { OnOk result (is_refused parameters.now LineInstruction.ConstAddPc self.old ≡ false) }
+        ensures overflow { IfErr result (λ e. (e ≡ Error.AddressOverflow) × (is_refused parameters.now LineInstruction.ConstAddPc self.old ≡ true)) }
+    {
+        let adjusted_opcode = 255 - parameters.opcode_base;
+        let operation_advance = adjusted_opcode / parameters.line_encoding.line_range;
+        self.apply_operation_advance(u64::from(operation_advance), parameters)
+    }
+
+    /// Moves the line, the address and op_index at once.
+    fn exec_special_opcode(&mut self, opcode: u8, parameters: &Parameters) -> Result<()>
+        requires { parameters.now.opcode_base ≤ opcode }
+        ensures step { self.new ≡ stepped parameters.now (LineInstruction.Special opcode) self.old }
+        ensures fits { OnOk result (is_refused parameters.now (LineInstruction.Special opcode) self.old ≡ false) }
+        ensures overflow { IfErr result (λ e. (e ≡ Error.AddressOverflow) × (is_refused parameters.now (LineInstruction.Special opcode) self.old ≡ true)) }
+    {
+        let adjusted_opcode = opcode - parameters.opcode_base;
+        let line_range = parameters.line_encoding.line_range;
+        let line_base = parameters.line_encoding.line_base;
+        self.apply_line_advance(i64::from(line_base) + i64::from(adjusted_opcode % line_range));
+        self.apply_operation_advance(u64::from(adjusted_opcode / line_range), parameters)
+    }
+
+    /// Sets the address, from operation 0 on; or hides what follows, where the address is below the one before it,
+    /// or stands for nothing.
+    fn exec_set_address(&mut self, address: u64, parameters: &Parameters)
+        ensures { self.new ≡ stepped parameters.now (LineInstruction.SetAddress address) self.old }
+    {
+        let min_tombstone = u64::min_tombstone(parameters.encoding.address_size);
+        self.hidden = address < self.address || address >= min_tombstone;
+        if !self.hidden {
+            self.address = address;
+            self.op_index = 0;
+        }
+    }
+}

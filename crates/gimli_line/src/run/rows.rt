@@ -1,0 +1,236 @@
+use crate::header::program_header::LineProgramHeader;
+use crate::run::instruction::LineInstructions;
+use crate::run::program::{CompleteLineProgram, IncompleteLineProgram, LineProgram};
+use crate::run::row::LineRow;
+use gimli_core::{Error, Reader, ReaderOffset, Result};
+use std::marker::Model;
+
+/// What one instruction did.
+enum Step {
+    /// There was none.
+    Done,
+    /// It made a row that isn't hidden.
+    Made,
+    /// It made none.
+    More,
+}
+
+/// The rows of a program that are still to come, in order.
+#[derive(Clone, Debug, Drop)]
+pub struct LineRows<R: Reader, P: LineProgram<R>> {
+    program: P,
+    row: LineRow,
+    instructions: LineInstructions<R>,
+}
+
+/// The rows of a program that is run once, from its start to its end.
+pub type OneShotLineRows<R> = LineRows<R, IncompleteLineProgram<R>>;
+
+/// The rows of one sequence of a program.
+pub type ResumedLineRows<'program, R> = LineRows<R, &'program CompleteLineProgram<R>>;
+
+impl<R: Reader, P: LineProgram<R>> Model for LineRows<R, P> {
+    ghost use Rattle.gimli_line.specs.header.Header.{bare};
+    ghost use Rattle.gimli_line.specs.run.RunState.{RunState};
+
+    ghost Value = { RunState };
+
+    ghost view = { λ a. record {
+      fixed = bare (P.meaning a.program);
+      files = (P.meaning a.program).files;
+      appends = P.appends;
+      notation = P.notation a.program;
+      offset = P.offset a.program;
+      row = a.row;
+      unread = a.instructions;
+    } };
+}
+
+/// Names the memory of `LineRows`, for what a loan gives back.
+trait Lent {
+    ghost use denote.RattleType.{RattleType};
+
+    ghost lent: { RattleType };
+}
+
+impl<R: Reader, P: LineProgram<R>> Lent for LineRows<R, P> {
+    ghost use Rattle.gimli_line.specs.contracts.run.rows.LineRows.{the_row};
+
+    ghost lent = { the_row R.row P.row R.Endian.row R.Offset.row R.Reader.own R.Endian.Endianity.own R.Endian.PartialEq.own R.Offset.ReaderOffset.own R.Offset.PartialEq.own R.Offset.Ord.own R.Offset.PartialOrd.own P.LineProgram.own };
+}
+
+impl<R: Reader, P: LineProgram<R>> LineRows<R, P> {
+    ghost use Rattle.std.specs.Prelude.{◌≡◌, [], ◌∷◌, ⊤, IfErr, IfOk, MatchBool, MatchOption, MatchResult};
+    ghost use Rattle.std.specs.Borrow.{sem};
+    ghost use Rattle.std.specs.Io.BufRead.{Rests};
+    ghost use Rattle.gimli_line.specs.run.Events.{row as row_event};
+    ghost use Rattle.gimli_line.specs.header.Header.{bare};
+    ghost use Rattle.gimli_line.specs.run.Progress.{ready, Progress};
+    ghost use Rattle.gimli_line.specs.run.Rows.{events_left, event_of, started, KeepsHeader, StepIs, FaultIs};
+
+    /// The rows of these instructions of a program, from the start of a sequence on.
+    pub(crate) fn start(program: P, instructions: LineInstructions<R>) -> Self
+        ensures { result ≡ started P.appends (P.meaning program) (P.notation program) (P.offset program) instructions }
+    {
+        let row = LineRow::new(program.header());
+        LineRows {
+            program,
+            row,
+            instructions,
+        }
+    }
+
+    /// The header, with the files that were defined so far.
+    pub fn header(&self) -> &LineProgramHeader<R>
+        ensures header { bare result.now.meaning ≡ self.now.fixed }
+        ensures files { result.now.meaning.files ≡ self.now.files }
+        ensures notation { result.now.notation ≡ self.now.notation }
+        ensures offset { R.Offset.number result.now.offset.0 ≡ self.now.offset }
+    {
+        self.program.header()
+    }
+
+    /// The next row that isn't hidden, with the header as it is there; None where the program has no more.
+    /// Refused as an instruction is, or by `OutOfMemory` where it defines a file: no rows come behind such a
+    /// refusal. Refused by `AddressOverflow` too, and then goes on behind it. A program whose files are complete
+    /// isn't refused for memory.
+    pub fn next_row(&mut self) -> Result<Option<(&LineProgramHeader<R>, &LineRow)>>
+        ensures* after { sem 𝓛 (Rests ⟦<LineRows<R, P> as Lent>⟧.lent self.entry (λ new. KeepsHeader self.old new × MatchResult result
+            (λ found. MatchOption found
+            ((events_left self.old ≡ []) × (events_left new ≡ []))
+            (λ pair. events_left self.old ≡ record { event = row_event pair.1.now; files = pair.0.now.meaning.files } ∷ events_left new))
+            (FaultIs (ready self.old) new))) }
+        ensures header { IfOk result (λ found. MatchOption found ⊤ (λ pair. (bare pair.0.now.meaning ≡ self.old.fixed)
+            × (pair.0.now.notation ≡ self.old.notation) × (R.Offset.number pair.0.now.offset.0 ≡ self.old.offset))) }
+    {
+        match self.advance() {
+            Err(e) => Err(e),
+            Ok(false) => Ok(None),
+            Ok(true) => Ok(Some(self.current())),
+        }
+    }
+
+    /// The row, as it is.
+    pub(crate) fn row(&self) -> &LineRow
+        ensures { result.now ≡ self.now.row }
+    {
+        &self.row
+    }
+
+    /// The instructions to come.
+    pub(crate) fn instructions(&self) -> &LineInstructions<R>
+        ensures { result.now ≡ self.now.unread }
+    {
+        &self.instructions
+    }
+
+    /// The program, with the files that were defined so far.
+    pub(crate) fn into_program(self) -> P
+        ensures header { bare (P.meaning result) ≡ self.fixed }
+        ensures files { (P.meaning result).files ≡ self.files }
+        ensures notation { P.notation result ≡ self.notation }
+        ensures offset { P.offset result ≡ self.offset }
+    {
+        self.program
+    }
+
+    /// Executes instructions up to the next row that isn't hidden, and says whether there is one.
+    pub(crate) fn advance(&mut self) -> Result<bool>
+        ensures row { IfOk result (λ found. MatchBool found
+            (events_left self.old ≡ event_of (row_event self.new.row) self.new ∷ events_left self.new)
+            ((events_left self.old ≡ []) × (events_left self.new ≡ []))) }
+        ensures err { IfErr result (FaultIs (ready self.old) self.new) }
+        ensures fixed { self.new.fixed ≡ self.old.fixed }
+        ensures appends { self.new.appends ≡ self.old.appends }
+        ensures notation { self.new.notation ≡ self.old.notation }
+        ensures offset { self.new.offset ≡ self.old.offset }
+        ensures passes { IfOk result (λ found. MatchBool found
+            (Progress (ready self.old) (ready self.new) (row_event self.new.row ∷ []))
+            ((self.new.unread.bytes ≡ []) × Progress (ready self.old) self.new [])) }
+    {
+        self.row.reset(self.program.header());
+        'instructions: loop {
+            match self.step() {
+                Err(e) => return Err(e),
+                Ok(Step::Done) => return Ok(false),
+                Ok(Step::Made) => return Ok(true),
+                Ok(Step::More) => {}
+            }
+        }
+    }
+
+    /// Executes one instruction.
+    fn step(&mut self) -> Result<Step>
+        ensures ok { IfOk result (StepIs self.old self.new) }
+        ensures err { IfErr result (FaultIs self.old self.new) }
+        ensures fixed { self.new.fixed ≡ self.old.fixed }
+        ensures appends { self.new.appends ≡ self.old.appends }
+        ensures notation { self.new.notation ≡ self.old.notation }
+        ensures offset { self.new.offset ≡ self.old.offset }
+    {
+        let instruction = match self.instructions.next_instruction(self.program.header()) {
+            Err(e) => return Err(e),
+            Ok(None) => return Ok(Step::Done),
+            Ok(Some(instruction)) => instruction,
+        };
+        let made = match self.row.execute(instruction, &mut self.program) {
+            Err(e) => match e {
+                Error::OutOfMemory => {
+                    self.instructions.clear();
+                    return Err(e);
+                }
+                _ => return Err(e),
+            },
+            Ok(made) => made,
+        };
+        if !made {
+            return Ok(Step::More);
+        }
+        if !self.row.is_hidden() {
+            return Ok(Step::Made);
+        }
+        self.row.reset(self.program.header());
+        Ok(Step::More)
+    }
+
+    /// The header and the row, as they are.
+    fn current(&self) -> (&LineProgramHeader<R>, &LineRow)
+        ensures header { bare result.0.now.meaning ≡ self.now.fixed }
+        ensures files { result.0.now.meaning.files ≡ self.now.files }
+        ensures notation { result.0.now.notation ≡ self.now.notation }
+        ensures offset { R.Offset.number result.0.now.offset.0 ≡ self.now.offset }
+        ensures row { result.1.now ≡ self.now.row }
+    {
+        (self.program.header(), &self.row)
+    }
+}
+
+impl<'program, R: Reader> LineRows<R, &'program CompleteLineProgram<R>> {
+    ghost use Rattle.std.specs.Prelude.{◌≡◌};
+
+    /// The same rows, still to come.
+    pub fn clone(&self) -> Self
+        ensures { result ≡ self.now }
+    {
+        LineRows {
+            program: self.program,
+            row: self.row,
+            instructions: self.instructions.clone(),
+        }
+    }
+}
+
+impl<R: Reader> IncompleteLineProgram<R> {
+    ghost use Rattle.std.specs.Prelude.{◌≡◌, true};
+    ghost use Rattle.gimli_line.specs.run.Rows.{events_left, started};
+    ghost use Rattle.gimli_line.specs.run.EventsWithFiles.{EventsWithFiles};
+
+    /// The rows of the program, from its start to its end.
+    pub fn rows(self) -> OneShotLineRows<R>
+        ensures events { EventsWithFiles self.notation true self.meaning self.meaning.program (events_left result) }
+        ensures start { result ≡ started true self.meaning self.notation (R.Offset.number self.offset.0) (record { bytes = self.meaning.program; notation = self.notation }) }
+    {
+        let instructions = self.header.instructions();
+        LineRows::start(self, instructions)
+    }
+}

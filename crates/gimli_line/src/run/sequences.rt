@@ -1,0 +1,137 @@
+use crate::header::tables::push;
+use crate::run::instruction::LineInstructions;
+use crate::run::program::{CompleteLineProgram, IncompleteLineProgram};
+use crate::run::row::LineRow;
+use crate::run::rows::{LineRows, ResumedLineRows};
+use gimli_core::{Error, Reader, ReaderOffset, Result};
+use std::alloc::Global;
+use std::marker::Model;
+
+/// A sequence of a line program: rows of which the last one is an end row, and no other.
+#[derive(Clone, Debug, Drop)]
+pub struct LineSequence<R: Reader> {
+    /// The address of its first row; 0 where the end row is the only one.
+    pub start: u64,
+    /// The address of its end row, which is that of the first byte behind the sequence.
+    pub end: u64,
+    instructions: LineInstructions<R>,
+}
+
+impl<R: Reader> LineSequence<R> {
+    ghost use Rattle.std.specs.Prelude.{◌≡◌};
+
+    /// The same sequence.
+    pub fn clone(&self) -> Self
+        ensures { result ≡ self.now }
+    {
+        LineSequence {
+            start: self.start,
+            end: self.end,
+            instructions: self.instructions.clone(),
+        }
+    }
+}
+
+/// The sequences that were cut off so far, and the one that is open.
+#[derive(Drop)]
+struct SequenceSplit<R: Reader> {
+    sequences: Vec<LineSequence<R>>,
+    /// The instructions from the start of the open sequence on.
+    instructions: LineInstructions<R>,
+    /// The address of the first row of the open sequence.
+    start: Option<u64>,
+}
+
+impl<R: Reader> Model for SequenceSplit<R> {
+    ghost use Rattle.std.specs.Prelude.{map};
+    ghost use Rattle.gimli_line.specs.run.SequenceSplit.{SequenceSplit};
+    ghost use Rattle.gimli_line.specs.run.Sequences.{part_of};
+
+    ghost Value = { SequenceSplit };
+
+    ghost view = { λ a. record { parts = map part_of a.sequences.items; unread = a.instructions; start = a.start } };
+}
+
+impl<R: Reader> SequenceSplit<R> {
+    ghost use Rattle.std.specs.Prelude.{◌≡◌, ◌++◌, ℕ, List, [], None, map, IfErr, OnOk};
+    ghost use Rattle.gimli_line.specs.run.SequenceSplit.{with_row};
+    ghost use Rattle.gimli_line.specs.run.Sequences.{part_of};
+
+    /// No sequence yet, and an open one that starts with these instructions.
+    fn new(alloc: Global, instructions: LineInstructions<R>) -> Self
+        ensures { result ≡ record { parts = []; unread = instructions; start = None } }
+    {
+        SequenceSplit {
+            sequences: Vec::new(alloc),
+            instructions,
+            start: None,
+        }
+    }
+
+    /// Takes in the next row, behind which a rest of the instructions is left. Refused by `OutOfMemory` alone.
+    fn row(&mut self, row: &LineRow, rest: &LineInstructions<R>) -> Result<()>
+        requires { (front : List ℕ) × (self.old.unread.bytes ≡ front ++ rest.now.bytes) }
+        ensures ok { OnOk result (self.new ≡ with_row row.now rest.now self.old) }
+        ensures err { IfErr result (λ e. e ≡ Error.OutOfMemory) }
+    {
+        let start = self.start;
+        if !row.end_sequence() {
+            self.start = Some(start.unwrap_or(row.address()));
+            return Ok(());
+        }
+        let sequence = LineSequence {
+            start: start.unwrap_or(0),
+            end: row.address(),
+            instructions: self.instructions.remove_trailing(rest)?,
+        };
+        push(&mut self.sequences, sequence)?;
+        self.instructions = rest.clone();
+        self.start = None;
+        Ok(())
+    }
+
+    /// The sequences that were cut off.
+    fn into_sequences(self) -> Vec<LineSequence<R>>
+        ensures { map part_of result.items ≡ self.parts }
+    {
+        self.sequences
+    }
+}
+
+impl<R: Reader> IncompleteLineProgram<R> {
+    ghost use Rattle.std.specs.Prelude.{◌≡◌, ◌≢◌, map, IfErr, IfOk};
+    ghost use Rattle.gimli_line.specs.run.Sequences.{part_of, AreSequences, HasFirstFault};
+
+    /// Runs the whole program, and cuts it into its sequences, so that each can be run by itself. Rows behind the
+    /// last end row are in no sequence. Refused by the first fault of the run, wherever it stands, or by
+    /// `OutOfMemory`.
+    pub fn sequences(self, alloc: Global) -> Result<(CompleteLineProgram<R>, Vec<LineSequence<R>>)>
+        ensures ok { IfOk result (λ found. AreSequences self.notation self.meaning found.0.meaning (map part_of found.1.items)) }
+        ensures notation { IfOk result (λ found. found.0.notation ≡ self.notation) }
+        ensures offset { IfOk result (λ found. R.Offset.number found.0.offset.0 ≡ R.Offset.number self.offset.0) }
+        ensures err { IfErr result (λ e. e ≢ Error.OutOfMemory → HasFirstFault self.notation self.meaning e) }
+    {
+        let mut rows = self.rows();
+        let mut cutter = SequenceSplit::new(alloc, rows.instructions().clone());
+        'rows: while rows.advance()? {
+            cutter.row(rows.row(), rows.instructions())?;
+        }
+        let header = rows.into_program().header;
+        Ok((CompleteLineProgram { header }, cutter.into_sequences()))
+    }
+}
+
+impl<R: Reader> CompleteLineProgram<R> {
+    ghost use Rattle.std.specs.Prelude.{◌≡◌, false};
+    ghost use Rattle.gimli_line.specs.run.Rows.{started};
+
+    /// The rows of one of the program's sequences.
+    pub fn resume_from<'program>(
+        &'program self,
+        sequence: &LineSequence<R>,
+    ) -> ResumedLineRows<'program, R>
+        ensures { result ≡ started false self.now.meaning self.now.notation (R.Offset.number self.now.offset.0) sequence.now.instructions }
+    {
+        LineRows::start(self, sequence.instructions.clone())
+    }
+}
