@@ -34,7 +34,7 @@ use Rattle.gimli_build.proofs.Version5TableSpellings.{directory_entry, file_entr
 
 -- the directories from index 0 on: up to version 4 the one that was handed is the first
 abbrev from_zero : Built → UnitEntry → List Value → List Value
-from_zero p given directories = if nat_le p.encoding.version 4 then option_to_list (option_map String (taken p.encoding unit_entry.directory)) ++ directories else directories
+from_zero p unit_entry directories = if nat_le p.encoding.version 4 then option_to_list (option_map String (taken p.encoding unit_entry.directory)) ++ directories else directories
 
 -- what is read of the tables
 pub record TablesBack (notation : Notation) (unit_entry : UnitEntry) (sections : Sections) (p : Built) (strings line_strings : List (List ℕ)) (bytes : List ℕ) : Type 0 where
@@ -47,7 +47,7 @@ pub record TablesBack (notation : Notation) (unit_entry : UnitEntry) (sections :
   pub whole : bytes ≡ directory_bytes ++ file_bytes
   pub directories_spelled : (directory_table notation p.encoding).Spells directory_bytes (directory_formats, directories)
   pub files_spelled : (file_table notation p.encoding).Spells file_bytes (file_formats, files)
-  pub directories_back : OneByOne (IsDirectory sections strings line_strings) (from_zero p given directories) p.directories
+  pub directories_back : OneByOne (IsDirectory sections strings line_strings) (from_zero p unit_entry directories) p.directories
   pub files_back : OneByOne (IsFile sections p strings line_strings) files p.files
 
 -- ---- up to version 4
@@ -103,7 +103,7 @@ module _ (notation : Notation) (unit_entry : UnitEntry) (sections : Sections) (p
         first-chosen (nat_le p.encoding.version 4) _ _ bytes _ old (map (read_file strings line_strings) p.files, bytes, [], sym (append-nil bytes), spelled, (refl, refl))
 
     old_back : unit_entry.directory ≡ option_map (bytes_in strings line_strings) (slice_get p.directories 0)
-        → OneByOne (IsDirectory sections strings line_strings) (from_zero p given (map String (map (bytes_in strings line_strings) (drop 1 p.directories)))) p.directories
+        → OneByOne (IsDirectory sections strings line_strings) (from_zero p unit_entry (map String (map (bytes_in strings line_strings) (drop 1 p.directories)))) p.directories
     old_back known = rw (old, known) (handed_back sections strings line_strings p.directories (built.is.working_dir refl))
 
     old_tables : (bytes : List ℕ) → unit_entry.directory ≡ option_map (bytes_in strings line_strings) (slice_get p.directories 0)
@@ -142,7 +142,7 @@ module _ (notation : Notation) (unit_entry : UnitEntry) (sections : Sections) (p
         let spelled = new-files-spelled notation p strings line_strings ready strings_held line_strings_held bytes is small in
         second-chosen (nat_le p.encoding.version 4) _ _ bytes _ new ((map read_format (file_formats p), entries), bytes, [], sym (append-nil bytes), spelled, (refl, refl))
 
-    new_back : OneByOne (IsDirectory sections strings line_strings) (from_zero p given (map path_of (map (directory_entry strings line_strings) p.directories))) p.directories
+    new_back : OneByOne (IsDirectory sections strings line_strings) (from_zero p unit_entry (map path_of (map (directory_entry strings line_strings) p.directories))) p.directories
     new_back = rw new (new-directories-back sections p strings line_strings strings_are line_strings_are texts line_texts p.directories ready.directories)
 
     new_tables : (bytes : List ℕ) → length bytes < 2 ^ 64

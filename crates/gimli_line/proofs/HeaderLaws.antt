@@ -181,7 +181,7 @@ reads_fields notation unit_entry unit opening program =
 
 pub reads_header : (notation : Notation) (unit_entry : UnitEntry) → Reads (header_production notation unit_entry) (header_at notation unit_entry)
 unfolding header_at
-reads_header notation given =
+reads_header notation unit_entry =
     reads_both (unit_length notation) _ _ _ (reads_unit_length notation)
     (λ unit. reads_both (some_bytes unit.0) _ _ _ (reads_some_bytes unit.0)
     (λ inside. reads_both (within inside (opening_production notation unit_entry.address_size unit.1)) _ _ _ (reads_within inside (opening_production notation unit_entry.address_size unit.1) _ (reads_opening notation unit_entry.address_size unit.1))

@@ -222,7 +222,7 @@ fields_production notation unit_entry unit opening program = do
 -- a unit: its length, and that many bytes. At their front stand the version and so on, up to the fields that the
 -- header length counts, with slack behind the last of these; behind them stands the program
 abbrev pub header_production : Notation → UnitEntry → Production Header
-header_production notation given = do
+header_production notation unit_entry = do
   unit ← unit_length notation
   inside ← some_bytes unit.0
   opened ← within inside (opening_production notation unit_entry.address_size unit.1)

@@ -153,11 +153,11 @@ RefusesUnit notation unit_entry unit e = (h : Header) × IsUnit notation unit_en
 -- why a program isn't written or not read again: the cause why it can't be written, if there is one; the first fault of
 -- the unit that was appended; or want of memory
 abbrev pub IsRefusal : Bool → Option Error → UnitEntry → List ℕ → List ℕ → ConvertError → Type 0
-IsRefusal big cause given old new OutOfMemory = Unit {0}
-IsRefusal big cause given old new (Write e) = cause ≡ Some e
-IsRefusal big cause given old new (Read fault) =
-    (bytes : List ℕ) × (new ≡ old ++ bytes) × RefusesUnit (slice_notation big) given bytes (Read fault)
-IsRefusal big cause given old new e = ⊥
+IsRefusal big cause unit_entry old new OutOfMemory = Unit {0}
+IsRefusal big cause unit_entry old new (Write e) = cause ≡ Some e
+IsRefusal big cause unit_entry old new (Read fault) =
+    (bytes : List ℕ) × (new ≡ old ++ bytes) × RefusesUnit (slice_notation big) unit_entry bytes (Read fault)
+IsRefusal big cause unit_entry old new e = ⊥
 
 -- why a program isn't written: the cause why it can't be, if there is one, or want of memory
 abbrev pub IsWriteRefusal : Option Error → ConvertError → Type 0
