@@ -7,7 +7,7 @@ use Rattle.gimli_line.proofs.Runs.{bare_cuts}
 use Rattle.gimli_line.proofs.EventsWithFilesLaws.{events_with_files_start}
 use Rattle.gimli_line.proofs.rows.IncompleteLineProgram+R.rows.Goals as goal
 
-pub returns-clause-events : goal.returns-clause-told
+pub returns-clause-events : goal.returns-clause-events
 returns-clause-events g c =
     let n = c.args.self.notation in
     let h = c.args.self.meaning in
