@@ -13,14 +13,14 @@ use Rattle.gimli_line.specs.Events.{Event, row, fault, Events, program_events}
 use Rattle.gimli_line.specs.declared.row.LineRow.{LineRow as ReadRow}
 use Rattle.gimli_line.proofs.HeaderLaws.{one_header}
 use Rattle.gimli_line.proofs.InstructionLaws.{one_decoding}
-use Rattle.gimli_write.specs.LineText.{bytes_in}
-use Rattle.gimli_write.specs.Tables.{File}
-use Rattle.gimli_write.specs.Built.{Built}
-use Rattle.gimli_write.specs.Stored.{stored}
-use Rattle.gimli_write.specs.Items.{AddressesFit}
-use Rattle.gimli_write.specs.SameRow.{RowsMatch}
-use Rattle.gimli_write.specs.Texts.{Sections, IsText, IsOptionalText, OneByOne}
-use Rattle.gimli_write.specs.ReadsBack.{IsUnit, IsDirectory, IsFile, ReadsBack, directories_from_zero}
+use Rattle.gimli_build.specs.LineText.{bytes_in}
+use Rattle.gimli_build.specs.Tables.{File}
+use Rattle.gimli_build.specs.Built.{Built}
+use Rattle.gimli_build.specs.Stored.{stored}
+use Rattle.gimli_build.specs.Items.{AddressesFit}
+use Rattle.gimli_build.specs.SameRow.{RowsMatch}
+use Rattle.gimli_build.specs.Texts.{Sections, IsText, IsOptionalText, OneByOne}
+use Rattle.gimli_build.specs.ReadsBack.{IsUnit, IsDirectory, IsFile, ReadsBack, directories_from_zero}
 use Rattle.gimli_write.specs.declared.convert_error.ConvertError.{ConvertError}
 use Rattle.gimli_write.specs.declared.convert_error.ConvertError.TheVariants.{Read, OutOfMemory as NoMemory}
 use Rattle.gimli_write.specs.declared.read_back.RoundTrip.{RoundTrip}

@@ -10,7 +10,7 @@ use Rattle.gimli_core.specs.Reading.{Read, skip_at, text_at}
 use Rattle.gimli_core.specs.declared.error.Error.{Error}
 use Rattle.gimli_core.specs.declared.attribute_value.AttributeValue.TheVariants.{String, DebugStrRef, DebugLineStrRef}
 use Rattle.gimli_core.proofs.ProductionLaws.{reads_text}
-use Rattle.gimli_write.specs.Texts.{Sections, IsTextAt, IsText, OneByOne}
+use Rattle.gimli_build.specs.Texts.{Sections, IsTextAt, IsText, OneByOne}
 use Rattle.gimli_write.specs.TextReading.{text_from, text_of, HasText}
 
 -- ---- one text

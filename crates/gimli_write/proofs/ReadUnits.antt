@@ -14,12 +14,12 @@ use Rattle.gimli_line.specs.Instruction.{File as ReadFile}
 use Rattle.gimli_line.proofs.HeaderLaws.{one_header, no_fault}
 use Rattle.gimli_bytes.specs.Texts.{byte_count}
 use Rattle.gimli_bytes.proofs.TextLemmas.{length-table_bytes}
-use Rattle.gimli_write.specs.Texts.{Sections, IsOptionalText, OneByOne}
+use Rattle.gimli_build.specs.Texts.{Sections, IsOptionalText, OneByOne}
 use Rattle.gimli_write.specs.TextReading.{HasText, HasOptionalText, HasFileTexts}
-use Rattle.gimli_write.specs.Tables.{File}
-use Rattle.gimli_write.specs.Built.{Built}
-use Rattle.gimli_write.specs.Stored.{stored}
-use Rattle.gimli_write.specs.ReadsBack.{IsDirectory, IsFile, ReadsBack, IsReadWell, directories_from_zero}
+use Rattle.gimli_build.specs.Tables.{File}
+use Rattle.gimli_build.specs.Built.{Built}
+use Rattle.gimli_build.specs.Stored.{stored}
+use Rattle.gimli_build.specs.ReadsBack.{IsDirectory, IsFile, ReadsBack, IsReadWell, directories_from_zero}
 use Rattle.gimli_write.specs.declared.convert_error.ConvertError.{ConvertError}
 use Rattle.gimli_write.specs.declared.convert_error.ConvertError.TheVariants.{OutOfMemory as NoMemory}
 use Rattle.gimli_write.specs.declared.read_back.RoundTrip.{RoundTrip}

@@ -9,13 +9,13 @@ use Rattle.gimli_line.specs.Sequences.{HasFirstFault}
 use Rattle.gimli_line.specs.declared.row.LineRow.{LineRow as ReadRow}
 use Rattle.gimli_bytes.specs.Texts.{table_bytes}
 use Rattle.gimli_bytes.specs.declared.error.Error.{Error}
-use Rattle.gimli_write.specs.LineText.{bytes_in}
-use Rattle.gimli_write.specs.Tables.{File}
-use Rattle.gimli_write.specs.Stored.{stored}
-use Rattle.gimli_write.specs.Texts.{Sections, IsText, IsOptionalText, OneByOne}
+use Rattle.gimli_build.specs.LineText.{bytes_in}
+use Rattle.gimli_build.specs.Tables.{File}
+use Rattle.gimli_build.specs.Stored.{stored}
+use Rattle.gimli_build.specs.Texts.{Sections, IsText, IsOptionalText, OneByOne}
 use Rattle.gimli_write.specs.TextReading.{HasText, HasFileTexts}
-use Rattle.gimli_write.specs.ReadsBack.{IsUnit, directories_from_zero, ReadsBack, IsReadWell}
-use Rattle.gimli_write.specs.Built.{Built}
+use Rattle.gimli_build.specs.ReadsBack.{IsUnit, directories_from_zero, ReadsBack, IsReadWell}
+use Rattle.gimli_build.specs.Built.{Built}
 use Rattle.gimli_write.specs.declared.convert_error.ConvertError.{ConvertError}
 use Rattle.gimli_write.specs.declared.convert_error.ConvertError.TheVariants.{Read, Write, OutOfMemory}
 use Rattle.gimli_write.specs.declared.read_back.RoundTrip.{RoundTrip}

@@ -6,7 +6,7 @@ use Rattle.gimli_core.specs.declared.error.Error.{Error}
 use Rattle.gimli_core.specs.declared.error.Error.TheVariants.{ExpectedStringAttributeValue}
 use Rattle.gimli_core.specs.declared.attribute_value.AttributeValue.TheVariants.{String, DebugStrRef, DebugLineStrRef}
 use Rattle.gimli_line.specs.Instruction.{File}
-use Rattle.gimli_write.specs.Texts.{Sections, IsText}
+use Rattle.gimli_build.specs.Texts.{Sections, IsText}
 
 -- the bytes of a section from an offset on, up to a zero byte; bytes may be wanting
 abbrev pub text_from : List ℕ → ℕ → Result (List ℕ) Error

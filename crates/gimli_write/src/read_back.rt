@@ -7,21 +7,21 @@ ghost use Rattle.gimli_bytes.specs.Written.{Begins, Appends};
 ghost use Rattle.gimli_line.specs.Header.{Header};
 ghost use Rattle.gimli_line.specs.Instruction.{file_seen};
 ghost use Rattle.gimli_line.specs.Events.{Events, row};
-ghost use Rattle.gimli_write.specs.LineText.{IsWithin, bytes_in};
-ghost use Rattle.gimli_write.specs.Conditions.{CanWrite};
-ghost use Rattle.gimli_write.specs.Items.{AddressesFit};
-ghost use Rattle.gimli_write.specs.SameRow.{RowsMatch};
-ghost use Rattle.gimli_write.specs.Unit.{unit_bytes};
+ghost use Rattle.gimli_build.specs.LineText.{IsWithin, bytes_in};
+ghost use Rattle.gimli_build.specs.Conditions.{CanWrite};
+ghost use Rattle.gimli_build.specs.Items.{AddressesFit};
+ghost use Rattle.gimli_build.specs.SameRow.{RowsMatch};
+ghost use Rattle.gimli_build.specs.Unit.{unit_bytes};
 ghost use Rattle.gimli_bytes.specs.Texts.{byte_count};
-ghost use Rattle.gimli_write.specs.Version5Tables.{strings_behind, line_strings_behind};
-ghost use Rattle.gimli_write.specs.Cause.{first_cause};
-ghost use Rattle.gimli_write.specs.Texts.{Sections, IsText, IsOptionalText, OneByOne};
+ghost use Rattle.gimli_build.specs.Version5Tables.{strings_behind, line_strings_behind};
+ghost use Rattle.gimli_build.specs.Cause.{first_cause};
+ghost use Rattle.gimli_build.specs.Texts.{Sections, IsText, IsOptionalText, OneByOne};
 ghost use Rattle.gimli_write.specs.TextReading.{HasText, HasOptionalText, HasFileTexts};
-ghost use Rattle.gimli_write.specs.ReadsBack.{directories_from_zero};
+ghost use Rattle.gimli_build.specs.ReadsBack.{directories_from_zero};
 
 use crate::convert_error::{ConvertError, ConvertResult, from_read, from_write};
-use crate::line_program::LineProgram;
 use crate::text::{TextSections, text};
+use gimli_build::LineProgram;
 use gimli_bytes::{
     DebugLine, DebugLineStr, DebugStr, EndianVec, LineStringTable, StringTable, Writer,
 };
@@ -243,7 +243,7 @@ struct StringSections {
 }
 
 impl Model for StringSections {
-    ghost use Rattle.gimli_write.specs.Texts.{Sections};
+    ghost use Rattle.gimli_build.specs.Texts.{Sections};
 
     ghost Value = { Sections };
 

@@ -20,7 +20,7 @@ pub(crate) struct TextSections<R: Reader> {
 }
 
 impl<R: Reader> Model for TextSections<R> {
-    ghost use Rattle.gimli_write.specs.Texts.{Sections};
+    ghost use Rattle.gimli_build.specs.Texts.{Sections};
 
     ghost Value = { Sections };
 

@@ -1,8 +1,8 @@
 use Rattle.std.proofs.Common.{refl}
-use Rattle.gimli_write.specs.Cause.{first_cause}
+use Rattle.gimli_build.specs.Cause.{first_cause}
 use Rattle.gimli_write.specs.RoundTrip.{unit_entry_of}
 use Rattle.gimli_write.proofs.RoundTrips.{write_refused, unwritten_refused, memory_refused, unit_not_answered}
-use Rattle.gimli_write.proofs.EmptySource.{can-write-behind}
+use Rattle.gimli_build.proofs.EmptySource.{can-write-behind}
 use Rattle.gimli_write.proofs.read_back.round_trip.Goals as goal
 
 pub returns-in-Ok-clause-refusal : goal.returns-in-Ok-clause-refusal

@@ -1,6 +1,6 @@
 use Rattle.std.proofs.Common.{map, take}
 use Rattle.gimli_core.specs.Values.{value_seen}
-use Rattle.gimli_write.specs.Texts.{IsText, OneByOne}
+use Rattle.gimli_build.specs.Texts.{IsText, OneByOne}
 use Rattle.gimli_write.proofs.read_back.texts.Given as goal
 
 abbrev pub invariant-loop-value : goal.invariant-loop-value

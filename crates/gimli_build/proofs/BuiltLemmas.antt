@@ -1,0 +1,114 @@
+-- What builder calls keep true of a program.
+use Rattle.std.proofs.Common.{◌≡◌, ℕ, zero, suc, ◌-◌, ◌<◌, ◌≤◌, Bool, true, false, List, [], ◌∷◌, ◌++◌, length, drop, refl, sym, subst, if◌then◌else◌, slice_get, Option, arith, length-append}
+use Rattle.std.specs.Prelude.{All}
+use Rattle.std.specs.List.{list_any}
+use Rattle.std.specs.Option.{option_map_or}
+use Rattle.std.proofs.lemmas.List.Elements.{All-push}
+use Rattle.gimli_core.specs.declared.common.Encoding.{Encoding}
+use Rattle.gimli_core.specs.declared.common.LineEncoding.{LineEncoding}
+use Rattle.gimli_build.specs.LineText.{LineText, line_text_eq, IsNotEmpty}
+use Rattle.gimli_build.specs.Tables.{Details, File, FileKey, has_file, with_directory, with_file, with_details, keys_of}
+use Rattle.gimli_build.specs.Built.{place_after, previous_place}
+use Rattle.gimli_build.specs.Conditions.{CanBuild, AreBuilt, IsProgram}
+use Rattle.gimli_build.specs.declared.built.items.BuiltItem.{BuiltItem}
+use Rattle.gimli_build.proofs.TableLemmas.{keys-with_file, keys-with_details}
+
+-- ---- items
+
+-- where items leave off, from a place on
+reached : ℕ × ℕ → List BuiltItem → ℕ × ℕ
+reached place [] = place
+reached place (item ∷ items) = reached (place_after item) items
+
+last_at : (place : ℕ × ℕ) (item : BuiltItem) (items : List BuiltItem) (n : ℕ) → n ≡ length items → reached place (item ∷ items) ≡ option_map_or place_after (slice_get (item ∷ items) n) (0, 0)
+unfolding reached
+last_at place item [] zero h = refl
+last_at place item [] (suc n) h = absurd (omega arith)
+last_at place item (next ∷ items) zero h = absurd (omega arith)
+last_at place item (next ∷ items) (suc n) h = last_at (place_after item) next items n (omega arith)
+
+reached_last : (items : List BuiltItem) → reached (0, 0) items ≡ previous_place items
+unfolding reached
+reached_last [] = refl
+reached_last (item ∷ items) = last_at (0, 0) item items (length (item ∷ items) - 1) (omega arith)
+
+push_reached : (e : LineEncoding) (place : ℕ × ℕ) (items : List BuiltItem) (item : BuiltItem) → AreBuilt e place items → CanBuild e (reached place items) item → AreBuilt e place (items ++ item ∷ [])
+unfolding reached
+push_reached e place [] item so can = (can, tt)
+push_reached e place (first ∷ items) item so can = (so.0, push_reached e (place_after first) items item so.1 can)
+
+-- an item is built behind others
+pub item_pushed : {is_none : Bool} {encoding : Encoding} {e : LineEncoding} {directories : List LineText} {keys : List FileKey} (items : List BuiltItem) (item : BuiltItem)
+    → IsProgram is_none encoding e directories keys items → CanBuild e (previous_place items) item → IsProgram is_none encoding e directories keys (items ++ item ∷ [])
+item_pushed {e = e} items item so can = record {
+  lines = so.lines;
+  address_size = so.address_size;
+  working_dir = so.working_dir;
+  source_file = so.source_file;
+  directories_not_empty = so.directories_not_empty;
+  paths_not_empty = so.paths_not_empty;
+  items_built = push_reached e (0, 0) items item so.items_built (subst (λ (place : ℕ × ℕ). CanBuild e place item) (sym (reached_last items)) can);
+}
+
+-- ---- tables
+
+not_empty_pushed : (ds : List LineText) (t : LineText) → 0 < length ds → All IsNotEmpty (drop 1 ds) → IsNotEmpty t → All IsNotEmpty (drop 1 (with_directory ds t))
+not_empty_pushed [] t some all h = absurd (omega arith)
+not_empty_pushed (d ∷ ds) t some all h = by (list_any (line_text_eq t) (d ∷ ds))
+  where
+    by : (b : Bool) → All IsNotEmpty (drop 1 (if b then d ∷ ds else d ∷ ds ++ t ∷ []))
+    by true = all
+    by false = All-push IsNotEmpty ds t all h
+
+longer : (ds : List LineText) (t : LineText) → 0 < length ds → 0 < length (with_directory ds t)
+longer [] t some = absurd (omega arith)
+longer (d ∷ ds) t some = by (list_any (line_text_eq t) (d ∷ ds))
+  where
+    by : (b : Bool) → 0 < length (if b then d ∷ ds else d ∷ ds ++ t ∷ [])
+    by true = omega arith
+    by false = omega arith
+
+-- a directory is added
+pub directory_added : {is_none : Bool} {encoding : Encoding} {e : LineEncoding} {keys : List FileKey} {items : List BuiltItem} (ds : List LineText) (t : LineText)
+    → IsProgram is_none encoding e ds keys items → is_none ≡ false → (encoding.version ≤ 4 → IsNotEmpty t) → IsProgram is_none encoding e (with_directory ds t) keys items
+directory_added ds t so is not_empty = record {
+  lines = so.lines;
+  address_size = so.address_size;
+  working_dir = λ h. longer ds t (so.working_dir is);
+  source_file = so.source_file;
+  directories_not_empty = λ old. not_empty_pushed ds t (so.working_dir is) (so.directories_not_empty old) (not_empty old);
+  paths_not_empty = so.paths_not_empty;
+  items_built = so.items_built;
+}
+
+paths_pushed : (files : List File) (k : FileKey) (given : Option Details) → All (λ l. IsNotEmpty l.0) (keys_of files) → IsNotEmpty k.0 → All (λ l. IsNotEmpty l.0) (keys_of (with_file files k given))
+paths_pushed files k given all h = rw (keys-with_file files k given) (by (has_file files k))
+  where
+    by : (b : Bool) → All (λ l. IsNotEmpty l.0) (if b then keys_of files else keys_of files ++ k ∷ [])
+    by true = all
+    by false = All-push (λ l. IsNotEmpty l.0) (keys_of files) k all h
+
+files_longer : (files : List File) (k : FileKey) (given : Option Details) → 0 < length (keys_of files) → 0 < length (keys_of (with_file files k given))
+files_longer files k given some = rw (keys-with_file files k given) (by (has_file files k))
+  where
+    by : (b : Bool) → 0 < length (if b then keys_of files else keys_of files ++ k ∷ [])
+    by true = some
+    by false = omega (arith, some, length-append (keys_of files) (k ∷ []))
+
+-- a file is added
+pub file_added : {is_none : Bool} {encoding : Encoding} {e : LineEncoding} {ds : List LineText} {items : List BuiltItem} (files : List File) (k : FileKey) (given : Option Details)
+    → IsProgram is_none encoding e ds (keys_of files) items → (encoding.version ≤ 4 → IsNotEmpty k.0) → IsProgram is_none encoding e ds (keys_of (with_file files k given)) items
+file_added files k given so not_empty = record {
+  lines = so.lines;
+  address_size = so.address_size;
+  working_dir = so.working_dir;
+  source_file = λ is new. files_longer files k given (so.source_file is new);
+  directories_not_empty = so.directories_not_empty;
+  paths_not_empty = λ old. paths_pushed files k given (so.paths_not_empty old) (not_empty old);
+  items_built = so.items_built;
+}
+
+-- details are written
+pub details_written : {is_none : Bool} {encoding : Encoding} {e : LineEncoding} {ds : List LineText} {items : List BuiltItem} (files : List File) (i : ℕ) (d : Details)
+    → IsProgram is_none encoding e ds (keys_of files) items → IsProgram is_none encoding e ds (keys_of (with_details files i d)) items
+details_written files i d so = rw (keys-with_details files i d) so

@@ -1,0 +1,88 @@
+-- Items written one after the other.
+use Rattle.std.proofs.Common.{◌≡◌, ℕ, ◌+◌, ◌<◌, ◌^◌, Bool, List, [], ◌∷◌, ◌++◌, Ok, Err, refl, sym, ap, ◌∙◌, append_assoc, lit<, length, get_or, add-one, take, min, ◌≤◌, arith}
+use Rattle.std.proofs.lemmas.List.{append-nil, take-take, length-take}
+use Rattle.std.proofs.Math.Seq.{take-length, take-suc}
+use Rattle.std.specs.Prelude.{Result}
+use Rattle.gimli_core.specs.declared.common.Encoding.{Encoding}
+use Rattle.gimli_core.specs.declared.common.LineEncoding.{LineEncoding}
+use Rattle.gimli_bytes.specs.Written.{Begins, Appends}
+use Rattle.gimli_bytes.specs.declared.error.Error.{Error}
+use Rattle.gimli_build.specs.declared.built.row.LineRow.{LineRow}
+use Rattle.gimli_build.specs.declared.built.items.BuiltItem.{BuiltItem}
+use Rattle.gimli_build.specs.declared.built.items.BuiltItem.TheVariants.{SetAddress, Row, End}
+use Rattle.gimli_build.specs.Advance.{CanEncode, IsPlace}
+use Rattle.gimli_build.specs.Conditions.{AreBuilt}
+use Rattle.gimli_build.specs.Joined.{joined}
+use Rattle.gimli_build.specs.Items.{item_bytes, items_bytes, next_previous, FitsItem, AreFit}
+use Rattle.gimli_build.proofs.ItemRuns.{start_place}
+use Rattle.gimli_build.proofs.Joined.{appended_bytes, joined-joined}
+
+-- these bytes stand for the items so far, and those are left
+pub record Standing (big : Bool) (encoding : Encoding) (e : LineEncoding) (whole : Result (List ℕ) Error) (old new : List ℕ) (previous : LineRow) (left : List BuiltItem) : Type 0 where
+  pub done : List ℕ
+  pub written : new ≡ old ++ done
+  pub parts : whole ≡ joined (Ok done) (items_bytes big encoding e previous left)
+
+-- one item more
+pub standing_more : (big : Bool) (encoding : Encoding) (e : LineEncoding) (whole : Result (List ℕ) Error) (old new newer : List ℕ) (previous : LineRow) (item : BuiltItem) (left : List BuiltItem)
+    → Standing big encoding e whole old new previous (item ∷ left) → Appends (item_bytes big encoding e previous item) new newer
+    → Standing big encoding e whole old newer (next_previous encoding.version e.default_is_stmt previous item) left
+standing_more big encoding e whole old new newer previous item left so more =
+    let a = appended_bytes (item_bytes big encoding e previous item) new newer more in
+    let rest = items_bytes big encoding e (next_previous encoding.version e.default_is_stmt previous item) left in
+    record {
+      done = so.done ++ a.0;
+      written = a.2 ∙ ap (λ (l : List ℕ). l ++ a.0) so.written ∙ append_assoc old so.done a.0;
+      parts = so.parts ∙ ap (λ (r : Result (List ℕ) Error). joined (Ok so.done) (joined r rest)) a.1 ∙ joined-joined so.done a.0 rest;
+    }
+
+-- a refused item is what refuses
+pub standing_refused : (big : Bool) (encoding : Encoding) (e : LineEncoding) (whole : Result (List ℕ) Error) (old new : List ℕ) (previous : LineRow) (item : BuiltItem) (left : List BuiltItem) (d : Error)
+    → Standing big encoding e whole old new previous (item ∷ left) → item_bytes big encoding e previous item ≡ Err d → whole ≡ Err d
+standing_refused big encoding e whole old new previous item left d so refused =
+    so.parts ∙ ap (λ (r : Result (List ℕ) Error). joined (Ok so.done) (joined r (items_bytes big encoding e (next_previous encoding.version e.default_is_stmt previous item) left))) refused
+
+-- all of them
+pub standing_end : (big : Bool) (encoding : Encoding) (e : LineEncoding) (whole : Result (List ℕ) Error) (old new : List ℕ) (previous : LineRow)
+    → Standing big encoding e whole old new previous [] → Appends whole old new
+standing_end big encoding e whole old new previous so =
+    let all : whole ≡ Ok so.done = so.parts ∙ ap (λ (l : List ℕ). let s : Result (List ℕ) Error = Ok l in s) (append-nil so.done) in
+    rw all so.written
+
+pub standing_start : (big : Bool) (encoding : Encoding) (e : LineEncoding) (old : List ℕ) (previous : LineRow) (items : List BuiltItem)
+    → Standing big encoding e (items_bytes big encoding e previous items) old old previous items
+standing_start big encoding e old previous items = record { done = []; written = sym (append-nil old); parts = nothing (items_bytes big encoding e previous items) }
+  where
+    nothing : (r : Result (List ℕ) Error) → r ≡ joined (Ok []) r
+    nothing (Ok bytes) = refl
+    nothing (Err d) = refl
+
+-- where the walk is, and what is left can still be built
+pub record OnTheWay (e : LineEncoding) (previous : LineRow) (left : List BuiltItem) : Type 0 where
+  pub place : IsPlace e previous.address_offset previous.op_index
+  pub line : previous.line < 2 ^ 63
+  pub built : AreBuilt e (previous.address_offset, previous.op_index) left
+
+pub way_on : (version : ℕ) (e : LineEncoding) (can : CanEncode e) (previous : LineRow) (item : BuiltItem) (left : List BuiltItem) → OnTheWay e previous (item ∷ left) → OnTheWay e (next_previous version e.default_is_stmt previous item) left
+way_on version e can previous (SetAddress a) left way = record { place = start_place e can; line = way.line; built = way.built.1 }
+way_on version e can previous (Row r) left way = record { place = way.built.0.0.place; line = way.built.0.1; built = way.built.1 }
+way_on version e can previous (End o i) left way = record { place = start_place e can; line = lit< tt; built = way.built.1 }
+
+-- ---- beginnings
+
+pub begins_self : (bytes : List ℕ) → Begins bytes bytes
+begins_self bytes = take-length bytes
+
+pub begins_then : (a b c : List ℕ) → Begins a b → Begins b c → Begins a c
+begins_then a b c first second =
+    let size : min (length a) (length b) ≡ length a = sym (length-take (length a) b) ∙ ap length first in
+    let le : length a ≤ length b = omega (arith, size) in
+    sym (take-take (length a) (length b) c le) ∙ ap (λ (l : List ℕ). take (length a) l) second ∙ first
+
+pub taken_next : {A : Type 0} (xs : List A) (i : ℕ) (x : A) → i < length xs → x ≡ get_or xs i x → take (i + 1) xs ≡ take i xs ++ x ∷ []
+taken_next xs i x lt is = rw add-one (take-suc xs i x lt ∙ ap (λ y. take i xs ++ y ∷ []) (sym is))
+
+-- one item more fits
+pub fit_more : (version : ℕ) (items : List BuiltItem) (item : BuiltItem) → AreFit version items → FitsItem version item → AreFit version (items ++ item ∷ [])
+fit_more version [] item all one = (one, tt)
+fit_more version (first ∷ items) item all one = (all.0, fit_more version items item all.1 one)

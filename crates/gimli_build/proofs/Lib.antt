@@ -1,0 +1,36 @@
+pub mod Joins
+pub mod Joined
+pub mod Frames
+pub mod Steps
+pub mod RowRuns
+pub mod Spellings
+pub mod RowSizes
+pub mod ItemRuns
+pub mod ItemsWritten
+pub mod ItemSpellings
+pub mod EventsBack
+pub mod Refusals
+pub mod PartSizes
+pub mod TableSizes
+pub mod UnitSizes
+pub mod NumberRefusals
+pub mod TableRefusals
+pub mod Causes
+mod TableLemmas
+mod BuiltLemmas
+mod SourceLemmas
+mod FormatLemmas
+pub mod EmptySource
+mod WrittenParts
+mod TableSpellings
+mod EncodingSpellings
+mod TextForms
+mod FormatForms
+mod EntryForms
+mod ReadyTexts
+mod Version5TableSpellings
+mod TablesBack
+mod UnitSpellings
+pub mod UnitHeader
+pub mod ReadBack
+mod WorkedUnits

@@ -1,0 +1,79 @@
+-- How many bytes the parts of what is written are, where they are written.
+use Rattle.std.proofs.Common.{◌≡◌, ℕ, zero, suc, ◌+◌, Bool, true, false, List, [], ◌∷◌, ◌++◌, length, Ok, Err, refl, sym, ap, ◌∙◌, if◌then◌else◌, nat_eq}
+use Rattle.std.specs.Prelude.{Result, sum_by, ◌||◌, nat_lt, ◌^◌}
+use Rattle.std.specs.Int.{bytes_low_first, bytes_high_first}
+use Rattle.std.proofs.lemmas.List.{length-append}
+use Rattle.std.proofs.lemmas.List.Sums.{sum_by-cons}
+use Rattle.gimli_core.specs.Numbers.{number_bytes}
+use Rattle.gimli_bytes.specs.Number.{udata}
+use Rattle.gimli_bytes.specs.declared.error.Error.{Error}
+use Rattle.gimli_bytes.specs.declared.error.Error.TheVariants.{ValueTooLarge, UnsupportedWordSize}
+use Rattle.gimli_build.specs.Joined.{joined, joined_parts, behind_length}
+
+-- these are so many bytes, where they are written
+abbrev pub HasSize : Result (List ℕ) Error → ℕ → Type 0
+HasSize written n = (bytes : List ℕ) → written ≡ Ok bytes → length bytes ≡ n
+
+-- ---- parts
+
+pub size_of_ok : (own : List ℕ) → HasSize (Ok own) (length own)
+size_of_ok own bytes is = let same : own ≡ bytes = cc in ap length (sym same)
+
+pub size_of_none : (e : Error) (n : ℕ) → HasSize (Err e) n
+size_of_none e n bytes is = absurd cc
+
+pub size_as : (written : Result (List ℕ) Error) (m n : ℕ) → m ≡ n → HasSize written m → HasSize written n
+size_as written m n same size bytes is = size bytes is ∙ same
+
+pub size_tested : (test : Bool) (own : List ℕ) (e : Error) → HasSize (if test then Ok own else Err e) (length own)
+size_tested true own e = size_of_ok own
+size_tested false own e = size_of_none e (length own)
+
+-- one of two, as a test says
+pub size_either : (test : Bool) (first second : Result (List ℕ) Error) (m n : ℕ) → HasSize first m → HasSize second n
+    → HasSize (if test then first else second) (if test then m else n)
+size_either true first second m n one other = one
+size_either false first second m n one other = other
+
+pub size_joined : (first rest : Result (List ℕ) Error) (m n : ℕ) → HasSize first m → HasSize rest n → HasSize (joined first rest) (m + n)
+size_joined (Ok a) (Ok b) m n first rest bytes is =
+    let same : a ++ b ≡ bytes = cc in
+    ap length (sym same) ∙ length-append a b ∙ ap (λ (k : ℕ). k + length b) (first a refl) ∙ ap (λ (k : ℕ). m + k) (rest b refl)
+size_joined (Ok a) (Err e) m n first rest bytes is = absurd cc
+size_joined (Err e) written m n first rest bytes is = absurd cc
+
+pub size_parts : {A : Type 0} (part : A → Result (List ℕ) Error) (size : A → ℕ) → ((x : A) → HasSize (part x) (size x))
+    → (xs : List A) → HasSize (joined_parts part xs) (sum_by size xs)
+size_parts part size each [] = size_of_ok []
+size_parts part size each (x ∷ xs) =
+    size_as (joined_parts part (x ∷ xs)) (size x + sum_by size xs) (sum_by size (x ∷ xs)) (sym (sum_by-cons size x xs))
+    (size_joined (part x) (joined_parts part xs) (size x) (sum_by size xs) (each x) (size_parts part size each xs))
+
+pub size_behind : (length_of : ℕ → Result (List ℕ) Error) (counted : Result (List ℕ) Error) (m n : ℕ) → ((k : ℕ) → HasSize (length_of k) m) → HasSize counted n
+    → HasSize (behind_length length_of counted) (m + n)
+size_behind length_of (Ok own) m n before counted = size_joined (length_of (length own)) (Ok own) m n (before (length own)) counted
+size_behind length_of (Err e) m n before counted = size_of_none e (m + n)
+
+-- ---- numbers
+
+low_size : (size i n : ℕ) → length (bytes_low_first i size n) ≡ size
+low_size zero i n = refl
+low_size (suc size) i n = ap suc (low_size size (suc i) n)
+
+high_size : (size n : ℕ) → length (bytes_high_first size n) ≡ size
+high_size zero n = refl
+high_size (suc size) n = ap suc (high_size size n)
+
+pub number_size : (big : Bool) (size n : ℕ) → length (number_bytes big size n) ≡ size
+number_size true size n = high_size size n
+number_size false size n = low_size size 0 n
+
+-- a number of a size is so long, whatever tests it passes
+tested_number : (known fits : Bool) (own : List ℕ) (size : ℕ) → length own ≡ size
+    → HasSize (if known then (if fits then Ok own else Err ValueTooLarge) else Err (UnsupportedWordSize size)) size
+tested_number true fits own size same = size_as (if fits then Ok own else Err ValueTooLarge) (length own) size same (size_tested fits own ValueTooLarge)
+tested_number false fits own size same = size_of_none (UnsupportedWordSize size) size
+
+pub udata_size : (big : Bool) (n size : ℕ) → HasSize (udata big n size) size
+udata_size big n size =
+    tested_number (nat_eq size 1 || nat_eq size 2 || nat_eq size 3 || nat_eq size 4 || nat_eq size 8) (nat_lt n (256 ^ size)) (number_bytes big size n) size (number_size big size n)

@@ -1,0 +1,113 @@
+-- What bytes are refused for, where they are written part by part.
+use Rattle.std.proofs.Common.{◌≡◌, ℕ, Bool, true, false, not, List, [], ◌∷◌, ◌++◌, length, map, Ok, Err, refl, sym, ap, ◌∙◌, if◌then◌else◌}
+use Rattle.std.specs.Prelude.{Option, Some, None, Result, flat_map}
+use Rattle.gimli_bytes.specs.declared.error.Error.{Error}
+use Rattle.gimli_build.specs.Joined.{joined, joined_parts, behind_length}
+use Rattle.gimli_build.specs.Cause.{cause_if, first_of}
+
+-- what bytes are refused for
+abbrev pub refusal : Result (List ℕ) Error → Option Error
+refusal (Ok bytes) = None
+refusal (Err e) = Some e
+
+-- ---- causes
+
+-- the earlier of two causes
+abbrev pub or_first : Option Error → Option Error → Option Error
+or_first (Some e) later = Some e
+or_first None later = later
+
+pub first_before_none : (cause : Option Error) → or_first cause None ≡ cause
+first_before_none None = refl
+first_before_none (Some e) = refl
+
+pub first_apart : (cause : Option Error) (causes : List (Option Error)) → first_of (cause ∷ causes) ≡ or_first cause (first_of causes)
+first_apart None causes = refl
+first_apart (Some e) causes = refl
+
+pub or_first_apart : (first next last : Option Error) → or_first (or_first first next) last ≡ or_first first (or_first next last)
+or_first_apart None next last = refl
+or_first_apart (Some e) next last = refl
+
+pub first_alone : (cause : Option Error) → first_of (cause ∷ []) ≡ cause
+first_alone None = refl
+first_alone (Some e) = refl
+
+-- ---- the causes of a list
+
+pub causes_append : {A : Type 0} (cause : A → Option Error) (xs ys : List A)
+    → first_of (map cause (xs ++ ys)) ≡ or_first (first_of (map cause xs)) (first_of (map cause ys))
+causes_append cause [] ys = refl
+causes_append cause (x ∷ xs) ys =
+    let first = first_of (map cause xs) in
+    let last = first_of (map cause ys) in
+    first_apart (cause x) (map cause (xs ++ ys))
+    ∙ ap (λ (c : Option Error). or_first (cause x) c) (causes_append cause xs ys)
+    ∙ sym (or_first_apart (cause x) first last)
+    ∙ ap (λ (c : Option Error). or_first c last) (sym (first_apart (cause x) (map cause xs)))
+
+pub causes_map : {A B : Type 0} (cause : B → Option Error) (f : A → B) (xs : List A)
+    → first_of (map cause (map f xs)) ≡ first_of (map (λ (x : A). cause (f x)) xs)
+causes_map cause f [] = refl
+causes_map {A = A} cause f (x ∷ xs) =
+    first_apart (cause (f x)) (map cause (map f xs))
+    ∙ ap (λ (c : Option Error). or_first (cause (f x)) c) (causes_map cause f xs)
+    ∙ sym (first_apart (cause (f x)) (map (λ (y : A). cause (f y)) xs))
+
+pub causes_flat : {A B : Type 0} (cause : B → Option Error) (f : A → List B) (xs : List A)
+    → first_of (map cause (flat_map f xs)) ≡ first_of (map (λ (x : A). first_of (map cause (f x))) xs)
+causes_flat cause f [] = refl
+causes_flat {A = A} cause f (x ∷ xs) =
+    let first = first_of (map cause (f x)) in
+    causes_append cause (f x) (flat_map f xs)
+    ∙ ap (λ (c : Option Error). or_first first c) (causes_flat cause f xs)
+    ∙ sym (first_apart first (map (λ (y : A). first_of (map cause (f y))) xs))
+
+-- ---- refusals
+
+pub joined-refusal : (first rest : Result (List ℕ) Error) → refusal (joined first rest) ≡ or_first (refusal first) (refusal rest)
+joined-refusal (Ok first) (Ok rest) = refl
+joined-refusal (Ok first) (Err e) = refl
+joined-refusal (Err d) rest = refl
+
+pub parts-refusal : {A : Type 0} (part : A → Result (List ℕ) Error) (cause : A → Option Error) → ((x : A) → refusal (part x) ≡ cause x)
+    → (xs : List A) → refusal (joined_parts part xs) ≡ first_of (map cause xs)
+parts-refusal part cause each [] = refl
+parts-refusal part cause each (x ∷ xs) =
+    joined-refusal (part x) (joined_parts part xs)
+    ∙ ap (λ (c : Option Error). or_first c (refusal (joined_parts part xs))) (each x)
+    ∙ ap (λ (c : Option Error). or_first (cause x) c) (parts-refusal part cause each xs)
+    ∙ sym (first_apart (cause x) (map cause xs))
+
+-- a length is refused where nothing before it is
+pub behind-refusal : (length_of : ℕ → Result (List ℕ) Error) (counted : Result (List ℕ) Error) (cause : Option Error)
+    → ((bytes : List ℕ) → counted ≡ Ok bytes → refusal (length_of (length bytes)) ≡ cause)
+    → refusal (behind_length length_of counted) ≡ or_first (refusal counted) cause
+behind-refusal length_of (Ok bytes) cause refused =
+    joined-refusal (length_of (length bytes)) (Ok bytes)
+    ∙ first_before_none (refusal (length_of (length bytes)))
+    ∙ refused bytes refl
+behind-refusal length_of (Err e) cause refused = refl
+
+-- bytes that are written where a test holds
+pub tested-refusal : (test : Bool) (bytes : List ℕ) (e : Error) → refusal (if test then Ok bytes else Err e) ≡ cause_if (not test) e
+tested-refusal true bytes e = refl
+tested-refusal false bytes e = refl
+
+-- bytes that are refused where a test holds
+pub barred-refusal : (test : Bool) (e : Error) (rest : Result (List ℕ) Error) → refusal (if test then Err e else rest) ≡ or_first (cause_if test e) (refusal rest)
+barred-refusal true e rest = refl
+barred-refusal false e rest = refl
+
+-- seven causes, as the parts of a unit have them
+pub seven_causes : (bar version operations texts header items unit : Option Error)
+    → first_of (bar ∷ version ∷ operations ∷ texts ∷ header ∷ items ∷ unit ∷ [])
+    ≡ or_first bar (or_first (or_first version (or_first (or_first (or_first operations texts) header) items)) unit)
+seven_causes (Some e) version operations texts header items unit = refl
+seven_causes None (Some e) operations texts header items unit = refl
+seven_causes None None (Some e) texts header items unit = refl
+seven_causes None None None (Some e) header items unit = refl
+seven_causes None None None None (Some e) items unit = refl
+seven_causes None None None None None (Some e) unit = refl
+seven_causes None None None None None None (Some e) = refl
+seven_causes None None None None None None None = refl

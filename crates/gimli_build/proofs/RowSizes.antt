@@ -1,0 +1,168 @@
+-- How many instructions and bytes a row has.
+use Rattle.std.proofs.Common.{◌≡◌, ℕ, ◌+◌, ◌-◌, ◌*◌, ◌/◌, ◌%◌, ◌<◌, ◌≤◌, Bool, true, false, not, List, [], ◌∷◌, ◌++◌, length, refl, sym, ap, ◌∙◌, arith, lit≤, nat_eq, nat_le, if◌then◌else◌, ℤ, pos, ◌+ℤ◌, ◌-ℤ◌, ◌≤ℤ◌, ◌<ℤ◌, Some}
+use Rattle.std.specs.Prelude.{unsigned_abs, int_le, int_lt}
+use Rattle.std.proofs.Math.Nat.{mod-lt, div-add-mod'}
+use Rattle.std.proofs.lemmas.List.{length-append}
+use Rattle.std.proofs.lemmas.Int.{ints}
+use Rattle.std.proofs.lemmas.Bool.{le-leb}
+use Rattle.std.proofs.lemmas.Bool.Decides.{nat_tests}
+use Rattle.gimli_core.specs.declared.common.Encoding.{Encoding}
+use Rattle.gimli_core.specs.declared.common.LineEncoding.{LineEncoding}
+use Rattle.gimli_line.specs.declared.instruction.LineInstruction.TheVariants.{Special, Copy, AdvancePc, AdvanceLine, SetFile, SetColumn, NegateStatement, SetBasicBlock, ConstAddPc, SetPrologueEnd, SetEpilogueBegin, SetIsa, SetDiscriminator}
+use Rattle.gimli_line.specs.Instruction.{Ins}
+use Rattle.gimli_line.specs.OperationPointer.{operation_advance}
+use Rattle.gimli_build.specs.declared.built.row.LineRow.{LineRow}
+use Rattle.gimli_build.specs.FileNumber.{file_number}
+use Rattle.gimli_build.specs.Advance.{CanEncode, operations}
+use Rattle.gimli_build.specs.Encode.{when, marks, changes, differ, line_part, line_opcode, is_special_advance, still_opcode, row_maker, constant_advance, operation_part, row_instructions}
+use Rattle.gimli_build.specs.InstructionBytes.{instruction_bytes, instructions_bytes}
+use Rattle.gimli_build.specs.SameRow.{built_rules}
+use Rattle.gimli_build.specs.Sizes.{HasSpecial, OnlyMoves}
+
+-- ---- instructions
+
+when_short : (due : Bool) (i : Ins) → length (when due i) ≤ 1
+when_short true i = lit≤ tt
+when_short false i = lit≤ tt
+
+four_short : (a b c d : List Ins) → length a ≤ 1 → length b ≤ 1 → length c ≤ 1 → length d ≤ 1 → length (a ++ b ++ c ++ d) ≤ 4
+four_short a b c d ha hb hc hd = omega (arith, length-append (a ++ b ++ c) d, length-append (a ++ b) c, length-append a b)
+
+line_short : (e : LineEncoding) (d : ℤ) → length (line_part e d) ≤ 1
+line_short e d = by (is_special_advance e d)
+  where
+    by : (b : Bool) → length {A = Ins} (if b then [] else AdvanceLine d ∷ []) ≤ 1
+    by true = lit≤ tt
+    by false = lit≤ tt
+
+operations_short : (e : LineEncoding) (s n : ℕ) → length (operation_part e s n) ≤ 2
+operations_short e s n = by (nat_le (s + n * e.line_range) 255) (nat_le (s + (n - constant_advance e) * e.line_range) 255)
+  where
+    by : (b c : Bool) → length {A = Ins} (if b then row_maker e (s + n * e.line_range) ∷ []
+        else (if c then ConstAddPc ∷ row_maker e (s + (n - constant_advance e) * e.line_range) ∷ [] else AdvancePc n ∷ row_maker e s ∷ [])) ≤ 2
+    by true c = lit≤ tt
+    by false true = lit≤ tt
+    by false false = lit≤ tt
+
+-- eleven at most
+pub row_short : (version : ℕ) (e : LineEncoding) (previous built : LineRow) → length (row_instructions version e previous built) ≤ 11
+row_short version e previous built =
+    let d = pos built.line -ℤ pos previous.line in
+    let n = operations e previous.address_offset previous.op_index built.address_offset built.op_index in
+    let m = marks built in
+    let c = changes version previous built in
+    let l = line_part e d in
+    let o = operation_part e (line_opcode e d) n in
+    let hm : length m ≤ 4 = four_short (when (not (nat_eq built.discriminator 0)) (SetDiscriminator built.discriminator)) (when built.basic_block SetBasicBlock) (when built.prologue_end SetPrologueEnd) (when built.epilogue_begin SetEpilogueBegin)
+    (when_short (not (nat_eq built.discriminator 0)) (SetDiscriminator built.discriminator)) (when_short built.basic_block SetBasicBlock) (when_short built.prologue_end SetPrologueEnd) (when_short built.epilogue_begin SetEpilogueBegin) in
+    let hc : length c ≤ 4 = four_short (when (differ built.is_statement previous.is_statement) NegateStatement) (when (not (nat_eq built.file previous.file)) (SetFile (file_number version built.file))) (when (not (nat_eq built.column previous.column)) (SetColumn built.column)) (when (not (nat_eq built.isa previous.isa)) (SetIsa built.isa))
+    (when_short (differ built.is_statement previous.is_statement) NegateStatement) (when_short (not (nat_eq built.file previous.file)) (SetFile (file_number version built.file))) (when_short (not (nat_eq built.column previous.column)) (SetColumn built.column)) (when_short (not (nat_eq built.isa previous.isa)) (SetIsa built.isa)) in
+    let hl = line_short e d in
+    let ho = operations_short e (line_opcode e d) n in
+    omega (arith, hm, hc, hl, ho, length-append (m ++ c ++ l) o, length-append (m ++ c) l, length-append m c)
+
+-- ---- bytes
+
+not_due : (m n : ℕ) (i : Ins) → m ≡ n → when (not (nat_eq m n)) i ≡ []
+not_due m n i same = let t : nat_eq m n ≡ true = grind (arith, nat_tests) in rw t refl
+
+not_turned : (a b : Bool) → a ≡ b → when (differ a b) NegateStatement ≡ []
+not_turned true b h = rw (← h) refl
+not_turned false b h = rw (← h) refl
+
+-- a row that only moves says nothing outright
+silent : (version : ℕ) (previous built : LineRow) → OnlyMoves previous built → marks built ++ changes version previous built ≡ []
+silent version previous built only =
+    let a1 = not_due built.discriminator 0 (SetDiscriminator built.discriminator) only.discriminator in
+    let a5 = not_turned built.is_statement previous.is_statement only.is_statement in
+    let a6 = not_due built.file previous.file (SetFile (file_number version built.file)) only.file in
+    let a7 = not_due built.column previous.column (SetColumn built.column) only.column in
+    let a8 = not_due built.isa previous.isa (SetIsa built.isa) only.isa in
+    rw (a1, only.basic_block, only.prologue_end, only.epilogue_begin, a5, a6, a7, a8) refl
+
+maker_bytes : (e : LineEncoding) (s : ℕ) → length (instruction_bytes (row_maker e s)) ≡ 1
+maker_bytes e s = by (nat_eq s (still_opcode e))
+  where
+    by : (b : Bool) → length (instruction_bytes (if b then Copy else Special s)) ≡ 1
+    by true = refl
+    by false = refl
+
+-- the parts of a special opcode
+record Parts (e : LineEncoding) (d : ℤ) (n : ℕ) : Type 0 where
+  above : ℕ
+  within : above < e.line_range
+  line : e.line_base +ℤ pos above ≡ d
+  fits : 13 + above + n * e.line_range ≤ 255
+
+some_same : {A : Type 0} (x y : A) → Some x ≡ Some y → x ≡ y
+some_same x y e = cc
+
+parts_of : (encoding : Encoding) (e : LineEncoding) (d : ℤ) (n : ℕ) → CanEncode e → HasSpecial (built_rules encoding e) d n → Parts e d n
+parts_of encoding e d n can has =
+    let g = e.line_range in
+    let z = has.opcode - 13 in
+    let some : 1 ≤ g = omega (arith, ints, can.base, can.above) in
+    let line : e.line_base +ℤ pos (z % g) ≡ d = some_same (e.line_base +ℤ pos (z % g)) d has.line in
+    let count : z / g ≡ n = some_same (z / g) n has.operations in
+    let whole : n * g + z % g ≡ z = ap (λ (x : ℕ). x * g + z % g) (sym count) ∙ div-add-mod' z g in
+    record {
+      above = z % g;
+      within = mod-lt z some;
+      line = line;
+      fits = omega (arith, whole, has.least, has.greatest);
+    }
+
+-- what is due for the line
+special_line : (e : LineEncoding) (d : ℤ) (n : ℕ) (p : Parts e d n) → is_special_advance e d ≡ true
+special_line e d n p =
+    let low : e.line_base ≤ℤ d = omega (arith, ints, p.line) in
+    let high : d <ℤ (e.line_base +ℤ pos e.line_range) = omega (arith, ints, p.line, p.within) in
+    let first : int_le e.line_base d ≡ true = grind (arith, ints) in
+    let second : int_lt d (e.line_base +ℤ pos e.line_range) ≡ true = grind (arith, ints) in
+    rw (first, second) refl
+
+-- the bytes of a row that only moves, where special opcodes have its line advance
+module _ (encoding : Encoding) (e : LineEncoding) (previous built : LineRow) (can : CanEncode e) (only : OnlyMoves previous built) where
+  abbrev advance : ℤ
+  advance = pos built.line -ℤ pos previous.line
+
+  abbrev count : ℕ
+  count = operations e previous.address_offset previous.op_index built.address_offset built.op_index
+
+  -- what is left of the row's instructions
+  left : (u : ℕ) → is_special_advance e advance ≡ true → u ≡ unsigned_abs (advance -ℤ e.line_base) → row_instructions encoding.version e previous built ≡ operation_part e (13 + u) count
+  left u t same =
+      ap (λ (is : List Ins). is ++ line_part e advance ++ operation_part e (line_opcode e advance) count) (silent encoding.version previous built only)
+      ∙ rw (t, same) refl
+
+  -- the line advance above the base
+  above_is : (n : ℕ) (p : Parts e advance n) → p.above ≡ unsigned_abs (advance -ℤ e.line_base)
+  above_is n p = omega (arith, ints, p.line)
+
+  pub one_byte : HasSpecial (built_rules encoding e) advance count → length (instructions_bytes (row_instructions encoding.version e previous built)) ≡ 1
+  one_byte has =
+      let p = parts_of encoding e advance count can has in
+      let whole = left p.above (special_line e advance count p) (above_is count p) in
+      let room : nat_le (13 + p.above + count * e.line_range) 255 ≡ true = le-leb (13 + p.above + count * e.line_range) 255 p.fits in
+      ap (λ (is : List Ins). length (instructions_bytes is)) whole ∙ rw room (one_maker (13 + p.above + count * e.line_range))
+    where
+      one_maker : (s : ℕ) → length (instructions_bytes (row_maker e s ∷ [])) ≡ 1
+      one_maker s = omega (arith, length-append (instruction_bytes (row_maker e s)) [], maker_bytes e s)
+
+  pub two_bytes : (q : ℕ) → operation_advance (built_rules encoding e) ConstAddPc ≡ Some q → HasSpecial (built_rules encoding e) advance (count - q) → length (instructions_bytes (row_instructions encoding.version e previous built)) ≤ 2
+  two_bytes q is has =
+      let constant : constant_advance e ≡ q = some_same (constant_advance e) q is in
+      let p = parts_of encoding e advance (count - q) can has in
+      let whole = left p.above (special_line e advance (count - q) p) (above_is (count - q) p) in
+      let fits : 13 + p.above + (count - constant_advance e) * e.line_range ≤ 255 = rw constant p.fits in
+      let room : nat_le (13 + p.above + (count - constant_advance e) * e.line_range) 255 ≡ true = le-leb (13 + p.above + (count - constant_advance e) * e.line_range) 255 fits in
+      rw whole (by p.above room (nat_le (13 + p.above + count * e.line_range) 255))
+    where
+      one_maker : (s : ℕ) → length (instructions_bytes (row_maker e s ∷ [])) ≤ 1
+      one_maker s = omega (arith, length-append (instruction_bytes (row_maker e s)) [], maker_bytes e s)
+
+      by : (u : ℕ) → nat_le (13 + u + (count - constant_advance e) * e.line_range) 255 ≡ true → (b : Bool)
+          → length (instructions_bytes (if b then row_maker e (13 + u + count * e.line_range) ∷ []
+          else (if nat_le (13 + u + (count - constant_advance e) * e.line_range) 255 then ConstAddPc ∷ row_maker e (13 + u + (count - constant_advance e) * e.line_range) ∷ [] else AdvancePc count ∷ row_maker e (13 + u) ∷ []))) ≤ 2
+      by u room true = let one = one_maker (13 + u + count * e.line_range) in omega (arith, one)
+      by u room false = rw room (let one = one_maker (13 + u + (count - constant_advance e) * e.line_range) in omega (arith, one))

@@ -1,0 +1,21 @@
+use Rattle.gimli_build.proofs.TableLemmas.{directories_cloned, files_cloned}
+use Rattle.gimli_build.proofs.built.files.FileTableClone.clone.Goals as goal
+
+pub invariant_of-result : goal.invariant_of-result
+invariant_of-result c =
+    rw (
+      directories_cloned c.self.inside.directories.keys c.in_ok-clone.field-0.keys c.in_ok-clone.ensures.cases,
+      files_cloned c.self.inside.files.entries c.in_ok-clone-2.field-0.entries c.in_ok-clone-2.ensures.cases,
+    )
+    c.self.invariant
+
+pub returns : goal.returns
+returns c =
+    record {
+      cases =
+          rw (← c.self.view_is)
+          (λ i. record {
+            directories = directories_cloned c.self.inside.directories.keys c.in_ok-clone.field-0.keys c.in_ok-clone.ensures.cases i;
+            files = files_cloned c.self.inside.files.entries c.in_ok-clone-2.field-0.entries c.in_ok-clone-2.ensures.cases i;
+          });
+    }

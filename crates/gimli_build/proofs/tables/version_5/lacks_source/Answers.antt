@@ -1,0 +1,19 @@
+use Rattle.std.proofs.Common.{rules, ◌≡◌, true, false, sym, ◌∙◌}
+use Rattle.std.specs.Option.{is_none}
+use Rattle.gimli_build.specs.LineText.{line_text}
+use Rattle.gimli_build.specs.Tables.{File}
+use Rattle.gimli_build.specs.TablesInside.{details}
+use Rattle.gimli_build.proofs.SourceLemmas.{any_found, any_passed, none_seen}
+use Rattle.gimli_build.proofs.tables.version_5.lacks_source.Goals as goal
+
+pub returns-then-is_none : goal.returns-then-is_none
+returns-then-is_none c =
+    let file : File = ((line_text c.file.result.0.now, c.file.result.1), details c.file.result.2.now) in
+    let is : is_none c.file.result.2.now.source ≡ true = search rules in
+    sym (any_found (λ (f : File). is_none f.1.source) c.args.tables.now.files c.loop-index.index file c.file.ensures c.loop-index.invariant.left (none_seen line_text c.file.result.2.now.source ∙ is))
+
+pub loop-index-preserved : goal.loop-index-preserved
+loop-index-preserved c =
+    let file : File = ((line_text c.file.result.0.now, c.file.result.1), details c.file.result.2.now) in
+    let is : is_none c.file.result.2.now.source ≡ false = search rules in
+    record { left = any_passed (λ (f : File). is_none f.1.source) c.args.tables.now.files c.loop-index.index file c.file.ensures c.loop-index.invariant.left (none_seen line_text c.file.result.2.now.source ∙ is) }

@@ -1,0 +1,11 @@
+use Rattle.std.proofs.Common.{◌∙◌}
+use Rattle.gimli_build.specs.LineText.{line_text}
+use Rattle.gimli_build.specs.Tables.{File}
+use Rattle.gimli_build.specs.TablesInside.{details}
+use Rattle.gimli_build.proofs.SourceLemmas.{first_path}
+use Rattle.gimli_build.proofs.tables.version_5.path_form.Goals as goal
+
+pub returns : goal.returns
+returns c =
+    let file : File = ((line_text c.file.result.0.now, c.file.result.1), details c.file.result.2.now) in
+    c.form.ensures ∙ first_path c.args.tables.now.files file c.file.ensures

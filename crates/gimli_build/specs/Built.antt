@@ -1,0 +1,81 @@
+-- A line program as it was built.
+use Rattle.std.specs.Prelude.{ℕ, ◌-◌, Bool, false, true, List, [], ◌∷◌, length, slice_get, negsuc}
+use Rattle.std.specs.Option.{option_map_or}
+use Rattle.gimli_core.specs.declared.common.Encoding.{Encoding}
+use Rattle.gimli_core.specs.declared.common.Format.TheVariants.{Dwarf32}
+use Rattle.gimli_core.specs.declared.common.LineEncoding.{LineEncoding}
+use Rattle.gimli_bytes.specs.declared.address.Address.{Address}
+use Rattle.gimli_bytes.specs.declared.address.Address.TheVariants.{Constant, Symbol}
+use Rattle.gimli_build.specs.LineText.{LineText}
+use Rattle.gimli_build.specs.Tables.{File}
+use Rattle.gimli_build.specs.Rows.{initial_row}
+use Rattle.gimli_build.specs.declared.built.row.LineRow.{LineRow}
+use Rattle.gimli_build.specs.declared.built.items.BuiltItem.{BuiltItem}
+use Rattle.gimli_build.specs.declared.built.items.BuiltItem.TheVariants.{SetAddress, Row, End}
+
+pub record Built : Type 0 where
+  -- it was made to be no program
+  pub is_none : Bool
+  pub encoding : Encoding
+  pub line_encoding : LineEncoding
+  pub directories : List LineText
+  pub files : List File
+  pub file_has_timestamp : Bool
+  pub file_has_size : Bool
+  pub file_has_md5 : Bool
+  pub file_has_source : Bool
+  -- set addresses, rows and ends, in order
+  pub items : List BuiltItem
+  -- the row that is built next
+  pub row : LineRow
+  pub in_sequence : Bool
+
+-- a program of these encodings with these tables, and nothing else yet
+abbrev pub started : Bool → Encoding → LineEncoding → List LineText → List File → Built
+started is_none encoding line_encoding directories files = record {
+  is_none = is_none;
+  encoding = encoding;
+  line_encoding = line_encoding;
+  directories = directories;
+  files = files;
+  file_has_timestamp = false;
+  file_has_size = false;
+  file_has_md5 = false;
+  file_has_source = false;
+  items = [];
+  row = initial_row encoding.version line_encoding.default_is_stmt;
+  in_sequence = false;
+}
+
+-- what stands for no program
+abbrev pub no_program : Built
+no_program =
+    started true (record { address_size = 0; format = Dwarf32; version = 2 })
+    (record { minimum_instruction_length = 1; maximum_operations_per_instruction = 1; default_is_stmt = true; line_base = negsuc 4; line_range = 14 })
+    [] []
+
+-- ---- places and addresses
+
+-- the offset and the operation that an item leaves off at: the sequence begins, or counts anew, behind an end and a
+-- set address
+abbrev pub place_after : BuiltItem → ℕ × ℕ
+place_after (Row r) = (r.address_offset, r.op_index)
+place_after (SetAddress a) = (0, 0)
+place_after (End offset op_index) = (0, 0)
+
+-- the place of the previous row, which the next one is behind
+abbrev pub previous_place : List BuiltItem → ℕ × ℕ
+previous_place items = option_map_or place_after (slice_get items (length items - 1)) (0, 0)
+
+-- a symbol counts as 0
+abbrev pub address_value : Address → ℕ
+address_value (Constant a) = a
+address_value (Symbol symbol addend) = 0
+
+-- the address that offsets count from behind these items, the nearest first: the last that was set in the sequence,
+-- else 0
+abbrev pub base_of : List BuiltItem → ℕ
+base_of [] = 0
+base_of (SetAddress a ∷ past) = address_value a
+base_of (End offset op_index ∷ past) = 0
+base_of (Row r ∷ past) = base_of past

@@ -1,0 +1,24 @@
+-- The fields of a line program, as what was built.
+use Rattle.gimli_build.specs.Built.{Built}
+use Rattle.gimli_build.specs.Tables.{keys_of}
+use Rattle.gimli_build.specs.Conditions.{IsProgram}
+use Rattle.gimli_build.specs.declared.built.line_program.LineProgram.TheInside.{Inside}
+
+abbrev pub built : Inside → Built
+built a = record {
+  is_none = a.none;
+  encoding = a.encoding;
+  line_encoding = a.line_encoding;
+  directories = a.tables.directories;
+  files = a.tables.files;
+  file_has_timestamp = a.file_has_timestamp;
+  file_has_size = a.file_has_size;
+  file_has_md5 = a.file_has_md5;
+  file_has_source = a.file_has_source;
+  items = a.items.items;
+  row = a.row;
+  in_sequence = a.in_sequence;
+}
+
+abbrev pub IsKept : Inside → Type 0
+IsKept a = IsProgram a.none a.encoding a.line_encoding a.tables.directories (keys_of a.tables.files) a.items.items

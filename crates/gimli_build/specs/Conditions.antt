@@ -1,0 +1,65 @@
+-- What the calls of a builder ask.
+use Rattle.std.specs.Prelude.{◌≡◌, ℕ, ◌<◌, ◌≤◌, ◌^◌, Bool, true, false, List, [], ◌∷◌, length, drop, IsTrue, IfSome, All}
+use Rattle.gimli_core.specs.Numbers.{is_address_size}
+use Rattle.gimli_core.specs.declared.common.Encoding.{Encoding}
+use Rattle.gimli_core.specs.declared.common.LineEncoding.{LineEncoding}
+use Rattle.gimli_build.specs.LineText.{LineText, IsWithin, HasNoZero, IsNotEmpty}
+use Rattle.gimli_build.specs.Tables.{FileKey, FitsFile, AreTables, keys_of}
+use Rattle.gimli_build.specs.Advance.{CanEncode, CanFollow}
+use Rattle.gimli_build.specs.Built.{Built, place_after, previous_place}
+use Rattle.gimli_build.specs.Items.{AreFit}
+use Rattle.gimli_build.specs.declared.built.items.BuiltItem.{BuiltItem}
+use Rattle.gimli_build.specs.declared.built.items.BuiltItem.TheVariants.{SetAddress, Row, End}
+
+-- a program may have these encodings
+pub record Accepts (encoding : Encoding) (line_encoding : LineEncoding) : Type 0 where
+  pub address_size : IsTrue (is_address_size encoding.address_size)
+  pub lines : CanEncode line_encoding
+
+-- ---- items
+
+-- an item can be built where the previous row is at this place; a line must fit a signed number
+abbrev pub CanBuild : LineEncoding → ℕ × ℕ → BuiltItem → Type 0
+CanBuild e place (SetAddress a) = Unit {0}
+CanBuild e place (Row r) = CanFollow e place.0 place.1 r.address_offset r.op_index × (r.line < 2 ^ 63)
+CanBuild e place (End offset op_index) = CanFollow e place.0 place.1 offset op_index
+
+abbrev pub CanGenerateRow : Built → Type 0
+CanGenerateRow p = CanBuild p.line_encoding (previous_place p.items) (Row p.row)
+
+abbrev pub CanEndSequence : Built → ℕ → Type 0
+CanEndSequence p offset = CanBuild p.line_encoding (previous_place p.items) (End offset p.row.op_index)
+
+-- each of these items could be built, the first with the previous row at this place
+abbrev pub AreBuilt : LineEncoding → ℕ × ℕ → List BuiltItem → Type 0
+AreBuilt e place [] = Unit {0}
+AreBuilt e place (item ∷ items) = CanBuild e place item × AreBuilt e (place_after item) items
+
+-- ---- programs
+
+-- what is true of every program, whatever was written through a lent row or lent details
+pub record IsProgram (is_none : Bool) (encoding : Encoding) (e : LineEncoding) (directories : List LineText) (keys : List FileKey) (items : List BuiltItem) : Type 0 where
+  pub lines : CanEncode e
+  pub address_size : is_none ≡ false → IsTrue (is_address_size encoding.address_size)
+  pub working_dir : is_none ≡ false → 0 < length directories
+  -- from version 5 on, where the first file is the source file
+  pub source_file : is_none ≡ false → 5 ≤ encoding.version → 0 < length keys
+  pub directories_not_empty : encoding.version ≤ 4 → All IsNotEmpty (drop 1 directories)
+  pub paths_not_empty : encoding.version ≤ 4 → All (λ k. IsNotEmpty k.0) keys
+  pub items_built : AreBuilt e (0, 0) items
+
+-- the same of a program that isn't none, with what its types say
+pub record IsBuilt (p : Built) : Type 0 where
+  pub is : IsProgram false p.encoding p.line_encoding p.directories (keys_of p.files) p.items
+  pub tables : AreTables p.directories (keys_of p.files)
+  pub items_fit : AreFit p.encoding.version p.items
+  pub files_fit : All FitsFile p.files
+
+-- a program can be written with these tables: each text that it names is there; and a source that is written has no
+-- zero byte, which would end it
+pub record CanWrite (p : Built) (strings line_strings : List (List ℕ)) : Type 0 where
+  pub program : p.is_none ≡ false
+  pub directories : All (IsWithin strings line_strings) p.directories
+  pub paths : All (λ f. IsWithin strings line_strings f.0.0) p.files
+  pub sources : All (λ f. IfSome f.1.source (IsWithin strings line_strings)) p.files
+  pub sources_end : 5 ≤ p.encoding.version → p.file_has_source ≡ true → All (λ f. IfSome f.1.source HasNoZero) p.files

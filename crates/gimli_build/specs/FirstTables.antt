@@ -1,0 +1,16 @@
+-- The tables of a new program.
+use Rattle.std.specs.Prelude.{ℕ, List, [], ◌∷◌, nat_le, if◌then◌else◌, Option, unwrap_or}
+use Rattle.std.specs.Option.{option_map_or}
+use Rattle.gimli_build.specs.LineText.{LineText}
+use Rattle.gimli_build.specs.Tables.{Details, File, no_details, with_directory, place_of_directory}
+
+-- the working directory, and from version 5 on the directory of the source file, if it is given
+abbrev pub first_directories : ℕ → LineText → Option LineText → List LineText
+first_directories version working_dir source_dir =
+    if nat_le version 4 then working_dir ∷ [] else option_map_or (with_directory (working_dir ∷ [])) source_dir (working_dir ∷ [])
+
+-- the source file from version 5 on; without a directory of its own it is in the working directory
+abbrev pub first_files : ℕ → LineText → Option LineText → LineText → Option Details → List File
+first_files version working_dir source_dir source_file details =
+    if nat_le version 4 then []
+    else ((source_file, option_map_or (place_of_directory (working_dir ∷ [])) source_dir 0), unwrap_or details no_details) ∷ []

@@ -1,0 +1,63 @@
+-- The bytes of instructions as they are written (DWARF 5, sections 6.2.5.2 and 6.2.5.3).
+use Rattle.std.specs.Prelude.{ℕ, ◌+◌, ◌^◌, ◌<◌, ◌≤◌, Bool, List, [], ◌∷◌, ◌++◌, length, flat_map, Result, FitsSigned}
+use Rattle.std.specs.Int.{w64}
+use Rattle.gimli_core.specs.Reading.{seen}
+use Rattle.gimli_bytes.specs.Number.{uleb, sleb, address_bytes}
+use Rattle.gimli_bytes.specs.declared.address.Address.{Address}
+use Rattle.gimli_bytes.specs.declared.error.Error.{Error}
+use Rattle.gimli_line.specs.declared.instruction.LineInstruction.TheVariants.{Special, Copy, AdvancePc, AdvanceLine, SetFile, SetColumn, NegateStatement, SetBasicBlock, ConstAddPc, SetPrologueEnd, SetEpilogueBegin, SetIsa, EndSequence, SetDiscriminator}
+use Rattle.gimli_line.specs.Instruction.{Ins}
+use Rattle.gimli_build.specs.declared.built.row.LineRow.{LineRow}
+use Rattle.gimli_build.specs.FileNumber.{file_number}
+
+-- an instruction of a row or an end; no other is written but set addresses
+abbrev pub instruction_bytes : Ins → List ℕ
+instruction_bytes (Special o) = o ∷ []
+instruction_bytes Copy = 0x01 ∷ []
+instruction_bytes (AdvancePc n) = 0x02 ∷ uleb n
+instruction_bytes (AdvanceLine z) = 0x03 ∷ sleb z
+instruction_bytes (SetFile n) = 0x04 ∷ uleb n
+instruction_bytes (SetColumn n) = 0x05 ∷ uleb n
+instruction_bytes NegateStatement = 0x06 ∷ []
+instruction_bytes SetBasicBlock = 0x07 ∷ []
+instruction_bytes ConstAddPc = 0x08 ∷ []
+instruction_bytes SetPrologueEnd = 0x0a ∷ []
+instruction_bytes SetEpilogueBegin = 0x0b ∷ []
+instruction_bytes (SetIsa n) = 0x0c ∷ uleb n
+instruction_bytes EndSequence = 0 ∷ 1 ∷ 0x01 ∷ []
+instruction_bytes (SetDiscriminator n) = 0 ∷ uleb (length (uleb n) + 1) ++ 0x04 ∷ uleb n
+instruction_bytes i = []
+
+-- instructions one after the other
+abbrev pub instructions_bytes : List Ins → List ℕ
+instructions_bytes list = flat_map instruction_bytes list
+
+-- a set address: what a symbol stands for isn't known
+abbrev pub set_address_bytes : Bool → Address → ℕ → Result (List ℕ) Error
+set_address_bytes big address size = seen (λ operand. 0 ∷ uleb (size + 1) ++ 0x02 ∷ operand) (address_bytes big address size)
+
+-- an instruction that rows and ends are written with, whose operand 64 bits hold
+abbrev pub IsWritten : Ins → Type 0
+IsWritten (Special o) = (13 ≤ o) × (o ≤ 255)
+IsWritten Copy = Unit {0}
+IsWritten (AdvancePc n) = n < 2 ^ 64
+IsWritten (AdvanceLine z) = FitsSigned w64 z
+IsWritten (SetFile n) = n < 2 ^ 64
+IsWritten (SetColumn n) = n < 2 ^ 64
+IsWritten NegateStatement = Unit {0}
+IsWritten SetBasicBlock = Unit {0}
+IsWritten ConstAddPc = Unit {0}
+IsWritten SetPrologueEnd = Unit {0}
+IsWritten SetEpilogueBegin = Unit {0}
+IsWritten (SetIsa n) = n < 2 ^ 64
+IsWritten EndSequence = Unit {0}
+IsWritten (SetDiscriminator n) = n < 2 ^ 64
+IsWritten i = ⊥
+
+-- 64 bits hold the numbers of a row, as they do in any program
+pub record FitsInstructions (version : ℕ) (row : LineRow) : Type 0 where
+  pub file : file_number version row.file < 2 ^ 64
+  pub line : row.line < 2 ^ 63
+  pub column : row.column < 2 ^ 64
+  pub discriminator : row.discriminator < 2 ^ 64
+  pub isa : row.isa < 2 ^ 64

@@ -1,0 +1,19 @@
+-- What a program ends as, once a `&mut` to a part of it has ended.
+use Rattle.std.specs.Prelude.{ℕ}
+use Rattle.std.specs.Borrow.{Lends, MutBor, Fml}
+use Rattle.gimli_build.specs.Built.{Built}
+use Rattle.gimli_build.specs.Tables.{with_details}
+use Rattle.gimli_build.specs.TablesInside.{details}
+use Rattle.gimli_build.specs.declared.built.row.LineRow.{LineRow}
+use Rattle.gimli_build.specs.declared.built.files.FileInfo.{FileInfo}
+use Rattle.gimli_build.specs.contracts.built.line_program.LineProgram.{the_row}
+use Rattle.gimli_build.specs.contracts.built.row.LineRow.{the_row as row_row}
+use Rattle.gimli_build.specs.contracts.built.files.FileInfo.{the_row as info_row}
+
+-- the program ends with the row that was last written through r
+abbrev pub lends_row : MutBor Built → MutBor LineRow → Fml
+lends_row p r = Lends the_row row_row p r (λ row. record p.now { row = row })
+
+-- the program ends with the details that were last written through r
+abbrev pub lends_info : MutBor Built → ℕ → MutBor FileInfo → Fml
+lends_info p i r = Lends the_row info_row p r (λ info. record p.now { files = with_details p.now.files i (details info) })

@@ -1,0 +1,76 @@
+-- What is read of a unit that was built.
+use Rattle.std.specs.Prelude.{◌≡◌, ℕ, ◌<◌, ◌≤◌, List, [], ◌++◌, length, map, slice_get, Bool, None, option_map, nat_le, if◌then◌else◌}
+use Rattle.std.specs.Option.{option_to_list}
+use Rattle.gimli_core.specs.Notation.{Notation}
+use Rattle.gimli_core.specs.Values.{Value}
+use Rattle.gimli_core.specs.declared.attribute_value.AttributeValue.TheVariants.{String}
+use Rattle.gimli_line.specs.Header.{Header, UnitEntry}
+use Rattle.gimli_line.specs.HeaderGrammar.{Opening, header_production, fields_production}
+use Rattle.gimli_line.specs.Instruction.{File as ReadFile}
+use Rattle.gimli_line.specs.InstructionGrammar.{Decodes}
+use Rattle.gimli_line.specs.Events.{Events, row}
+use Rattle.gimli_line.specs.declared.row.LineRow.{LineRow as ReadRow}
+use Rattle.gimli_bytes.specs.Texts.{table_bytes}
+use Rattle.gimli_build.specs.LineText.{LineText, bytes_in}
+use Rattle.gimli_build.specs.Tables.{File}
+use Rattle.gimli_build.specs.Texts.{Sections, IsText, IsOptionalText, OneByOne}
+use Rattle.gimli_build.specs.Stored.{stored}
+use Rattle.gimli_build.specs.Rows.{initial_row}
+use Rattle.gimli_build.specs.Items.{items_instructions, AddressesFit}
+use Rattle.gimli_build.specs.SameRow.{built_rules, RowsMatch}
+use Rattle.gimli_build.specs.Built.{Built}
+use Rattle.gimli_build.specs.Unit.{operand_counts}
+
+-- the bytes are a unit with this header and nothing behind it, and between the tables and the program there is nothing
+pub record IsUnit (notation : Notation) (unit_entry : UnitEntry) (unit : List ℕ) (h : Header) : Type 0 where
+  pub spelled : (header_production notation unit_entry).Spells unit h
+  -- the version, the header length and so on; its `fields` are the bytes that the header length counts
+  pub opening : Opening
+  pub before : List ℕ
+  pub parts : unit ≡ before ++ opening.fields ++ h.program
+  pub no_slack : (fields_production notation unit_entry h.unit_length opening h.program).Spells opening.fields h
+
+-- the directories from index 0 on: up to version 4 the one that was handed is the first
+abbrev pub directories_from_zero : Header → List Value
+directories_from_zero h =
+    if nat_le h.parameters.encoding.version 4 then option_to_list (option_map String h.comp_dir) ++ h.directories else h.directories
+
+-- a read directory stands for a built one
+abbrev pub IsDirectory : Sections → List (List ℕ) → List (List ℕ) → Value → LineText → Type 0
+IsDirectory sections strings line_strings read built = IsText sections read (bytes_in strings line_strings built)
+
+-- a read file stands for a built one, with what was stored of it
+pub record IsFile (sections : Sections) (p : Built) (strings line_strings : List (List ℕ)) (read : ReadFile) (built : File) : Type 0 where
+  pub path : IsText sections read.path_name (bytes_in strings line_strings built.0.0)
+  pub directory : read.directory_index ≡ built.0.1
+  pub timestamp : read.timestamp ≡ (stored p strings line_strings built.1).timestamp
+  pub size : read.size ≡ (stored p strings line_strings built.1).size
+  pub md5 : read.md5 ≡ (stored p strings line_strings built.1).md5
+  pub source : IsOptionalText sections read.source (stored p strings line_strings built.1).source
+
+-- the bytes are a unit, and what is read of it is what was built: the encodings, the directories and the files with
+-- these tables and these sections, and the instructions of each item, up to the end of the program. Where addresses hold
+-- the items, and none hides, its events are the built rows and ends
+pub record ReadsBack (notation : Notation) (unit_entry : UnitEntry) (sections : Sections) (p : Built) (strings line_strings : List (List ℕ)) (unit : List ℕ) : Type 0 where
+  pub header : Header
+  pub is_unit : IsUnit notation unit_entry unit header
+  pub parameters : header.parameters ≡ built_rules p.encoding p.line_encoding
+  pub counts : header.operand_counts ≡ operand_counts
+  pub directories : OneByOne (IsDirectory sections strings line_strings) (directories_from_zero header) p.directories
+  pub files : OneByOne (IsFile sections p strings line_strings) header.files p.files
+  pub decoding : Decodes notation header header.program
+      (items_instructions p.encoding.version p.line_encoding (initial_row p.encoding.version p.line_encoding.default_is_stmt) p.items) None
+  pub rows : AddressesFit p.encoding.address_size 0 (0, 0) p.items
+      → (rows : List ReadRow) × Events notation header header.program (map row rows) × RowsMatch p.encoding.version [] p.items rows
+
+-- how such a unit has to be read: in the order in which it was written, with its address size, up to version 4 with the
+-- working directory, and beside the sections of its tables; by a reader whose offsets hold its length, and from version 5
+-- on those of the sections
+pub record IsReadWell (notation : Notation) (unit_entry : UnitEntry) (sections : Sections) (big : Bool) (p : Built) (strings line_strings : List (List ℕ)) (unit : List ℕ) : Type 0 where
+  pub order : notation.big ≡ big
+  pub address_size : unit_entry.address_size ≡ p.encoding.address_size
+  pub directory : p.encoding.version ≤ 4 → unit_entry.directory ≡ option_map (bytes_in strings line_strings) (slice_get p.directories 0)
+  pub strings_are : sections.strings ≡ table_bytes strings
+  pub line_strings_are : sections.line_strings ≡ table_bytes line_strings
+  pub holds : length unit < notation.limit
+  pub sections_held : 5 ≤ p.encoding.version → (length sections.strings < notation.limit) × (length sections.line_strings < notation.limit)

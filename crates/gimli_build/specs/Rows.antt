@@ -1,0 +1,28 @@
+-- Rows as they are built.
+use Rattle.std.specs.Prelude.{ℕ, Bool, false, if◌then◌else◌}
+use Rattle.gimli_build.specs.FileNumber.{initial_file}
+use Rattle.gimli_build.specs.declared.built.row.LineRow.{LineRow}
+
+-- the row that each sequence starts with (DWARF 5, section 6.2.2)
+abbrev pub initial_row : ℕ → Bool → LineRow
+initial_row version is_stmt = record {
+  address_offset = 0;
+  op_index = 0;
+  file = initial_file version;
+  line = 1;
+  column = 0;
+  discriminator = 0;
+  is_statement = is_stmt;
+  basic_block = false;
+  prologue_end = false;
+  epilogue_begin = false;
+  isa = 0;
+}
+
+-- the row once it was built: what stands for one row alone goes
+abbrev pub cleared : LineRow → LineRow
+cleared r = record r { discriminator = 0; basic_block = false; prologue_end = false; epilogue_begin = false }
+
+-- the row where an address was set: in a sequence its place is now told from there
+abbrev pub restarted : Bool → LineRow → LineRow
+restarted in_sequence r = if in_sequence then record r { address_offset = 0; op_index = 0 } else r

@@ -1,0 +1,104 @@
+-- The bytes of a unit as it is written, or the first cause why it can't be (DWARF 5, section 6.2.4; DWARF 4, section 6.2.4).
+use Rattle.std.specs.Prelude.{ℕ, List, [], ◌∷◌, Bool, not, ◌&&◌, ◌||◌, nat_eq, nat_le, nat_lt, if◌then◌else◌, Result, Ok, Err, ℤ}
+use Rattle.std.specs.Int.{w8, cast_unsigned}
+use Rattle.gimli_core.specs.Numbers.{number_bytes, word_size}
+use Rattle.gimli_core.specs.declared.common.Encoding.{Encoding}
+use Rattle.gimli_core.specs.declared.common.LineEncoding.{LineEncoding}
+use Rattle.gimli_core.specs.declared.common.Format.{Format}
+use Rattle.gimli_core.specs.declared.common.Format.TheVariants.{Dwarf32, Dwarf64}
+use Rattle.gimli_bytes.specs.Number.{udata, length_word}
+use Rattle.gimli_bytes.specs.declared.error.Error.{Error}
+use Rattle.gimli_bytes.specs.declared.error.Error.TheVariants.{IncompatibleLineProgramEncoding, UnsupportedVersion, NeedVersion}
+use Rattle.gimli_build.specs.Joined.{joined, behind_length}
+use Rattle.gimli_build.specs.Version4Tables.{directories_bytes, files_bytes}
+use Rattle.gimli_build.specs.Version5Tables.{strings_behind, line_strings_behind, directory_table_bytes, file_table_bytes}
+use Rattle.gimli_build.specs.Rows.{initial_row}
+use Rattle.gimli_build.specs.Items.{items_bytes}
+use Rattle.gimli_build.specs.Built.{Built}
+
+-- ---- the fixed fields
+
+abbrev pub version_bytes : Bool → ℕ → Result (List ℕ) Error
+version_bytes big version = if nat_le 2 version && nat_le version 5 then Ok (number_bytes big 2 version) else Err (UnsupportedVersion version)
+
+-- the version, and in version 5 the address size and a segment selector size of 0
+abbrev pub opening_bytes : Bool → Encoding → Result (List ℕ) Error
+opening_bytes big encoding = joined (version_bytes big encoding.version) (Ok (if nat_le encoding.version 4 then [] else encoding.address_size ∷ 0 ∷ []))
+
+-- how many operations an instruction of the machine has: before version 4 it is one, and no byte says so
+abbrev pub operations_bytes : ℕ → ℕ → Result (List ℕ) Error
+operations_bytes version operations =
+    if nat_le 4 version then Ok (operations ∷ []) else (if nat_eq operations 1 then Ok [] else Err (NeedVersion 4))
+
+abbrev pub flag_byte : Bool → ℕ
+flag_byte flag = if flag then 1 else 0
+
+-- in two's complement
+unfoldable pub base_byte : ℤ → ℕ
+base_byte base = cast_unsigned w8 base
+
+-- how lines and operations are encoded
+abbrev pub line_encoding_bytes : ℕ → LineEncoding → Result (List ℕ) Error
+line_encoding_bytes version e =
+    joined (Ok (e.minimum_instruction_length ∷ []))
+    (joined (operations_bytes version e.maximum_operations_per_instruction)
+    (Ok (flag_byte e.default_is_stmt ∷ base_byte e.line_base ∷ e.line_range ∷ [])))
+
+-- how many LEB128 operands the standard opcodes 1 to 12 have
+abbrev pub operand_counts : List ℕ
+operand_counts = 0 ∷ 1 ∷ 1 ∷ 1 ∷ 1 ∷ 0 ∷ 0 ∷ 0 ∷ 1 ∷ 0 ∷ 0 ∷ 1 ∷ []
+
+-- the opcode base, and those
+abbrev pub opcode_bytes : List ℕ
+opcode_bytes = 13 ∷ operand_counts
+
+-- ---- the unit
+
+-- the directories and the files
+abbrev pub tables_bytes : Bool → Built → List (List ℕ) → List (List ℕ) → Result (List ℕ) Error
+tables_bytes big p strings line_strings =
+    if nat_le p.encoding.version 4 then joined (directories_bytes p.directories) (files_bytes p.files)
+    else joined (directory_table_bytes big p.encoding.format strings line_strings p) (file_table_bytes big p.encoding.format strings line_strings p)
+
+-- what the header length counts
+abbrev pub fields_bytes : Bool → Built → List (List ℕ) → List (List ℕ) → Result (List ℕ) Error
+fields_bytes big p strings line_strings =
+    joined (line_encoding_bytes p.encoding.version p.line_encoding)
+    (joined (Ok opcode_bytes)
+    (tables_bytes big p strings line_strings))
+
+-- the header length, and what it counts
+abbrev pub header_bytes : Bool → Built → List (List ℕ) → List (List ℕ) → Result (List ℕ) Error
+header_bytes big p strings line_strings = behind_length (λ n. udata big n (word_size p.encoding.format)) (fields_bytes big p strings line_strings)
+
+-- the instructions
+abbrev pub program_bytes : Bool → Built → Result (List ℕ) Error
+program_bytes big p =
+    items_bytes big p.encoding p.line_encoding (initial_row p.encoding.version p.line_encoding.default_is_stmt) p.items
+
+-- what the unit length counts
+abbrev pub inside_bytes : Bool → Built → List (List ℕ) → List (List ℕ) → Result (List ℕ) Error
+inside_bytes big p strings line_strings =
+    joined (opening_bytes big p.encoding) (joined (header_bytes big p strings line_strings) (program_bytes big p))
+
+-- what tells the format, in front of the word of a length
+abbrev pub escape_bytes : Bool → Format → List ℕ
+escape_bytes big Dwarf32 = []
+escape_bytes big Dwarf64 = number_bytes big 4 0xffff_ffff
+
+-- the unit length, and what it counts
+abbrev pub whole_bytes : Bool → Built → List (List ℕ) → List (List ℕ) → Result (List ℕ) Error
+whole_bytes big p strings line_strings =
+    behind_length (λ n. joined (Ok (escape_bytes big p.encoding.format)) (length_word big p.encoding.format n)) (inside_bytes big p strings line_strings)
+
+-- a unit of this encoding has no line program of that one: up to version 4 a file number is never 0, and addresses
+-- have one size
+abbrev pub is_incompatible : Encoding → Encoding → Bool
+is_incompatible unit program = (nat_lt unit.version 5 && nat_le 5 program.version) || not (nat_eq unit.address_size program.address_size)
+
+-- what is written of a program for a unit of this encoding, with these tables of strings and line strings, which gain the
+-- empty text where it is needed
+abbrev pub unit_bytes : Bool → Encoding → Built → List (List ℕ) → List (List ℕ) → Result (List ℕ) Error
+unit_bytes big unit p strings line_strings =
+    if is_incompatible unit p.encoding then Err IncompatibleLineProgramEncoding
+    else whole_bytes big p (strings_behind p strings) (line_strings_behind p line_strings)

@@ -1,0 +1,123 @@
+-- The tables of a unit of version 5 as they are written (DWARF 5, section 6.2.4, parts 14 to 19).
+use Rattle.std.specs.Prelude.{ℕ, ◌++◌, List, [], ◌∷◌, length, map, Bool, ◌&&◌, nat_eq, nat_le, if◌then◌else◌, Some, None, unwrap_or, Result, Ok, Err}
+use Rattle.std.specs.Option.{is_none}
+use Rattle.std.specs.List.{flat_map, list_any}
+use Rattle.gimli_core.specs.Numbers.{word_size}
+use Rattle.gimli_core.specs.declared.common.Format.{Format}
+use Rattle.gimli_bytes.specs.Number.{udata, uleb}
+use Rattle.gimli_bytes.specs.Texts.{with_text, place_of_text, offset_of}
+use Rattle.gimli_bytes.specs.declared.error.Error.{Error}
+use Rattle.gimli_bytes.specs.declared.error.Error.TheVariants.{LineStringFormMismatch}
+use Rattle.gimli_build.specs.LineText.{LineText, Inline, InStrings, InLineStrings}
+use Rattle.gimli_build.specs.Tables.{File}
+use Rattle.gimli_build.specs.Joined.{joined, joined_parts}
+use Rattle.gimli_build.specs.Built.{Built}
+
+-- ---- forms (DWARF 5, section 7.5.6)
+
+-- the form of a text: string, strp or line_strp
+abbrev pub text_form : LineText → ℕ
+text_form (Inline text) = 0x08
+text_form (InStrings i) = 0x0e
+text_form (InLineStrings i) = 0x1f
+
+-- the form of a table's texts: that of its first one
+abbrev pub first_form : List LineText → ℕ
+first_form [] = 0x08
+first_form (t ∷ texts) = text_form t
+
+-- the paths of files
+abbrev pub path_texts : List File → List LineText
+path_texts files = map (λ f. f.0.0) files
+
+-- ---- sources
+
+-- the sources that are there, in order
+abbrev pub sources : List File → List LineText
+sources [] = []
+sources (f ∷ files) = elim f.1.source [ Some t ↦ t ∷ sources files | None ↦ sources files ]
+
+-- a source is to be written, and a file has none: the empty text stands for it
+abbrev pub needs_empty : Built → Bool
+needs_empty p = nat_le 5 p.encoding.version && p.file_has_source && list_any (λ f. is_none f.1.source) p.files
+
+-- the empty text in a form, with these tables
+abbrev pub empty_text : ℕ → List (List ℕ) → List (List ℕ) → LineText
+empty_text form strings line_strings =
+    if nat_eq form 0x0e then InStrings (place_of_text strings [])
+    else (if nat_eq form 0x1f then InLineStrings (place_of_text line_strings [])
+    else Inline [])
+
+-- the tables once a program is written: they have gained the empty text where it is needed and has their form
+abbrev pub strings_behind : Built → List (List ℕ) → List (List ℕ)
+strings_behind p strings = if needs_empty p && nat_eq (first_form (sources p.files)) 0x0e then with_text strings [] else strings
+
+abbrev pub line_strings_behind : Built → List (List ℕ) → List (List ℕ)
+line_strings_behind p line_strings = if needs_empty p && nat_eq (first_form (sources p.files)) 0x1f then with_text line_strings [] else line_strings
+
+-- ---- formats
+
+-- a content type and a form
+abbrev pub formats_bytes : List (ℕ × ℕ) → List ℕ
+formats_bytes formats = length formats ∷ flat_map (λ f. uleb f.0 ++ uleb f.1) formats
+
+abbrev pub when : {A : Type 0} → Bool → A → List A
+when due x = if due then x ∷ [] else []
+
+-- a path
+abbrev pub directory_formats : Built → List (ℕ × ℕ)
+directory_formats p = (0x0001, first_form p.directories) ∷ []
+
+-- a path and the index of a directory, and what the flags say: a timestamp, a size, an MD5 digest and a source
+abbrev pub file_formats : Built → List (ℕ × ℕ)
+file_formats p =
+    (0x0001, first_form (path_texts p.files)) ∷ (0x0002, 0x0f)
+    ∷ when p.file_has_timestamp (0x0003, 0x0f)
+    ++ when p.file_has_size (0x0004, 0x0f)
+    ++ when p.file_has_md5 (0x0005, 0x1e)
+    ++ when p.file_has_source (0x2001, first_form (sources p.files))
+
+-- ---- entries
+
+-- what is stored of a file beside its path and its source
+abbrev pub detail_bytes : Built → File → List ℕ
+detail_bytes p f =
+    uleb f.0.1
+    ++ (if p.file_has_timestamp then uleb f.1.timestamp else [])
+    ++ (if p.file_has_size then uleb f.1.size else [])
+    ++ (if p.file_has_md5 then f.1.md5 else [])
+
+module _ (big : Bool) (format : Format) (strings line_strings : List (List ℕ)) where
+  -- a text: its bytes and a zero byte, or its offset in the section of its table
+  abbrev pub text_bytes : LineText → Result (List ℕ) Error
+  text_bytes (Inline text) = Ok (text ++ 0 ∷ [])
+  text_bytes (InStrings i) = udata big (offset_of strings i) (word_size format)
+  text_bytes (InLineStrings i) = udata big (offset_of line_strings i) (word_size format)
+
+  -- a text of a table whose texts have this form
+  abbrev pub text_in_form : ℕ → LineText → Result (List ℕ) Error
+  text_in_form form t = if nat_eq (text_form t) form then text_bytes t else Err LineStringFormMismatch
+
+  -- the directories, behind their formats and their number
+  abbrev pub directory_table_bytes : Built → Result (List ℕ) Error
+  directory_table_bytes p =
+      joined (Ok (formats_bytes (directory_formats p) ++ uleb (length p.directories)))
+      (joined_parts (text_in_form (first_form p.directories)) p.directories)
+
+  -- its source, or the empty text
+  abbrev pub source_bytes : Built → File → Result (List ℕ) Error
+  source_bytes p f =
+      if p.file_has_source
+      then (let form = first_form (sources p.files) in text_in_form form (unwrap_or f.1.source (empty_text form strings line_strings)))
+      else Ok []
+
+  abbrev pub file_entry_bytes : Built → File → Result (List ℕ) Error
+  file_entry_bytes p f =
+      joined (text_in_form (first_form (path_texts p.files)) f.0.0)
+      (joined (Ok (detail_bytes p f)) (source_bytes p f))
+
+  -- the files, behind their formats and their number
+  abbrev pub file_table_bytes : Built → Result (List ℕ) Error
+  file_table_bytes p =
+      joined (Ok (formats_bytes (file_formats p) ++ uleb (length p.files)))
+      (joined_parts (file_entry_bytes p) p.files)

@@ -1,0 +1,542 @@
+ghost use Rattle.std.specs.Prelude.{◌≡◌, ◌≢◌, ℕ, ◌+◌, ◌<◌, ◌≤◌, ◌^◌, Bool, true, false, List, [], ◌∷◌, ◌++◌, length, option_map, slice_get, IfOk, IfErr, OnOk, OnErr, IfSome, Some, None, IsTrue, ◌↔◌};
+ghost use Rattle.std.specs.Option.{option_to_list};
+ghost use Rattle.gimli_core.specs.Numbers.{is_address_size};
+ghost use Rattle.gimli_build.specs.Advance.{CanEncode, CanFollow};
+
+use crate::built::files::{DirectoryId, FileId, FileInfo, FileTable, Files};
+use crate::built::items::{BuiltItem, BuiltItems};
+use crate::built::line_string::LineString;
+use crate::built::row::LineRow;
+use gimli_bytes::{Address, Error, Result};
+use gimli_core::{Encoding, Format, LineEncoding};
+use std::alloc::{AllocError, Global};
+use std::marker::Model;
+
+/// A line program that is built.
+///
+/// It keeps what was built as it was given: directories and files, set addresses, rows and ends. Nothing of
+/// it is encoded before it is written.
+#[derive(Debug, Drop)]
+pub struct LineProgram {
+    none: bool,
+    encoding: Encoding,
+    line_encoding: LineEncoding,
+    tables: FileTable,
+    /// Whether the times of files are written, from version 5 on.
+    pub file_has_timestamp: bool,
+    /// Whether the sizes of files are written, from version 5 on.
+    pub file_has_size: bool,
+    /// Whether the digests of files are written, from version 5 on.
+    pub file_has_md5: bool,
+    /// Whether the sources of files are written, from version 5 on.
+    pub file_has_source: bool,
+    items: Vec<BuiltItem>,
+    row: LineRow,
+    in_sequence: bool,
+}
+
+impl Model for LineProgram {
+    ghost use Rattle.gimli_build.specs.Built.{Built};
+
+    ghost Value = { Built };
+
+    ghost use Rattle.gimli_build.specs.BuiltInside.{built, IsKept};
+
+    ghost view = { built };
+
+    ghost invariant = { IsKept };
+}
+
+impl LineProgram {
+    ghost use Rattle.gimli_build.specs.Rows.{initial_row};
+    ghost use Rattle.gimli_build.specs.LineText.{line_text, HasNoZero, IsNotEmpty};
+    ghost use Rattle.gimli_build.specs.TablesInside.{details};
+    ghost use Rattle.gimli_build.specs.Built.{started, no_program};
+    ghost use Rattle.gimli_build.specs.FirstTables.{first_directories, first_files};
+    ghost use Rattle.gimli_build.specs.Conditions.{Accepts};
+
+    /// Whether a program may have these encodings: addresses of 1, 2, 4 or 8 bytes, and numbers by which
+    /// rows can be encoded.
+    pub fn accepts(encoding: Encoding, line_encoding: LineEncoding) -> bool
+        ensures { IsTrue result ↔ Accepts encoding line_encoding }
+    {
+        is_address_size(encoding.address_size) && can_encode(line_encoding)
+    }
+
+    /// A program without a row. The working directory is directory 0. From version 5 on the source file is
+    /// file 0, in the directory that is handed for it, else in the working directory; up to version 4 it is
+    /// not used. Refused for want of memory alone.
+    pub fn new(
+        alloc: Global,
+        encoding: Encoding,
+        line_encoding: LineEncoding,
+        working_dir: LineString,
+        source_dir: Option<LineString>,
+        source_file: LineString,
+        source_file_info: Option<FileInfo>,
+    ) -> Result<LineProgram>
+        requires accepts { Accepts encoding line_encoding }
+        requires working_dir_ends { HasNoZero (line_text working_dir) }
+        requires source_dir_ends { IfSome source_dir (λ dir. HasNoZero (line_text dir)) }
+        requires source_file_ends { HasNoZero (line_text source_file) }
+        ensures ok { IfOk result (λ program. program ≡ started false encoding line_encoding
+            (first_directories encoding.version (line_text working_dir) (option_map line_text source_dir))
+            (first_files encoding.version (line_text working_dir) (option_map line_text source_dir)
+            (line_text source_file) (option_map details source_file_info))) }
+        ensures memory { IfErr result (λ e. e ≡ Error.OutOfMemory) }
+    {
+        let version = encoding.version;
+        let tables = FileTable::start(
+            alloc,
+            version,
+            working_dir,
+            source_dir,
+            source_file,
+            source_file_info,
+        )?;
+        Ok(LineProgram {
+            none: false,
+            encoding,
+            line_encoding,
+            tables,
+            file_has_timestamp: false,
+            file_has_size: false,
+            file_has_md5: false,
+            file_has_source: false,
+            items: Vec::new(alloc),
+            row: LineRow::initial(encoding, line_encoding),
+            in_sequence: false,
+        })
+    }
+
+    /// A program that is none: it isn't to be built, nor written.
+    pub fn none(alloc: Global) -> LineProgram
+        ensures { result ≡ no_program }
+    {
+        let encoding = Encoding {
+            address_size: 0,
+            format: Format::Dwarf32,
+            version: 2,
+        };
+        LineProgram {
+            none: true,
+            encoding,
+            line_encoding: LineEncoding::default(),
+            tables: FileTable::new(alloc),
+            file_has_timestamp: false,
+            file_has_size: false,
+            file_has_md5: false,
+            file_has_source: false,
+            items: Vec::new(alloc),
+            row: LineRow::initial(encoding, LineEncoding::default()),
+            in_sequence: false,
+        }
+    }
+
+    /// Whether this was made by `none`.
+    pub fn is_none(&self) -> bool
+        ensures { result ≡ self.now.is_none }
+    {
+        self.none
+    }
+
+    /// What the numbers of the program are encoded by.
+    pub fn encoding(&self) -> Encoding
+        ensures encoding { result ≡ self.now.encoding }
+        ensures accepted { self.now.is_none ≡ false →
+            Accepts self.now.encoding self.now.line_encoding }
+    {
+        self.encoding
+    }
+
+    /// How lines and operations are encoded.
+    pub(crate) fn line_encoding(&self) -> LineEncoding
+        ensures { result ≡ self.now.line_encoding }
+    {
+        self.line_encoding
+    }
+
+    /// The version of DWARF.
+    pub fn version(&self) -> u16
+        ensures { result ≡ self.now.encoding.version }
+    {
+        self.encoding.version
+    }
+
+    /// The number of bytes of an address.
+    pub fn address_size(&self) -> u8
+        ensures { result ≡ self.now.encoding.address_size }
+    {
+        self.encoding.address_size
+    }
+
+    /// The format of words.
+    pub fn format(&self) -> Format
+        ensures { result ≡ self.now.encoding.format }
+    {
+        self.encoding.format
+    }
+}
+
+impl LineProgram {
+    ghost use Rattle.std.specs.Borrow.{sem};
+    ghost use Rattle.gimli_build.specs.LineText.{line_text, HasNoZero, IsNotEmpty};
+    ghost use Rattle.gimli_build.specs.Tables.{with_directory, place_of_directory, with_file, place_of_file, numbered, keys_of, Keeps, AreTables};
+    ghost use Rattle.gimli_build.specs.TablesInside.{details};
+    ghost use Rattle.gimli_build.specs.LentRow.{lends_info};
+
+    /// The id of the working directory, 0.
+    pub fn default_directory(&self) -> DirectoryId
+        ensures id { result ≡ 0 }
+        ensures there { self.now.is_none ≡ false → 0 < length self.now.directories }
+    {
+        let _items = &self.items;
+        DirectoryId::working()
+    }
+
+    /// Puts a directory last, and answers its id; one that is there has its old id, and nothing changes.
+    /// Asks a program that isn't none, a text without a zero byte, and up to version 4 one that isn't
+    /// empty. Refused for want of memory alone; then nothing changes either.
+    pub fn add_directory(&mut self, directory: LineString) -> Result<DirectoryId>
+        requires program { self.old.is_none ≡ false }
+        requires text { HasNoZero (line_text directory) }
+        requires not_empty { self.old.encoding.version ≤ 4 → IsNotEmpty (line_text directory) }
+        ensures ok { OnOk result (self.new ≡ record self.old {
+          directories = with_directory self.old.directories (line_text directory);
+        }) }
+        ensures id { IfOk result (λ id. id ≡ place_of_directory self.old.directories (line_text directory)) }
+        ensures within { IfOk result (λ id. id < length self.new.directories) }
+        ensures found { IfOk result (λ id. slice_get self.new.directories id ≡ Some (line_text directory)) }
+        ensures keeps { OnOk result (Keeps self.old.directories self.new.directories) }
+        ensures err { OnErr result (self.new ≡ self.old) }
+        ensures memory { IfErr result (λ e. e ≡ Error.OutOfMemory) }
+    {
+        let id = self.tables.add_directory(directory)?;
+        Ok(id)
+    }
+
+    /// The directories and the files.
+    pub(crate) fn tables(&self) -> &FileTable
+        ensures directories { result.now.directories ≡ self.now.directories }
+        ensures files { result.now.files ≡ self.now.files }
+    {
+        &self.tables
+    }
+
+    /// The directory of an id. Asks an id below the number of directories.
+    pub fn get_directory(&self, id: DirectoryId) -> &LineString
+        requires { id < length self.now.directories }
+        ensures { slice_get self.now.directories id ≡ Some (line_text result.now) }
+    {
+        self.tables.get_directory(id)
+    }
+
+    /// Puts a file last, and answers its id; one that is there has its old id, and takes what is handed of
+    /// it, if anything is. No other file changes. Asks a program that isn't none, a text without a zero byte,
+    /// up to version 4 one that isn't empty, and the id of a directory that is there. Refused for want of
+    /// memory alone; then nothing changes.
+    pub fn add_file(
+        &mut self,
+        file: LineString,
+        directory: DirectoryId,
+        info: Option<FileInfo>,
+    ) -> Result<FileId>
+        requires program { self.old.is_none ≡ false }
+        requires text { HasNoZero (line_text file) }
+        requires not_empty { self.old.encoding.version ≤ 4 → IsNotEmpty (line_text file) }
+        requires within { directory < length self.old.directories }
+        ensures ok { OnOk result (self.new ≡ record self.old {
+          files = with_file self.old.files (line_text file, directory) (option_map details info);
+        }) }
+        ensures id { IfOk result (λ id. id ≡ place_of_file self.old.files (line_text file, directory)) }
+        ensures within { IfOk result (λ id. id < length self.new.files) }
+        ensures found { IfOk result (λ id.
+            slice_get (keys_of self.new.files) id ≡ Some (line_text file, directory)) }
+        ensures keeps { OnOk result (Keeps (keys_of self.old.files) (keys_of self.new.files)) }
+        ensures others { IfOk result (λ id. (i : ℕ) → i < length self.old.files → i ≢ id →
+            slice_get self.new.files i ≡ slice_get self.old.files i) }
+        ensures err { OnErr result (self.new ≡ self.old) }
+        ensures memory { IfErr result (λ e. e ≡ Error.OutOfMemory) }
+    {
+        let id = self.tables.add_file(file, directory, info)?;
+        Ok(id)
+    }
+
+    /// The files in order, each with its id, its path and its directory.
+    pub fn files(&self) -> Files<'_>
+        ensures files { result ≡ numbered 0 self.now.files }
+        ensures tables { AreTables self.now.directories (keys_of self.now.files) }
+    {
+        self.tables.files()
+    }
+
+    /// The path and the directory of a file. Asks an id below the number of files.
+    pub fn get_file(&self, id: FileId) -> (&LineString, DirectoryId)
+        requires { id < length self.now.files }
+        ensures { option_map (λ f. f.0) (slice_get self.now.files id)
+            ≡ Some (line_text result.0.now, result.1) }
+    {
+        self.tables.get_file(id)
+    }
+
+    /// What else is known of a file. Asks an id below the number of files.
+    pub fn get_file_info(&self, id: FileId) -> &FileInfo
+        requires { id < length self.now.files }
+        ensures { option_map (λ f. f.1) (slice_get self.now.files id) ≡ Some (details result.now) }
+    {
+        self.tables.get_file_info(id)
+    }
+
+    /// The same, to be written. Asks an id below the number of files.
+    pub fn get_file_info_mut(&mut self, id: FileId) -> &mut FileInfo
+        requires { id < length self.old.files }
+        ensures* lends { sem 𝓛 (lends_info self.entry id result) }
+        ensures value { option_map (λ f. f.1) (slice_get self.old.files id) ≡ Some (details result.now) }
+    {
+        self.tables.get_file_info_mut(id)
+    }
+}
+
+impl LineProgram {
+    ghost use Rattle.std.specs.Borrow.{sem};
+    ghost use Rattle.gimli_build.specs.declared.built.items.BuiltItem.{BuiltItem};
+    ghost use Rattle.gimli_build.specs.Rows.{initial_row};
+    ghost use Rattle.gimli_build.specs.Rows.{cleared, restarted};
+    ghost use Rattle.gimli_build.specs.Built.{previous_place};
+    ghost use Rattle.gimli_build.specs.Conditions.{CanGenerateRow, CanEndSequence, AreBuilt, IsProgram};
+    ghost use Rattle.gimli_build.specs.Tables.{keys_of, AreTables};
+    ghost use Rattle.gimli_build.specs.LentRow.{lends_row};
+
+    /// Begins a sequence, and sets its address, if one is given. The current row stays. Asks a program that
+    /// isn't none, and that no sequence has begun. Refused for want of memory alone; then nothing changes.
+    pub fn begin_sequence(&mut self, address: Option<Address>) -> Result<()>
+        requires program { self.old.is_none ≡ false }
+        requires outside { self.old.in_sequence ≡ false }
+        ensures ok { OnOk result (self.new ≡ record self.old {
+          items = self.old.items ++ option_to_list (option_map BuiltItem.SetAddress address);
+          in_sequence = true;
+        }) }
+        ensures err { OnErr result (self.new ≡ self.old) }
+        ensures memory { IfErr result (λ e. e ≡ Error.OutOfMemory) }
+    {
+        match address {
+            Some(address) => self.set_address(address),
+            None => {
+                self.in_sequence = true;
+                Ok(())
+            }
+        }
+    }
+
+    /// Sets the address that offsets count from. In a sequence the offset and op_index of the current row
+    /// become 0, and so do those that the next row is compared with; otherwise a sequence begins, and the
+    /// current row stays. Asks a program that isn't none. Refused for want of memory alone; then nothing
+    /// changes.
+    pub fn set_address(&mut self, address: Address) -> Result<()>
+        requires { self.old.is_none ≡ false }
+        ensures ok { OnOk result (self.new ≡ record self.old {
+          items = self.old.items ++ BuiltItem.SetAddress address ∷ [];
+          row = restarted self.old.in_sequence self.old.row;
+          in_sequence = true;
+        }) }
+        ensures err { OnErr result (self.new ≡ self.old) }
+        ensures memory { IfErr result (λ e. e ≡ Error.OutOfMemory) }
+    {
+        self.items.push(BuiltItem::SetAddress(address))?;
+        self.row = self.row.restarted(self.in_sequence);
+        self.in_sequence = true;
+        Ok(())
+    }
+
+    /// The row that is generated next, to be written.
+    pub fn row(&mut self) -> &mut LineRow
+        ensures* lends { sem 𝓛 (lends_row self.entry result) }
+        ensures value { result.now ≡ self.old.row }
+    {
+        &mut self.row
+    }
+
+    /// The offset and op_index that the next row or end is compared with.
+    fn previous_place(&self) -> (u64, u64)
+        ensures { result ≡ previous_place self.now.items }
+    {
+        match self.items.last() {
+            Some(BuiltItem::Row(row)) => (row.address_offset, row.op_index),
+            _ => (0, 0),
+        }
+    }
+
+    /// Whether the current row can be generated: its offset is a whole number of shortest instructions and
+    /// its op_index one of their operations, it isn't before the previous row, the operations between them
+    /// fit 64 bits, and its line fits 63.
+    pub fn can_generate_row(&self) -> bool
+        ensures { IsTrue result ↔ CanGenerateRow self.now }
+    {
+        let (offset, op_index) = self.previous_place();
+        let row = self.row;
+        can_follow(
+            self.line_encoding,
+            offset,
+            op_index,
+            row.address_offset,
+            row.op_index,
+        ) && row.line <= i64::MAX as u64
+    }
+
+    /// Builds the current row, and begins a sequence if none has. Then its discriminator, `basic_block`,
+    /// `prologue_end` and `epilogue_begin` are cleared. Asks a program that isn't none, and what
+    /// `can_generate_row` tells. Refused for want of memory alone; then nothing changes.
+    pub fn generate_row(&mut self) -> Result<()>
+        requires program { self.old.is_none ≡ false }
+        requires can { CanGenerateRow self.old }
+        ensures ok { OnOk result (self.new ≡ record self.old {
+          items = self.old.items ++ BuiltItem.Row self.old.row ∷ [];
+          row = cleared self.old.row;
+          in_sequence = true;
+        }) }
+        ensures err { OnErr result (self.new ≡ self.old) }
+        ensures memory { IfErr result (λ e. e ≡ Error.OutOfMemory) }
+    {
+        self.items.push(BuiltItem::Row(self.row))?;
+        self.row = self.row.cleared();
+        self.in_sequence = true;
+        Ok(())
+    }
+
+    /// Whether a sequence can end at this offset, in bytes, and the current op_index: as with
+    /// `can_generate_row`, but for the line.
+    pub fn can_end_sequence(&self, address_offset: u64) -> bool
+        ensures { IsTrue result ↔ CanEndSequence self.now address_offset }
+    {
+        let (offset, op_index) = self.previous_place();
+        can_follow(
+            self.line_encoding,
+            offset,
+            op_index,
+            address_offset,
+            self.row.op_index,
+        )
+    }
+
+    /// Ends a sequence at this offset, in bytes, and the current op_index; the current row becomes the
+    /// initial one. Asks a program that isn't none, and what `can_end_sequence` tells. Refused for want of
+    /// memory alone; then nothing changes.
+    pub fn end_sequence(&mut self, address_offset: u64) -> Result<()>
+        requires program { self.old.is_none ≡ false }
+        requires can { CanEndSequence self.old address_offset }
+        ensures ok { OnOk result (self.new ≡ record self.old {
+          items = self.old.items ++ BuiltItem.End address_offset self.old.row.op_index ∷ [];
+          row = initial_row self.old.encoding.version self.old.line_encoding.default_is_stmt;
+          in_sequence = false;
+        }) }
+        ensures err { OnErr result (self.new ≡ self.old) }
+        ensures memory { IfErr result (λ e. e ≡ Error.OutOfMemory) }
+    {
+        let op_index = self.row.op_index;
+        self.items.push(BuiltItem::End {
+            address_offset,
+            op_index,
+        })?;
+        self.row = LineRow::initial(self.encoding, self.line_encoding);
+        self.in_sequence = false;
+        Ok(())
+    }
+
+    /// Whether a sequence has begun.
+    pub fn in_sequence(&self) -> bool
+        ensures { result ≡ self.now.in_sequence }
+    {
+        self.in_sequence
+    }
+
+    /// Whether no address was set, no row generated and no sequence ended so far.
+    pub fn is_empty(&self) -> bool
+        ensures { IsTrue result ↔ (self.now.items ≡ []) }
+    {
+        self.items.is_empty()
+    }
+
+    /// What was built, in order, and what is true of every program.
+    pub(crate) fn built_items(&self) -> &[BuiltItem]
+        ensures items { result.now ≡ self.now.items }
+        ensures program { IsProgram self.now.is_none self.now.encoding self.now.line_encoding
+            self.now.directories (keys_of self.now.files) self.now.items }
+        ensures tables { AreTables self.now.directories (keys_of self.now.files) }
+    {
+        let _count = self.tables.file_count();
+        self.items.as_slice()
+    }
+
+    /// What was built, in order.
+    pub fn items(&self) -> BuiltItems<'_>
+        ensures items { result ≡ self.now.items }
+        ensures built { AreBuilt self.now.line_encoding (0, 0) self.now.items }
+    {
+        BuiltItems::new(self.items.as_slice())
+    }
+}
+
+impl Clone for LineProgram {
+    ghost use Rattle.std.specs.Prelude.{◌≡◌};
+
+    ghost is_clone = { λ program copy. copy ≡ program };
+
+    fn clone(&self) -> std::result::Result<LineProgram, AllocError> {
+        Ok(LineProgram {
+            none: self.none,
+            encoding: self.encoding,
+            line_encoding: self.line_encoding,
+            tables: self.tables.clone()?,
+            file_has_timestamp: self.file_has_timestamp,
+            file_has_size: self.file_has_size,
+            file_has_md5: self.file_has_md5,
+            file_has_source: self.file_has_source,
+            items: self.items.clone()?,
+            row: self.row,
+            in_sequence: self.in_sequence,
+        })
+    }
+}
+
+fn is_address_size(size: u8) -> bool
+    ensures { result ≡ is_address_size size }
+{
+    size == 1 || size == 2 || size == 4 || size == 8
+}
+
+/// Whether rows can be encoded by these numbers.
+fn can_encode(line_encoding: LineEncoding) -> bool
+    ensures { IsTrue result ↔ CanEncode line_encoding }
+{
+    if line_encoding.line_base > 0 || line_encoding.line_range > 127 {
+        return false;
+    }
+    if i16::from(line_encoding.line_base) + i16::from(line_encoding.line_range) <= 0 {
+        return false;
+    }
+    line_encoding.minimum_instruction_length >= 1
+        && line_encoding.maximum_operations_per_instruction >= 1
+}
+
+/// Whether a row or an end at an offset and operation can follow a row at another place.
+fn can_follow(
+    line_encoding: LineEncoding,
+    previous_offset: u64,
+    previous_op_index: u64,
+    offset: u64,
+    op_index: u64,
+) -> bool
+    requires { CanEncode line_encoding }
+    ensures { IsTrue result
+        ↔ CanFollow line_encoding previous_offset previous_op_index offset op_index }
+{
+    let length = u64::from(line_encoding.minimum_instruction_length);
+    let operations = u64::from(line_encoding.maximum_operations_per_instruction);
+    if !offset.is_multiple_of(length) || op_index >= operations || offset < previous_offset {
+        return false;
+    }
+    if offset == previous_offset && op_index < previous_op_index {
+        return false;
+    }
+    (offset - previous_offset) / length <= (u64::MAX - op_index) / operations
+}

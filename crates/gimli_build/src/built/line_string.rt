@@ -1,0 +1,86 @@
+ghost use Rattle.std.specs.Prelude.{◌≡◌, ◌≢◌, ℕ, IfOk, IfErr, OnOk, OnErr, All};
+
+use gimli_bytes::{Error, LineStringId, LineStringTable, Result, StringId, StringTable};
+use gimli_core::{DwForm, Encoding, constants};
+use std::alloc::AllocError;
+
+/// A text of a line program: the name of a directory or a file, or a file's source.
+#[derive(Debug, PartialEq, Eq, Hash, Drop)]
+pub enum LineString {
+    /// A text in the line program itself.
+    String(Vec<u8>),
+    /// A text of the table that is written to `.debug_str`.
+    StringRef(StringId),
+    /// A text of the table that is written to `.debug_line_str`.
+    LineStringRef(LineStringId),
+}
+
+impl LineString {
+    ghost use Rattle.gimli_build.specs.LineText.{line_text, made_text, made_table, IsWithin, bytes_in};
+    ghost use Rattle.gimli_build.specs.Version5Tables.{text_form};
+
+    /// Makes a text of bytes without a zero byte, in the form that is usual for programs of this encoding:
+    /// up to version 4 a copy of the bytes, in the later ones a text of the table, to which it is added.
+    /// Refused for want of memory alone; then the table is as it was.
+    pub fn new(
+        text: &[u8],
+        encoding: Encoding,
+        line_strings: &mut LineStringTable,
+    ) -> Result<LineString>
+        requires { All (λ b. b ≢ 0) text.now }
+        ensures ok { IfOk result (λ made.
+            line_text made ≡ made_text encoding.version line_strings.old text.now) }
+        ensures table { OnOk result
+            (line_strings.new ≡ made_table encoding.version line_strings.old text.now) }
+        ensures err { OnErr result (line_strings.new ≡ line_strings.old) }
+        ensures memory { IfErr result (λ e. e ≡ Error.OutOfMemory) }
+    {
+        if encoding.version <= 4 {
+            let alloc = *line_strings.allocator();
+            Ok(LineString::String(text.to_vec(alloc)?))
+        } else {
+            Ok(LineString::LineStringRef(line_strings.add(text)?))
+        }
+    }
+
+    /// The form that the text is written in, in a program of version 5.
+    pub fn form(&self) -> DwForm
+        ensures { result.0 ≡ text_form (line_text self.now) }
+    {
+        match self {
+            LineString::String(_) => constants::DW_FORM_string,
+            LineString::StringRef(_) => constants::DW_FORM_strp,
+            LineString::LineStringRef(_) => constants::DW_FORM_line_strp,
+        }
+    }
+
+    /// The bytes of the text, which is in these tables if it isn't in the program.
+    pub fn get<'a>(
+        &'a self,
+        strings: &'a StringTable,
+        line_strings: &'a LineStringTable,
+    ) -> &'a [u8]
+        requires { IsWithin strings.now line_strings.now (line_text self.now) }
+        ensures { result.now ≡ bytes_in strings.now line_strings.now (line_text self.now) }
+    {
+        match self {
+            LineString::String(text) => text.as_slice(),
+            LineString::StringRef(id) => strings.get(*id),
+            LineString::LineStringRef(id) => line_strings.get(*id),
+        }
+    }
+}
+
+impl Clone for LineString {
+    ghost use Rattle.gimli_build.specs.LineText.{line_text};
+
+    ghost is_clone = { λ text copy. line_text copy ≡ line_text text };
+
+    fn clone(&self) -> std::result::Result<LineString, AllocError> {
+        match self {
+            LineString::String(text) => Ok(LineString::String(text.clone()?)),
+            LineString::StringRef(id) => Ok(LineString::StringRef(*id)),
+            LineString::LineStringRef(id) => Ok(LineString::LineStringRef(*id)),
+        }
+    }
+}

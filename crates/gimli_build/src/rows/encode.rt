@@ -1,0 +1,318 @@
+//! Rows and ends as instructions. Each instruction is written at once; none is kept.
+
+ghost use Rattle.std.specs.Prelude.{◌≡◌, ◌⊎◌, Err, ◌+◌, ◌<◌, ◌≤◌, ◌^◌, IsTrue, IfOk, IfErr, OnOk, Ok, pos, ◌-ℤ◌, ◌≤ℤ◌, ◌<ℤ◌, unsigned_abs};
+ghost use Rattle.gimli_bytes.specs.Written.{Begins, Appends, Refuses};
+ghost use Rattle.gimli_bytes.specs.declared.error.Error.TheVariants.{OutOfMemory};
+ghost use Rattle.gimli_build.specs.Conditions.{CanBuild, AreBuilt};
+ghost use Rattle.gimli_build.specs.Items.{next_previous, item_bytes, items_bytes, FitsItem, AreFit};
+ghost use Rattle.gimli_build.specs.Rows.{initial_row};
+ghost use Rattle.gimli_build.specs.Advance.{CanEncode, IsPlace, CanFollow, operations};
+ghost use Rattle.gimli_build.specs.Encode.{marks, changes, is_special_advance, line_opcode, line_part, row_maker, operation_part, row_instructions, end_instructions};
+ghost use Rattle.gimli_build.specs.InstructionBytes.{instructions_bytes, FitsInstructions};
+ghost use Rattle.gimli_build.specs.FileNumber.{file_number};
+ghost use Rattle.gimli_build.specs.ReadAs.{read_as};
+
+use crate::built::items::BuiltItem;
+use crate::built::row::LineRow;
+use crate::rows::instruction::{LineInstruction, write_if, write_instruction, write_set_address};
+use gimli_bytes::{Result, Writer};
+use gimli_core::{Encoding, LineEncoding};
+
+/// The first special opcode: as many standard opcodes as DWARF names stand below it.
+pub(crate) const OPCODE_BASE: u8 = 13;
+
+/// Appends the instructions of a program's items, each at once. A refusal is that of the first set address that
+/// has one, or the writer's.
+pub(crate) fn write_items<W: Writer>(
+    w: &mut W,
+    encoding: Encoding,
+    line_encoding: LineEncoding,
+    items: &[BuiltItem],
+) -> Result<()>
+    requires can { CanEncode line_encoding }
+    requires built { AreBuilt line_encoding (0, 0) items.now }
+    ensures keeps { Begins (W.contents w.old) (W.contents w.new) }
+    ensures ordered { W.big w.new ≡ W.big w.old }
+    ensures ok { IsTrue W.keeps_bytes → OnOk result
+        (Appends (items_bytes (W.big w.old) encoding line_encoding
+        (initial_row encoding.version line_encoding.default_is_stmt) items.now)
+        (W.contents w.old) (W.contents w.new)) }
+    ensures err { IsTrue W.keeps_bytes → IsTrue W.fails_for_memory_alone → IfErr result
+        (λ e. (e ≡ OutOfMemory) ⊎ (items_bytes (W.big w.old) encoding line_encoding
+        (initial_row encoding.version line_encoding.default_is_stmt) items.now ≡ Err e)) }
+    ensures fit { OnOk result (AreFit encoding.version items.now) }
+{
+    let mut previous = LineRow::initial(encoding, line_encoding);
+    for item in items {
+        write_item(w, encoding, line_encoding, &previous, item)?;
+        previous = behind_item(encoding, line_encoding, &previous, item);
+    }
+    Ok(())
+}
+
+/// Appends the instructions of one item that follows `previous`.
+fn write_item<W: Writer>(
+    w: &mut W,
+    encoding: Encoding,
+    line_encoding: LineEncoding,
+    previous: &LineRow,
+    item: &BuiltItem,
+) -> Result<()>
+    requires can { CanEncode line_encoding }
+    requires place { IsPlace line_encoding previous.now.address_offset previous.now.op_index }
+    requires previous_line { previous.now.line < 2 ^ 63 }
+    requires built { CanBuild line_encoding (previous.now.address_offset, previous.now.op_index) item.now }
+    ensures keeps { Begins (W.contents w.old) (W.contents w.new) }
+    ensures ordered { W.big w.new ≡ W.big w.old }
+    ensures ok { IsTrue W.keeps_bytes → OnOk result
+        (Appends (item_bytes (W.big w.old) encoding line_encoding previous.now item.now)
+        (W.contents w.old) (W.contents w.new)) }
+    ensures err { IsTrue W.fails_for_memory_alone → IfErr result (λ e. (e ≡ OutOfMemory)
+        ⊎ (item_bytes (W.big w.old) encoding line_encoding previous.now item.now ≡ Err e)) }
+    ensures fit { OnOk result (FitsItem encoding.version item.now) }
+{
+    match item {
+        BuiltItem::SetAddress(address) => write_set_address(w, *address, encoding.address_size),
+        BuiltItem::Row(row) => write_row(w, encoding, line_encoding, previous, row),
+        BuiltItem::End {
+            address_offset,
+            op_index,
+        } => write_end(w, line_encoding, previous, *address_offset, *op_index),
+    }
+}
+
+/// The row that the item behind this one follows.
+fn behind_item(
+    encoding: Encoding,
+    line_encoding: LineEncoding,
+    previous: &LineRow,
+    item: &BuiltItem,
+) -> LineRow
+    ensures { result ≡ next_previous encoding.version line_encoding.default_is_stmt previous.now item.now }
+{
+    match item {
+        BuiltItem::SetAddress(_) => LineRow {
+            address_offset: 0,
+            op_index: 0,
+            ..*previous
+        },
+        BuiltItem::Row(row) => *row,
+        BuiltItem::End { .. } => LineRow::initial(encoding, line_encoding),
+    }
+}
+
+/// Appends the instructions of a row that follows `previous`. At the start of a sequence, and behind a
+/// set address in one, `previous` has offset and op_index 0.
+pub(crate) fn write_row<W: Writer>(
+    w: &mut W,
+    encoding: Encoding,
+    line_encoding: LineEncoding,
+    previous: &LineRow,
+    row: &LineRow,
+) -> Result<()>
+    requires can { CanEncode line_encoding }
+    requires place { IsPlace line_encoding previous.now.address_offset previous.now.op_index }
+    requires follows { CanFollow line_encoding previous.now.address_offset previous.now.op_index
+        row.now.address_offset row.now.op_index }
+    requires previous_line { previous.now.line < 2 ^ 63 }
+    requires line { row.now.line < 2 ^ 63 }
+    ensures keeps { Begins (W.contents w.old) (W.contents w.new) }
+    ensures ordered { W.big w.new ≡ W.big w.old }
+    ensures ok { IsTrue W.keeps_bytes → OnOk result
+        (Appends (Ok (instructions_bytes
+        (row_instructions encoding.version line_encoding previous.now row.now)))
+        (W.contents w.old) (W.contents w.new)) }
+    ensures err { IsTrue W.fails_for_memory_alone → IfErr result
+        (Refuses (Ok (instructions_bytes
+        (row_instructions encoding.version line_encoding previous.now row.now)))) }
+    ensures fit { OnOk result (FitsInstructions encoding.version row.now) }
+{
+    write_marks(w, row)?;
+    write_changes(w, encoding.version, previous, row)?;
+    let opcode = write_line_advance(w, &line_encoding, line_advance(previous.line, row.line))?;
+    let count = operation_advance(&line_encoding, previous, row.address_offset, row.op_index);
+    write_operation_advance(w, &line_encoding, opcode, count)?;
+    Ok(())
+}
+
+/// Appends the instructions of an end, at an offset and an operation, that follows `previous`.
+pub(crate) fn write_end<W: Writer>(
+    w: &mut W,
+    line_encoding: LineEncoding,
+    previous: &LineRow,
+    address_offset: u64,
+    op_index: u64,
+) -> Result<()>
+    requires can { CanEncode line_encoding }
+    requires place { IsPlace line_encoding previous.now.address_offset previous.now.op_index }
+    requires follows { CanFollow line_encoding previous.now.address_offset previous.now.op_index
+        address_offset op_index }
+    ensures keeps { Begins (W.contents w.old) (W.contents w.new) }
+    ensures ordered { W.big w.new ≡ W.big w.old }
+    ensures ok { IsTrue W.keeps_bytes → OnOk result
+        (Appends (Ok (instructions_bytes
+        (end_instructions line_encoding previous.now address_offset op_index)))
+        (W.contents w.old) (W.contents w.new)) }
+    ensures err { IsTrue W.fails_for_memory_alone → IfErr result
+        (Refuses (Ok (instructions_bytes
+        (end_instructions line_encoding previous.now address_offset op_index)))) }
+{
+    let count = operation_advance(&line_encoding, previous, address_offset, op_index);
+    write_if(w, count != 0, LineInstruction::AdvancePc(count))?;
+    write_instruction(w, LineInstruction::EndSequence)
+}
+
+/// Appends what stands for the row alone.
+#[tactic(auto, using(crate::proofs::Joins::joins))]
+fn write_marks<W: Writer>(w: &mut W, row: &LineRow) -> Result<()>
+    ensures keeps { Begins (W.contents w.old) (W.contents w.new) }
+    ensures ordered { W.big w.new ≡ W.big w.old }
+    ensures ok { IsTrue W.keeps_bytes → OnOk result
+        (Appends (Ok (instructions_bytes (marks row.now))) (W.contents w.old) (W.contents w.new)) }
+    ensures err { IsTrue W.fails_for_memory_alone →
+        IfErr result (Refuses (Ok (instructions_bytes (marks row.now)))) }
+    ensures fit { OnOk result (row.now.discriminator < 2 ^ 64) }
+{
+    let discriminator = LineInstruction::SetDiscriminator(row.discriminator);
+    write_if(w, row.discriminator != 0, discriminator)?;
+    write_if(w, row.basic_block, LineInstruction::SetBasicBlock)?;
+    write_if(w, row.prologue_end, LineInstruction::SetPrologueEnd)?;
+    write_if(w, row.epilogue_begin, LineInstruction::SetEpilogueBegin)?;
+    Ok(())
+}
+
+/// Appends what lasts from row to row, where it differs.
+#[tactic(auto, using(crate::proofs::Joins::joins))]
+fn write_changes<W: Writer>(
+    w: &mut W,
+    version: u16,
+    previous: &LineRow,
+    row: &LineRow,
+) -> Result<()>
+    ensures keeps { Begins (W.contents w.old) (W.contents w.new) }
+    ensures ordered { W.big w.new ≡ W.big w.old }
+    ensures ok { IsTrue W.keeps_bytes → OnOk result
+        (Appends (Ok (instructions_bytes (changes version previous.now row.now)))
+        (W.contents w.old) (W.contents w.new)) }
+    ensures err { IsTrue W.fails_for_memory_alone →
+        IfErr result (Refuses (Ok (instructions_bytes (changes version previous.now row.now)))) }
+    ensures fit { OnOk result ((file_number version row.now.file < 2 ^ 64)
+        × (row.now.column < 2 ^ 64) × (row.now.isa < 2 ^ 64)) }
+{
+    let file = LineInstruction::SetFile(row.file.raw(version));
+    write_if(
+        w,
+        row.is_statement != previous.is_statement,
+        LineInstruction::NegateStatement,
+    )?;
+    write_if(w, row.file != previous.file, file)?;
+    write_if(
+        w,
+        row.column != previous.column,
+        LineInstruction::SetColumn(row.column),
+    )?;
+    write_if(w, row.isa != previous.isa, LineInstruction::SetIsa(row.isa))?;
+    Ok(())
+}
+
+/// Appends the line advance where no special opcode has it, and answers the special opcode that is due
+/// for the line.
+fn write_line_advance<W: Writer>(w: &mut W, line_encoding: &LineEncoding, advance: i64) -> Result<u8>
+    requires can { CanEncode line_encoding.now }
+    ensures keeps { Begins (W.contents w.old) (W.contents w.new) }
+    ensures ordered { W.big w.new ≡ W.big w.old }
+    ensures ok { IsTrue W.keeps_bytes → OnOk result
+        (Appends (Ok (instructions_bytes (line_part line_encoding.now advance)))
+        (W.contents w.old) (W.contents w.new)) }
+    ensures err { IsTrue W.fails_for_memory_alone →
+        IfErr result (Refuses (Ok (instructions_bytes (line_part line_encoding.now advance)))) }
+    ensures opcode { IfOk result (λ s. s ≡ line_opcode line_encoding.now advance) }
+{
+    if has_special(line_encoding, advance) {
+        return Ok(OPCODE_BASE + (advance - i64::from(line_encoding.line_base)) as u8);
+    }
+    write_instruction(w, LineInstruction::AdvanceLine(advance))?;
+    Ok(OPCODE_BASE + line_encoding.line_base.unsigned_abs())
+}
+
+/// Whether special opcodes have this line advance.
+fn has_special(line_encoding: &LineEncoding, advance: i64) -> bool
+    ensures { result ≡ is_special_advance line_encoding.now advance }
+{
+    let base = i64::from(line_encoding.line_base);
+    base <= advance && advance < base + i64::from(line_encoding.line_range)
+}
+
+/// Appends what advances by `count` operations and makes the row, where the special opcode `opcode` is
+/// due for the line. Products are compared by division: `count` times the line range can pass 64 bits.
+fn write_operation_advance<W: Writer>(
+    w: &mut W,
+    line_encoding: &LineEncoding,
+    opcode: u8,
+    count: u64,
+) -> Result<()>
+    requires can { CanEncode line_encoding.now }
+    ensures keeps { Begins (W.contents w.old) (W.contents w.new) }
+    ensures ordered { W.big w.new ≡ W.big w.old }
+    ensures ok { IsTrue W.keeps_bytes → OnOk result
+        (Appends (Ok (instructions_bytes (operation_part line_encoding.now opcode count)))
+        (W.contents w.old) (W.contents w.new)) }
+    ensures err { IsTrue W.fails_for_memory_alone → IfErr result
+        (Refuses (Ok (instructions_bytes (operation_part line_encoding.now opcode count)))) }
+{
+    let range = u64::from(line_encoding.line_range);
+    let room = u64::from(u8::MAX - opcode) / range;
+    if count <= room {
+        let special = opcode + (count * range) as u8;
+        return write_instruction(w, maker(line_encoding, special));
+    }
+    let rest = count.saturating_sub(u64::from(u8::MAX - OPCODE_BASE) / range);
+    if rest <= room {
+        let special = opcode + (rest * range) as u8;
+        write_instruction(w, LineInstruction::ConstAddPc)?;
+        return write_instruction(w, maker(line_encoding, special));
+    }
+    write_instruction(w, LineInstruction::AdvancePc(count))?;
+    write_instruction(w, maker(line_encoding, opcode))?;
+    Ok(())
+}
+
+/// What makes a row by this special opcode: copy where the opcode advances nothing.
+fn maker(line_encoding: &LineEncoding, opcode: u8) -> LineInstruction
+    requires { CanEncode line_encoding.now }
+    ensures { read_as result ≡ row_maker line_encoding.now opcode }
+{
+    if opcode == OPCODE_BASE + line_encoding.line_base.unsigned_abs() {
+        LineInstruction::Copy
+    } else {
+        LineInstruction::Special(opcode)
+    }
+}
+
+/// How many operations a place is behind the row before it.
+fn operation_advance(
+    line_encoding: &LineEncoding,
+    previous: &LineRow,
+    address_offset: u64,
+    op_index: u64,
+) -> u64
+    requires can { CanEncode line_encoding.now }
+    requires place { IsPlace line_encoding.now previous.now.address_offset previous.now.op_index }
+    requires follows { CanFollow line_encoding.now previous.now.address_offset previous.now.op_index
+        address_offset op_index }
+    ensures { result ≡ operations line_encoding.now previous.now.address_offset previous.now.op_index
+        address_offset op_index }
+{
+    let length = u64::from(line_encoding.minimum_instruction_length);
+    let operations = u64::from(line_encoding.maximum_operations_per_instruction);
+    (address_offset - previous.address_offset) / length * operations + op_index - previous.op_index
+}
+
+/// How far a line is behind another one.
+fn line_advance(from: u64, to: u64) -> i64
+    requires from { from < 2 ^ 63 }
+    requires to { to < 2 ^ 63 }
+    ensures { result ≡ pos to -ℤ pos from }
+{
+    to as i64 - from as i64
+}

@@ -1,0 +1,134 @@
+//! Instructions, one at a time.
+
+ghost use Rattle.std.specs.Prelude.{◌≡◌, ◌+◌, ◌++◌, ◌⊎◌, [], ◌∷◌, IsTrue, IfErr, OnOk, Ok, Err};
+ghost use Rattle.gimli_bytes.specs.Written.{Begins, Appends, Refuses};
+ghost use Rattle.gimli_bytes.specs.Number.{uleb, sleb};
+ghost use Rattle.gimli_bytes.specs.declared.error.Error.TheVariants.{OutOfMemory};
+ghost use Rattle.gimli_build.specs.InstructionBytes.{instruction_bytes, instructions_bytes, set_address_bytes};
+ghost use Rattle.gimli_build.specs.Encode.{when};
+ghost use Rattle.gimli_build.specs.ReadAs.{read_as};
+ghost use Rattle.gimli_line.specs.declared.instruction.LineInstruction.TheVariants.{SetDiscriminator};
+
+use crate::bytes::write_byte;
+use gimli_bytes::{Address, Leb128, Result, Writer};
+use gimli_core::{DwLns, constants};
+
+/// An instruction of a row or an end.
+#[derive(Clone, Copy, Debug, PartialEq, Eq)]
+pub(crate) enum LineInstruction {
+    Special(u8),
+    Copy,
+    AdvancePc(u64),
+    AdvanceLine(i64),
+    SetFile(u64),
+    SetColumn(u64),
+    NegateStatement,
+    SetBasicBlock,
+    ConstAddPc,
+    SetPrologueEnd,
+    SetEpilogueBegin,
+    SetIsa(u64),
+    EndSequence,
+    SetDiscriminator(u64),
+}
+
+/// Appends an instruction.
+pub(crate) fn write_instruction<W: Writer>(w: &mut W, instruction: LineInstruction) -> Result<()>
+    ensures keeps { Begins (W.contents w.old) (W.contents w.new) }
+    ensures ordered { W.big w.new ≡ W.big w.old }
+    ensures ok { IsTrue W.keeps_bytes → OnOk result
+        (Appends (Ok (instruction_bytes (read_as instruction))) (W.contents w.old) (W.contents w.new)) }
+    ensures err { IsTrue W.fails_for_memory_alone →
+        IfErr result (Refuses (Ok (instruction_bytes (read_as instruction)))) }
+{
+    match instruction {
+        LineInstruction::Special(opcode) => write_byte(w, opcode),
+        LineInstruction::Copy => write_byte(w, constants::DW_LNS_copy.0),
+        LineInstruction::AdvancePc(n) => write_unsigned(w, constants::DW_LNS_advance_pc, n),
+        LineInstruction::AdvanceLine(n) => write_signed(w, constants::DW_LNS_advance_line, n),
+        LineInstruction::SetFile(n) => write_unsigned(w, constants::DW_LNS_set_file, n),
+        LineInstruction::SetColumn(n) => write_unsigned(w, constants::DW_LNS_set_column, n),
+        LineInstruction::NegateStatement => write_byte(w, constants::DW_LNS_negate_stmt.0),
+        LineInstruction::SetBasicBlock => write_byte(w, constants::DW_LNS_set_basic_block.0),
+        LineInstruction::ConstAddPc => write_byte(w, constants::DW_LNS_const_add_pc.0),
+        LineInstruction::SetPrologueEnd => write_byte(w, constants::DW_LNS_set_prologue_end.0),
+        LineInstruction::SetEpilogueBegin => write_byte(w, constants::DW_LNS_set_epilogue_begin.0),
+        LineInstruction::SetIsa(n) => write_unsigned(w, constants::DW_LNS_set_isa, n),
+        LineInstruction::EndSequence => w.write(&[0, 1, constants::DW_LNE_end_sequence.0]),
+        LineInstruction::SetDiscriminator(n) => write_discriminator(w, n),
+    }
+}
+
+/// Appends an instruction where it is due.
+pub(crate) fn write_if<W: Writer>(w: &mut W, due: bool, instruction: LineInstruction) -> Result<()>
+    ensures keeps { Begins (W.contents w.old) (W.contents w.new) }
+    ensures ordered { W.big w.new ≡ W.big w.old }
+    ensures ok { IsTrue W.keeps_bytes → OnOk result
+        (Appends (Ok (instructions_bytes (when due (read_as instruction))))
+        (W.contents w.old) (W.contents w.new)) }
+    ensures err { IsTrue W.fails_for_memory_alone →
+        IfErr result (Refuses (Ok (instructions_bytes (when due (read_as instruction))))) }
+{
+    if due {
+        write_instruction(w, instruction)?;
+    }
+    Ok(())
+}
+
+/// Appends a set address of `size` bytes: the instruction's opening, and then the address, whose
+/// refusal is handed on.
+pub(crate) fn write_set_address<W: Writer>(w: &mut W, address: Address, size: u8) -> Result<()>
+    ensures keeps { Begins (W.contents w.old) (W.contents w.new) }
+    ensures ordered { W.big w.new ≡ W.big w.old }
+    ensures ok { IsTrue W.keeps_bytes → OnOk result
+        (Appends (set_address_bytes (W.big w.old) address size)
+        (W.contents w.old) (W.contents w.new)) }
+    ensures err { IsTrue W.fails_for_memory_alone → IfErr result
+        (λ e. (e ≡ OutOfMemory) ⊎ (set_address_bytes (W.big w.old) address size ≡ Err e)) }
+{
+    write_byte(w, 0)?;
+    w.write_uleb128(u64::from(size) + 1)?;
+    write_byte(w, constants::DW_LNE_set_address.0)?;
+    w.write_address(address, size)
+}
+
+/// Appends a discriminator.
+fn write_discriminator<W: Writer>(w: &mut W, discriminator: u64) -> Result<()>
+    ensures keeps { Begins (W.contents w.old) (W.contents w.new) }
+    ensures ordered { W.big w.new ≡ W.big w.old }
+    ensures ok { IsTrue W.keeps_bytes → OnOk result
+        (Appends (Ok (instruction_bytes (SetDiscriminator discriminator)))
+        (W.contents w.old) (W.contents w.new)) }
+    ensures err { IsTrue W.fails_for_memory_alone →
+        IfErr result (Refuses (Ok (instruction_bytes (SetDiscriminator discriminator)))) }
+{
+    let operand = Leb128::unsigned(discriminator);
+    write_byte(w, 0)?;
+    w.write_uleb128(operand.bytes().len() as u64 + 1)?;
+    write_byte(w, constants::DW_LNE_set_discriminator.0)?;
+    w.write(operand.bytes())
+}
+
+/// Appends a standard opcode and its unsigned operand.
+fn write_unsigned<W: Writer>(w: &mut W, opcode: DwLns, operand: u64) -> Result<()>
+    ensures keeps { Begins (W.contents w.old) (W.contents w.new) }
+    ensures ordered { W.big w.new ≡ W.big w.old }
+    ensures ok { IsTrue W.keeps_bytes → OnOk result
+        (Appends (Ok (opcode.0 ∷ uleb operand)) (W.contents w.old) (W.contents w.new)) }
+    ensures err { IsTrue W.fails_for_memory_alone → IfErr result (Refuses (Ok (opcode.0 ∷ uleb operand))) }
+{
+    write_byte(w, opcode.0)?;
+    w.write_uleb128(operand)
+}
+
+/// Appends a standard opcode and its signed operand.
+fn write_signed<W: Writer>(w: &mut W, opcode: DwLns, operand: i64) -> Result<()>
+    ensures keeps { Begins (W.contents w.old) (W.contents w.new) }
+    ensures ordered { W.big w.new ≡ W.big w.old }
+    ensures ok { IsTrue W.keeps_bytes → OnOk result
+        (Appends (Ok (opcode.0 ∷ sleb operand)) (W.contents w.old) (W.contents w.new)) }
+    ensures err { IsTrue W.fails_for_memory_alone → IfErr result (Refuses (Ok (opcode.0 ∷ sleb operand))) }
+{
+    write_byte(w, opcode.0)?;
+    w.write_sleb128(operand)
+}

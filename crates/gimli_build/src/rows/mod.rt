@@ -1,0 +1,4 @@
+//! Rows and ends as they are written.
+
+pub(crate) mod encode;
+pub(crate) mod instruction;

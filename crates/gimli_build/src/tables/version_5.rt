@@ -1,0 +1,577 @@
+//! The tables of a unit of version 5: each stands behind the formats of its entries and their number.
+
+ghost use Rattle.std.specs.Prelude.{◌≡◌, ◌≤◌, true, [], ◌∷◌, ◌++◌, length, map, if◌then◌else◌, nat_eq, IsTrue, IfOk, IfErr, IfSome, OnOk, OnErr, Ok, Err, Some, None, All, unwrap_or};
+ghost use Rattle.std.specs.Option.{is_none};
+ghost use Rattle.std.specs.List.{list_any};
+ghost use Rattle.gimli_bytes.specs.Written.{Begins, Appends};
+ghost use Rattle.gimli_bytes.specs.Number.{uleb};
+ghost use Rattle.gimli_bytes.specs.Texts.{AreTexts, with_text};
+ghost use Rattle.gimli_bytes.specs.declared.error.Error.TheVariants.{OutOfMemory};
+ghost use Rattle.gimli_build.specs.LineText.{Inline, line_text, IsWithin};
+ghost use Rattle.gimli_build.specs.Tables.{FitsFile};
+ghost use Rattle.gimli_build.specs.TablesInside.{details};
+ghost use Rattle.gimli_build.specs.Conditions.{CanWrite};
+ghost use Rattle.gimli_build.specs.Joined.{joined, joined_parts, RefusesFor};
+ghost use Rattle.gimli_build.specs.Version5Tables.{first_form, path_texts, sources, needs_empty, empty_text, strings_behind, line_strings_behind, formats_bytes, file_formats, text_in_form, directory_table_bytes, source_bytes, file_entry_bytes, file_table_bytes};
+ghost use Rattle.gimli_build.specs.EmptySource.{IsEmptySource, StandsForNone};
+
+use crate::built::files::{DirectoryId, FileInfo, FileTable};
+use crate::built::line_program::LineProgram;
+use crate::built::line_string::LineString;
+use crate::bytes::{write_byte, write_text};
+use gimli_bytes::{Error, LineStringTable, Result, StringTable, Writer};
+use gimli_core::{DwForm, DwLnct, Format, SectionId, constants};
+
+/// Makes the empty text that stands for the source of a file that has none, where sources are written and a file
+/// has none: in the form of the other sources, in whose table it is then. Refused for want of memory alone; then the
+/// tables are as they were.
+pub(crate) fn add_empty_source(
+    program: &LineProgram,
+    line_strings: &mut LineStringTable,
+    strings: &mut StringTable,
+) -> Result<LineString>
+    ensures strings { OnOk result (strings.new ≡ strings_behind program.now strings.old) }
+    ensures line_strings { OnOk result
+        (line_strings.new ≡ line_strings_behind program.now line_strings.old) }
+    ensures empty { IfOk result (λ empty.
+        StandsForNone program.now strings.new line_strings.new (line_text empty)) }
+    ensures texts { OnOk result (AreTexts strings.new) }
+    ensures line_texts { OnOk result (AreTexts line_strings.new) }
+    ensures strings_kept { OnErr result (strings.new ≡ strings.old) }
+    ensures line_strings_kept { OnErr result (line_strings.new ≡ line_strings.old) }
+    ensures memory { IfErr result (λ e. e ≡ OutOfMemory) }
+{
+    let empty = add_empty(empty_form(program), line_strings, strings)?;
+    let _counts = (line_strings.count(), strings.count());
+    Ok(empty)
+}
+
+/// The form of the empty text, which is in the program itself where it isn't needed.
+fn empty_form(program: &LineProgram) -> DwForm
+    ensures { result.0 ≡ (if needs_empty program.now then first_form (sources program.now.files) else 0x08) }
+{
+    if needs_empty(program) {
+        source_form(program.tables())
+    } else {
+        constants::DW_FORM_string
+    }
+}
+
+/// Makes an empty text of a form, in its table.
+fn add_empty(
+    form: DwForm,
+    line_strings: &mut LineStringTable,
+    strings: &mut StringTable,
+) -> Result<LineString>
+    ensures strings { OnOk result (strings.new
+        ≡ (if nat_eq form.0 0x0e then with_text strings.old [] else strings.old)) }
+    ensures line_strings { OnOk result (line_strings.new
+        ≡ (if nat_eq form.0 0x1f then with_text line_strings.old [] else line_strings.old)) }
+    ensures empty { IfOk result (λ empty.
+        line_text empty ≡ empty_text form.0 strings.old line_strings.old) }
+    ensures within { IfOk result (λ empty. IsWithin strings.new line_strings.new (line_text empty)) }
+    ensures strings_kept { OnErr result (strings.new ≡ strings.old) }
+    ensures line_strings_kept { OnErr result (line_strings.new ≡ line_strings.old) }
+    ensures memory { IfErr result (λ e. e ≡ OutOfMemory) }
+{
+    match form {
+        constants::DW_FORM_strp => Ok(LineString::StringRef(strings.add(&[])?)),
+        constants::DW_FORM_line_strp => Ok(LineString::LineStringRef(line_strings.add(&[])?)),
+        _ => {
+            let alloc = *line_strings.allocator();
+            Ok(LineString::String(Vec::new(alloc)))
+        }
+    }
+}
+
+/// Whether sources are written, and a file has none.
+fn needs_empty(program: &LineProgram) -> bool
+    ensures { result ≡ needs_empty program.now }
+{
+    program.version() >= 5 && program.file_has_source && lacks_source(program.tables())
+}
+
+/// Whether a file has no source.
+fn lacks_source(tables: &FileTable) -> bool
+    ensures { result ≡ list_any (λ f. is_none f.1.source) tables.now.files }
+{
+    for index in 0..tables.file_count() {
+        let (_, _, info) = tables.file(index);
+        if info.source.is_none() {
+            return true;
+        }
+    }
+    false
+}
+
+/// The form of sources: that of the first.
+fn source_form(tables: &FileTable) -> DwForm
+    ensures { result.0 ≡ first_form (sources tables.now.files) }
+{
+    for index in 0..tables.file_count() {
+        let (_, _, info) = tables.file(index);
+        if let Some(source) = &info.source {
+            return source.form();
+        }
+    }
+    constants::DW_FORM_string
+}
+
+/// The form of paths: that of the first.
+fn path_form(tables: &FileTable) -> DwForm
+    ensures { result.0 ≡ first_form (path_texts tables.now.files) }
+{
+    if tables.file_count() == 0 {
+        return constants::DW_FORM_string;
+    }
+    let (path, _, _) = tables.file(0);
+    path.form()
+}
+
+/// The form of directories: that of the first.
+fn directory_form(directories: &[LineString]) -> DwForm
+    ensures { result.0 ≡ first_form (map line_text directories.now) }
+{
+    match directories.first() {
+        Some(directory) => directory.form(),
+        None => constants::DW_FORM_string,
+    }
+}
+
+/// Appends the directories and the files.
+pub(crate) fn write_version_5_tables<W: Writer>(
+    w: &mut W,
+    program: &LineProgram,
+    empty: &LineString,
+    line_strings: &LineStringTable,
+    strings: &StringTable,
+) -> Result<()>
+    requires can { CanWrite program.now strings.now line_strings.now }
+    requires empty { StandsForNone program.now strings.now line_strings.now (line_text empty.now) }
+    requires version { 5 ≤ program.now.encoding.version }
+    ensures keeps { Begins (W.contents w.old) (W.contents w.new) }
+    ensures ordered { W.big w.new ≡ W.big w.old }
+    ensures ok { IsTrue W.keeps_bytes → OnOk result
+        (Appends (joined (directory_table_bytes (W.big w.old) program.now.encoding.format
+        strings.now line_strings.now program.now) (file_table_bytes (W.big w.old) program.now.encoding.format
+        strings.now line_strings.now program.now))
+        (W.contents w.old) (W.contents w.new)) }
+    ensures err { IsTrue W.keeps_bytes → IsTrue W.fails_for_memory_alone → IfErr result
+        (RefusesFor (joined (directory_table_bytes (W.big w.old) program.now.encoding.format
+        strings.now line_strings.now program.now) (file_table_bytes (W.big w.old) program.now.encoding.format
+        strings.now line_strings.now program.now))) }
+    ensures fit { OnOk result (All FitsFile program.now.files) }
+{
+    write_directory_table(w, program, line_strings, strings)?;
+    write_file_table(w, program, empty, line_strings, strings)
+}
+
+/// Appends the directories.
+fn write_directory_table<W: Writer>(
+    w: &mut W,
+    program: &LineProgram,
+    line_strings: &LineStringTable,
+    strings: &StringTable,
+) -> Result<()>
+    requires { All (IsWithin strings.now line_strings.now) program.now.directories }
+    ensures keeps { Begins (W.contents w.old) (W.contents w.new) }
+    ensures ordered { W.big w.new ≡ W.big w.old }
+    ensures ok { IsTrue W.keeps_bytes → OnOk result
+        (Appends (directory_table_bytes (W.big w.old) program.now.encoding.format
+        strings.now line_strings.now program.now)
+        (W.contents w.old) (W.contents w.new)) }
+    ensures err { IsTrue W.keeps_bytes → IsTrue W.fails_for_memory_alone → IfErr result
+        (RefusesFor (directory_table_bytes (W.big w.old) program.now.encoding.format
+        strings.now line_strings.now program.now)) }
+{
+    let directories = program.tables().directories();
+    let form = directory_form(directories);
+    write_directory_formats(w, form, directories.len())?;
+    write_texts(
+        w,
+        program.format(),
+        form,
+        directories,
+        line_strings,
+        strings,
+    )
+}
+
+/// Appends the formats of directories, and their number.
+fn write_directory_formats<W: Writer>(w: &mut W, form: DwForm, count: usize) -> Result<()>
+    ensures keeps { Begins (W.contents w.old) (W.contents w.new) }
+    ensures ordered { W.big w.new ≡ W.big w.old }
+    ensures ok { IsTrue W.keeps_bytes → OnOk result
+        (Appends (Ok (formats_bytes ((0x0001, form.0) ∷ []) ++ uleb count))
+        (W.contents w.old) (W.contents w.new)) }
+    ensures err { IsTrue W.keeps_bytes → IsTrue W.fails_for_memory_alone → IfErr result
+        (RefusesFor (Ok (formats_bytes ((0x0001, form.0) ∷ []) ++ uleb count))) }
+{
+    write_byte(w, 1)?;
+    write_format(w, constants::DW_LNCT_path, form)?;
+    w.write_uleb128(count as u64)
+}
+
+/// Appends a content type and a form.
+fn write_format<W: Writer>(w: &mut W, content: DwLnct, form: DwForm) -> Result<()>
+    ensures keeps { Begins (W.contents w.old) (W.contents w.new) }
+    ensures ordered { W.big w.new ≡ W.big w.old }
+    ensures ok { IsTrue W.keeps_bytes → OnOk result
+        (Appends (Ok (uleb content.0 ++ uleb form.0))
+        (W.contents w.old) (W.contents w.new)) }
+    ensures err { IsTrue W.keeps_bytes → IsTrue W.fails_for_memory_alone → IfErr result
+        (RefusesFor (Ok (uleb content.0 ++ uleb form.0))) }
+{
+    w.write_uleb128(u64::from(content.0))?;
+    w.write_uleb128(u64::from(form.0))
+}
+
+/// Appends texts of a form one after the other.
+fn write_texts<W: Writer>(
+    w: &mut W,
+    format: Format,
+    form: DwForm,
+    texts: &[LineString],
+    line_strings: &LineStringTable,
+    strings: &StringTable,
+) -> Result<()>
+    requires { All (IsWithin strings.now line_strings.now) (map line_text texts.now) }
+    ensures keeps { Begins (W.contents w.old) (W.contents w.new) }
+    ensures ordered { W.big w.new ≡ W.big w.old }
+    ensures ok { IsTrue W.keeps_bytes → OnOk result
+        (Appends (joined_parts (text_in_form (W.big w.old) format
+        strings.now line_strings.now form.0) (map line_text texts.now))
+        (W.contents w.old) (W.contents w.new)) }
+    ensures err { IsTrue W.keeps_bytes → IsTrue W.fails_for_memory_alone → IfErr result
+        (RefusesFor (joined_parts (text_in_form (W.big w.old) format
+        strings.now line_strings.now form.0) (map line_text texts.now))) }
+{
+    for text in texts {
+        write_line_string(w, format, form, text, line_strings, strings)?;
+    }
+    Ok(())
+}
+
+/// Appends a text, which has to have this form: itself and a zero byte, or its offset in the section of its table.
+fn write_line_string<W: Writer>(
+    w: &mut W,
+    format: Format,
+    form: DwForm,
+    text: &LineString,
+    line_strings: &LineStringTable,
+    strings: &StringTable,
+) -> Result<()>
+    requires { IsWithin strings.now line_strings.now (line_text text.now) }
+    ensures keeps { Begins (W.contents w.old) (W.contents w.new) }
+    ensures ordered { W.big w.new ≡ W.big w.old }
+    ensures ok { IsTrue W.keeps_bytes → OnOk result
+        (Appends (text_in_form (W.big w.old) format
+        strings.now line_strings.now form.0 (line_text text.now))
+        (W.contents w.old) (W.contents w.new)) }
+    ensures err { IsTrue W.keeps_bytes → IsTrue W.fails_for_memory_alone → IfErr result
+        (RefusesFor (text_in_form (W.big w.old) format
+        strings.now line_strings.now form.0 (line_text text.now))) }
+{
+    if text.form() != form {
+        return Err(Error::LineStringFormMismatch);
+    }
+    let size = format.word_size();
+    match text {
+        LineString::String(text) => write_text(w, text.as_slice()),
+        LineString::StringRef(id) => w.write_offset(
+            strings.offset(*id).0,
+            SectionId::DebugStr,
+            size,
+        ),
+        LineString::LineStringRef(id) => {
+            w.write_offset(line_strings.offset(*id).0, SectionId::DebugLineStr, size)
+        }
+    }
+}
+
+/// Appends the files.
+fn write_file_table<W: Writer>(
+    w: &mut W,
+    program: &LineProgram,
+    empty: &LineString,
+    line_strings: &LineStringTable,
+    strings: &StringTable,
+) -> Result<()>
+    requires can { CanWrite program.now strings.now line_strings.now }
+    requires empty { StandsForNone program.now strings.now line_strings.now (line_text empty.now) }
+    requires version { 5 ≤ program.now.encoding.version }
+    ensures keeps { Begins (W.contents w.old) (W.contents w.new) }
+    ensures ordered { W.big w.new ≡ W.big w.old }
+    ensures ok { IsTrue W.keeps_bytes → OnOk result
+        (Appends (file_table_bytes (W.big w.old) program.now.encoding.format
+        strings.now line_strings.now program.now)
+        (W.contents w.old) (W.contents w.new)) }
+    ensures err { IsTrue W.keeps_bytes → IsTrue W.fails_for_memory_alone → IfErr result
+        (RefusesFor (file_table_bytes (W.big w.old) program.now.encoding.format
+        strings.now line_strings.now program.now)) }
+    ensures fit { OnOk result (All FitsFile program.now.files) }
+{
+    let form = source_form(program.tables());
+    write_file_formats(w, program, form)?;
+    write_file_entries(w, program, form, empty, line_strings, strings)
+}
+
+/// Appends the formats of files, and their number.
+fn write_file_formats<W: Writer>(
+    w: &mut W,
+    program: &LineProgram,
+    source_form: DwForm,
+) -> Result<()>
+    requires { source_form.0 ≡ first_form (sources program.now.files) }
+    ensures keeps { Begins (W.contents w.old) (W.contents w.new) }
+    ensures ordered { W.big w.new ≡ W.big w.old }
+    ensures ok { IsTrue W.keeps_bytes → OnOk result
+        (Appends (Ok (formats_bytes (file_formats program.now) ++ uleb (length program.now.files)))
+        (W.contents w.old) (W.contents w.new)) }
+    ensures err { IsTrue W.keeps_bytes → IsTrue W.fails_for_memory_alone → IfErr result
+        (RefusesFor (Ok (formats_bytes (file_formats program.now) ++ uleb (length program.now.files)))) }
+{
+    write_key_formats(w, program)?;
+    write_detail_formats(w, program)?;
+    write_format_if(
+        w,
+        program.file_has_source,
+        constants::DW_LNCT_LLVM_source,
+        source_form,
+    )?;
+    w.write_uleb128(program.tables().file_count() as u64)
+}
+
+/// Appends the number of formats of files, and those of the path and the directory.
+fn write_key_formats<W: Writer>(w: &mut W, program: &LineProgram) -> Result<()>
+    ensures keeps { Begins (W.contents w.old) (W.contents w.new) }
+    ensures ordered { W.big w.new ≡ W.big w.old }
+    ensures ok { IsTrue W.keeps_bytes → OnOk result
+        (Appends (Ok (length (file_formats program.now)
+        ∷ (uleb 0x0001 ++ uleb (first_form (path_texts program.now.files))) ++ uleb 0x0002 ++ uleb 0x0f))
+        (W.contents w.old) (W.contents w.new)) }
+    ensures err { IsTrue W.keeps_bytes → IsTrue W.fails_for_memory_alone → IfErr result (λ e. e ≡ OutOfMemory) }
+{
+    write_byte(w, format_count(program))?;
+    write_format(w, constants::DW_LNCT_path, path_form(program.tables()))?;
+    write_format(
+        w,
+        constants::DW_LNCT_directory_index,
+        constants::DW_FORM_udata,
+    )
+}
+
+/// The number of formats of files.
+fn format_count(program: &LineProgram) -> u8
+    ensures { result ≡ length (file_formats program.now) }
+{
+    2 + u8::from(program.file_has_timestamp)
+        + u8::from(program.file_has_size)
+        + u8::from(program.file_has_md5)
+        + u8::from(program.file_has_source)
+}
+
+/// Appends the formats of what else is stored of files, but for their sources.
+fn write_detail_formats<W: Writer>(w: &mut W, program: &LineProgram) -> Result<()>
+    ensures keeps { Begins (W.contents w.old) (W.contents w.new) }
+    ensures ordered { W.big w.new ≡ W.big w.old }
+    ensures ok { IsTrue W.keeps_bytes → OnOk result
+        (Appends (Ok ((if program.now.file_has_timestamp then uleb 0x0003 ++ uleb 0x0f else [])
+        ++ (if program.now.file_has_size then uleb 0x0004 ++ uleb 0x0f else [])
+        ++ (if program.now.file_has_md5 then uleb 0x0005 ++ uleb 0x1e else [])))
+        (W.contents w.old) (W.contents w.new)) }
+    ensures err { IsTrue W.keeps_bytes → IsTrue W.fails_for_memory_alone → IfErr result (λ e. e ≡ OutOfMemory) }
+{
+    let udata = constants::DW_FORM_udata;
+    let data16 = constants::DW_FORM_data16;
+    write_format_if(
+        w,
+        program.file_has_timestamp,
+        constants::DW_LNCT_timestamp,
+        udata,
+    )?;
+    write_format_if(w, program.file_has_size, constants::DW_LNCT_size, udata)?;
+    write_format_if(w, program.file_has_md5, constants::DW_LNCT_MD5, data16)
+}
+
+/// Appends a content type and a form, where they are due.
+fn write_format_if<W: Writer>(w: &mut W, due: bool, content: DwLnct, form: DwForm) -> Result<()>
+    ensures keeps { Begins (W.contents w.old) (W.contents w.new) }
+    ensures ordered { W.big w.new ≡ W.big w.old }
+    ensures ok { IsTrue W.keeps_bytes → OnOk result
+        (Appends (Ok (if due then uleb content.0 ++ uleb form.0 else []))
+        (W.contents w.old) (W.contents w.new)) }
+    ensures err { IsTrue W.keeps_bytes → IsTrue W.fails_for_memory_alone → IfErr result (λ e. e ≡ OutOfMemory) }
+{
+    if !due {
+        return Ok(());
+    }
+    write_format(w, content, form)
+}
+
+/// Appends files one after the other.
+fn write_file_entries<W: Writer>(
+    w: &mut W,
+    program: &LineProgram,
+    source_form: DwForm,
+    empty: &LineString,
+    line_strings: &LineStringTable,
+    strings: &StringTable,
+) -> Result<()>
+    requires can { CanWrite program.now strings.now line_strings.now }
+    requires empty { StandsForNone program.now strings.now line_strings.now (line_text empty.now) }
+    requires version { 5 ≤ program.now.encoding.version }
+    requires source_form { source_form.0 ≡ first_form (sources program.now.files) }
+    ensures keeps { Begins (W.contents w.old) (W.contents w.new) }
+    ensures ordered { W.big w.new ≡ W.big w.old }
+    ensures ok { IsTrue W.keeps_bytes → OnOk result
+        (Appends (joined_parts (file_entry_bytes (W.big w.old) program.now.encoding.format
+        strings.now line_strings.now program.now) program.now.files)
+        (W.contents w.old) (W.contents w.new)) }
+    ensures err { IsTrue W.keeps_bytes → IsTrue W.fails_for_memory_alone → IfErr result
+        (RefusesFor (joined_parts (file_entry_bytes (W.big w.old) program.now.encoding.format
+        strings.now line_strings.now program.now) program.now.files)) }
+    ensures fit { OnOk result (All FitsFile program.now.files) }
+{
+    let tables = program.tables();
+    for index in 0..tables.file_count() {
+        let file = tables.file(index);
+        write_file_entry(w, program, source_form, empty, file, line_strings, strings)?;
+    }
+    Ok(())
+}
+
+/// Appends a file: its path, its directory, and what the program's flags say.
+fn write_file_entry<W: Writer>(
+    w: &mut W,
+    program: &LineProgram,
+    source_form: DwForm,
+    empty: &LineString,
+    file: (&LineString, DirectoryId, &FileInfo),
+    line_strings: &LineStringTable,
+    strings: &StringTable,
+) -> Result<()>
+    requires path { IsWithin strings.now line_strings.now (line_text file.0.now) }
+    requires source { IfSome (details file.2.now).source (IsWithin strings.now line_strings.now) }
+    requires empty { program.now.file_has_source ≡ true → (details file.2.now).source ≡ None
+        → IsEmptySource program.now strings.now line_strings.now (line_text empty.now) }
+    requires source_form { source_form.0 ≡ first_form (sources program.now.files) }
+    ensures keeps { Begins (W.contents w.old) (W.contents w.new) }
+    ensures ordered { W.big w.new ≡ W.big w.old }
+    ensures ok { IsTrue W.keeps_bytes → OnOk result
+        (Appends (file_entry_bytes (W.big w.old) program.now.encoding.format
+        strings.now line_strings.now program.now ((line_text file.entry.0.now, file.entry.1), details file.entry.2.now))
+        (W.contents w.old) (W.contents w.new)) }
+    ensures err { IsTrue W.keeps_bytes → IsTrue W.fails_for_memory_alone → IfErr result
+        (RefusesFor (file_entry_bytes (W.big w.old) program.now.encoding.format
+        strings.now line_strings.now program.now ((line_text file.entry.0.now, file.entry.1), details file.entry.2.now))) }
+    ensures fit { OnOk result (FitsFile ((line_text file.entry.0.now, file.entry.1), details file.entry.2.now)) }
+{
+    let form = path_form(program.tables());
+    write_line_string(w, program.format(), form, file.0, line_strings, strings)?;
+    write_details(w, program, file.1, file.2)?;
+    write_source(
+        w,
+        program,
+        source_form,
+        empty,
+        file.2,
+        line_strings,
+        strings,
+    )
+}
+
+/// Appends a file's directory, timestamp, size and digest, the last three where the program's flags say so.
+fn write_details<W: Writer>(
+    w: &mut W,
+    program: &LineProgram,
+    directory: DirectoryId,
+    info: &FileInfo,
+) -> Result<()>
+    ensures keeps { Begins (W.contents w.old) (W.contents w.new) }
+    ensures ordered { W.big w.new ≡ W.big w.old }
+    ensures ok { IsTrue W.keeps_bytes → OnOk result
+        (Appends (Ok (uleb directory
+        ++ (if program.now.file_has_timestamp then uleb info.now.timestamp else [])
+        ++ (if program.now.file_has_size then uleb info.now.size else [])
+        ++ (if program.now.file_has_md5 then info.now.md5 else [])))
+        (W.contents w.old) (W.contents w.new)) }
+    ensures err { IsTrue W.keeps_bytes → IsTrue W.fails_for_memory_alone → IfErr result (λ e. e ≡ OutOfMemory) }
+    ensures fit { OnOk result (FitsFile ((Inline [], directory), details info.now)) }
+{
+    w.write_uleb128(directory.index() as u64)?;
+    write_number_if(w, program.file_has_timestamp, info.timestamp)?;
+    write_number_if(w, program.file_has_size, info.size)?;
+    write_digest_if(w, program.file_has_md5, &info.md5)
+}
+
+/// Appends a number as LEB128, where it is due.
+fn write_number_if<W: Writer>(w: &mut W, due: bool, number: u64) -> Result<()>
+    ensures keeps { Begins (W.contents w.old) (W.contents w.new) }
+    ensures ordered { W.big w.new ≡ W.big w.old }
+    ensures ok { IsTrue W.keeps_bytes → OnOk result
+        (Appends (Ok (if due then uleb number else []))
+        (W.contents w.old) (W.contents w.new)) }
+    ensures err { IsTrue W.keeps_bytes → IsTrue W.fails_for_memory_alone → IfErr result (λ e. e ≡ OutOfMemory) }
+{
+    if !due {
+        return Ok(());
+    }
+    w.write_uleb128(number)
+}
+
+/// Appends a digest, where it is due.
+fn write_digest_if<W: Writer>(w: &mut W, due: bool, digest: &[u8; 16]) -> Result<()>
+    ensures keeps { Begins (W.contents w.old) (W.contents w.new) }
+    ensures ordered { W.big w.new ≡ W.big w.old }
+    ensures ok { IsTrue W.keeps_bytes → OnOk result
+        (Appends (Ok (if due then digest.now else []))
+        (W.contents w.old) (W.contents w.new)) }
+    ensures err { IsTrue W.keeps_bytes → IsTrue W.fails_for_memory_alone → IfErr result (λ e. e ≡ OutOfMemory) }
+{
+    if !due {
+        return Ok(());
+    }
+    w.write(digest)
+}
+
+/// Appends a file's source, or the empty text, where the program's flags say so.
+fn write_source<W: Writer>(
+    w: &mut W,
+    program: &LineProgram,
+    form: DwForm,
+    empty: &LineString,
+    info: &FileInfo,
+    line_strings: &LineStringTable,
+    strings: &StringTable,
+) -> Result<()>
+    requires source { IfSome (details info.now).source (IsWithin strings.now line_strings.now) }
+    requires empty { program.now.file_has_source ≡ true → (details info.now).source ≡ None
+        → IsEmptySource program.now strings.now line_strings.now (line_text empty.now) }
+    requires form { form.0 ≡ first_form (sources program.now.files) }
+    ensures keeps { Begins (W.contents w.old) (W.contents w.new) }
+    ensures ordered { W.big w.new ≡ W.big w.old }
+    ensures ok { IsTrue W.keeps_bytes → OnOk result
+        (Appends (source_bytes (W.big w.old) program.now.encoding.format
+        strings.now line_strings.now program.now ((Inline [], 0), details info.now))
+        (W.contents w.old) (W.contents w.new)) }
+    ensures err { IsTrue W.keeps_bytes → IsTrue W.fails_for_memory_alone → IfErr result
+        (RefusesFor (source_bytes (W.big w.old) program.now.encoding.format
+        strings.now line_strings.now program.now ((Inline [], 0), details info.now))) }
+{
+    if !program.file_has_source {
+        return Ok(());
+    }
+    let text = source_or(info, empty);
+    write_line_string(w, program.format(), form, text, line_strings, strings)
+}
+
+/// A file's source, or this text where it has none.
+fn source_or<'a>(info: &'a FileInfo, empty: &'a LineString) -> &'a LineString
+    ensures { line_text result.now ≡ unwrap_or (details info.now).source (line_text empty.now) }
+{
+    match &info.source {
+        Some(source) => source,
+        None => empty,
+    }
+}

@@ -1,0 +1,138 @@
+//! The header of a unit.
+
+ghost use Rattle.std.specs.Prelude.{◌≡◌, All, IsTrue, IfErr, OnOk};
+ghost use Rattle.gimli_bytes.specs.Written.{Begins, Appends};
+ghost use Rattle.gimli_build.specs.LineText.{line_text};
+ghost use Rattle.gimli_build.specs.Tables.{FitsFile};
+ghost use Rattle.gimli_build.specs.Conditions.{CanWrite};
+ghost use Rattle.gimli_build.specs.Joined.{RefusesFor};
+ghost use Rattle.gimli_build.specs.EmptySource.{StandsForNone};
+ghost use Rattle.gimli_build.specs.Unit.{operations_bytes, line_encoding_bytes, tables_bytes, fields_bytes, header_bytes};
+
+use crate::built::line_program::LineProgram;
+use crate::built::line_string::LineString;
+use crate::bytes::write_byte;
+use crate::rows::encode::OPCODE_BASE;
+use crate::tables::version_4::write_version_4_tables;
+use crate::tables::version_5::write_version_5_tables;
+use gimli_bytes::{Error, LineStringTable, Result, StringTable, Writer};
+use gimli_core::LineEncoding;
+
+/// Appends the header length, and what it counts.
+pub(crate) fn write_header<W: Writer>(
+    w: &mut W,
+    program: &LineProgram,
+    empty: &LineString,
+    line_strings: &LineStringTable,
+    strings: &StringTable,
+) -> Result<()>
+    requires can { CanWrite program.now strings.now line_strings.now }
+    requires empty { StandsForNone program.now strings.now line_strings.now (line_text empty.now) }
+    ensures keeps { Begins (W.contents w.old) (W.contents w.new) }
+    ensures ordered { W.big w.new ≡ W.big w.old }
+    ensures ok { IsTrue W.keeps_bytes → OnOk result
+        (Appends (header_bytes (W.big w.old) program.now strings.now line_strings.now)
+        (W.contents w.old) (W.contents w.new)) }
+    ensures err { IsTrue W.keeps_bytes → IsTrue W.fails_for_memory_alone → IfErr result
+        (RefusesFor (header_bytes (W.big w.old) program.now strings.now line_strings.now)) }
+    ensures fit { OnOk result (All FitsFile program.now.files) }
+{
+    let size = program.format().word_size();
+    let length = w.len();
+    w.write_udata(0, size)?;
+    let start = w.len();
+    write_fields(w, program, empty, line_strings, strings)?;
+    let count = (w.len() - start) as u64;
+    w.write_udata_at(length, count, size)
+}
+
+/// Appends what the header length counts.
+fn write_fields<W: Writer>(
+    w: &mut W,
+    program: &LineProgram,
+    empty: &LineString,
+    line_strings: &LineStringTable,
+    strings: &StringTable,
+) -> Result<()>
+    requires can { CanWrite program.now strings.now line_strings.now }
+    requires empty { StandsForNone program.now strings.now line_strings.now (line_text empty.now) }
+    ensures keeps { Begins (W.contents w.old) (W.contents w.new) }
+    ensures ordered { W.big w.new ≡ W.big w.old }
+    ensures ok { IsTrue W.keeps_bytes → OnOk result
+        (Appends (fields_bytes (W.big w.old) program.now strings.now line_strings.now)
+        (W.contents w.old) (W.contents w.new)) }
+    ensures err { IsTrue W.keeps_bytes → IsTrue W.fails_for_memory_alone → IfErr result
+        (RefusesFor (fields_bytes (W.big w.old) program.now strings.now line_strings.now)) }
+    ensures fit { OnOk result (All FitsFile program.now.files) }
+{
+    write_line_encoding(w, program.version(), program.line_encoding())?;
+    w.write(&[OPCODE_BASE, 0, 1, 1, 1, 1, 0, 0, 0, 1, 0, 0, 1])?;
+    write_tables(w, program, empty, line_strings, strings)
+}
+
+/// Appends how lines and operations are encoded.
+fn write_line_encoding<W: Writer>(
+    w: &mut W,
+    version: u16,
+    line_encoding: LineEncoding,
+) -> Result<()>
+    ensures keeps { Begins (W.contents w.old) (W.contents w.new) }
+    ensures ordered { W.big w.new ≡ W.big w.old }
+    ensures ok { IsTrue W.keeps_bytes → OnOk result
+        (Appends (line_encoding_bytes version line_encoding)
+        (W.contents w.old) (W.contents w.new)) }
+    ensures err { IsTrue W.keeps_bytes → IsTrue W.fails_for_memory_alone → IfErr result
+        (RefusesFor (line_encoding_bytes version line_encoding)) }
+{
+    write_byte(w, line_encoding.minimum_instruction_length)?;
+    write_operation_count(w, version, line_encoding.maximum_operations_per_instruction)?;
+    w.write(&[
+        u8::from(line_encoding.default_is_stmt),
+        line_encoding.line_base.cast_unsigned(),
+        line_encoding.line_range,
+    ])
+}
+
+/// Appends how many operations an instruction has, which before version 4 is one, and isn't said.
+fn write_operation_count<W: Writer>(w: &mut W, version: u16, operations: u8) -> Result<()>
+    ensures keeps { Begins (W.contents w.old) (W.contents w.new) }
+    ensures ordered { W.big w.new ≡ W.big w.old }
+    ensures ok { IsTrue W.keeps_bytes → OnOk result
+        (Appends (operations_bytes version operations)
+        (W.contents w.old) (W.contents w.new)) }
+    ensures err { IsTrue W.keeps_bytes → IsTrue W.fails_for_memory_alone → IfErr result
+        (RefusesFor (operations_bytes version operations)) }
+{
+    if version >= 4 {
+        return write_byte(w, operations);
+    }
+    if operations != 1 {
+        return Err(Error::NeedVersion(4));
+    }
+    Ok(())
+}
+
+/// Appends the directories and the files.
+fn write_tables<W: Writer>(
+    w: &mut W,
+    program: &LineProgram,
+    empty: &LineString,
+    line_strings: &LineStringTable,
+    strings: &StringTable,
+) -> Result<()>
+    requires can { CanWrite program.now strings.now line_strings.now }
+    requires empty { StandsForNone program.now strings.now line_strings.now (line_text empty.now) }
+    ensures keeps { Begins (W.contents w.old) (W.contents w.new) }
+    ensures ordered { W.big w.new ≡ W.big w.old }
+    ensures ok { IsTrue W.keeps_bytes → OnOk result
+        (Appends (tables_bytes (W.big w.old) program.now strings.now line_strings.now)
+        (W.contents w.old) (W.contents w.new)) }
+    ensures err { IsTrue W.keeps_bytes → IsTrue W.fails_for_memory_alone → IfErr result
+        (RefusesFor (tables_bytes (W.big w.old) program.now strings.now line_strings.now)) }
+    ensures fit { OnOk result (All FitsFile program.now.files) }
+{
+    if program.version() <= 4 {
+        return write_version_4_tables(w, program.tables());
+    }
+    write_version_5_tables(w, program, empty, line_strings, strings)
+}

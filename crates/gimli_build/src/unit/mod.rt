@@ -1,0 +1,183 @@
+//! The unit of a line program as it is written.
+
+ghost use Rattle.std.specs.Prelude.{◌≡◌, ℕ, ◌<◌, ◌≤◌, ◌^◌, ◌⊎◌, List, ◌++◌, length, IsTrue, IfOk, IfErr, OnOk, Err, Some, None};
+ghost use Rattle.gimli_core.specs.Notation.{Notation};
+ghost use Rattle.gimli_bytes.specs.Written.{Begins, Appends};
+ghost use Rattle.gimli_bytes.specs.declared.error.Error.TheVariants.{OutOfMemory};
+ghost use Rattle.gimli_line.specs.Header.{UnitEntry};
+ghost use Rattle.gimli_build.specs.LineText.{line_text};
+ghost use Rattle.gimli_build.specs.Conditions.{CanWrite, IsBuilt};
+ghost use Rattle.gimli_build.specs.Joined.{RefusesFor};
+ghost use Rattle.gimli_build.specs.Version5Tables.{strings_behind, line_strings_behind};
+ghost use Rattle.gimli_build.specs.EmptySource.{StandsForNone};
+ghost use Rattle.gimli_build.specs.Unit.{version_bytes, opening_bytes, inside_bytes, whole_bytes, is_incompatible, unit_bytes};
+ghost use Rattle.gimli_build.specs.Cause.{first_cause};
+ghost use Rattle.gimli_build.specs.Texts.{Sections};
+ghost use Rattle.gimli_build.specs.ReadsBack.{ReadsBack, IsReadWell};
+
+mod header;
+
+use crate::built::line_program::LineProgram;
+use crate::built::line_string::LineString;
+use crate::rows::encode::write_items;
+use crate::tables::version_5::add_empty_source;
+use gimli_bytes::{DebugLine, Error, LineStringTable, Result, StringTable, Writer};
+use gimli_core::{DebugLineOffset, Encoding};
+use header::write_header;
+
+impl LineProgram {
+    /// Appends the program's unit, in the program's own version and format, and answers its offset: the length of
+    /// the section before. Asks a program that isn't none, texts that are in these tables, and sources without a
+    /// zero byte. From version 5 on the empty text stands for the source of a file that has none, where sources are
+    /// written; the table of their form has it then.
+    ///
+    /// Refused by `IncompatibleLineProgramEncoding` where the encoding of the unit that the program is for has
+    /// another address size, or a version below 5 where the program's is 5 or more; nothing is appended then. Refused
+    /// by `UnsupportedVersion` below version 2 and above version 5, by `NeedVersion(4)` where an earlier version has
+    /// more than one operation in an instruction, by `LineStringFormMismatch` for a text of another form than the
+    /// first directory, path or source, or up to version 4 for a name that isn't in the program itself, by
+    /// `ValueTooLarge` for a length or an offset that its word can't hold and an address that is too wide, by
+    /// `InvalidAddress` for a symbol, and by `InitialLengthOverflow` for a unit length that is reserved; for want of
+    /// memory; or as the writer refuses. The old bytes stay a beginning of the section then.
+    pub fn write<W: Writer>(
+        &self,
+        w: &mut DebugLine<W>,
+        encoding: Encoding,
+        line_strings: &mut LineStringTable,
+        strings: &mut StringTable,
+    ) -> Result<DebugLineOffset>
+        requires { CanWrite self.now strings.old line_strings.old }
+        ensures keeps { Begins (W.contents w.old.0) (W.contents w.new.0) }
+        ensures ordered { W.big w.new.0 ≡ W.big w.old.0 }
+        ensures offset { IfOk result (λ offset. offset.0 ≡ length (W.contents w.old.0)) }
+        ensures unit { IsTrue W.keeps_bytes → OnOk result
+            (Appends (unit_bytes (W.big w.old.0) encoding self.now strings.old line_strings.old)
+            (W.contents w.old.0) (W.contents w.new.0)) }
+        ensures reads_back { IsTrue W.keeps_bytes → OnOk result ((unit : List ℕ)
+            × (W.contents w.new.0 ≡ W.contents w.old.0 ++ unit)
+            × ((notation : Notation) (unit_entry : UnitEntry) (sections : Sections) →
+            IsReadWell notation unit_entry sections (W.big w.old.0) self.now strings.new line_strings.new unit →
+            ReadsBack notation unit_entry sections self.now strings.new line_strings.new unit)) }
+        ensures no_cause { IsTrue W.keeps_bytes → OnOk result
+            (first_cause (W.big w.old.0) encoding self.now strings.old line_strings.old ≡ None) }
+        ensures err { IsTrue W.keeps_bytes → IsTrue W.fails_for_memory_alone → IfErr result (λ e.
+            (e ≡ OutOfMemory)
+            ⊎ (first_cause (W.big w.old.0) encoding self.now strings.old line_strings.old ≡ Some e)) }
+        ensures incompatible { IsTrue (is_incompatible encoding self.now.encoding) →
+            (result ≡ Err Error.IncompatibleLineProgramEncoding) × (w.new ≡ w.old) }
+        ensures strings { OnOk result (strings.new ≡ strings_behind self.now strings.old) }
+        ensures line_strings { OnOk result
+            (line_strings.new ≡ line_strings_behind self.now line_strings.old) }
+        ensures strings_kept { (strings.new ≡ strings.old) ⊎ (strings.new ≡ strings_behind self.now strings.old) }
+        ensures line_strings_kept { (line_strings.new ≡ line_strings.old)
+            ⊎ (line_strings.new ≡ line_strings_behind self.now line_strings.old) }
+        ensures old_strings { self.now.encoding.version ≤ 4 → strings.new ≡ strings.old }
+        ensures old_line_strings { self.now.encoding.version ≤ 4 → line_strings.new ≡ line_strings.old }
+    {
+        if is_incompatible(encoding, self.encoding()) {
+            return Err(Error::IncompatibleLineProgramEncoding);
+        }
+        let offset = w.offset();
+        let empty = add_empty_source(self, line_strings, strings)?;
+        write_whole(&mut w.0, self, &empty, line_strings, strings)?;
+        Ok(offset)
+    }
+}
+
+/// Whether a unit of one encoding has no line program of the other: addresses have one size, and up to version 4 a
+/// file number is never 0.
+fn is_incompatible(unit: Encoding, program: Encoding) -> bool
+    ensures { result ≡ is_incompatible unit program }
+{
+    unit.version < 5 && program.version >= 5 || unit.address_size != program.address_size
+}
+
+/// Appends the unit length, and what it counts.
+fn write_whole<W: Writer>(
+    w: &mut W,
+    program: &LineProgram,
+    empty: &LineString,
+    line_strings: &LineStringTable,
+    strings: &StringTable,
+) -> Result<()>
+    requires can { CanWrite program.now strings.now line_strings.now }
+    requires empty { StandsForNone program.now strings.now line_strings.now (line_text empty.now) }
+    ensures keeps { Begins (W.contents w.old) (W.contents w.new) }
+    ensures ordered { W.big w.new ≡ W.big w.old }
+    ensures ok { IsTrue W.keeps_bytes → OnOk result
+        (Appends (whole_bytes (W.big w.old) program.now strings.now line_strings.now)
+        (W.contents w.old) (W.contents w.new)) }
+    ensures err { IsTrue W.keeps_bytes → IsTrue W.fails_for_memory_alone → IfErr result
+        (RefusesFor (whole_bytes (W.big w.old) program.now strings.now line_strings.now)) }
+    ensures built { OnOk result (IsBuilt program.now) }
+    ensures short { OnOk result (length (W.contents w.new) < 2 ^ 64) }
+{
+    let format = program.format();
+    let length = w.write_initial_length(format)?;
+    let start = w.len();
+    write_inside(w, program, empty, line_strings, strings)?;
+    let count = (w.len() - start) as u64;
+    w.write_initial_length_at(length, count, format)
+}
+
+/// Appends what the unit length counts: the version, the header, and the instructions.
+fn write_inside<W: Writer>(
+    w: &mut W,
+    program: &LineProgram,
+    empty: &LineString,
+    line_strings: &LineStringTable,
+    strings: &StringTable,
+) -> Result<()>
+    requires can { CanWrite program.now strings.now line_strings.now }
+    requires empty { StandsForNone program.now strings.now line_strings.now (line_text empty.now) }
+    ensures keeps { Begins (W.contents w.old) (W.contents w.new) }
+    ensures ordered { W.big w.new ≡ W.big w.old }
+    ensures ok { IsTrue W.keeps_bytes → OnOk result
+        (Appends (inside_bytes (W.big w.old) program.now strings.now line_strings.now)
+        (W.contents w.old) (W.contents w.new)) }
+    ensures err { IsTrue W.keeps_bytes → IsTrue W.fails_for_memory_alone → IfErr result
+        (RefusesFor (inside_bytes (W.big w.old) program.now strings.now line_strings.now)) }
+    ensures built { OnOk result (IsBuilt program.now) }
+{
+    write_opening(w, program.encoding())?;
+    write_header(w, program, empty, line_strings, strings)?;
+    write_items(
+        w,
+        program.encoding(),
+        program.line_encoding(),
+        program.built_items(),
+    )
+}
+
+/// Appends the version, and in version 5 the address size and a segment selector size of 0.
+fn write_opening<W: Writer>(w: &mut W, encoding: Encoding) -> Result<()>
+    ensures keeps { Begins (W.contents w.old) (W.contents w.new) }
+    ensures ordered { W.big w.new ≡ W.big w.old }
+    ensures ok { IsTrue W.keeps_bytes → OnOk result
+        (Appends (opening_bytes (W.big w.old) encoding)
+        (W.contents w.old) (W.contents w.new)) }
+    ensures err { IsTrue W.keeps_bytes → IsTrue W.fails_for_memory_alone → IfErr result
+        (RefusesFor (opening_bytes (W.big w.old) encoding)) }
+{
+    write_version(w, encoding.version)?;
+    if encoding.version <= 4 {
+        return Ok(());
+    }
+    w.write(&[encoding.address_size, 0])
+}
+
+/// Appends the version.
+fn write_version<W: Writer>(w: &mut W, version: u16) -> Result<()>
+    ensures keeps { Begins (W.contents w.old) (W.contents w.new) }
+    ensures ordered { W.big w.new ≡ W.big w.old }
+    ensures ok { IsTrue W.keeps_bytes → OnOk result
+        (Appends (version_bytes (W.big w.old) version)
+        (W.contents w.old) (W.contents w.new)) }
+    ensures err { IsTrue W.keeps_bytes → IsTrue W.fails_for_memory_alone → IfErr result
+        (RefusesFor (version_bytes (W.big w.old) version)) }
+{
+    if !(2..=5).contains(&version) {
+        return Err(Error::UnsupportedVersion(version));
+    }
+    w.write_u16(version)
+}

@@ -1,5 +1,0 @@
-use Rattle.gimli_write.proofs.Spellings.{instruction-spelled}
-use Rattle.gimli_write.proofs.laws.instruction_is_spelled.Goals as goal
-
-pub returns : goal.returns
-returns c = λ notation h i base wide written. instruction-spelled notation h base wide i written

@@ -1,5 +1,0 @@
-use Rattle.gimli_write.proofs.ItemRuns.{items-run}
-use Rattle.gimli_write.proofs.laws.items_run.Goals as goal
-
-pub returns : goal.returns
-returns c = λ encoding e base previous items known can version place line built held. items-run encoding e known can version base previous items place line built held

@@ -1,5 +1,0 @@
-use Rattle.gimli_write.proofs.RowSizes.{row_short}
-use Rattle.gimli_write.proofs.laws.rows_are_short.Goals as goal
-
-pub returns : goal.returns
-returns c = row_short

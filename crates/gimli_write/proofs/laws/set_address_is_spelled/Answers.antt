@@ -1,5 +1,0 @@
-use Rattle.gimli_write.proofs.Spellings.{address-spelled}
-use Rattle.gimli_write.proofs.laws.set_address_is_spelled.Goals as goal
-
-pub returns : goal.returns
-returns c = λ notation h address bytes base wide written. address-spelled notation h base wide address bytes written

@@ -1,5 +1,0 @@
-use Rattle.gimli_write.proofs.RowRuns.{set-address-runs}
-use Rattle.gimli_write.proofs.laws.set_address_runs.Goals as goal
-
-pub returns : goal.returns
-returns c = λ encoding e base address previous list le lt. set-address-runs encoding e base address previous le lt list

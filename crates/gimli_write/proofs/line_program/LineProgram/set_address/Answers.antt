@@ -1,6 +1,0 @@
-use Rattle.gimli_write.specs.declared.items.BuiltItem.TheVariants.{SetAddress}
-use Rattle.gimli_write.proofs.BuiltLemmas.{item_pushed}
-use Rattle.gimli_write.proofs.line_program.LineProgram.set_address.Goals as goal
-
-pub invariant_of-self-2 : goal.invariant_of-self-2
-invariant_of-self-2 c = rw c.in_ok-push.ensures.items (item_pushed c.self.inside.items.items (SetAddress c.args.address) c.self.invariant tt)

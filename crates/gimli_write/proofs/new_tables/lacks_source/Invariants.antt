@@ -1,9 +1,0 @@
-use Rattle.std.proofs.Common.{◌≡◌, drop}
-use Rattle.std.specs.Option.{is_none}
-use Rattle.std.specs.List.{list_any}
-use Rattle.gimli_write.specs.Tables.{File}
-use Rattle.gimli_write.proofs.new_tables.lacks_source.Given as goal
-
-abbrev pub invariant-loop-index : goal.invariant-loop-index
-invariant-loop-index l =
-    record { left : list_any (λ (f : File). is_none f.1.source) (drop l.index l.tables.files) ≡ list_any (λ (f : File). is_none f.1.source) l.tables.files }

@@ -1,6 +1,0 @@
-use Rattle.std.proofs.Common.{◌≡◌, drop}
-use Rattle.gimli_write.specs.Version5Tables.{sources}
-use Rattle.gimli_write.proofs.new_tables.source_form.Given as goal
-
-abbrev pub invariant-loop-index : goal.invariant-loop-index
-invariant-loop-index l = record { left : sources (drop l.index l.tables.files) ≡ sources l.tables.files }
