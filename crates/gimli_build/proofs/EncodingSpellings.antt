@@ -18,8 +18,8 @@ use Rattle.gimli_core.proofs.Written.{number_spelled}
 use Rattle.gimli_bytes.specs.Number.{udata, length_word}
 use Rattle.gimli_bytes.specs.declared.error.Error.{Error}
 use Rattle.gimli_bytes.specs.declared.error.Error.TheVariants.{NeedVersion, UnsupportedVersion, ValueTooLarge, InitialLengthOverflow}
-use Rattle.gimli_line.specs.Productions.{positive}
-use Rattle.gimli_line.specs.HeaderGrammar.{version_production, address_size_production, line_encoding_production}
+use Rattle.gimli_line.specs.header.Productions.{positive}
+use Rattle.gimli_line.specs.header.HeaderGrammar.{version_production, address_size_production, line_encoding_production}
 use Rattle.gimli_build.specs.Advance.{CanEncode}
 use Rattle.gimli_build.specs.Joined.{joined}
 use Rattle.gimli_build.specs.Unit.{version_bytes, operations_bytes, flag_byte, base_byte, line_encoding_bytes, escape_bytes}

@@ -7,13 +7,13 @@ use Rattle.gimli_core.specs.Numbers.{is_address_size}
 use Rattle.gimli_core.specs.Production.{Each}
 use Rattle.gimli_core.specs.declared.common.Encoding.{Encoding}
 use Rattle.gimli_core.specs.declared.common.LineEncoding.{LineEncoding}
-use Rattle.gimli_line.specs.Header.{Header}
-use Rattle.gimli_line.specs.Instruction.{Ins}
-use Rattle.gimli_line.specs.InstructionGrammar.{SpellsInstruction, Decodes}
-use Rattle.gimli_line.specs.Events.{row, Events, events_behind, program_events}
-use Rattle.gimli_line.specs.Machine.{run}
-use Rattle.gimli_line.specs.Parameters.{Parameters}
-use Rattle.gimli_line.specs.declared.row.LineRow.{LineRow as ReadRow}
+use Rattle.gimli_line.specs.header.Header.{Header}
+use Rattle.gimli_line.specs.run.Instruction.{Ins}
+use Rattle.gimli_line.specs.run.InstructionGrammar.{SpellsInstruction, Decodes}
+use Rattle.gimli_line.specs.run.Events.{row, Events, events_behind, program_events}
+use Rattle.gimli_line.specs.run.Machine.{run}
+use Rattle.gimli_line.specs.header.Parameters.{Parameters}
+use Rattle.gimli_line.specs.declared.run.row.LineRow.{LineRow as ReadRow}
 use Rattle.gimli_line.proofs.Backwards.{starts}
 use Rattle.gimli_build.specs.declared.built.row.LineRow.{LineRow}
 use Rattle.gimli_build.specs.declared.built.items.BuiltItem.{BuiltItem}

@@ -8,8 +8,8 @@ use Rattle.gimli_core.specs.Production.{times}
 use Rattle.gimli_core.specs.Numbers.{SpellsUleb128}
 use Rattle.gimli_bytes.specs.Number.{uleb}
 use Rattle.gimli_bytes.proofs.ShortestUleb.{uleb_shortest}
-use Rattle.gimli_line.specs.HeaderGrammar.{format_production, is_content, SpellsFormats}
-use Rattle.gimli_line.specs.declared.file_entry.FileEntryFormat.{FileEntryFormat}
+use Rattle.gimli_line.specs.header.HeaderGrammar.{format_production, is_content, SpellsFormats}
+use Rattle.gimli_line.specs.declared.header.file_entry.FileEntryFormat.{FileEntryFormat}
 use Rattle.gimli_build.specs.LineText.{LineText, Inline, InStrings, InLineStrings}
 use Rattle.gimli_build.specs.Version5Tables.{text_form, first_form, path_texts, sources, formats_bytes, when, directory_formats, file_formats}
 use Rattle.gimli_build.specs.Built.{Built}

@@ -7,10 +7,10 @@ use Rattle.gimli_core.specs.Production.{Each}
 use Rattle.gimli_core.specs.declared.common.LineEncoding.{LineEncoding}
 use Rattle.gimli_bytes.specs.declared.address.Address.TheVariants.{Constant, Symbol}
 use Rattle.gimli_bytes.specs.declared.error.Error.{Error}
-use Rattle.gimli_line.specs.Header.{Header}
-use Rattle.gimli_line.specs.Instruction.{Ins}
-use Rattle.gimli_line.specs.InstructionGrammar.{SpellsInstruction}
-use Rattle.gimli_line.specs.declared.instruction.LineInstruction.TheVariants as read
+use Rattle.gimli_line.specs.header.Header.{Header}
+use Rattle.gimli_line.specs.run.Instruction.{Ins}
+use Rattle.gimli_line.specs.run.InstructionGrammar.{SpellsInstruction}
+use Rattle.gimli_line.specs.declared.run.instruction.LineInstruction.TheVariants as read
 use Rattle.gimli_build.specs.declared.built.row.LineRow.{LineRow}
 use Rattle.gimli_build.specs.declared.built.items.BuiltItem.{BuiltItem}
 use Rattle.gimli_build.specs.declared.built.items.BuiltItem.TheVariants.{SetAddress, Row, End}

@@ -5,8 +5,8 @@ use Rattle.std.proofs.lemmas.Bool.{cases_lt, lt-leb}
 use Rattle.std.proofs.lemmas.List.{append-nil}
 use Rattle.std.proofs.lemmas.List.Concat.{flat_map-append}
 use Rattle.gimli_core.specs.declared.common.LineEncoding.{LineEncoding}
-use Rattle.gimli_line.specs.Instruction.{Ins}
-use Rattle.gimli_line.specs.declared.instruction.LineInstruction.TheVariants.{AdvancePc}
+use Rattle.gimli_line.specs.run.Instruction.{Ins}
+use Rattle.gimli_line.specs.declared.run.instruction.LineInstruction.TheVariants.{AdvancePc}
 use Rattle.gimli_build.specs.Encode.{operation_part, row_maker, constant_advance}
 use Rattle.gimli_build.specs.InstructionBytes.{instruction_bytes, instructions_bytes}
 

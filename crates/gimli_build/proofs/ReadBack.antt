@@ -4,7 +4,7 @@ use Rattle.std.specs.Prelude.{nat_le}
 use Rattle.gimli_core.specs.Notation.{Notation}
 use Rattle.gimli_core.specs.declared.common.Encoding.{Encoding}
 use Rattle.gimli_bytes.specs.Texts.{AreTexts}
-use Rattle.gimli_line.specs.Header.{UnitEntry}
+use Rattle.gimli_line.specs.header.Header.{UnitEntry}
 use Rattle.gimli_build.specs.Built.{Built}
 use Rattle.gimli_build.specs.Conditions.{IsBuilt, CanWrite}
 use Rattle.gimli_build.specs.Texts.{Sections}

@@ -10,14 +10,14 @@ use Rattle.std.proofs.lemmas.Bool.Decides.{nat_tests}
 use Rattle.gimli_core.specs.Numbers.{is_address_size}
 use Rattle.gimli_core.specs.declared.common.Encoding.{Encoding}
 use Rattle.gimli_core.specs.declared.common.LineEncoding.{LineEncoding}
-use Rattle.gimli_line.specs.declared.row.LineRow.{LineRow as ReadRow}
-use Rattle.gimli_line.specs.declared.instruction.LineInstruction.TheVariants.{Special, Copy, AdvancePc, AdvanceLine, SetFile, SetColumn, NegateStatement, SetBasicBlock, ConstAddPc, SetPrologueEnd, SetEpilogueBegin, SetIsa, EndSequence, SetAddress, SetDiscriminator}
-use Rattle.gimli_line.specs.Parameters.{Parameters}
-use Rattle.gimli_line.specs.Instruction.{Ins}
-use Rattle.gimli_line.specs.Registers.{advanced_line}
-use Rattle.gimli_line.specs.OperationPointer.{OperationPointer, operations_on, exceeds, address_limit}
-use Rattle.gimli_line.specs.Events.{row}
-use Rattle.gimli_line.specs.Machine.{run, initial, reset_row, pointer_of, at_pointer}
+use Rattle.gimli_line.specs.declared.run.row.LineRow.{LineRow as ReadRow}
+use Rattle.gimli_line.specs.declared.run.instruction.LineInstruction.TheVariants.{Special, Copy, AdvancePc, AdvanceLine, SetFile, SetColumn, NegateStatement, SetBasicBlock, ConstAddPc, SetPrologueEnd, SetEpilogueBegin, SetIsa, EndSequence, SetAddress, SetDiscriminator}
+use Rattle.gimli_line.specs.header.Parameters.{Parameters}
+use Rattle.gimli_line.specs.run.Instruction.{Ins}
+use Rattle.gimli_line.specs.run.Registers.{advanced_line}
+use Rattle.gimli_line.specs.run.OperationPointer.{OperationPointer, operations_on, exceeds, address_limit}
+use Rattle.gimli_line.specs.run.Events.{row}
+use Rattle.gimli_line.specs.run.Machine.{run, initial, reset_row, pointer_of, at_pointer}
 use Rattle.gimli_build.specs.declared.built.row.LineRow.{LineRow}
 use Rattle.gimli_build.specs.Advance.{CanEncode, IsPlace, CanFollow, operations}
 use Rattle.gimli_build.specs.Encode.{when, marks, changes, differ, line_part, line_opcode, is_special_advance, operation_part, row_instructions, row_maker, still_opcode, constant_advance, end_instructions}

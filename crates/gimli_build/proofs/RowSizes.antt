@@ -8,9 +8,9 @@ use Rattle.std.proofs.lemmas.Bool.{le-leb}
 use Rattle.std.proofs.lemmas.Bool.Decides.{nat_tests}
 use Rattle.gimli_core.specs.declared.common.Encoding.{Encoding}
 use Rattle.gimli_core.specs.declared.common.LineEncoding.{LineEncoding}
-use Rattle.gimli_line.specs.declared.instruction.LineInstruction.TheVariants.{Special, Copy, AdvancePc, AdvanceLine, SetFile, SetColumn, NegateStatement, SetBasicBlock, ConstAddPc, SetPrologueEnd, SetEpilogueBegin, SetIsa, SetDiscriminator}
-use Rattle.gimli_line.specs.Instruction.{Ins}
-use Rattle.gimli_line.specs.OperationPointer.{operation_advance}
+use Rattle.gimli_line.specs.declared.run.instruction.LineInstruction.TheVariants.{Special, Copy, AdvancePc, AdvanceLine, SetFile, SetColumn, NegateStatement, SetBasicBlock, ConstAddPc, SetPrologueEnd, SetEpilogueBegin, SetIsa, SetDiscriminator}
+use Rattle.gimli_line.specs.run.Instruction.{Ins}
+use Rattle.gimli_line.specs.run.OperationPointer.{operation_advance}
 use Rattle.gimli_build.specs.declared.built.row.LineRow.{LineRow}
 use Rattle.gimli_build.specs.FileNumber.{file_number}
 use Rattle.gimli_build.specs.Advance.{CanEncode, operations}

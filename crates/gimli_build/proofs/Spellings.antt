@@ -21,10 +21,10 @@ use Rattle.gimli_bytes.specs.declared.error.Error.TheVariants.{ValueTooLarge, Un
 use Rattle.gimli_bytes.specs.declared.address.Address.TheVariants.{Constant}
 use Rattle.gimli_bytes.proofs.ShortestUleb.{uleb_shortest}
 use Rattle.gimli_bytes.proofs.ShortestSleb.{sleb_shortest}
-use Rattle.gimli_line.specs.Header.{Header}
-use Rattle.gimli_line.specs.Instruction.{Ins}
-use Rattle.gimli_line.specs.InstructionGrammar.{standard_production, extended_operands, SpellsInstruction}
-use Rattle.gimli_line.specs.declared.instruction.LineInstruction.TheVariants.{Special, Copy, AdvancePc, AdvanceLine, SetFile, SetColumn, NegateStatement, SetBasicBlock, ConstAddPc, SetPrologueEnd, SetEpilogueBegin, SetIsa, EndSequence, SetAddress, SetDiscriminator}
+use Rattle.gimli_line.specs.header.Header.{Header}
+use Rattle.gimli_line.specs.run.Instruction.{Ins}
+use Rattle.gimli_line.specs.run.InstructionGrammar.{standard_production, extended_operands, SpellsInstruction}
+use Rattle.gimli_line.specs.declared.run.instruction.LineInstruction.TheVariants.{Special, Copy, AdvancePc, AdvanceLine, SetFile, SetColumn, NegateStatement, SetBasicBlock, ConstAddPc, SetPrologueEnd, SetEpilogueBegin, SetIsa, EndSequence, SetAddress, SetDiscriminator}
 use Rattle.gimli_build.specs.declared.built.row.LineRow.{LineRow}
 use Rattle.gimli_build.specs.FileNumber.{file_number}
 use Rattle.gimli_build.specs.Advance.{CanEncode, CanFollow, operations}

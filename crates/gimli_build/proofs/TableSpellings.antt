@@ -7,10 +7,10 @@ use Rattle.gimli_core.specs.Production.{Production, ◌>>=◌, Each}
 use Rattle.gimli_core.specs.Numbers.{SpellsUleb128}
 use Rattle.gimli_bytes.specs.Number.{uleb}
 use Rattle.gimli_bytes.proofs.ShortestUleb.{uleb_shortest}
-use Rattle.gimli_line.specs.Productions.{name}
-use Rattle.gimli_line.specs.Header.{plain_file}
-use Rattle.gimli_line.specs.Instruction.{File as ReadFile}
-use Rattle.gimli_line.specs.HeaderGrammar.{SpellsPaths, SpellsFiles, file_production}
+use Rattle.gimli_line.specs.header.Productions.{name}
+use Rattle.gimli_line.specs.header.Header.{plain_file}
+use Rattle.gimli_line.specs.header.File.{File as ReadFile}
+use Rattle.gimli_line.specs.header.HeaderGrammar.{SpellsPaths, SpellsFiles, file_production}
 use Rattle.gimli_build.specs.LineText.{LineText, Inline, InStrings, InLineStrings, bytes_in, HasNoZero, IsNotEmpty}
 use Rattle.gimli_build.specs.Tables.{File, FitsFile, keys_of}
 use Rattle.gimli_build.specs.Joined.{joined_parts}

@@ -10,10 +10,10 @@ use Rattle.gimli_core.specs.Values.{Value}
 use Rattle.gimli_core.specs.declared.attribute_value.AttributeValue.TheVariants.{String}
 use Rattle.gimli_bytes.specs.Texts.{AreTexts, table_bytes}
 use Rattle.gimli_bytes.specs.declared.error.Error.{Error}
-use Rattle.gimli_line.specs.Header.{UnitEntry}
-use Rattle.gimli_line.specs.Instruction.{File as ReadFile}
-use Rattle.gimli_line.specs.HeaderGrammar.{path_of, file_of_entry, taken, directory_table, file_table}
-use Rattle.gimli_line.specs.declared.file_entry.FileEntryFormat.{FileEntryFormat}
+use Rattle.gimli_line.specs.header.Header.{UnitEntry}
+use Rattle.gimli_line.specs.header.File.{File as ReadFile}
+use Rattle.gimli_line.specs.header.HeaderGrammar.{path_of, file_of_entry, taken, directory_table, file_table}
+use Rattle.gimli_line.specs.declared.header.file_entry.FileEntryFormat.{FileEntryFormat}
 use Rattle.gimli_build.specs.LineText.{LineText, bytes_in, HasNoZero}
 use Rattle.gimli_build.specs.Tables.{File, Details}
 use Rattle.gimli_build.specs.Texts.{Sections, OneByOne}

@@ -7,7 +7,7 @@ use Rattle.gimli_core.specs.declared.common.Encoding.{Encoding}
 use Rattle.gimli_bytes.specs.Texts.{AreTexts}
 use Rattle.gimli_bytes.specs.declared.error.Error.{Error}
 use Rattle.gimli_bytes.specs.declared.error.Error.TheVariants.{IncompatibleLineProgramEncoding}
-use Rattle.gimli_line.specs.Header.{Header, UnitEntry}
+use Rattle.gimli_line.specs.header.Header.{Header, UnitEntry}
 use Rattle.gimli_build.specs.Texts.{Sections, OneByOne}
 use Rattle.gimli_build.specs.Built.{Built}
 use Rattle.gimli_build.specs.Conditions.{IsBuilt, CanWrite}

@@ -7,8 +7,8 @@ use Rattle.gimli_core.specs.Numbers.{word_size}
 use Rattle.gimli_core.specs.declared.error.Error.TheVariants.{OpcodeBaseZero}
 use Rattle.gimli_bytes.specs.Number.{udata, length_word}
 use Rattle.gimli_bytes.specs.declared.error.Error.{Error}
-use Rattle.gimli_line.specs.Header.{Header, UnitEntry, plain_file}
-use Rattle.gimli_line.specs.HeaderGrammar.{Opening, taken, parameters_production, opening_production, fields_production, header_production}
+use Rattle.gimli_line.specs.header.Header.{Header, UnitEntry, plain_file}
+use Rattle.gimli_line.specs.header.HeaderGrammar.{Opening, taken, parameters_production, opening_production, fields_production, header_production}
 use Rattle.gimli_build.specs.Built.{Built}
 use Rattle.gimli_build.specs.Conditions.{IsBuilt}
 use Rattle.gimli_build.specs.Texts.{Sections}

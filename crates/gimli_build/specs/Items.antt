@@ -3,9 +3,9 @@ use Rattle.std.specs.Prelude.{ℕ, ◌+◌, ◌-◌, ◌*◌, ◌^◌, ◌<◌, 
 use Rattle.gimli_core.specs.declared.common.Encoding.{Encoding}
 use Rattle.gimli_core.specs.declared.common.LineEncoding.{LineEncoding}
 use Rattle.gimli_bytes.specs.declared.error.Error.{Error}
-use Rattle.gimli_line.specs.declared.instruction.LineInstruction.TheVariants as read
-use Rattle.gimli_line.specs.declared.row.LineRow.{LineRow as ReadRow}
-use Rattle.gimli_line.specs.Instruction.{Ins}
+use Rattle.gimli_line.specs.declared.run.instruction.LineInstruction.TheVariants as read
+use Rattle.gimli_line.specs.declared.run.row.LineRow.{LineRow as ReadRow}
+use Rattle.gimli_line.specs.run.Instruction.{Ins}
 use Rattle.gimli_build.specs.declared.built.row.LineRow.{LineRow}
 use Rattle.gimli_build.specs.declared.built.items.BuiltItem.{BuiltItem}
 use Rattle.gimli_build.specs.declared.built.items.BuiltItem.TheVariants.{SetAddress, Row, End}

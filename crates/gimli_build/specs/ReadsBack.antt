@@ -4,12 +4,12 @@ use Rattle.std.specs.Option.{option_to_list}
 use Rattle.gimli_core.specs.Notation.{Notation}
 use Rattle.gimli_core.specs.Values.{Value}
 use Rattle.gimli_core.specs.declared.attribute_value.AttributeValue.TheVariants.{String}
-use Rattle.gimli_line.specs.Header.{Header, UnitEntry}
-use Rattle.gimli_line.specs.HeaderGrammar.{Opening, header_production, fields_production}
-use Rattle.gimli_line.specs.Instruction.{File as ReadFile}
-use Rattle.gimli_line.specs.InstructionGrammar.{Decodes}
-use Rattle.gimli_line.specs.Events.{Events, row}
-use Rattle.gimli_line.specs.declared.row.LineRow.{LineRow as ReadRow}
+use Rattle.gimli_line.specs.header.Header.{Header, UnitEntry}
+use Rattle.gimli_line.specs.header.HeaderGrammar.{Opening, header_production, fields_production}
+use Rattle.gimli_line.specs.header.File.{File as ReadFile}
+use Rattle.gimli_line.specs.run.InstructionGrammar.{Decodes}
+use Rattle.gimli_line.specs.run.Events.{Events, row}
+use Rattle.gimli_line.specs.declared.run.row.LineRow.{LineRow as ReadRow}
 use Rattle.gimli_bytes.specs.Texts.{table_bytes}
 use Rattle.gimli_build.specs.LineText.{LineText, bytes_in}
 use Rattle.gimli_build.specs.Tables.{File}

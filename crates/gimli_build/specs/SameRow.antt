@@ -2,8 +2,8 @@
 use Rattle.std.specs.Prelude.{◌≡◌, ℕ, ◌+◌, true, false, List, [], ◌∷◌}
 use Rattle.gimli_core.specs.declared.common.Encoding.{Encoding}
 use Rattle.gimli_core.specs.declared.common.LineEncoding.{LineEncoding}
-use Rattle.gimli_line.specs.declared.row.LineRow.{LineRow as ReadRow}
-use Rattle.gimli_line.specs.Parameters.{Parameters}
+use Rattle.gimli_line.specs.declared.run.row.LineRow.{LineRow as ReadRow}
+use Rattle.gimli_line.specs.header.Parameters.{Parameters}
 use Rattle.gimli_build.specs.declared.built.row.LineRow.{LineRow}
 use Rattle.gimli_build.specs.FileNumber.{file_number}
 use Rattle.gimli_build.specs.Built.{base_of}

@@ -1,9 +1,9 @@
 -- What a row needs few bytes for (DWARF 5, section 6.2.5.1).
 use Rattle.std.specs.Prelude.{◌≡◌, ℕ, ◌≤◌, false, Some, ℤ}
-use Rattle.gimli_line.specs.declared.instruction.LineInstruction.TheVariants.{Special}
-use Rattle.gimli_line.specs.Parameters.{Parameters}
-use Rattle.gimli_line.specs.Registers.{line_advance}
-use Rattle.gimli_line.specs.OperationPointer.{operation_advance}
+use Rattle.gimli_line.specs.declared.run.instruction.LineInstruction.TheVariants.{Special}
+use Rattle.gimli_line.specs.header.Parameters.{Parameters}
+use Rattle.gimli_line.specs.run.Registers.{line_advance}
+use Rattle.gimli_line.specs.run.OperationPointer.{operation_advance}
 use Rattle.gimli_build.specs.declared.built.row.LineRow.{LineRow}
 
 -- a special opcode advances the line so, and so many operations

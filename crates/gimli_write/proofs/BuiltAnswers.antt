@@ -6,11 +6,12 @@ use Rattle.std.proofs.lemmas.Result.{IfOk-weaker, MatchResult-weaker}
 use Rattle.gimli_core.specs.Notation.{Notation}
 use Rattle.gimli_core.specs.Values.{Value}
 use Rattle.gimli_core.specs.declared.error.Error.{Error}
-use Rattle.gimli_line.specs.Header.{Header, UnitEntry}
-use Rattle.gimli_line.specs.HeaderGrammar.{SpellsUnit}
-use Rattle.gimli_line.specs.Instruction.{Ins, File as ReadFile}
-use Rattle.gimli_line.specs.Events.{Event, row, fault, Events, program_events}
-use Rattle.gimli_line.specs.declared.row.LineRow.{LineRow as ReadRow}
+use Rattle.gimli_line.specs.header.Header.{Header, UnitEntry}
+use Rattle.gimli_line.specs.header.HeaderGrammar.{SpellsUnit}
+use Rattle.gimli_line.specs.run.Instruction.{Ins}
+use Rattle.gimli_line.specs.header.File.{File as ReadFile}
+use Rattle.gimli_line.specs.run.Events.{Event, row, fault, Events, program_events}
+use Rattle.gimli_line.specs.declared.run.row.LineRow.{LineRow as ReadRow}
 use Rattle.gimli_line.proofs.HeaderLaws.{one_header}
 use Rattle.gimli_line.proofs.InstructionLaws.{one_decoding}
 use Rattle.gimli_build.specs.LineText.{bytes_in}

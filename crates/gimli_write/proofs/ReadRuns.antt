@@ -5,15 +5,16 @@ use Rattle.std.proofs.lemmas.List.{map-append, append-nil}
 use Rattle.gimli_core.specs.Notation.{Notation}
 use Rattle.gimli_core.specs.declared.error.Error.{Error}
 use Rattle.gimli_core.specs.declared.error.Error.TheVariants.{OutOfMemory}
-use Rattle.gimli_line.specs.declared.row.LineRow.{LineRow}
-use Rattle.gimli_line.specs.Header.{Header}
-use Rattle.gimli_line.specs.Instruction.{Ins, File}
-use Rattle.gimli_line.specs.Events.{Event, row, fault, Events, events_at, events_behind, end_events}
-use Rattle.gimli_line.specs.RunState.{RunState}
-use Rattle.gimli_line.specs.Progress.{ready}
-use Rattle.gimli_line.specs.Rows.{FaultIs, events_left}
-use Rattle.gimli_line.specs.Sequences.{events_of, HasFirstFault}
-use Rattle.gimli_line.specs.EventsWithFiles.{EventWithFiles, EventsWithFiles, with_files, files_at, events_with_files_behind}
+use Rattle.gimli_line.specs.declared.run.row.LineRow.{LineRow}
+use Rattle.gimli_line.specs.header.Header.{Header}
+use Rattle.gimli_line.specs.run.Instruction.{Ins}
+use Rattle.gimli_line.specs.header.File.{File}
+use Rattle.gimli_line.specs.run.Events.{Event, row, fault, Events, events_at, events_behind, end_events}
+use Rattle.gimli_line.specs.run.RunState.{RunState}
+use Rattle.gimli_line.specs.run.Progress.{ready}
+use Rattle.gimli_line.specs.run.Rows.{FaultIs, events_left}
+use Rattle.gimli_line.specs.run.Sequences.{events_of, HasFirstFault}
+use Rattle.gimli_line.specs.run.EventsWithFiles.{EventWithFiles, EventsWithFiles, with_files, files_at, events_with_files_behind}
 use Rattle.gimli_write.specs.declared.convert_error.ConvertError.{ConvertError}
 use Rattle.gimli_write.specs.declared.convert_error.ConvertError.TheVariants.{Read, OutOfMemory as NoMemory}
 use Rattle.gimli_write.specs.RoundTrip.{IsRunRefusal}

@@ -8,9 +8,9 @@ use Rattle.gimli_core.specs.Notation.{Notation}
 use Rattle.gimli_core.specs.Values.{Value}
 use Rattle.gimli_core.specs.declared.error.Error.{Error}
 use Rattle.gimli_core.specs.declared.error.Error.TheVariants.{OutOfMemory}
-use Rattle.gimli_line.specs.Header.{Header, UnitEntry}
-use Rattle.gimli_line.specs.HeaderGrammar.{SpellsUnit, HasHeaderFault}
-use Rattle.gimli_line.specs.Instruction.{File as ReadFile}
+use Rattle.gimli_line.specs.header.Header.{Header, UnitEntry}
+use Rattle.gimli_line.specs.header.HeaderGrammar.{SpellsUnit, HasHeaderFault}
+use Rattle.gimli_line.specs.header.File.{File as ReadFile}
 use Rattle.gimli_line.proofs.HeaderLaws.{one_header, no_fault}
 use Rattle.gimli_bytes.specs.Texts.{byte_count}
 use Rattle.gimli_bytes.proofs.TextLemmas.{length-table_bytes}

@@ -1,12 +1,12 @@
 -- What is answered of a unit that was written and read again.
 use Rattle.std.specs.Prelude.{◌≡◌, ℕ, ◌^◌, List, ◌++◌, map, slice_get, Option, Some, None, option_map, Bool, All}
 use Rattle.gimli_core.specs.Notation.{Notation}
-use Rattle.gimli_line.specs.Header.{Header, UnitEntry}
-use Rattle.gimli_line.specs.HeaderGrammar.{SpellsUnit}
-use Rattle.gimli_line.specs.Instruction.{File as ReadFile}
-use Rattle.gimli_line.specs.Events.{Events, row}
-use Rattle.gimli_line.specs.Sequences.{HasFirstFault}
-use Rattle.gimli_line.specs.declared.row.LineRow.{LineRow as ReadRow}
+use Rattle.gimli_line.specs.header.Header.{Header, UnitEntry}
+use Rattle.gimli_line.specs.header.HeaderGrammar.{SpellsUnit}
+use Rattle.gimli_line.specs.header.File.{File as ReadFile}
+use Rattle.gimli_line.specs.run.Events.{Events, row}
+use Rattle.gimli_line.specs.run.Sequences.{HasFirstFault}
+use Rattle.gimli_line.specs.declared.run.row.LineRow.{LineRow as ReadRow}
 use Rattle.gimli_bytes.specs.Texts.{table_bytes}
 use Rattle.gimli_bytes.specs.declared.error.Error.{Error}
 use Rattle.gimli_build.specs.LineText.{bytes_in}

@@ -4,9 +4,9 @@ ghost use Rattle.std.specs.Prelude.{◌≡◌, ◌⊎◌, ℕ, ◌<◌, ◌≤�
 ghost use Rattle.gimli_core.specs.Numbers.{is_address_size};
 ghost use Rattle.gimli_core.specs.Values.{value_seen};
 ghost use Rattle.gimli_bytes.specs.Written.{Begins, Appends};
-ghost use Rattle.gimli_line.specs.Header.{Header};
-ghost use Rattle.gimli_line.specs.Instruction.{file_seen};
-ghost use Rattle.gimli_line.specs.Events.{Events, row};
+ghost use Rattle.gimli_line.specs.header.Header.{Header};
+ghost use Rattle.gimli_line.specs.header.File.{file_seen};
+ghost use Rattle.gimli_line.specs.run.Events.{Events, row};
 ghost use Rattle.gimli_build.specs.LineText.{IsWithin, bytes_in};
 ghost use Rattle.gimli_build.specs.Conditions.{CanWrite};
 ghost use Rattle.gimli_build.specs.Items.{AddressesFit};

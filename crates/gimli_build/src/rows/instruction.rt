@@ -7,7 +7,7 @@ ghost use Rattle.gimli_bytes.specs.declared.error.Error.TheVariants.{OutOfMemory
 ghost use Rattle.gimli_build.specs.InstructionBytes.{instruction_bytes, instructions_bytes, set_address_bytes};
 ghost use Rattle.gimli_build.specs.Encode.{when};
 ghost use Rattle.gimli_build.specs.ReadAs.{read_as};
-ghost use Rattle.gimli_line.specs.declared.instruction.LineInstruction.TheVariants.{SetDiscriminator};
+ghost use Rattle.gimli_line.specs.declared.run.instruction.LineInstruction.TheVariants.{SetDiscriminator};
 
 use crate::bytes::write_byte;
 use gimli_bytes::{Address, Leb128, Result, Writer};

@@ -4,7 +4,7 @@ ghost use Rattle.std.specs.Prelude.{◌≡◌, ℕ, ◌<◌, ◌≤◌, ◌^◌,
 ghost use Rattle.gimli_core.specs.Notation.{Notation};
 ghost use Rattle.gimli_bytes.specs.Written.{Begins, Appends};
 ghost use Rattle.gimli_bytes.specs.declared.error.Error.TheVariants.{OutOfMemory};
-ghost use Rattle.gimli_line.specs.Header.{UnitEntry};
+ghost use Rattle.gimli_line.specs.header.Header.{UnitEntry};
 ghost use Rattle.gimli_build.specs.LineText.{line_text};
 ghost use Rattle.gimli_build.specs.Conditions.{CanWrite, IsBuilt};
 ghost use Rattle.gimli_build.specs.Joined.{RefusesFor};

@@ -1,4 +1,4 @@
-use Rattle.gimli_line.specs.Rows.{events_left}
+use Rattle.gimli_line.specs.run.Rows.{events_left}
 use Rattle.gimli_write.proofs.ReadRuns.{run_ended, run_refused}
 use Rattle.gimli_write.proofs.read_back.read_rows.Goals as goal
 

@@ -1,6 +1,6 @@
 use Rattle.std.proofs.Common.{◌-◌, ◌/◌, ◌<◌, ◌≤◌, arith}
 use Rattle.std.proofs.lemmas.Int.{ints}
-use Rattle.gimli_line.specs.declared.instruction.LineInstruction.TheVariants.{AdvancePc}
+use Rattle.gimli_line.specs.declared.run.instruction.LineInstruction.TheVariants.{AdvancePc}
 use Rattle.gimli_build.specs.Encode.{row_maker, operation_part, constant_advance}
 use Rattle.gimli_build.proofs.Joins.{by_advance, two_parts}
 use Rattle.gimli_build.proofs.rows.encode.write_operation_advance.Goals as goal
