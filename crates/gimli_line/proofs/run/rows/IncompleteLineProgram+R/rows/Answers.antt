@@ -7,8 +7,8 @@ use Rattle.gimli_line.proofs.Runs.{bare_cuts}
 use Rattle.gimli_line.proofs.EventsWithFilesLaws.{events_with_files_start}
 use Rattle.gimli_line.proofs.run.rows.IncompleteLineProgram+R.rows.Goals as goal
 
-pub returns-clause-told : goal.returns-clause-told
-returns-clause-told g c =
+pub returns-clause-events : goal.returns-clause-events
+returns-clause-events g c =
     let n = c.args.self.notation in
     let h = c.args.self.meaning in
     let p = decoded_at n (bare h) h.program in
