@@ -107,12 +107,13 @@ impl<R: Reader> IncompleteLineProgram<R> {
     /// Runs the whole program, and splits it into its sequences, so that each can be run by itself. Rows behind the
     /// last end row are in no sequence. Refused by the first fault of the run, wherever it stands, or by
     /// `OutOfMemory`.
-    pub fn sequences(self, alloc: Global) -> Result<(CompleteLineProgram<R>, Vec<LineSequence<R>>)>
+    pub fn sequences(self) -> Result<(CompleteLineProgram<R>, Vec<LineSequence<R>>)>
         ensures ok { IfOk result (λ found. AreSequences self.notation self.meaning found.0.meaning (map part_of found.1.items)) }
         ensures notation { IfOk result (λ found. found.0.notation ≡ self.notation) }
         ensures offset { IfOk result (λ found. R.Offset.number found.0.offset.0 ≡ R.Offset.number self.offset.0) }
         ensures err { IfErr result (λ e. e ≢ Error.OutOfMemory → HasFirstFault self.notation self.meaning e) }
     {
+        let alloc = *self.header.file_names.allocator();
         let mut rows = self.rows();
         let mut split = SequenceSplit::new(alloc, rows.instructions().clone());
         'rows: while rows.advance()? {
