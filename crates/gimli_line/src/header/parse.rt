@@ -123,11 +123,7 @@ struct Opening<R: Reader> {
 
 /// Takes a unit up to the end of its header; what is left is its program.
 #[tactic(auto, unfolding(crate::specs::header::HeaderReading::opening_at))]
-fn parse_opening<R: Reader>(
-    input: &mut R,
-    handed: u8,
-    format: Format,
-) -> Result<Opening<R>>
+fn parse_opening<R: Reader>(input: &mut R, handed: u8, format: Format) -> Result<Opening<R>>
     requires { IsTrue (is_address_size handed) }
     ensures read { (seen (λ opening. record { encoding = opening.encoding; header_length = R.Offset.number opening.header_length; fields = R.bytes opening.fields }) result, R.bytes input.new)
         ≡ opening_at (record { big = R.big input.old; limit = R.Offset.limit }) handed format (R.bytes input.old) }
