@@ -49,7 +49,7 @@ padded_big n slice le is =
     let front : take (8 - n) zeros_8 ≡ zeros (8 - n) = take-replicate (8 - n) 8 0 small in
     rw (take-put_mid (8 - n) (8 - (8 - n)) zeros_8 slice 8 whole room, front, reverse-append, le_value-append, le_value-zeros_reversed) (omega arith)
 
--- bytes that were cut off
+-- bytes that were split off
 pub split_ok : (n : ℕ) (bytes slice rest : List ℕ) → ◌≡◌ {A = Read (List ℕ)} (Ok slice, rest) (split_at n bytes) → (n ≤ length bytes) × (slice ≡ take n bytes) × (rest ≡ drop n bytes)
 split_ok n bytes slice rest e = elim (cases_lt (length bytes) n) [
   | inl lt ↦ let f = ap (λ (r : Read (List ℕ)). r.0) (rw (lt-ltb (length bytes) n lt, split_at) at e) in absurd cc
@@ -62,10 +62,10 @@ split_ok n bytes slice rest e = elim (cases_lt (length bytes) n) [
 number_of_split : (big : Bool) (n size v : ℕ) (bytes slice rest after : List ℕ) → size ≡ n → ◌≡◌ {A = Read (List ℕ)} (Ok slice, after) (split_at size bytes) → rest ≡ after
     → (n ≤ length bytes → length slice ≡ n → v ≡ value_of big slice) → ◌≡◌ {A = Read ℕ} (Ok v, rest) (number_at big n bytes)
 number_of_split big n size v bytes slice rest after same e is value =
-    let decoding = split_ok n bytes slice after (rw same at e) in
-    let len : length slice ≡ n = ap length decoding.1 ∙ length-take-le n bytes decoding.0 in
-    let number : v ≡ value_of big (take n bytes) = value decoding.0 len ∙ ap (value_of big) decoding.1 in
-    rw (le-ltb (length bytes) n decoding.0, number, is, decoding.2) refl
+    let taken = split_ok n bytes slice after (rw same at e) in
+    let len : length slice ≡ n = ap length taken.1 ∙ length-take-le n bytes taken.0 in
+    let number : v ≡ value_of big (take n bytes) = value taken.0 len ∙ ap (value_of big) taken.1 in
+    rw (le-ltb (length bytes) n taken.0, number, is, taken.2) refl
 
 pub read_little : (n size v : ℕ) (buf bytes slice rest after : List ℕ) → n ≤ 8 → size ≡ n → ◌≡◌ {A = Read (List ℕ)} (Ok slice, after) (split_at size bytes) → rest ≡ after
     → buf ≡ slice ++ drop n zeros_8 → v ≡ value_of false (take 8 buf) → ◌≡◌ {A = Read ℕ} (Ok v, rest) (number_at false n bytes)

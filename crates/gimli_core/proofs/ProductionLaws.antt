@@ -19,8 +19,8 @@ use Rattle.gimli_core.proofs.Padded.{split_ok}
 -- ---- bytes
 
 -- what is behind a front of known length
-front_cut : (n : ℕ) (front rest : List ℕ) → length front ≡ n → (n ≤ length (front ++ rest)) × (take n (front ++ rest) ≡ front) × (drop n (front ++ rest) ≡ rest)
-front_cut n front rest is = (omega (arith, length-append front rest), take_at front rest n is, drop_at front rest n is)
+front_split : (n : ℕ) (front rest : List ℕ) → length front ≡ n → (n ≤ length (front ++ rest)) × (take n (front ++ rest) ≡ front) × (drop n (front ++ rest) ≡ rest)
+front_split n front rest is = (omega (arith, length-append front rest), take_at front rest n is, drop_at front rest n is)
 
 -- a refusal for want of bytes
 want_fault : {A : Type 0} (n : ℕ) (bytes : List ℕ) (x : A) (left : List ℕ) (e : Error) → ((if nat_lt (length bytes) n then (let r : Read A = (Err (eof bytes), bytes) in r) else (Ok x, left)).0 ≡ Err e) → IsWanting n bytes e
@@ -35,7 +35,7 @@ reads_some_bytes n = record {
       let p = split_ok n bytes xs rest (sym e) in
       (take n bytes, sym (rw p.2 (take-append-drop n bytes)), (length-take-le n bytes p.0, p.1));
   only = λ front xs rest s.
-      let f = front_cut n front rest s.0 in
+      let f = front_split n front rest s.0 in
       rw (le-ltb (length (front ++ rest)) n f.0, f.1, f.2, s.1) refl;
   fault = λ bytes e is. want_fault n bytes (take n bytes) (drop n bytes) e is;
   refused = λ bytes e f. rw (lt-ltb (length bytes) n f.0, f.1) refl;
@@ -67,7 +67,7 @@ pub reads_number : (big : Bool) (size : ℕ) → Reads (number big size) (number
 reads_number big size = record {
   found = λ bytes n rest e. number_found bytes n rest e;
   only = λ front n rest s.
-      let f = front_cut size front rest s.size_is in
+      let f = front_split size front rest s.size_is in
       rw (le-ltb (length (front ++ rest)) size f.0, f.1, f.2, s.value_is) refl;
   fault = λ bytes e is. want_fault size bytes (value_of big (take size bytes)) (drop size bytes) e is;
   refused = λ bytes e f. rw (lt-ltb (length bytes) size f.0, f.1) refl;
@@ -93,31 +93,31 @@ place bytes = position_or_len (λ b. nat_eq b 0) bytes
 place_more : (b : ℕ) (bytes : List ℕ) → b ≢ 0 → place (b ∷ bytes) ≡ suc (place bytes)
 place_more b bytes other = rw (ne_eqb b 0 other) (omega arith)
 
--- bytes that are cut there
-record SequenceSplit (bytes : List ℕ) (k : ℕ) : Type 0 where
+-- a zero byte at that place, and none before it
+record ZeroAt (bytes : List ℕ) (k : ℕ) : Type 0 where
   parts : bytes ≡ take k bytes ++ 0 ∷ drop (k + 1) bytes
   name : AllByRecursion IsNoZero (take k bytes)
 
-cut_more : (b : ℕ) (bytes : List ℕ) (k : ℕ) → b ≢ 0 → SequenceSplit bytes k → SequenceSplit (b ∷ bytes) (suc k)
-cut_more b bytes k other decoding =
+zero_more : (b : ℕ) (bytes : List ℕ) (k : ℕ) → b ≢ 0 → ZeroAt bytes k → ZeroAt (b ∷ bytes) (suc k)
+zero_more b bytes k other zero =
     let behind : drop (suc k + 1) (b ∷ bytes) ≡ drop (k + 1) bytes = let n : suc k + 1 ≡ suc (k + 1) = omega arith in rw n refl in
     record {
-      parts = ap (λ (xs : List ℕ). b ∷ xs) decoding.parts ∙ ap (λ (xs : List ℕ). b ∷ take k bytes ++ 0 ∷ xs) (sym behind);
-      name = (other, decoding.name);
+      parts = ap (λ (xs : List ℕ). b ∷ xs) zero.parts ∙ ap (λ (xs : List ℕ). b ∷ take k bytes ++ 0 ∷ xs) (sym behind);
+      name = (other, zero.name);
     }
 
-decoded_at : (bytes : List ℕ) → place bytes < length bytes → SequenceSplit bytes (place bytes)
-decoded_at [] lt = absurd (omega arith)
-decoded_at (b ∷ bytes) lt = elim (eqb_tells b 0) [
+zero_at : (bytes : List ℕ) → place bytes < length bytes → ZeroAt bytes (place bytes)
+zero_at [] lt = absurd (omega arith)
+zero_at (b ∷ bytes) lt = elim (eqb_tells b 0) [
   | inl p ↦ at_zero b bytes p.1
   | inr p ↦
       let more = place_more b bytes p.1 in
-      let decoding = decoded_at bytes (omega (arith, more)) in
-      subst (λ (k : ℕ). SequenceSplit (b ∷ bytes) k) (sym more) (cut_more b bytes (place bytes) p.1 decoding)
+      let zero = zero_at bytes (omega (arith, more)) in
+      subst (λ (k : ℕ). ZeroAt (b ∷ bytes) k) (sym more) (zero_more b bytes (place bytes) p.1 zero)
 ]
   where
-    at_zero : (b : ℕ) (bytes : List ℕ) → b ≡ 0 → SequenceSplit (b ∷ bytes) (place (b ∷ bytes))
-    at_zero b bytes is = subst (λ (n : ℕ). SequenceSplit (n ∷ bytes) (place (n ∷ bytes))) (sym is) (record { parts = refl; name = tt })
+    at_zero : (b : ℕ) (bytes : List ℕ) → b ≡ 0 → ZeroAt (b ∷ bytes) (place (b ∷ bytes))
+    at_zero b bytes is = subst (λ (n : ℕ). ZeroAt (n ∷ bytes) (place (n ∷ bytes))) (sym is) (record { parts = refl; name = tt })
 
 -- where none is zero the place is the end
 place_none : (name : List ℕ) → AllByRecursion IsNoZero name → place name ≡ length name
@@ -139,9 +139,9 @@ text_found : (bytes name rest : List ℕ) → text_at bytes ≡ (Ok name, rest) 
 text_found bytes name rest e = elim (cases_lt (place bytes) (length bytes)) [
   | inl lt ↦
       let p = ok_parts (take (place bytes) bytes) name (drop (place bytes + 1) bytes) rest (rw (lt-ltb (place bytes) (length bytes) lt, text_at) at e) in
-      let decoding = decoded_at bytes lt in
-      let whole : bytes ≡ (name ++ 0 ∷ []) ++ rest = rw (← p.0, ← p.1) (decoding.parts ∙ sym (append_assoc (take (place bytes) bytes) (0 ∷ []) (drop (place bytes + 1) bytes))) in
-      (name ++ 0 ∷ [], whole, (rw (← p.0) decoding.name, refl))
+      let zero = zero_at bytes lt in
+      let whole : bytes ≡ (name ++ 0 ∷ []) ++ rest = rw (← p.0, ← p.1) (zero.parts ∙ sym (append_assoc (take (place bytes) bytes) (0 ∷ []) (drop (place bytes + 1) bytes))) in
+      (name ++ 0 ∷ [], whole, (rw (← p.0) zero.name, refl))
   | inr le ↦ let p = ap (λ (r : Read (List ℕ)). r.0) (rw (le-ltb (place bytes) (length bytes) le, text_at) at e) in absurd cc
 ]
 

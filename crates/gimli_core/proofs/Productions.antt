@@ -100,7 +100,7 @@ reads_times zero l read r = reads_done []
 reads_times (suc n) l read r =
     reads_both l _ read _ r (λ x. reads_both (times n l) _ (times_at n read) _ (reads_times n l read r) (λ xs. reads_done (x ∷ xs)))
 
--- ---- a production within bytes that were cut out before
+-- ---- a production within bytes that were taken before
 
 with_rest_ok : {A : Type 0} (r : Read A) (x : A × List ℕ) → with_rest r ≡ Ok x → r ≡ (Ok x.0, x.1)
 with_rest_ok {A} (Ok y, rest) x e = let p : (y, rest) ≡ x = cc in ap (λ (z : A × List ℕ). let r : Read A = (Ok z.0, z.1) in r) p

@@ -26,9 +26,9 @@ skip_front n bytes rest e = elim (cases_lt (length bytes) n) [
 -- so the byte itself can be skipped, behind those before it
 pub skip_refuses_not : (n one : ℕ) (bytes text mid rest : List ℕ) (e : Error) → n < length bytes → one ≡ 1
     → ◌≡◌ {A = Read (List ℕ)} (Ok text, mid) (split_at n bytes) → ◌≡◌ {A = Read (Unit {0})} (Err e, rest) (skip_at one mid) → ⊥
-skip_refuses_not n one bytes text mid rest e lt is decoding refused =
+skip_refuses_not n one bytes text mid rest e lt is taken refused =
     let there : n ≤ length bytes = omega arith in
-    let parts = rw (le-ltb (length bytes) n there, split_at) at decoding in
+    let parts = rw (le-ltb (length bytes) n there, split_at) at taken in
     let behind : mid ≡ drop n bytes = ap (λ (r : Read (List ℕ)). r.1) parts in
     let some : one ≤ length mid = omega (arith, length-drop n bytes, ap length behind) in
     let f = rw (le-ltb (length mid) one some, skip_at) at refused in

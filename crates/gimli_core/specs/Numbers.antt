@@ -68,7 +68,7 @@ abbrev pub word_size : Format → ℕ
 word_size Dwarf32 = 4
 word_size Dwarf64 = 8
 
--- the length of a unit, which tells the format: four bytes below 0xffff_fff0, or the four bytes 0xffff_ffff and eight
+-- the length of a unit, by which its format is known: four bytes below 0xffff_fff0, or the four bytes 0xffff_ffff and eight
 -- further ones (DWARF 5, section 7.4)
 abbrev pub SpellsInitialLength : Bool → List ℕ → Format → ℕ → Type 0
 SpellsInitialLength big bytes Dwarf32 n = SpellsNumber big 4 bytes n × (n < 0xffff_fff0)

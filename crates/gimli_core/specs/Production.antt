@@ -68,7 +68,7 @@ closed l = record {
   Fault = λ bytes e. (xs : List _) × (front : List ℕ) × (rest : List ℕ) × (bytes ≡ front ++ rest) × Each l.Spells front xs × IsOpen rest × l.Fault rest e;
 }
 
--- a production at the front of bytes that were cut out before, and what is left over of these
+-- a production at the front of bytes that were taken before, and what is left over of these
 abbrev pub within : {A : Type 0} → List ℕ → Production A → Production (A × List ℕ)
 within inside l = record {
   Spells = λ bytes x. (bytes ≡ []) × ((front : List ℕ) × (inside ≡ front ++ x.1) × l.Spells front x.0);
@@ -127,7 +127,7 @@ signed = record { Spells = SpellsSleb128; Fault = IsLebFault 10 (λ b. (b ≢ 0)
 abbrev pub word : Bool → Format → Production ℕ
 word big format = number big (word_size format)
 
--- an initial length, and the format that it tells
+-- an initial length, and its format
 abbrev pub initial_length : Bool → Production (ℕ × Format)
 initial_length big = record {
   Spells = λ bytes u. SpellsInitialLength big bytes u.1 u.0;
@@ -155,7 +155,7 @@ offset_word notation format = do
   fits ← check (fits_offset notation format n) UnsupportedOffset
   done n
 
--- the length of a unit, and the format that it tells
+-- the length of a unit, and its format
 abbrev pub unit_length : Notation → Production (ℕ × Format)
 unit_length notation = do
   unit ← initial_length notation.big

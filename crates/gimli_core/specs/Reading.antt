@@ -26,7 +26,7 @@ abbrev pub times_at : {A : Type 0} → ℕ → (List ℕ → Read A) → List �
 times_at zero read bytes = (Ok [], bytes)
 times_at (suc n) read bytes = read bytes >>= λ x rest. times_at n read rest >>= λ xs left. (Ok (x ∷ xs), left)
 
--- a call on bytes that were cut out before: what it answers and what it leaves of these
+-- a call on bytes that were taken before: what it answers and what it leaves of these
 abbrev pub with_rest : {A : Type 0} → Read A → Result (A × List ℕ) Error
 with_rest (Ok x, rest) = Ok (x, rest)
 with_rest (Err e, rest) = Err e
@@ -132,7 +132,7 @@ unfoldable pub word_at : Bool → ℕ → Format → List ℕ → Read ℕ
 word_at big limit Dwarf32 bytes = number_at big 4 bytes
 word_at big limit Dwarf64 bytes = number_at big 8 bytes >>= λ n rest. (offset_of limit n, rest)
 
--- the length of a unit, and the format that it tells
+-- the length of a unit, and its format
 unfoldable pub initial_length_at : Bool → ℕ → List ℕ → Read (ℕ × Format)
 initial_length_at big limit bytes =
     number_at big 4 bytes >>= λ n rest.

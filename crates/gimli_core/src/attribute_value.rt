@@ -1,3 +1,5 @@
+//! The values of attributes: texts, references to texts, numbers and blocks.
+
 ghost use Rattle.std.specs.Prelude.{◌≡◌};
 
 use crate::common::{DebugLineStrOffset, DebugStrOffset, DebugStrOffsetsIndex};

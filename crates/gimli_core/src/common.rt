@@ -1,3 +1,5 @@
+//! Formats, encodings, sections, and offsets into these.
+
 ghost use Rattle.std.specs.Prelude.{◌≡◌, true, pos, negsuc, IsTrue};
 ghost use Rattle.gimli_core.specs.Numbers.{word_size};
 

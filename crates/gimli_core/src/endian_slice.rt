@@ -1,3 +1,5 @@
+//! The reader over a slice of bytes.
+
 ghost use Rattle.std.specs.Prelude.{◌≡◌, IfOk, IfErr, IsOkAnd, nat_eq, position};
 ghost use Rattle.std.specs.Cow.{cow_slice_items, IsBorrowedSlice};
 ghost use Rattle.gimli_core.specs.Reading.{eof};

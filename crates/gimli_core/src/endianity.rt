@@ -1,3 +1,5 @@
+//! The two orders of bytes, fixed or chosen at run time.
+
 ghost use Rattle.std.specs.Prelude.{◌≡◌, ◌++◌, ◌≤◌, Bool, true, false, not, length, take, drop};
 ghost use Rattle.gimli_core.specs.Numbers.{value_of, number_bytes};
 

@@ -1,3 +1,5 @@
+//! Why reading is refused.
+
 use crate::constants::DwForm;
 use std::fmt;
 

@@ -1,4 +1,4 @@
-//! Laws of the formats: the functions by which a reader's calls are told read the productions of the grammar,
+//! Laws of the formats: the functions that the contracts of a reader's calls name read the productions of the grammar,
 //! in both directions, with their refusals.
 
 ghost use Rattle.std.specs.Prelude.{ℕ, Bool, ◌<◌, ◌^◌};

@@ -1,3 +1,5 @@
+//! Types of offsets, and addresses of a given size.
+
 ghost use Rattle.std.specs.Prelude.{◌≡◌, ℕ, ◌+◌, ◌-◌, ◌*◌, ◌^◌, IsTrue};
 ghost use Rattle.gimli_core.specs.Numbers.{is_address_size};
 ghost use Rattle.gimli_core.specs.Reading.{seen, offset_of, sized_sum};

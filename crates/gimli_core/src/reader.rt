@@ -1,3 +1,5 @@
+//! What a reader does: numbers, texts, lengths and addresses, taken from the front of bytes.
+
 ghost use Rattle.std.specs.Prelude.{◌≡◌, ℕ, ◌+◌, ◌-◌, ◌≤◌, ◌↔◌, ◌++◌, Bool, List, [], length, take, IsTrue, IfOk, IfErr, OnErr};
 ghost use Rattle.std.specs.Cow.{cow_slice_items};
 ghost use Rattle.gimli_core.specs.Numbers.{is_address_size};
@@ -233,7 +235,7 @@ pub trait Reader: Copy {
         with_tenth(value, last)
     }
 
-    /// Takes the length of a unit, and says which format it tells. Refused by `UnknownReservedLength` at a
+    /// Takes the length of a unit, and says which format it has. Refused by `UnknownReservedLength` at a
     /// reserved first word, and by `UnsupportedOffset` where the offset type is too narrow. A refused call
     /// has taken the first word, if it is there, and a length of eight bytes that is too large.
     #[tactic(auto, unfolding(crate::specs::Reading::initial_length_at))]

@@ -1,3 +1,5 @@
+//! A section, over a reader of its contents.
+
 ghost use Rattle.std.specs.Prelude.{◌≡◌};
 
 use crate::common::SectionId;

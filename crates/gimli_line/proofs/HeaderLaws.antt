@@ -20,7 +20,7 @@ use Rattle.gimli_line.specs.header.Header.{Header, UnitEntry, plain_file}
 use Rattle.gimli_line.specs.header.Productions.{name, positive}
 use Rattle.gimli_line.specs.header.FormReading.{block_at, shape_at, form_at}
 use Rattle.gimli_line.specs.header.HeaderGrammar.{is_content, Opening, paths_production, file_production, files_production, format_production, formats_production, entry_production, entries_production, table_production, version_production, address_size_production, opening_production, line_encoding_production, parameters_production, directory_table, file_table, fields_production, header_production, SpellsUnit, HasHeaderFault}
-use Rattle.gimli_line.specs.header.HeaderReading.{positive_at, paths_at, plain_file_at, named_file_at, files_at, format_at, formats_at, entry_at, entries_at, table_at, version_at, own_address_size_at, size_at, opening_at, operations_at, line_encoding_at, rules_at, directories_at, file_names_at, fields_at, header_at}
+use Rattle.gimli_line.specs.header.HeaderReading.{positive_at, paths_at, plain_file_at, named_file_at, files_at, format_at, formats_at, entry_at, entries_at, table_at, version_at, own_address_size_at, size_at, opening_at, operations_at, line_encoding_at, parameters_at, directories_at, file_names_at, fields_at, header_at}
 use Rattle.gimli_line.specs.declared.header.file_entry.FileEntryFormat.{FileEntryFormat}
 use Rattle.gimli_line.proofs.Closed.{ReadsOpen, reads_name, reads_open_both, reads_closed}
 
@@ -113,7 +113,7 @@ pub reads_version : (big : Bool) → Reads (version_production big) (version_at 
 unfolding version_at
 reads_version big = reads_both (number big 2) _ _ _ (reads_number big 2) (λ version. reads_guard (nat_le 2 version && nat_le version 5) (UnknownVersion version) (done version) _ (reads_done version))
 
--- an address size, which the core tells with its test
+-- an address size, which the core reads with its test
 tested_size : (k : ℕ → List ℕ → Read ℕ) (bytes : List ℕ) → (byte_at bytes >>= λ n rest. if is_address_size n then k n rest else (Err (UnsupportedAddressSize n), rest)) ≡ (address_size_at bytes >>= k)
 unfolding address_size_at
 tested_size k [] = refl
@@ -148,9 +148,9 @@ reads_line_encoding version =
     (λ maximum. reads_both byte _ _ _ reads_byte (λ statement. reads_both byte _ _ _ reads_byte
     (λ base. reads_both (positive LineRangeZero) _ _ _ (reads_positive LineRangeZero) (λ range. reads_done _)))))
 
-pub reads_rules : (encoding : Encoding) → Reads (parameters_production encoding) (rules_at encoding)
-unfolding rules_at
-reads_rules encoding =
+pub reads_parameters : (encoding : Encoding) → Reads (parameters_production encoding) (parameters_at encoding)
+unfolding parameters_at
+reads_parameters encoding =
     reads_both (line_encoding_production encoding.version) _ _ _ (reads_line_encoding encoding.version)
     (λ line_encoding. reads_both (positive OpcodeBaseZero) _ _ _ (reads_positive OpcodeBaseZero) (λ opcode_base. reads_done _))
 
@@ -171,7 +171,7 @@ reads_file_names notation encoding =
 pub reads_fields : (notation : Notation) (unit_entry : UnitEntry) (unit : ℕ) (opening : Opening) (program : List ℕ) → Reads (fields_production notation unit_entry unit opening program) (fields_at notation unit_entry unit opening program)
 unfolding fields_at
 reads_fields notation unit_entry unit opening program =
-    reads_both (parameters_production opening.encoding) _ _ _ (reads_rules opening.encoding)
+    reads_both (parameters_production opening.encoding) _ _ _ (reads_parameters opening.encoding)
     (λ parameters. reads_both (some_bytes (parameters.opcode_base - 1)) _ _ _ (reads_some_bytes (parameters.opcode_base - 1))
     (λ counts. reads_both (directory_table notation opening.encoding) _ _ _ (reads_directories notation opening.encoding)
     (λ directories. reads_both (file_table notation opening.encoding) _ _ _ (reads_file_names notation opening.encoding)
@@ -204,7 +204,7 @@ module _ (notation : Notation) (unit_entry : UnitEntry) where
   pub unit_found : (bytes : List ℕ) (h : Header) (rest : List ℕ) → header_at notation unit_entry bytes ≡ (Ok h, rest) → SpellsUnit notation unit_entry bytes h
   unit_found bytes h rest e = let f = (reads_header notation unit_entry).found bytes h rest e in (f.0, rest, f.1, f.2)
 
-  -- the same where the bytes behind it aren't told
+  -- the same where the bytes behind it aren't named
   pub unit_answered : (bytes : List ℕ) (h : Header) → (header_at notation unit_entry bytes).0 ≡ Ok h → SpellsUnit notation unit_entry bytes h
   unit_answered bytes h is = at_rest (header_at notation unit_entry bytes) refl is
     where

@@ -15,7 +15,7 @@ use Rattle.gimli_line.specs.header.Header.{Header, UnitEntry, plain_file}
 use Rattle.gimli_line.specs.header.HeaderGrammar.{SpellsUnit, HasHeaderFault}
 use Rattle.gimli_line.specs.header.TableReading.{closed_below}
 use Rattle.gimli_line.specs.header.FormReading.{form_at}
-use Rattle.gimli_line.specs.header.HeaderReading.{positive_at, plain_file_at, format_at, formats_at, entries_at, table_at, version_at, own_address_size_at, opening_at, line_encoding_at, rules_at, directories_at, file_names_at, fields_at, header_at}
+use Rattle.gimli_line.specs.header.HeaderReading.{positive_at, plain_file_at, format_at, formats_at, entries_at, table_at, version_at, own_address_size_at, opening_at, line_encoding_at, parameters_at, directories_at, file_names_at, fields_at, header_at}
 use Rattle.gimli_line.proofs.HeaderLaws.{reads_header, unit_found}
 
 abbrev little : Notation
@@ -320,7 +320,7 @@ units : IsUnit version_4_tables
     × IsUnit big_endian_64_bits
     × IsUnit later_format_wins
     × IsUnit digest_of_other_length
-unfolding uleb_at sleb_at word_at initial_length_at address_size_at closed_below positive_at plain_file_at form_at format_at formats_at entries_at table_at version_at own_address_size_at opening_at line_encoding_at rules_at directories_at file_names_at fields_at header_at
+unfolding uleb_at sleb_at word_at initial_length_at address_size_at closed_below positive_at plain_file_at form_at format_at formats_at entries_at table_at version_at own_address_size_at opening_at line_encoding_at parameters_at directories_at file_names_at fields_at header_at
 units = (
   is_unit version_4_tables refl,
   is_unit slack refl,
@@ -451,8 +451,8 @@ no_opcode_base = record {
 }
 
 -- the tables pass the header length
-abbrev cut_tables : Refused
-cut_tables = record {
+abbrev short_tables : Refused
+short_tables = record {
   given = handed_names;
   bytes = 0x3e ∷ 0x00 ∷ 0x00 ∷ 0x00 ∷ 0x04 ∷ 0x00 ∷ 0x15 ∷ 0x00 ∷ 0x00 ∷ 0x00 ∷ 0x01 ∷ 0x01 ∷ 0x01 ∷ 0x00 ∷ 0x01 ∷ 0x03
       ∷ 0x01 ∷ 0x02 ∷ 0x2f ∷ 0x69 ∷ 0x6e ∷ 0x63 ∷ 0x00 ∷ 0x2f ∷ 0x69 ∷ 0x6e ∷ 0x63 ∷ 0x32 ∷ 0x00 ∷ 0x00 ∷ 0x66 ∷ 0x6f
@@ -510,7 +510,7 @@ two_paths = record {
   refusal = MissingFileEntryFormatPath;
 }
 
--- told where an entry is read
+-- refused where an entry is read
 abbrev unknown_form : Refused
 unknown_form = record {
   given = handed 8;
@@ -570,7 +570,7 @@ refusals : IsRefused reserved_length
     × IsRefused no_operations
     × IsRefused no_line_range
     × IsRefused no_opcode_base
-    × IsRefused cut_tables
+    × IsRefused short_tables
     × IsRefused address_size_3
     × IsRefused segment_selectors
     × IsRefused no_format
@@ -581,7 +581,7 @@ refusals : IsRefused reserved_length
     × IsRefused too_many_directories
     × IsRefused as_many_as_numbers_go
     × IsRefused count_too_large
-unfolding uleb_at sleb_at word_at initial_length_at address_size_at closed_below positive_at plain_file_at form_at format_at formats_at entries_at table_at version_at own_address_size_at opening_at line_encoding_at rules_at directories_at file_names_at fields_at header_at
+unfolding uleb_at sleb_at word_at initial_length_at address_size_at closed_below positive_at plain_file_at form_at format_at formats_at entries_at table_at version_at own_address_size_at opening_at line_encoding_at parameters_at directories_at file_names_at fields_at header_at
 refusals = (
   is_refused reserved_length refl,
   is_refused twelve_ones refl,
@@ -593,7 +593,7 @@ refusals = (
   is_refused no_operations refl,
   is_refused no_line_range refl,
   is_refused no_opcode_base refl,
-  is_refused cut_tables refl,
+  is_refused short_tables refl,
   is_refused address_size_3 refl,
   is_refused segment_selectors refl,
   is_refused no_format refl,

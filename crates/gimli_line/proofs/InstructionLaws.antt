@@ -1,4 +1,4 @@
--- Reading instructions, and cutting a program into them.
+-- Reading instructions, and decoding a program into them.
 use Rattle.std.proofs.Common.{◌≡◌, ◌≢◌, ℕ, zero, suc, ◌-◌, ◌<◌, ◌≤◌, List, [], ◌∷◌, ◌++◌, length, take, Option, Some, None, Ok, Err, refl, sym, ap, subst, ◌∙◌, append_assoc, arith, inl, inr}
 use Rattle.std.specs.Prelude.{nat_eq, nat_le, slice_index}
 use Rattle.std.proofs.lemmas.List.{length-append, take_at}
@@ -114,16 +114,16 @@ module _ (notation : Notation) (h : Header) where
       let some : length s.1 ≡ 1 = ap length s.4 in
       omega (arith, length-append s.1 s.2, ap length s.3)
 
-  cut_is : (more : ℕ) (bytes : List ℕ) → length bytes ≤ more → Decodes notation h bytes (decoded_upto notation h more bytes).0 (decoded_upto notation h more bytes).1
+  decoding_is : (more : ℕ) (bytes : List ℕ) → length bytes ≤ more → Decodes notation h bytes (decoded_upto notation h more bytes).0 (decoded_upto notation h more bytes).1
   unfolding decoded_upto
-  cut_is zero [] le = record { front = []; rest = []; parts = refl; spelled = refl; ended = refl }
-  cut_is zero (b ∷ bytes) le = absurd (omega arith)
-  cut_is (suc more) [] le = record { front = []; rest = []; parts = refl; spelled = refl; ended = refl }
-  cut_is (suc more) (b ∷ bytes) le = elim (answer_of (ins_at notation h (b ∷ bytes))) [
+  decoding_is zero [] le = record { front = []; rest = []; parts = refl; spelled = refl; ended = refl }
+  decoding_is zero (b ∷ bytes) le = absurd (omega arith)
+  decoding_is (suc more) [] le = record { front = []; rest = []; parts = refl; spelled = refl; ended = refl }
+  decoding_is (suc more) (b ∷ bytes) le = elim (answer_of (ins_at notation h (b ∷ bytes))) [
     | given_ok i rest is ↦
         let f = reads_instruction.found (b ∷ bytes) i rest is in
         let some = takes_bytes f.0 i f.2 in
-        let c = cut_is more rest (omega (arith, length-append f.0 rest, ap length f.1)) in
+        let c = decoding_is more rest (omega (arith, length-append f.0 rest, ap length f.1)) in
         rw is (record {
           front = f.0 ++ c.front;
           rest = c.rest;
@@ -180,8 +180,8 @@ module _ (notation : Notation) (h : Header) where
       at_more (suc more) (b ∷ bytes) le rest first fewer others = rw (first, ← others more (omega arith)) refl
 
   -- a program is decoded so
-  pub cuts : (bytes : List ℕ) → Decodes notation h bytes (decoded_at notation h bytes).0 (decoded_at notation h bytes).1
-  cuts bytes = cut_is (length bytes) bytes (omega arith)
+  pub is_decoded : (bytes : List ℕ) → Decodes notation h bytes (decoded_at notation h bytes).0 (decoded_at notation h bytes).1
+  is_decoded bytes = decoding_is (length bytes) bytes (omega arith)
 
   -- and no other way
   pub one_decoding : (bytes : List ℕ) (list : List Ins) (end : Option Error) → Decodes notation h bytes list end → (list, end) ≡ decoded_at notation h bytes
@@ -189,11 +189,11 @@ module _ (notation : Notation) (h : Header) where
 
   -- ---- no more instructions than bytes
 
-  cut_bounded : (more : ℕ) (bytes : List ℕ) → length (decoded_upto notation h more bytes).0 ≤ more
+  decoded_bounded : (more : ℕ) (bytes : List ℕ) → length (decoded_upto notation h more bytes).0 ≤ more
   unfolding decoded_upto
-  cut_bounded zero bytes = omega arith
-  cut_bounded (suc more) [] = omega arith
-  cut_bounded (suc more) (b ∷ bytes) = behind (λ rest. cut_bounded more rest) (ins_at notation h (b ∷ bytes))
+  decoded_bounded zero bytes = omega arith
+  decoded_bounded (suc more) [] = omega arith
+  decoded_bounded (suc more) (b ∷ bytes) = behind (λ rest. decoded_bounded more rest) (ins_at notation h (b ∷ bytes))
     where
       behind : ((rest : List ℕ) → length (decoded_upto notation h more rest).0 ≤ more) → (r : Read Ins) → length (decoded_behind notation h (decoded_upto notation h more) r).0 ≤ suc more
       behind bound (Ok i, rest) = omega (arith, bound rest)
@@ -202,4 +202,4 @@ module _ (notation : Notation) (h : Header) where
   pub instructions_bounded : (bytes : List ℕ) (list : List Ins) (end : Option Error) → Decodes notation h bytes list end → length list ≤ length bytes
   instructions_bounded bytes list end c =
       let same : length list ≡ length (decoded_at notation h bytes).0 = ap (λ (p : List Ins × Option Error). length p.0) (one_decoding bytes list end c) in
-      omega (arith, cut_bounded (length bytes) bytes)
+      omega (arith, decoded_bounded (length bytes) bytes)

@@ -149,7 +149,7 @@ module _ {A B : Type 0} (f : A → B) where
         let one : collected xs f (closed_at read bytes) ≡ (Ok xs, left) = rw is (none_left xs left) in
         sym so_far ∙ one
 
--- ---- what a text tells of the zero byte
+-- ---- what a text says of the zero byte
 
 pub text_closed : (bytes text rest : List ℕ) → (IsTrue true ↔ (text ≡ [])) → (Ok text, rest) ≡ text_at bytes → bytes ≡ 0 ∷ rest
 text_closed bytes text rest empty e =

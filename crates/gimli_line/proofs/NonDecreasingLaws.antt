@@ -85,10 +85,10 @@ module _ (parameters : Parameters) where
       (omega (arith, here), tt)
   last_place past i true false false closes = tt
 
-  pub rising : (past list : List Ins) → AreOneSequence list → NeverBelow (pointer_at parameters past).address (events_behind parameters past list)
-  rising past [] one = tt
-  rising past (i ∷ []) one = last_place past i (is_end i) (overflows parameters past i) _ refl
-  rising past (i ∷ j ∷ list) one = behind_place past i (events_behind parameters (i ∷ past) (j ∷ list)) one.0 (rising (i ∷ past) (j ∷ list) one.1) (overflows parameters past i) _
+  pub non_decreasing : (past list : List Ins) → AreOneSequence list → NeverBelow (pointer_at parameters past).address (events_behind parameters past list)
+  non_decreasing past [] one = tt
+  non_decreasing past (i ∷ []) one = last_place past i (is_end i) (overflows parameters past i) _ refl
+  non_decreasing past (i ∷ j ∷ list) one = behind_place past i (events_behind parameters (i ∷ past) (j ∷ list)) one.0 (non_decreasing (i ∷ past) (j ∷ list) one.1) (overflows parameters past i) _
 
   pub never_down : (past list : List Ins) → AreOneSequence list → NeverBelow 0 (events_behind parameters past list)
-  never_down past list one = weaker 0 (pointer_at parameters past).address (omega arith) (events_behind parameters past list) (rising past list one)
+  never_down past list one = weaker 0 (pointer_at parameters past).address (omega arith) (events_behind parameters past list) (non_decreasing past list one)

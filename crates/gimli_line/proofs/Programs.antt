@@ -15,11 +15,11 @@ use Rattle.gimli_line.specs.header.Header.{Header, UnitEntry, plain_file}
 use Rattle.gimli_line.specs.header.HeaderGrammar.{SpellsUnit}
 use Rattle.gimli_line.specs.run.InstructionGrammar.{Decodes}
 use Rattle.gimli_line.specs.header.TableReading.{closed_below}
-use Rattle.gimli_line.specs.header.HeaderReading.{positive_at, plain_file_at, version_at, opening_at, line_encoding_at, rules_at, directories_at, file_names_at, fields_at, header_at}
+use Rattle.gimli_line.specs.header.HeaderReading.{positive_at, plain_file_at, version_at, opening_at, line_encoding_at, parameters_at, directories_at, file_names_at, fields_at, header_at}
 use Rattle.gimli_line.specs.run.InstructionReading.{standard_at, extended_operands_at, extended_at, ins_at, decoded_upto, decoded_at}
 use Rattle.gimli_line.specs.run.Events.{Event, row, fault, Events, program_events}
 use Rattle.gimli_line.proofs.HeaderLaws.{unit_found}
-use Rattle.gimli_line.proofs.InstructionLaws.{cuts}
+use Rattle.gimli_line.proofs.InstructionLaws.{is_decoded}
 
 -- the least significant byte first, and offsets of 64 bits
 abbrev little : Notation
@@ -100,7 +100,7 @@ record Meets (p : Program) : Type 0 where
 
 meets : (p : Program) → header_at little p.given p.bytes ≡ (Ok p.header, []) → decoded_at little p.header p.header.program ≡ (p.list, p.end) → p.events ≡ program_events p.header.parameters p.list p.end → Meets p
 meets p read decoding events =
-    let is : Decodes little p.header p.header.program p.list p.end = let c = cuts little p.header p.header.program in let l = ap (λ (x : List Ins × Option Error). x.0) decoding in let e = ap (λ (x : List Ins × Option Error). x.1) decoding in rw (← l, ← e) c in
+    let is : Decodes little p.header p.header.program p.list p.end = let c = is_decoded little p.header p.header.program in let l = ap (λ (x : List Ins × Option Error). x.0) decoding in let e = ap (λ (x : List Ins × Option Error). x.1) decoding in rw (← l, ← e) c in
     record {
       unit = unit_found little p.given p.bytes p.header [] read;
       decoding = is;
@@ -309,7 +309,7 @@ programs : Meets demo_unit
     × Meets set_address_that_goes_back
     × Meets empty_extended_instruction
     × Meets file_defined_midway
-unfolding uleb_at sleb_at word_at initial_length_at closed_below positive_at plain_file_at version_at opening_at line_encoding_at rules_at directories_at file_names_at fields_at header_at standard_at extended_operands_at extended_at ins_at decoded_upto
+unfolding uleb_at sleb_at word_at initial_length_at closed_below positive_at plain_file_at version_at opening_at line_encoding_at parameters_at directories_at file_names_at fields_at header_at standard_at extended_operands_at extended_at ins_at decoded_upto
 programs = (
   meets demo_unit refl refl refl,
   meets tombstone_in_a_sequence refl refl refl,

@@ -21,22 +21,22 @@ use Rattle.gimli_line.specs.run.Unread.{Unread}
 use Rattle.gimli_line.specs.run.RunState.{RunState}
 use Rattle.gimli_line.specs.run.Progress.{Progress, ready, events_from, registers_behind, files_from}
 use Rattle.gimli_line.specs.run.Rows.{live_events, events_left, WantsMemory, FaultIs}
-use Rattle.gimli_line.proofs.InstructionLaws.{cuts, one_decoding, takes_bytes}
+use Rattle.gimli_line.proofs.InstructionLaws.{is_decoded, one_decoding, takes_bytes}
 
 -- ---- what a program is decoded into, by its front
 
 module _ (notation : Notation) (h : Header) (bytes : List ℕ) where
-  pub cut_none : bytes ≡ [] → decoded_at notation h bytes ≡ ([], None)
+  pub decoded_none : bytes ≡ [] → decoded_at notation h bytes ≡ ([], None)
   unfolding decoded_upto
-  cut_none e = rw e refl
+  decoded_none e = rw e refl
 
-  pub cut_fault : (e : Error) → bytes ≢ [] → (instruction_production notation h).Fault bytes e → decoded_at notation h bytes ≡ ([], Some e)
-  cut_fault e some f = sym (one_decoding notation h bytes [] (Some e) (record { front = []; rest = bytes; parts = refl; spelled = refl; ended = (some, f) }))
+  pub decoded_fault : (e : Error) → bytes ≢ [] → (instruction_production notation h).Fault bytes e → decoded_at notation h bytes ≡ ([], Some e)
+  decoded_fault e some f = sym (one_decoding notation h bytes [] (Some e) (record { front = []; rest = bytes; parts = refl; spelled = refl; ended = (some, f) }))
 
-  pub cut_some : (i : Ins) (front rest : List ℕ) → bytes ≡ front ++ rest → SpellsInstruction notation h front i
+  pub decoded_some : (i : Ins) (front rest : List ℕ) → bytes ≡ front ++ rest → SpellsInstruction notation h front i
       → decoded_at notation h bytes ≡ (i ∷ (decoded_at notation h rest).0, (decoded_at notation h rest).1)
-  cut_some i front rest parts s =
-      let c = cuts notation h rest in
+  decoded_some i front rest parts s =
+      let c = is_decoded notation h rest in
       sym (one_decoding notation h bytes (i ∷ (decoded_at notation h rest).0) (decoded_at notation h rest).1 (record {
         front = front ++ c.front;
         rest = c.rest;
@@ -46,8 +46,8 @@ module _ (notation : Notation) (h : Header) (bytes : List ℕ) where
       }))
 
 -- the files of a header mean nothing to its program
-pub bare_cuts : (notation : Notation) (h : Header) (bytes : List ℕ) (list : List Ins) (end : Option Error) → Decodes notation (bare h) bytes list end → Decodes notation h bytes list end
-bare_cuts notation h bytes list end c = record { front = c.front; rest = c.rest; parts = c.parts; spelled = each c.front list c.spelled; ended = end_is end c.ended }
+pub bare_decoding : (notation : Notation) (h : Header) (bytes : List ℕ) (list : List Ins) (end : Option Error) → Decodes notation (bare h) bytes list end → Decodes notation h bytes list end
+bare_decoding notation h bytes list end c = record { front = c.front; rest = c.rest; parts = c.parts; spelled = each c.front list c.spelled; ended = end_is end c.ended }
   where
     each : (front : List ℕ) (list : List Ins) → Each (SpellsInstruction notation (bare h)) front list → Each (SpellsInstruction notation h) front list
     each front [] s = s
@@ -91,7 +91,7 @@ source_same s t b n = ap (λ (xs : List ℕ). let u : Unread = record { bytes = 
 
 -- where no bytes are left
 pub none_left : (a : RunState) → a.unread.bytes ≡ [] → live_events a ≡ []
-none_left a e = rw (cut_none a.unread.notation a.fixed a.unread.bytes e) refl
+none_left a e = rw (decoded_none a.unread.notation a.fixed a.unread.bytes e) refl
 
 pub none_to_come : (a : RunState) → a.unread.bytes ≡ [] → events_left a ≡ []
 none_to_come a e = none_left (ready a) e
@@ -101,11 +101,11 @@ module _ (a : Bool) (h k : Header) (same : k ≡ h) (o o2 : Notation) (n n2 : �
   pub after_fault : (e : Error) → s.bytes ≢ [] → s2.bytes ≡ [] → (instruction_production s.notation k).Fault s.bytes e → (r2 : LineRow)
       → live_events (state a h o n r s) ≡ events (fault e) h ∷ events_left (state a h o2 n2 r2 s2)
   after_fault e some empty f r2 =
-      rw (cut_fault s.notation (bare h) s.bytes e some (rw same at f), none_to_come (state a h o2 n2 r2 s2) empty) refl
+      rw (decoded_fault s.notation (bare h) s.bytes e some (rw same at f), none_to_come (state a h o2 n2 r2 s2) empty) refl
 
   module _ (notation : s2.notation ≡ s.notation) (i : Ins) (front : List ℕ) (parts : s.bytes ≡ front ++ s2.bytes) (spelled : SpellsInstruction s.notation k front i) where
-    cut_is : decoded_at s.notation (bare h) s.bytes ≡ (i ∷ (decoded_at s.notation (bare h) s2.bytes).0, (decoded_at s.notation (bare h) s2.bytes).1)
-    cut_is = cut_some s.notation (bare h) s.bytes i front s2.bytes parts (rw same at spelled)
+    first_decoded : decoded_at s.notation (bare h) s.bytes ≡ (i ∷ (decoded_at s.notation (bare h) s2.bytes).0, (decoded_at s.notation (bare h) s2.bytes).1)
+    first_decoded = decoded_some s.notation (bare h) s.bytes i front s2.bytes parts (rw same at spelled)
 
     pub is_shorter : length s2.bytes < length s.bytes
     is_shorter = omega (arith, takes_bytes s.notation k front i spelled, length-append front s2.bytes, ap length parts)
@@ -147,26 +147,26 @@ module _ (a : Bool) (h k : Header) (same : k ≡ h) (o o2 : Notation) (n n2 : �
     module _ (h2 : Header) (r2 : LineRow) where
       pub after_quiet : h2 ≡ record h { files = files_behind a i h.files } → is_refused h.parameters i r ≡ false → makes_row i ≡ false → r2 ≡ stepped h.parameters i r
           → live_events (state a h o n r s) ≡ live_events (state a h2 o2 n2 r2 s2)
-      after_quiet behind fits made row_is = rw (cut_is, behind, row_is, notation, fits, made) refl
+      after_quiet behind fits made row_is = rw (first_decoded, behind, row_is, notation, fits, made) refl
 
       pub after_hidden : h2 ≡ record h { files = files_behind a i h.files } → is_refused h.parameters i r ≡ false → makes_row i ≡ true → (stepped h.parameters i r).hidden ≡ true
           → r2 ≡ reset_row h.parameters (stepped h.parameters i r) → live_events (state a h o n r s) ≡ live_events (state a h2 o2 n2 r2 s2)
       after_hidden behind fits made hidden row_is =
           let was : r.hidden ≡ true = sym (keeps_hidden h.parameters i r made) ∙ hidden in
-          rw (cut_is, behind, row_is, notation, fits, made, was) refl
+          rw (first_decoded, behind, row_is, notation, fits, made, was) refl
 
       pub after_seen : h2 ≡ record h { files = files_behind a i h.files } → is_refused h.parameters i r ≡ false → makes_row i ≡ true → (stepped h.parameters i r).hidden ≡ false
           → r2 ≡ stepped h.parameters i r → live_events (state a h o n r s) ≡ events (row r2) h2 ∷ events_left (state a h2 o2 n2 r2 s2)
       after_seen behind fits made hidden row_is =
           let was : r.hidden ≡ false = sym (keeps_hidden h.parameters i r made) ∙ hidden in
           let files : files_behind a i h.files ≡ h.files = no_file_at_row a i h.files made in
-          rw (cut_is, behind, row_is, notation, fits, made, was, files) refl
+          rw (first_decoded, behind, row_is, notation, fits, made, was, files) refl
 
       pub after_overflow : h2 ≡ h → is_refused h.parameters i r ≡ true → r2 ≡ stepped h.parameters i r
           → live_events (state a h o n r s) ≡ events (fault AddressOverflow) h2 ∷ events_left (state a h2 o2 n2 r2 s2)
       after_overflow kept large row_is =
           let files : files_behind a i h.files ≡ h.files = no_file_at_refusal a h.parameters i r h.files large in
-          rw (cut_is, kept, row_is, notation, large, files) refl
+          rw (first_decoded, kept, row_is, notation, large, files) refl
 
 -- ---- errors
 

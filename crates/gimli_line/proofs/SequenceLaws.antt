@@ -1,4 +1,4 @@
--- Cutting a program into sequences gives its rows through the last end.
+-- Splitting a program into sequences gives its rows through the last end.
 use Rattle.std.proofs.Common.{◌<◌, ◌≡◌, ℕ, ◌-◌, Bool, true, false, if◌then◌else◌, ◌||◌, List, [], ◌∷◌, ◌++◌, length, take, map, Option, Some, None, refl, sym, ap, ◌∙◌, subst, append_assoc, arith}
 use Rattle.std.specs.List.{AllByRecursion, list_any, flat_map}
 use Rattle.std.specs.Option.{unwrap_or}
@@ -27,8 +27,8 @@ use Rattle.gimli_line.specs.run.Sequences.{Part, events_of, resumed, first_addre
 use Rattle.gimli_line.specs.run.SequenceSplit.{SequenceSplit, with_row}
 use Rattle.gimli_line.proofs.Backwards.{registers}
 use Rattle.gimli_line.proofs.EventsWithFilesLaws.{gives, goes}
-use Rattle.gimli_line.proofs.InstructionLaws.{cuts, one_decoding, takes_bytes}
-use Rattle.gimli_line.proofs.Runs.{cut_some, bare_cuts, passes_none, passes_both, events_joined}
+use Rattle.gimli_line.proofs.InstructionLaws.{is_decoded, one_decoding, takes_bytes}
+use Rattle.gimli_line.proofs.Runs.{decoded_some, bare_decoding, passes_none, passes_both, events_joined}
 
 -- ---- events alone
 
@@ -140,7 +140,7 @@ module _ (h c : Header) (files : List File) (c_is : c ≡ record h { files = fil
   all_joined [] joined all = sym all
   all_joined (s ∷ parts) joined all = rw (resumed_is s all.0 all.3, all_joined parts all.1 all.4) (sym all.2)
 
--- ---- the state of cutting behind some rows
+-- ---- the state of the split behind some rows
 
 abbrev pub first_of : List LineRow → Option ℕ
 first_of [] = None
@@ -149,7 +149,7 @@ first_of (r ∷ rows) = Some r.address
 abbrev began : Header → Notation → ℕ → List File → Unread → RunState
 began h o n files unread = record { fixed = bare h; files = files; appends = true; notation = o; offset = n; row = initial h.parameters; unread = unread }
 
-pub record Cutting (h : Header) (k : SequenceSplit) (done : List LineRow) (place : RunState) : Type 0 where
+pub record Splitting (h : Header) (k : SequenceSplit) (done : List LineRow) (place : RunState) : Type 0 where
   joined : List Event
   rows : List LineRow
   order : Notation
@@ -161,8 +161,8 @@ pub record Cutting (h : Header) (k : SequenceSplit) (done : List LineRow) (place
   start_is : k.start ≡ first_of rows
   passes : Progress (began h order offset files k.unread) place (map row rows)
 
-pub starts_cutting : (h : Header) (o : Notation) (n : ℕ) (unread : Unread) → Cutting h (record { parts = []; unread = unread; start = None }) [] (ready (started true h o n unread))
-starts_cutting h o n unread = record {
+pub starts_splitting : (h : Header) (o : Notation) (n : ℕ) (unread : Unread) → Splitting h (record { parts = []; unread = unread; start = None }) [] (ready (started true h o n unread))
+starts_splitting h o n unread = record {
   order = o;
   offset = n;
   joined = [];
@@ -196,7 +196,7 @@ left_same a b f p r fs o n s = rw (f, p, r, fs, o, n, s) refl
 front_at : (bytes front rest : List ℕ) → bytes ≡ front ++ rest → take (length bytes - length rest) bytes ≡ front
 front_at bytes front rest parts = rw parts (take_at front rest (length (front ++ rest) - length rest) (omega (arith, length-append front rest)))
 
-module _ (h : Header) (k : SequenceSplit) (done : List LineRow) (place next : RunState) (c : Cutting h k done place) (p : Progress place (ready next) (row next.row ∷ [])) where
+module _ (h : Header) (k : SequenceSplit) (done : List LineRow) (place next : RunState) (c : Splitting h k done place) (p : Progress place (ready next) (row next.row ∷ [])) where
   whole : Progress (began h c.order c.offset c.files k.unread) (ready next) (map row c.rows ++ row next.row ∷ [])
   whole = passes_both (began h c.order c.offset c.files k.unread) place (ready next) (map row c.rows) (row next.row ∷ []) c.passes p
 
@@ -204,7 +204,7 @@ module _ (h : Header) (k : SequenceSplit) (done : List LineRow) (place next : Ru
   more_done =
       map-append row done (next.row ∷ []) ∙ ap (λ (xs : List Event). xs ++ row next.row ∷ []) c.done_is ∙ append_assoc c.joined (map row c.rows) (row next.row ∷ [])
 
-  goes_open : next.row.end_sequence ≡ false → Cutting h (record k { start = Some (unwrap_or k.start next.row.address) }) (done ++ next.row ∷ []) (ready next)
+  goes_open : next.row.end_sequence ≡ false → Splitting h (record k { start = Some (unwrap_or k.start next.row.address) }) (done ++ next.row ∷ []) (ready next)
   goes_open e = record {
     joined = c.joined;
     rows = c.rows ++ next.row ∷ [];
@@ -240,7 +240,7 @@ module _ (h : Header) (k : SequenceSplit) (done : List LineRow) (place next : Ru
     };
   }
 
-  goes_closed : next.row.end_sequence ≡ true → Cutting h (record { parts = k.parts ++ ended ∷ []; unread = next.unread; start = None }) (done ++ next.row ∷ []) (ready next)
+  goes_closed : next.row.end_sequence ≡ true → Splitting h (record { parts = k.parts ++ ended ∷ []; unread = next.unread; start = None }) (done ++ next.row ∷ []) (ready next)
   goes_closed e = record {
     joined = c.joined ++ (map row c.rows ++ row next.row ∷ []);
     rows = [];
@@ -254,15 +254,15 @@ module _ (h : Header) (k : SequenceSplit) (done : List LineRow) (place next : Ru
     passes = passes_none (began h next.notation next.offset next.files next.unread) (ready next) (left_same (ready next) (began h next.notation next.offset next.files next.unread) whole.fixed whole.appends (anew_at_end next.fixed.parameters next.row e ∙ ap (λ (x : Header). initial x.parameters) whole.fixed) refl refl refl refl);
   }
 
-  pub goes_cutting : Cutting h (with_row next.row next.unread k) (done ++ next.row ∷ []) (ready next)
-  goes_cutting = at_test next.row.end_sequence refl
+  pub goes_splitting : Splitting h (with_row next.row next.unread k) (done ++ next.row ∷ []) (ready next)
+  goes_splitting = at_test next.row.end_sequence refl
     where
-      at_test : (b : Bool) → next.row.end_sequence ≡ b → Cutting h (if b then record { parts = k.parts ++ ended ∷ []; unread = next.unread; start = None }
+      at_test : (b : Bool) → next.row.end_sequence ≡ b → Splitting h (if b then record { parts = k.parts ++ ended ∷ []; unread = next.unread; start = None }
           else record k { start = Some (unwrap_or k.start next.row.address) }) (done ++ next.row ∷ []) (ready next)
       at_test true e = goes_closed e
       at_test false e = goes_open e
 
-  -- what is cut off stands in front of the rest
+  -- what is split off stands in front of the rest
   pub has_front : (front : List ℕ) × (k.unread.bytes ≡ front ++ next.unread.bytes)
   has_front = (whole.front, whole.parts)
 
@@ -282,19 +282,19 @@ module _ (n : Notation) (offset : ℕ) (h c : Header) (k : SequenceSplit) (done 
   abbrev whole_program : Unread
   whole_program = record { bytes = h.program; notation = n }
 
-  pub are_sequences : Cutting h k done place → Progress (ready (started true h n offset whole_program)) last (map row done) → last.unread.bytes ≡ [] → bare c ≡ last.fixed → c.files ≡ last.files
+  pub are_sequences : Splitting h k done place → Progress (ready (started true h n offset whole_program)) last (map row done) → last.unread.bytes ≡ [] → bare c ≡ last.fixed → c.files ≡ last.files
       → AreSequences n h c k.parts
-  are_sequences cutting p empty fixed files = record {
+  are_sequences splitting p empty fixed files = record {
     list = p.list;
-    decoding = bare_cuts n h h.program p.list None (record { front = p.front; rest = []; parts = p.parts ∙ ap (λ (xs : List ℕ). p.front ++ xs) empty; spelled = p.spelled; ended = refl });
+    decoding = bare_decoding n h h.program p.list None (record { front = p.front; rest = []; parts = p.parts ∙ ap (λ (xs : List ℕ). p.front ++ xs) empty; spelled = p.spelled; ended = refl });
     rows = done;
     given = given;
     files = c_is;
-    each = all_sequences h c (defined_files h.files (behind [] p.list)) c_is k.parts cutting.joined cutting.closed;
+    each = all_sequences h c (defined_files h.files (behind [] p.list)) c_is k.parts splitting.joined splitting.closed;
     joined =
-        all_joined h c (defined_files h.files (behind [] p.list)) c_is k.parts cutting.joined cutting.closed
-        ∙ sym (ap through_last_end (given ∙ cutting.done_is) ∙ through_closed h k.parts cutting.joined cutting.closed (map row cutting.rows)
-        ∙ ap (λ (xs : List Event). cutting.joined ++ xs) (through_none (map row cutting.rows) (none_ends cutting.rows cutting.unended)) ∙ append-nil cutting.joined);
+        all_joined h c (defined_files h.files (behind [] p.list)) c_is k.parts splitting.joined splitting.closed
+        ∙ sym (ap through_last_end (given ∙ splitting.done_is) ∙ through_closed h k.parts splitting.joined splitting.closed (map row splitting.rows)
+        ∙ ap (λ (xs : List Event). splitting.joined ++ xs) (through_none (map row splitting.rows) (none_ends splitting.rows splitting.unended)) ∙ append-nil splitting.joined);
   }
     where
       given : program_events h.parameters p.list None ≡ map row done
@@ -307,12 +307,12 @@ module _ (n : Notation) (offset : ℕ) (h c : Header) (k : SequenceSplit) (done 
 
 -- ---- a fault
 
-cuts_on : (n : Notation) (h : Header) (bytes : List ℕ) (list : List Ins) (front rest : List ℕ) → bytes ≡ front ++ rest → Each (SpellsInstruction n h) front list
+decodes_on : (n : Notation) (h : Header) (bytes : List ℕ) (list : List Ins) (front rest : List ℕ) → bytes ≡ front ++ rest → Each (SpellsInstruction n h) front list
     → decoded_at n h bytes ≡ (list ++ (decoded_at n h rest).0, (decoded_at n h rest).1)
-cuts_on n h bytes [] front rest parts s = ap (decoded_at n h) (parts ∙ ap (λ (xs : List ℕ). xs ++ rest) s)
-cuts_on n h bytes (i ∷ list) front rest parts s =
+decodes_on n h bytes [] front rest parts s = ap (decoded_at n h) (parts ∙ ap (λ (xs : List ℕ). xs ++ rest) s)
+decodes_on n h bytes (i ∷ list) front rest parts s =
     let whole : bytes ≡ s.0 ++ (s.1 ++ rest) = parts ∙ ap (λ (xs : List ℕ). xs ++ rest) s.2 ∙ append_assoc s.0 s.1 rest in
-    cut_some n h bytes i s.0 (s.1 ++ rest) whole s.3 ∙ ap (λ (c : List Ins × Option Error). (i ∷ c.0, c.1)) (cuts_on n h (s.1 ++ rest) list s.1 rest refl s.4)
+    decoded_some n h bytes i s.0 (s.1 ++ rest) whole s.3 ∙ ap (λ (c : List Ins × Option Error). (i ∷ c.0, c.1)) (decodes_on n h (s.1 ++ rest) list s.1 rest refl s.4)
 
 events_live : (a : RunState) → events_of (live_events a)
     ≡ events_from a.fixed.parameters a.row (decoded_at a.unread.notation a.fixed a.unread.bytes).0 ++ end_events (decoded_at a.unread.notation a.fixed a.unread.bytes).1
@@ -324,7 +324,7 @@ passes_left a b es p =
     let there : events_of (live_events b) ≡ events_from a.fixed.parameters (registers_behind a.fixed.parameters a.row p.list) c.0 ++ end_events c.1 =
     events_live b ∙ rw (p.notation, p.fixed, p.registers) refl in
     events_live a
-    ∙ ap (λ (d : List Ins × Option Error). events_from a.fixed.parameters a.row d.0 ++ end_events d.1) (cuts_on a.unread.notation a.fixed a.unread.bytes p.list p.front b.unread.bytes p.parts p.spelled)
+    ∙ ap (λ (d : List Ins × Option Error). events_from a.fixed.parameters a.row d.0 ++ end_events d.1) (decodes_on a.unread.notation a.fixed a.unread.bytes p.list p.front b.unread.bytes p.parts p.spelled)
     ∙ ap (λ (xs : List Event). xs ++ end_events c.1) (events_joined a.fixed.parameters a.row p.list c.0)
     ∙ append_assoc (events_from a.fixed.parameters a.row p.list) (events_from a.fixed.parameters (registers_behind a.fixed.parameters a.row p.list) c.0) (end_events c.1)
     ∙ ap (λ (xs : List Event). xs ++ (events_from a.fixed.parameters (registers_behind a.fixed.parameters a.row p.list) c.0 ++ end_events c.1)) p.given
@@ -337,7 +337,7 @@ has_first_fault n offset h done old new e p is =
     record {
       list = c.0;
       end = c.1;
-      decoding = bare_cuts n h h.program c.0 c.1 (cuts n (bare h) h.program);
+      decoding = bare_decoding n h h.program c.0 c.1 (is_decoded n (bare h) h.program);
       rows = done;
       rest = events_of (events_left new);
       given =

@@ -107,7 +107,7 @@ pub hidden_part_stands_still : program_events (rules_13 4 1) (SetAddress 0x10 �
     ≡ at 0x10 0 1 false ∷ at 0x20 0 1 false ∷ at 0x20 0 1 true ∷ []
 hidden_part_stands_still = refl
 
--- a set address that hides is no address: the next one is held against the address before both
+-- a set address that hides is no address: the next one is compared with the address before both
 pub hiding_address_is_none : program_events (rules_13 4 1) (SetAddress 0x10 ∷ Copy ∷ SetAddress 8 ∷ SetAddress 0x0c ∷ Copy ∷ EndSequence ∷ []) None
     ≡ at 0x10 0 1 false ∷ []
 hiding_address_is_none = refl

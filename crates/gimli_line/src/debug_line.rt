@@ -1,3 +1,5 @@
+//! The section `.debug_line`, from which line programs are read.
+
 ghost use Rattle.std.specs.Prelude.{◌≡◌, ◌≢◌, IfErr, IfOk, IsTrue, drop, option_map};
 ghost use Rattle.gimli_core.specs.Numbers.{is_address_size};
 ghost use Rattle.gimli_line.specs.header.HeaderGrammar.{HasHeaderFault, SpellsUnit};
@@ -37,8 +39,8 @@ impl<'i, E: Endianity> DebugLine<EndianSlice<'i, E>> {
 
 impl<R: Reader> DebugLine<R> {
     /// The line program whose header stands at an offset. In version 5 the address size, the directory and the
-    /// name that are handed in mean nothing. An offset past the end leaves no bytes. Refused as the first line of
-    /// the header that isn't there says, or by `OutOfMemory`.
+    /// name that are handed in mean nothing. An offset past the end leaves no bytes. Refused as the first part of
+    /// the header that isn't met says, or by `OutOfMemory`.
     pub fn program(
         &self,
         alloc: Global,

@@ -1,4 +1,4 @@
-//! Headers: the types of their parts, and how these are read.
+//! Headers of line programs: the types of their parts, and how these are read.
 
 pub(crate) mod file_entry;
 pub(crate) mod forms;

@@ -1,5 +1,5 @@
-//! Laws of the two grammars: a unit has one header or one refusal, a program is decoded in one way. And laws of what a
-//! program gives.
+//! Laws of the two grammars: a unit has one header or one refusal, a program is decoded in one way. And laws of what
+//! a run gives.
 
 ghost use Rattle.std.specs.Prelude.{◌≡◌, ◌≢◌, ◌≤◌, ◌⊎◌, ◌++◌, ℕ, List, [], Option, length};
 ghost use Rattle.gimli_core.specs.Notation.{Notation};

@@ -1,4 +1,4 @@
-//! Runs: instructions, registers, rows and sequences.
+//! Runs of line programs: instructions, registers, rows and sequences.
 
 pub(crate) mod instruction;
 pub(crate) mod program;

@@ -35,7 +35,7 @@ pub record UnitEntry : Type 0 where
   pub directory : Option (List ℕ)
   pub name : Option (List ℕ)
 
--- a file of which the tables up to version 4 tell nothing more
+-- a file of which the tables up to version 4 say nothing more
 abbrev pub plain_file : List ℕ → ℕ → ℕ → ℕ → File
 plain_file path directory time size = record {
   path_name = String path;

@@ -110,8 +110,8 @@ line_encoding_at version bytes =
       rest,
     )
 
-unfoldable pub rules_at : Encoding → List ℕ → Read Parameters
-rules_at encoding bytes =
+unfoldable pub parameters_at : Encoding → List ℕ → Read Parameters
+parameters_at encoding bytes =
     line_encoding_at encoding.version bytes >>= λ line_encoding rest. positive_at OpcodeBaseZero rest >>= λ opcode_base rest.
     (Ok (record { encoding = encoding; line_encoding = line_encoding; opcode_base = opcode_base }), rest)
 
@@ -129,7 +129,7 @@ file_names_at notation encoding bytes =
 
 unfoldable pub fields_at : Notation → UnitEntry → ℕ → Opening → List ℕ → List ℕ → Read Header
 fields_at notation unit_entry unit opening program bytes =
-    rules_at opening.encoding bytes >>= λ parameters rest. split_at (parameters.opcode_base - 1) rest >>= λ counts rest. directories_at notation opening.encoding rest >>= λ directories rest.
+    parameters_at opening.encoding bytes >>= λ parameters rest. split_at (parameters.opcode_base - 1) rest >>= λ counts rest. directories_at notation opening.encoding rest >>= λ directories rest.
     file_names_at notation opening.encoding rest >>= λ files rest. (
       Ok (record {
         parameters = parameters;

@@ -1,4 +1,4 @@
--- Cutting a program into sequences, row by row.
+-- Splitting a program into sequences, row by row.
 use Rattle.std.specs.Prelude.{ℕ, if◌then◌else◌, List, [], ◌∷◌, ◌++◌, Option, Some, None}
 use Rattle.std.specs.Option.{unwrap_or}
 use Rattle.gimli_line.specs.declared.run.row.LineRow.{LineRow}

@@ -13,7 +13,7 @@ use Rattle.gimli_line.specs.run.Unread.{Unread}
 use Rattle.gimli_line.specs.run.EventsWithFiles.{EventWithFiles}
 use Rattle.gimli_line.specs.run.Rows.{events_left, started}
 
--- a sequence: the addresses that it tells, and the instructions that give its rows
+-- a sequence: the addresses that it names, and the instructions that give its rows
 pub record Part : Type 0 where
   pub start : ℕ
   pub end : ℕ

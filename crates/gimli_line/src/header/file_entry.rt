@@ -1,3 +1,5 @@
+//! Source files, and what a table of version 5 holds of each.
+
 ghost use Rattle.std.specs.Prelude.{◌≡◌, ◌++◌, ◌∷◌, [], List, map, count_by, option_map, IfErr, OnOk};
 ghost use Rattle.gimli_core.specs.Reading.{seen};
 ghost use Rattle.gimli_core.specs.Values.{value_seen};

@@ -1,3 +1,5 @@
+//! Values of the tables of version 5, by their forms.
+
 ghost use Rattle.std.specs.Prelude.{◌≡◌};
 ghost use Rattle.gimli_core.specs.Reading.{seen, unsigned_at};
 ghost use Rattle.gimli_core.specs.Values.{value_seen};

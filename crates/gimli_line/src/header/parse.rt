@@ -3,7 +3,7 @@
 ghost use Rattle.std.specs.Prelude.{◌≡◌, ◌<◌, ◌≤◌, IfOk, IsTrue, option_map};
 ghost use Rattle.gimli_core.specs.Numbers.{is_address_size};
 ghost use Rattle.gimli_core.specs.Reading.{seen};
-ghost use Rattle.gimli_line.specs.header.HeaderReading.{positive_at, version_at, own_address_size_at, size_at, opening_at, operations_at, line_encoding_at, rules_at};
+ghost use Rattle.gimli_line.specs.header.HeaderReading.{positive_at, version_at, own_address_size_at, size_at, opening_at, operations_at, line_encoding_at, parameters_at};
 ghost use Rattle.gimli_line.specs.header.Parameters.{IsLineEncoding};
 
 use crate::header::file_entry::FileEntry;
@@ -96,10 +96,10 @@ fn parse_operations<R: Reader>(input: &mut R, version: u16) -> Result<u8>
 }
 
 /// Takes what instructions are executed by.
-#[tactic(auto, unfolding(crate::specs::header::HeaderReading::rules_at))]
+#[tactic(auto, unfolding(crate::specs::header::HeaderReading::parameters_at))]
 fn parse_parameters<R: Reader>(input: &mut R, encoding: Encoding) -> Result<Parameters>
     requires { IsTrue (is_address_size encoding.address_size) }
-    ensures read { (result, R.bytes input.new) ≡ rules_at encoding (R.bytes input.old) }
+    ensures read { (result, R.bytes input.new) ≡ parameters_at encoding (R.bytes input.old) }
     ensures order { R.big input.new ≡ R.big input.old }
     ensures positive { IfOk result (λ parameters. 0 < parameters.opcode_base) }
 {
@@ -123,11 +123,7 @@ struct Opening<R: Reader> {
 
 /// Takes a unit up to the end of its header; what is left is its program.
 #[tactic(auto, unfolding(crate::specs::header::HeaderReading::opening_at))]
-fn parse_opening<R: Reader>(
-    input: &mut R,
-    handed: u8,
-    format: Format,
-) -> Result<Opening<R>>
+fn parse_opening<R: Reader>(input: &mut R, handed: u8, format: Format) -> Result<Opening<R>>
     requires { IsTrue (is_address_size handed) }
     ensures read { (seen (λ opening. record { encoding = opening.encoding; header_length = R.Offset.number opening.header_length; fields = R.bytes opening.fields }) result, R.bytes input.new)
         ≡ opening_at (record { big = R.big input.old; limit = R.Offset.limit }) handed format (R.bytes input.old) }

@@ -1,3 +1,5 @@
+//! The instructions of a line program, one by one.
+
 ghost use Rattle.std.specs.Prelude.{◌≡◌, ◌-◌, IfSome, slice_index};
 ghost use Rattle.gimli_core.specs.Reading.{seen, times_at, unsigned_at};
 ghost use Rattle.gimli_line.specs.run.InstructionReading.{bytes_at, passed_over};

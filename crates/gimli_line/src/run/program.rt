@@ -1,3 +1,5 @@
+//! Line programs, before their run and behind it.
+
 use crate::header::file_entry::FileEntry;
 use crate::header::program_header::LineProgramHeader;
 use gimli_core::{Error, Reader, ReaderOffset, Result};

@@ -1,3 +1,5 @@
+//! The rows of a program or of one sequence, in order.
+
 use crate::header::program_header::LineProgramHeader;
 use crate::run::instruction::LineInstructions;
 use crate::run::program::{CompleteLineProgram, IncompleteLineProgram, LineProgram};

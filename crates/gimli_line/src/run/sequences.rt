@@ -1,3 +1,5 @@
+//! The sequences of a program, and how each is run by itself.
+
 use crate::header::tables::push;
 use crate::run::instruction::LineInstructions;
 use crate::run::program::{CompleteLineProgram, IncompleteLineProgram};
@@ -32,7 +34,7 @@ impl<R: Reader> LineSequence<R> {
     }
 }
 
-/// The sequences that were cut off so far, and the one that is open.
+/// The sequences found so far, and the one that is open.
 #[derive(Drop)]
 struct SequenceSplit<R: Reader> {
     sequences: Vec<LineSequence<R>>,
@@ -90,7 +92,7 @@ impl<R: Reader> SequenceSplit<R> {
         Ok(())
     }
 
-    /// The sequences that were cut off.
+    /// The sequences that were found.
     fn into_sequences(self) -> Vec<LineSequence<R>>
         ensures { map part_of result.items ≡ self.parts }
     {
@@ -102,22 +104,23 @@ impl<R: Reader> IncompleteLineProgram<R> {
     ghost use Rattle.std.specs.Prelude.{◌≡◌, ◌≢◌, map, IfErr, IfOk};
     ghost use Rattle.gimli_line.specs.run.Sequences.{part_of, AreSequences, HasFirstFault};
 
-    /// Runs the whole program, and cuts it into its sequences, so that each can be run by itself. Rows behind the
+    /// Runs the whole program, and splits it into its sequences, so that each can be run by itself. Rows behind the
     /// last end row are in no sequence. Refused by the first fault of the run, wherever it stands, or by
     /// `OutOfMemory`.
-    pub fn sequences(self, alloc: Global) -> Result<(CompleteLineProgram<R>, Vec<LineSequence<R>>)>
+    pub fn sequences(self) -> Result<(CompleteLineProgram<R>, Vec<LineSequence<R>>)>
         ensures ok { IfOk result (λ found. AreSequences self.notation self.meaning found.0.meaning (map part_of found.1.items)) }
         ensures notation { IfOk result (λ found. found.0.notation ≡ self.notation) }
         ensures offset { IfOk result (λ found. R.Offset.number found.0.offset.0 ≡ R.Offset.number self.offset.0) }
         ensures err { IfErr result (λ e. e ≢ Error.OutOfMemory → HasFirstFault self.notation self.meaning e) }
     {
+        let alloc = *self.header.file_names.allocator();
         let mut rows = self.rows();
-        let mut cutter = SequenceSplit::new(alloc, rows.instructions().clone());
+        let mut split = SequenceSplit::new(alloc, rows.instructions().clone());
         'rows: while rows.advance()? {
-            cutter.row(rows.row(), rows.instructions())?;
+            split.row(rows.row(), rows.instructions())?;
         }
         let header = rows.into_program().header;
-        Ok((CompleteLineProgram { header }, cutter.into_sequences()))
+        Ok((CompleteLineProgram { header }, split.into_sequences()))
     }
 }
 

@@ -7,7 +7,7 @@ use Rattle.gimli_line.specs.run.Unread.{Unread}
 use Rattle.gimli_line.specs.run.Progress.{Progress, ready}
 use Rattle.gimli_line.specs.run.Rows.{started}
 use Rattle.gimli_line.proofs.Runs.{passes_none, passes_both}
-use Rattle.gimli_line.proofs.SequenceLaws.{starts_cutting, goes_cutting, has_front, row_takes, are_sequences, has_first_fault}
+use Rattle.gimli_line.proofs.SequenceLaws.{starts_splitting, goes_splitting, has_front, row_takes, are_sequences, has_first_fault}
 use Rattle.gimli_line.proofs.run.sequences.IncompleteLineProgram+R.sequences.Goals as goal
 
 pub rows-init : goal.rows-init
@@ -19,7 +19,7 @@ rows-init g c =
     record {
       behind = (
         [],
-        rw (c.new-cutter.ensures, c.clone.ensures ∙ c.instructions.ensures, c.rows-rows.ensures.start) (starts_cutting h c.args.self.notation at_offset unread),
+        rw (c.new-split.ensures, c.clone.ensures ∙ c.instructions.ensures, c.rows-rows.ensures.start) (starts_splitting h c.args.self.notation at_offset unread),
         rw c.rows-rows.ensures.start (passes_none first first refl),
       );
       notation = rw c.rows-rows.ensures.start refl;
@@ -39,7 +39,7 @@ pub row-requires-in-rows : goal.row-requires-in-rows
 row-requires-in-rows g c =
     let m = rw c.if-branch.true at c.in_ok-advance.ensures.passes in
     let b = c.rows.invariant.behind in
-    rw c.instructions-in-rows.ensures (has_front c.args.self.meaning c.rows.cutter b.0 (ready c.rows.rows) c.advance.new.self b.1 m)
+    rw c.instructions-in-rows.ensures (has_front c.args.self.meaning c.rows.split b.0 (ready c.rows.rows) c.advance.new.self b.1 m)
 
 pub rows-smaller : goal.rows-smaller
 rows-smaller g c =
@@ -57,7 +57,7 @@ rows-preserved g c =
     record {
       behind = (
         b.0 ++ next.row ∷ [],
-        rw (c.in_ok-row.ensures.ok, c.row.ensures, c.instructions-in-rows.ensures) (goes_cutting h c.rows.cutter b.0 (ready c.rows.rows) next b.1 m),
+        rw (c.in_ok-row.ensures.ok, c.row.ensures, c.instructions-in-rows.ensures) (goes_splitting h c.rows.split b.0 (ready c.rows.rows) next b.1 m),
         subst (λ (es : List Event). Progress (ready (started true h c.args.self.notation at_offset unread)) (ready next) es) (sym (map-append row b.0 (next.row ∷ [])))
             (passes_both (ready (started true h c.args.self.notation at_offset unread)) (ready c.rows.rows) (ready next) (map row b.0) (row next.row ∷ []) b.2 m),
       );
@@ -75,7 +75,7 @@ returns-clause-ok g c =
     let last = c.advance.new.self in
     let whole = subst (λ (es : List Event). Progress (ready (started true h c.args.self.notation at_offset unread)) last es) (append-nil (map row b.0))
     (passes_both (ready (started true h c.args.self.notation at_offset unread)) (ready c.rows.rows) last (map row b.0) [] b.2 m.1) in
-    rw c.into_sequences.ensures (are_sequences c.args.self.notation at_offset h c.header.inside.header.meaning c.rows.cutter b.0 (ready c.rows.rows) last b.1 whole m.0
+    rw c.into_sequences.ensures (are_sequences c.args.self.notation at_offset h c.header.inside.header.meaning c.rows.split b.0 (ready c.rows.rows) last b.1 whole m.0
     (ap (λ v. bare v.meaning) c.header.view_is ∙ c.into_program.ensures.header) (ap (λ v. v.meaning.files) c.header.view_is ∙ c.into_program.ensures.files))
 
 pub returns-clause-notation : goal.returns-clause-notation
