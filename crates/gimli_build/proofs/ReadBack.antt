@@ -66,6 +66,7 @@ reads-back notation unit_entry sections big unit_encoding p old_strings old_line
       is_unit = h.is_unit;
       parameters = h.parameters;
       counts = h.counts;
+      formats = h.formats;
       directories = h.directories;
       files = h.files;
       decoding = cut-back notation h.header p built wide h.parameters h.program;

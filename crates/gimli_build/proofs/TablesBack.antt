@@ -36,6 +36,12 @@ use Rattle.gimli_build.proofs.Version5TableSpellings.{directory_entry, file_entr
 abbrev from_zero : Built → UnitEntry → List Value → List Value
 from_zero p unit_entry directories = if nat_le p.encoding.version 4 then option_to_list (option_map String (taken p.encoding unit_entry.directory)) ++ directories else directories
 
+abbrev formats_of_directories : Built → List (ℕ × ℕ)
+formats_of_directories p = directory_formats p
+
+abbrev formats_of_files : Built → List (ℕ × ℕ)
+formats_of_files p = file_formats p
+
 -- what is read of the tables
 pub record TablesBack (notation : Notation) (unit_entry : UnitEntry) (sections : Sections) (p : Built) (strings line_strings : List (List ℕ)) (bytes : List ℕ) : Type 0 where
   pub directory_formats : List FileEntryFormat
@@ -45,6 +51,8 @@ pub record TablesBack (notation : Notation) (unit_entry : UnitEntry) (sections :
   pub directory_bytes : List ℕ
   pub file_bytes : List ℕ
   pub whole : bytes ≡ directory_bytes ++ file_bytes
+  pub directory_formats_are : nat_le p.encoding.version 4 ≡ false → directory_formats ≡ map read_format (formats_of_directories p)
+  pub file_formats_are : nat_le p.encoding.version 4 ≡ false → file_formats ≡ map read_format (formats_of_files p)
   pub directories_spelled : (directory_table notation p.encoding).Spells directory_bytes (directory_formats, directories)
   pub files_spelled : (file_table notation p.encoding).Spells file_bytes (file_formats, files)
   pub directories_back : OneByOne (IsDirectory sections strings line_strings) (from_zero p unit_entry directories) p.directories
@@ -118,6 +126,8 @@ module _ (notation : Notation) (unit_entry : UnitEntry) (sections : Sections) (p
           directory_bytes = b.first;
           file_bytes = b.rest;
           whole = b.whole;
+          directory_formats_are = λ new. absurd cc;
+          file_formats_are = λ new. absurd cc;
           directories_spelled = old_directories_spelled b.first b.first_is;
           files_spelled = old_files_spelled b.rest b.rest_is;
           directories_back = old_back known;
@@ -159,6 +169,8 @@ module _ (notation : Notation) (unit_entry : UnitEntry) (sections : Sections) (p
           directory_bytes = b.first;
           file_bytes = b.rest;
           whole = b.whole;
+          directory_formats_are = λ _. refl;
+          file_formats_are = λ _. refl;
           directories_spelled = new_directories_spelled b.first b.first_is (omega (arith, whole, small));
           files_spelled = new_files_spelled b.rest b.rest_is (omega (arith, whole, small));
           directories_back = new_back;

@@ -13,7 +13,7 @@ use Rattle.gimli_build.specs.Built.{Built}
 use Rattle.gimli_build.specs.Conditions.{IsBuilt, CanWrite}
 use Rattle.gimli_build.specs.SameRow.{built_rules}
 use Rattle.gimli_build.specs.Version5Tables.{strings_behind, line_strings_behind}
-use Rattle.gimli_build.specs.ReadsBack.{IsUnit, directories_from_zero, IsDirectory, IsFile, IsReadWell}
+use Rattle.gimli_build.specs.ReadsBack.{AreFormats, IsUnit, directories_from_zero, IsDirectory, IsFile, IsReadWell}
 use Rattle.gimli_build.specs.Unit.{operand_counts, program_bytes, whole_bytes, is_incompatible, unit_bytes}
 use Rattle.gimli_build.proofs.ReadyTexts.{tables-ready}
 use Rattle.gimli_build.proofs.TablesBack.{AreReadWell, tables-back}
@@ -25,6 +25,7 @@ pub record HeaderBack (notation : Notation) (unit_entry : UnitEntry) (sections :
   pub is_unit : IsUnit notation unit_entry unit header
   pub parameters : header.parameters ≡ built_rules p.encoding p.line_encoding
   pub counts : header.operand_counts ≡ operand_counts
+  pub formats : nat_le p.encoding.version 4 ≡ false → AreFormats p header
   pub directories : OneByOne (IsDirectory sections strings line_strings) (directories_from_zero header) p.directories
   pub files : OneByOne (IsFile sections p strings line_strings) header.files p.files
   pub program : program_bytes notation.big p ≡ Ok header.program
@@ -53,6 +54,7 @@ module _ (notation : Notation) (unit_entry : UnitEntry) (sections : Sections) (p
         is_unit = unit-is notation unit_entry sections p strings line_strings built unit w v t same holds small;
         parameters = refl;
         counts = refl;
+        formats = λ new. record { directories = t.directory_formats_are new; files = t.file_formats_are new };
         directories = t.directories_back;
         files = t.files_back;
         program = w.program_is;

@@ -202,7 +202,7 @@ module _ (notation : Notation) (unit_entry : UnitEntry) (sections : Sections) (p
         let fields = fields-short notation.big p strings line_strings unit w in
         let length_spelled = length-spelled notation p.encoding.format (length w.inside) w.length_bytes (omega (arith, inside, holds)) (omega (arith, inside, small)) w.length_is in
         let opened = opening_spelled w.opening w.size w.fields same (omega (arith, inside, fields, holds)) w.opening_is w.size_is in
-        let decoding : w.inside ≡ (w.opening ++ (w.size ++ w.fields)) ++ w.program = w.inside_is ∙ sym (append_assoc w.opening (w.size ++ w.fields) w.program) in (
+        let parted : w.inside ≡ (w.opening ++ (w.size ++ w.fields)) ++ w.program = w.inside_is ∙ sym (append_assoc w.opening (w.size ++ w.fields) w.program) in (
           (length w.inside, p.encoding.format),
           escape_bytes notation.big p.encoding.format ++ w.length_bytes,
           w.inside,
@@ -219,7 +219,7 @@ module _ (notation : Notation) (unit_entry : UnitEntry) (sections : Sections) (p
               [],
               [],
               refl,
-              (refl, (w.opening ++ (w.size ++ w.fields), decoding, opened)),
+              (refl, (w.opening ++ (w.size ++ w.fields), parted, opened)),
               ((header, []), [], [], refl, (refl, (w.fields, sym (append-nil w.fields), unit_fields)), (refl, refl)),
             ),
           ),
@@ -241,5 +241,6 @@ module _ (notation : Notation) (unit_entry : UnitEntry) (sections : Sections) (p
       opening = opening_of w.fields;
       before = (escape_bytes notation.big p.encoding.format ++ w.length_bytes) ++ (w.opening ++ w.size);
       parts = unit_parts;
+      whole = refl;
       no_slack = unit_fields;
     }

@@ -1,9 +1,11 @@
 -- What is read of a unit that was built.
-use Rattle.std.specs.Prelude.{◌≡◌, ℕ, ◌<◌, ◌≤◌, List, [], ◌++◌, length, map, slice_get, Bool, None, option_map, nat_le, if◌then◌else◌}
+use Rattle.std.specs.Prelude.{◌≡◌, ℕ, ◌<◌, ◌≤◌, List, [], ◌++◌, length, map, slice_get, Bool, false, None, option_map, nat_le, if◌then◌else◌}
 use Rattle.std.specs.Option.{option_to_list}
 use Rattle.gimli_core.specs.Notation.{Notation}
 use Rattle.gimli_core.specs.Values.{Value}
 use Rattle.gimli_core.specs.declared.attribute_value.AttributeValue.TheVariants.{String}
+use Rattle.gimli_line.specs.declared.header.file_entry.FileEntryFormat.{FileEntryFormat}
+use Rattle.gimli_build.specs.Version5Tables.{directory_formats, file_formats}
 use Rattle.gimli_line.specs.header.Header.{Header, UnitEntry}
 use Rattle.gimli_line.specs.header.HeaderGrammar.{Opening, header_production, fields_production}
 use Rattle.gimli_line.specs.header.File.{File as ReadFile}
@@ -28,12 +30,22 @@ pub record IsUnit (notation : Notation) (unit_entry : UnitEntry) (unit : List �
   pub opening : Opening
   pub before : List ℕ
   pub parts : unit ≡ before ++ opening.fields ++ h.program
+  pub whole : length opening.fields ≡ h.header_length
   pub no_slack : (fields_production notation unit_entry h.unit_length opening h.program).Spells opening.fields h
 
 -- the directories from index 0 on: up to version 4 the one that was handed is the first
 abbrev pub directories_from_zero : Header → List Value
 directories_from_zero h =
     if nat_le h.parameters.encoding.version 4 then option_to_list (option_map String h.comp_dir) ++ h.directories else h.directories
+
+-- a content type and a form as they are read
+abbrev pub table_format : ℕ × ℕ → FileEntryFormat
+table_format f = record { content_type = record { 0 = f.0 }; form = record { 0 = f.1 } }
+
+-- in version 5 the formats tell which details are there, and the form of each text
+pub record AreFormats (p : Built) (h : Header) : Type 0 where
+  pub directories : h.directory_formats ≡ map table_format (directory_formats p)
+  pub files : h.file_formats ≡ map table_format (file_formats p)
 
 -- a read directory stands for a built one
 abbrev pub IsDirectory : Sections → List (List ℕ) → List (List ℕ) → Value → LineText → Type 0
@@ -56,6 +68,7 @@ pub record ReadsBack (notation : Notation) (unit_entry : UnitEntry) (sections : 
   pub is_unit : IsUnit notation unit_entry unit header
   pub parameters : header.parameters ≡ built_rules p.encoding p.line_encoding
   pub counts : header.operand_counts ≡ operand_counts
+  pub formats : nat_le p.encoding.version 4 ≡ false → AreFormats p header
   pub directories : OneByOne (IsDirectory sections strings line_strings) (directories_from_zero header) p.directories
   pub files : OneByOne (IsFile sections p strings line_strings) header.files p.files
   pub decoding : Decodes notation header header.program
