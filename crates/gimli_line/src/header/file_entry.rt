@@ -1,14 +1,11 @@
 //! Source files, and what a table of version 5 holds of each.
 
-ghost use Rattle.std.specs.Prelude.{◌≡◌, ◌++◌, ◌∷◌, [], List, map, count_by, option_map, IfErr, OnOk};
+ghost use Rattle.std.specs.Prelude.{◌≡◌};
 ghost use Rattle.gimli_core.specs.Reading.{seen};
 ghost use Rattle.gimli_core.specs.Values.{value_seen};
 ghost use Rattle.gimli_line.specs.header.HeaderGrammar.{digest};
 
-use gimli_core::{
-    AttributeValue, DwForm, DwLnct, Error, Format, Reader, ReaderOffset, Result, constants,
-};
-use std::alloc::Global;
+use gimli_core::{AttributeValue, DwForm, DwLnct, Reader, ReaderOffset, Result, constants};
 
 /// What a table of version 5 holds of each entry: a kind of value, and the form that it has.
 #[derive(Clone, Copy, Debug, PartialEq, Eq)]

@@ -1,8 +1,7 @@
 //! The header of a line program, and its tables by index.
 
-ghost use Rattle.std.specs.Prelude.{◌≡◌, ◌-◌, IfErr, IfOk, OnErr, OnOk, map, nat_le, option_map, slice_get, ◌||◌};
+ghost use Rattle.std.specs.Prelude.{◌≡◌, ◌-◌, ◌<◌, ◌||◌, ◌++◌, ◌∷◌, [], IfErr, IfOk, OnErr, OnOk, map, nat_le, option_map, slice_get, slice_index};
 ghost use Rattle.gimli_core.specs.Values.{value_seen};
-ghost use Rattle.std.specs.Prelude.{◌<◌, [], ◌∷◌, ◌++◌, slice_index};
 
 use crate::header::file_entry::{FileEntry, FileEntryFormat};
 use crate::header::parameters::Parameters;
@@ -25,7 +24,7 @@ where
     pub(super) unit_length: Offset,
     pub(super) header_length: Offset,
     /// How many LEB128 operands each standard opcode has, from opcode 1 on.
-    pub(crate) standard_opcode_lengths: R,
+    pub(super) standard_opcode_lengths: R,
     pub(super) directory_entry_format: Vec<FileEntryFormat>,
     pub(super) include_directories: Vec<AttributeValue<R, Offset>>,
     pub(super) file_name_entry_format: Vec<FileEntryFormat>,

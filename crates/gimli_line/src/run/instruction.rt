@@ -66,7 +66,7 @@ where
     R: Reader<Offset = Offset>,
     Offset: ReaderOffset,
 {
-    ghost use Rattle.std.specs.Prelude.{◌≡◌, ◌<◌, ◌≤◌, ℕ, List, IfOk};
+    ghost use Rattle.std.specs.Prelude.{◌≡◌, ◌<◌, ℕ, List, IfOk};
     ghost use Rattle.gimli_core.specs.Reading.{seen};
     ghost use Rattle.gimli_line.specs.run.Instruction.{ins_seen, makes_row};
     ghost use Rattle.gimli_line.specs.run.InstructionReading.{ins_at, extended_at, extended_operands_at, standard_at, unknown_at};

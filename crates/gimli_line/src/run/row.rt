@@ -1,6 +1,6 @@
 //! Rows, and what each instruction does to the registers.
 
-ghost use Rattle.std.specs.Prelude.{◌≡◌, ◌≢◌, ◌≤◌, ◌+◌, true, false, IfErr, IfOk, IsTrue, MatchOption, OnErr, OnOk, option_map};
+ghost use Rattle.std.specs.Prelude.{◌≡◌, ◌≢◌, ◌≤◌, ◌+◌, true, false, IfErr, IfOk, MatchOption, OnErr, OnOk, option_map};
 ghost use Rattle.std.specs.Int.NonZero.{non_zero_u64_get};
 
 use crate::header::file_entry::FileEntry;
