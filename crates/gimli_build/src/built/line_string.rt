@@ -1,4 +1,4 @@
-ghost use Rattle.std.specs.Prelude.{◌≡◌, ◌≢◌, ℕ, IfOk, IfErr, OnOk, OnErr, All};
+ghost use Rattle.std.specs.Prelude.{◌≡◌, ◌≢◌, ℕ, List, IfOk, IfErr, OnOk, OnErr, All};
 
 use gimli_bytes::{Error, LineStringId, LineStringTable, Result, StringId, StringTable};
 use gimli_core::{DwForm, Encoding, constants};
@@ -16,7 +16,8 @@ pub enum LineString {
 }
 
 impl LineString {
-    ghost use Rattle.gimli_build.specs.LineText.{line_text, made_text, made_table, IsWithin, bytes_in};
+    ghost use Rattle.gimli_build.specs.LineText.{line_text, made_text, made_table, IsWithin, bytes_in, HasNoZero};
+    ghost use Rattle.gimli_bytes.specs.Texts.{KeepsTexts};
     ghost use Rattle.gimli_build.specs.Version5Tables.{text_form};
 
     /// Makes a text of bytes without a zero byte, in the form that is usual for programs of this encoding:
@@ -32,6 +33,12 @@ impl LineString {
             line_text made ≡ made_text encoding.version line_strings.old text.now) }
         ensures table { OnOk result
             (line_strings.new ≡ made_table encoding.version line_strings.old text.now) }
+        ensures reads { IfOk result (λ made. (strings : List (List ℕ)) →
+            bytes_in strings line_strings.new (line_text made) ≡ text.now) }
+        ensures within { IfOk result (λ made. (strings : List (List ℕ)) →
+            IsWithin strings line_strings.new (line_text made)) }
+        ensures no_zero { IfOk result (λ made. HasNoZero (line_text made)) }
+        ensures stays { OnOk result (KeepsTexts line_strings.old line_strings.new) }
         ensures err { OnErr result (line_strings.new ≡ line_strings.old) }
         ensures memory { IfErr result (λ e. e ≡ Error.OutOfMemory) }
     {
