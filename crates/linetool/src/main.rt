@@ -1,15 +1,10 @@
 //! The program `linetool`: prints what the line programs of a `.debug_line` section hold.
 #![tactic(auto)]
 
-mod demo;
-mod print;
-mod refusal;
-mod run;
 #[cfg(test)]
 mod tests;
-mod words;
 
-use refusal::Refusal;
+use line_commands::Refusal;
 use std::fs::File;
 use std::io::BufWriter;
 use std::process::ExitCode;
@@ -32,7 +27,7 @@ fn start(rt: &HostRuntime) -> io::Result<u8> {
     }
     let file = open_file(rt, &words);
     let mut out = BufWriter::new(rt.alloc(), rt.stdout())?;
-    Ok(run::run(rt.alloc(), &words, file, &mut out, &mut rt.stderr()))
+    Ok(line_commands::run(rt.alloc(), &words, file, &mut out, &mut rt.stderr()))
 }
 
 /// The file that the second word names, where a command needs it and it can be opened.

@@ -1,7 +1,5 @@
-//! Each command, over a reader and two writers in memory.
+//! Commands whose file or output fails, or whose memory is refused. What a command prints otherwise stands as rows
+//! in the crate `vectors`.
 
-mod demo;
 mod memory;
-mod rows;
-mod sequences;
-mod units;
+mod refused;

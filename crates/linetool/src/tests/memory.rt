@@ -1,6 +1,6 @@
 //! A reader that fails in the middle, and a writer with little room. Neither takes memory.
 
-use crate::run::run;
+use line_commands::run;
 use std::alloc::Global;
 use std::io;
 use std::io::{ErrorKind, Read, Write};
@@ -31,11 +31,6 @@ pub struct Paper {
 }
 
 impl Paper {
-    /// Room for all that a test writes.
-    pub fn new() -> Paper {
-        Paper::with_room(512)
-    }
-
     /// Room for so many bytes, up to 512.
     pub fn with_room(room: usize) -> Paper {
         Paper {
@@ -85,12 +80,7 @@ pub fn run_with<F: Read + Drop>(
     room: usize,
 ) -> Ran {
     let mut out = Paper::with_room(room);
-    let mut err = Paper::new();
+    let mut err = Paper::with_room(512);
     let status = run(alloc, words, file, &mut out, &mut err);
     Ran { status, out, err }
-}
-
-/// Runs on these words over the bytes of a file.
-pub fn run_over(alloc: Global, words: &[&str], section: &[u8]) -> Ran {
-    run_with(alloc, words, Some(section), 512)
 }

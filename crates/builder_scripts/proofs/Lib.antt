@@ -1,0 +1,2 @@
+pub mod WithinLemmas
+pub mod FileWalk

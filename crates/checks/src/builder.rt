@@ -1,0 +1,613 @@
+//! A builder's calls one by one: what it answers of its tables, its rows and its items, and copies.
+
+ghost use Rattle.std.specs.Prelude.{◌≡◌, ◌<◌, length, false, IfOk, OnOk};
+ghost use Rattle.gimli_write.specs.LineText.{line_text, HasNoZero, IsNotEmpty};
+
+use crate::equality::{check_alike, check_distinct};
+use gimli_core::{
+    DW_FORM_line_strp, DW_FORM_string, DW_FORM_strp, DwForm, Encoding, Format, LineEncoding,
+};
+use gimli_write::{
+    Address, BuiltItem, DirectoryId, Error, FileId, FileInfo, Files, LineProgram,
+    LineRow as BuiltRow, LineString, LineStringTable, Result, StringId, StringTable,
+};
+use std::alloc::Global;
+use std::process::Abort;
+use std::test::Fail;
+
+/// A text of one byte.
+fn text(alloc: Global, byte: u8) -> Result<LineString>
+    requires { 0 < byte }
+    ensures no_zero { IfOk result (λ text. HasNoZero (line_text text)) }
+    ensures not_empty { IfOk result (λ text. IsNotEmpty (line_text text)) }
+{
+    let mut bytes = Vec::new(alloc);
+    bytes.push(byte)?;
+    Ok(LineString::String(bytes))
+}
+
+/// The first byte of a text in the program.
+fn first_byte(text: &LineString) -> u8 {
+    match text {
+        LineString::String(bytes) => bytes.first().copied().unwrap_or(0),
+        _ => 0,
+    }
+}
+
+/// A program of version 4, whose working directory is `w`.
+fn program(alloc: Global) -> Result<LineProgram>
+    ensures program { IfOk result (λ program. program.is_none ≡ false) }
+    ensures outside { IfOk result (λ program. program.in_sequence ≡ false) }
+{
+    program_by(alloc, LineEncoding::default())
+}
+
+/// The same by these numbers, which have to be accepted.
+fn program_by(alloc: Global, lines: LineEncoding) -> Result<LineProgram>
+    ensures program { IfOk result (λ program. program.is_none ≡ false) }
+    ensures outside { IfOk result (λ program. program.in_sequence ≡ false) }
+{
+    let encoding = Encoding {
+        address_size: 4,
+        format: Format::Dwarf32,
+        version: 4,
+    };
+    if !LineProgram::accepts(encoding, lines) {
+        return Err(Error::InvalidAttributeValue);
+    }
+    let working_dir = text(alloc, b'w')?;
+    let source_file = text(alloc, b's')?;
+    LineProgram::new(alloc, encoding, lines, working_dir, None, source_file, None)
+}
+
+fn put_directory(program: &mut LineProgram, alloc: Global, name: u8) -> Result<DirectoryId>
+    requires program { program.old.is_none ≡ false }
+    requires name { 0 < name }
+    ensures program { program.new.is_none ≡ false }
+    ensures within { IfOk result (λ id. id < length program.new.directories) }
+{
+    program.add_directory(text(alloc, name)?)
+}
+
+fn put_file(
+    program: &mut LineProgram,
+    alloc: Global,
+    name: u8,
+    info: Option<FileInfo>,
+) -> Result<FileId>
+    requires program { program.old.is_none ≡ false }
+    requires name { 0 < name }
+    ensures program { program.new.is_none ≡ false }
+    ensures within { IfOk result (λ id. id < length program.new.files) }
+{
+    let working = program.default_directory();
+    program.add_file(text(alloc, name)?, working, info)
+}
+
+#[test]
+fn accessors(rt: HostRuntime) -> std::result::Result<(), Fail> {
+    let program = program(rt.alloc())?;
+    assert!(rt; !program.is_none());
+    assert_eq!(rt; program.version(), 4);
+    assert_eq!(rt; program.address_size(), 4);
+    assert_eq!(rt; program.format(), Format::Dwarf32);
+    assert_eq!(rt; program.encoding().version, 4);
+    assert!(rt; !program.file_has_md5);
+    let working = program.get_directory(program.default_directory());
+    assert_eq!(rt; first_byte(working), b'w');
+    Ok(())
+}
+
+#[test]
+fn no_program(rt: HostRuntime) {
+    let none = LineProgram::none(rt.alloc());
+    assert!(rt; none.is_none());
+    assert_eq!(rt; none.address_size(), 0);
+    assert!(rt; none.is_empty());
+}
+
+#[test]
+fn directories_twice(rt: HostRuntime) -> std::result::Result<(), Fail> {
+    let mut program = program(rt.alloc())?;
+    let first = put_directory(&mut program, rt.alloc(), b'i')?;
+    let again = put_directory(&mut program, rt.alloc(), b'i')?;
+    assert_eq!(rt; first, again);
+    let working = put_directory(&mut program, rt.alloc(), b'w')?;
+    assert_eq!(rt; working, program.default_directory());
+    assert!(rt; first != working);
+    assert_eq!(rt; first_byte(program.get_directory(working)), b'w');
+    Ok(())
+}
+
+/// Adds another directory, behind which the old id still has its own.
+fn put_behind(
+    rt: &impl Abort,
+    alloc: Global,
+    program: &mut LineProgram,
+    old: DirectoryId,
+    name: u8,
+) -> Result<()>
+    requires program { program.old.is_none ≡ false }
+    requires old { old < length program.old.directories }
+    requires name { 0 < name }
+{
+    let new = program.add_directory(text(alloc, name)?)?;
+    assert!(rt; new != old);
+    assert_eq!(rt; first_byte(program.get_directory(old)), b'i');
+    assert_eq!(rt; first_byte(program.get_directory(new)), name);
+    Ok(())
+}
+
+/// In a copy an id has its own directory too, whatever is added to the program.
+#[test]
+fn ids_stay(rt: HostRuntime) -> std::result::Result<(), Fail> {
+    let mut program = program(rt.alloc())?;
+    let old = put_directory(&mut program, rt.alloc(), b'i')?;
+    let copy = program.clone()?;
+    put_behind(&rt, rt.alloc(), &mut program, old, b'j')?;
+    assert_eq!(rt; first_byte(copy.get_directory(old)), b'i');
+    Ok(())
+}
+
+/// Files `a` and `b`.
+fn put_two_files(program: &mut LineProgram, alloc: Global) -> Result<(FileId, FileId)>
+    requires { program.old.is_none ≡ false }
+    ensures { program.new.is_none ≡ false }
+{
+    let first = put_file(program, alloc, b'a', None)?;
+    let second = put_file(program, alloc, b'b', None)?;
+    Ok((first, second))
+}
+
+fn check_numbers(rt: &impl Abort, first: FileId, second: FileId) {
+    assert_eq!(rt; first.raw(4), 1);
+    assert_eq!(rt; second.raw(4), 2);
+    assert_eq!(rt; second.raw(5), 1);
+}
+
+fn put_first_again(
+    rt: &impl Abort,
+    alloc: Global,
+    program: &mut LineProgram,
+    first: FileId,
+) -> Result<()>
+    requires { program.old.is_none ≡ false }
+{
+    let again = put_file(program, alloc, b'a', None)?;
+    assert_eq!(rt; first, again);
+    let (path, directory) = program.get_file(again);
+    assert_eq!(rt; first_byte(path), b'a');
+    assert_eq!(rt; directory, program.default_directory());
+    Ok(())
+}
+
+#[test]
+fn files_twice(rt: HostRuntime) -> std::result::Result<(), Fail> {
+    let mut program = program(rt.alloc())?;
+    let (first, second) = put_two_files(&mut program, rt.alloc())?;
+    put_first_again(&rt, rt.alloc(), &mut program, first)?;
+    check_numbers(&rt, first, second);
+    Ok(())
+}
+
+/// The name of the next file, or 0 at the end.
+fn next_name(files: &mut Files<'_>) -> u8 {
+    match files.next() {
+        Some((_, path, _)) => first_byte(path),
+        None => 0,
+    }
+}
+
+fn check_names(rt: &impl Abort, program: &LineProgram) {
+    let mut files = program.files();
+    assert_eq!(rt; next_name(&mut files), b'a');
+    assert_eq!(rt; next_name(&mut files), b'b');
+    assert_eq!(rt; next_name(&mut files), 0);
+}
+
+#[test]
+fn files_in_order(rt: HostRuntime) -> std::result::Result<(), Fail> {
+    let mut program = program(rt.alloc())?;
+    put_two_files(&mut program, rt.alloc())?;
+    check_names(&rt, &program);
+    Ok(())
+}
+
+fn info_of_size(size: u64) -> FileInfo {
+    let mut info = FileInfo::default();
+    info.size = size;
+    info
+}
+
+fn set_size(program: &mut LineProgram, file: FileId, size: u64)
+    requires { file < length program.old.files }
+    ensures { program.new.is_none ≡ program.old.is_none }
+{
+    program.get_file_info_mut(file).size = size;
+}
+
+#[test]
+fn details(rt: HostRuntime) -> std::result::Result<(), Fail> {
+    let mut program = program(rt.alloc())?;
+    let file = put_file(&mut program, rt.alloc(), b'a', Some(info_of_size(2)))?;
+    assert_eq!(rt; program.get_file_info(file).size, 2);
+    set_size(&mut program, file, 3);
+    let again = put_file(&mut program, rt.alloc(), b'a', None)?;
+    assert_eq!(rt; again, file);
+    assert_eq!(rt; program.get_file_info(again).size, 3);
+    let again = put_file(&mut program, rt.alloc(), b'a', Some(info_of_size(2)))?;
+    assert_eq!(rt; again, file);
+    assert_eq!(rt; program.get_file_info(again).size, 2);
+    Ok(())
+}
+
+// ---- rows that may follow
+
+/// Sets the place of the current row.
+fn set_place(program: &mut LineProgram, address_offset: u64, op_index: u64)
+    ensures { program.new.is_none ≡ program.old.is_none }
+{
+    let row = program.row();
+    row.address_offset = address_offset;
+    row.op_index = op_index;
+}
+
+/// Generates a row at this place, if it can be.
+fn put_place(program: &mut LineProgram, address_offset: u64, op_index: u64) -> Result<()>
+    requires { program.old.is_none ≡ false }
+{
+    set_place(program, address_offset, op_index);
+    if program.can_generate_row() {
+        program.generate_row()?;
+    }
+    Ok(())
+}
+
+/// Whether a row, and whether an end, can follow a row at a place, by instructions of this length and so many
+/// operations.
+fn can_follow(
+    alloc: Global,
+    lengths: (u8, u8),
+    previous: (u64, u64),
+    place: (u64, u64),
+) -> Result<(bool, bool)> {
+    let lines = LineEncoding {
+        minimum_instruction_length: lengths.0,
+        maximum_operations_per_instruction: lengths.1,
+        default_is_stmt: true,
+        line_base: -3,
+        line_range: 12,
+    };
+    let mut program = program_by(alloc, lines)?;
+    put_place(&mut program, previous.0, previous.1)?;
+    set_place(&mut program, place.0, place.1);
+    Ok((
+        program.can_generate_row(),
+        program.can_end_sequence(place.0),
+    ))
+}
+
+/// Lengths and operations of instructions, a row's offset and op_index, those of what is to follow, and whether it
+/// can: at a whole number of instructions, at one of their operations, not before the row, and not farther than 64
+/// bits count operations.
+const PLACES: [((u8, u8), (u64, u64), (u64, u64), bool); 14] = [
+    ((2, 3), (2, 1), (3, 1), false),
+    ((2, 3), (2, 1), (2, 0), false),
+    ((2, 3), (2, 1), (0, 2), false),
+    ((2, 3), (2, 1), (2, 3), false),
+    ((2, 3), (2, 1), (2, 1), true),
+    ((2, 3), (2, 1), (2, 2), true),
+    ((2, 3), (2, 1), (4, 0), true),
+    ((1, 1), (0, 0), (u64::MAX, 0), true),
+    ((1, 1), (0, 0), (u64::MAX, 1), false),
+    ((1, 2), (0, 0), (u64::MAX, 0), false),
+    ((1, 2), (0, 0), (u64::MAX / 2, 1), true),
+    ((1, 2), (0, 0), (u64::MAX / 2 + 1, 0), false),
+    ((1, 2), (1, 0), (u64::MAX / 2 + 1, 1), true),
+    ((2, 1), (0, 0), (u64::MAX, 0), false),
+];
+
+#[test]
+fn rows_that_may_follow(rt: HostRuntime) -> std::result::Result<(), Fail> {
+    for (lengths, previous, place, can) in PLACES {
+        let found = can_follow(rt.alloc(), lengths, previous, place)?;
+        assert_eq!(rt; found, (can, can), "{lengths:?} {previous:?} {place:?}");
+    }
+    Ok(())
+}
+
+/// A line may have 63 bits, and an end has none.
+#[test]
+fn farthest_rows(rt: HostRuntime) -> std::result::Result<(), Fail> {
+    let mut program = program(rt.alloc())?;
+    for (line, can) in [(0, true), (0x7fff_ffff_ffff_ffff, true), (1 << 63, false)] {
+        set_row(&mut program, u64::MAX, line);
+        assert_eq!(rt; program.can_generate_row(), can, "line {line}");
+        assert!(rt; program.can_end_sequence(u64::MAX), "line {line}");
+    }
+    Ok(())
+}
+
+// ---- items
+
+fn set_row(program: &mut LineProgram, address_offset: u64, line: u64)
+    ensures { program.new.is_none ≡ program.old.is_none }
+{
+    let row = program.row();
+    row.address_offset = address_offset;
+    row.line = line;
+}
+
+/// Generates a row, which can be.
+fn put_row(program: &mut LineProgram, address_offset: u64, line: u64) -> Result<bool>
+    requires { program.old.is_none ≡ false }
+    ensures { OnOk result (program.new.is_none ≡ false) }
+{
+    set_row(program, address_offset, line);
+    let can = program.can_generate_row();
+    if can {
+        program.generate_row()?;
+    }
+    Ok(can)
+}
+
+fn put_end(program: &mut LineProgram, address_offset: u64) -> Result<bool>
+    requires { program.old.is_none ≡ false }
+    ensures { OnOk result (program.new.is_none ≡ false) }
+{
+    let can = program.can_end_sequence(address_offset);
+    if can {
+        program.end_sequence(address_offset)?;
+    }
+    Ok(can)
+}
+
+/// The items as numbers: a set address, the offset of a row, or that of an end, each with what it is.
+fn item_number(item: Option<&BuiltItem>) -> (u8, u64) {
+    match item {
+        Some(BuiltItem::SetAddress(Address::Constant(address))) => (1, *address),
+        Some(BuiltItem::Row(row)) => (2, row.address_offset),
+        Some(BuiltItem::End { address_offset, .. }) => (3, *address_offset),
+        _ => (0, 0),
+    }
+}
+
+/// An empty program, in which a sequence begins.
+fn begun(rt: &impl Abort, alloc: Global) -> Result<LineProgram>
+    ensures { IfOk result (λ program. program.is_none ≡ false) }
+{
+    let mut program = program(alloc)?;
+    assert!(rt; program.is_empty());
+    program.begin_sequence(Some(Address::Constant(0x1000)))?;
+    Ok(program)
+}
+
+fn put_two_rows(rt: &impl Abort, program: &mut LineProgram) -> Result<()>
+    requires { program.old.is_none ≡ false }
+    ensures { OnOk result (program.new.is_none ≡ false) }
+{
+    assert!(rt; put_row(program, 0, 1)?);
+    assert!(rt; put_row(program, 4, 3)?);
+    assert!(rt; program.in_sequence());
+    Ok(())
+}
+
+fn put_last_end(rt: &impl Abort, program: &mut LineProgram) -> Result<()>
+    requires { program.old.is_none ≡ false }
+{
+    assert!(rt; put_end(program, 8)?);
+    assert!(rt; !program.in_sequence());
+    Ok(())
+}
+
+fn check_items(rt: &impl Abort, program: &LineProgram) {
+    let mut items = program.items();
+    for wanted in [(1, 0x1000), (2, 0), (2, 4), (3, 8), (0, 0)] {
+        let (kind, number) = item_number(items.next());
+        assert_eq!(rt; kind, wanted.0);
+        assert_eq!(rt; number, wanted.1);
+    }
+}
+
+/// A row at the set address, and one four bytes behind it. A body of `generate_row` that always answers that
+/// memory is wanting fails here.
+#[test]
+fn items_in_order(rt: HostRuntime) -> std::result::Result<(), Fail> {
+    let mut program = begun(&rt, rt.alloc())?;
+    put_two_rows(&rt, &mut program)?;
+    put_last_end(&rt, &mut program)?;
+    check_items(&rt, &program);
+    Ok(())
+}
+
+#[test]
+fn cleared_registers(rt: HostRuntime) -> std::result::Result<(), Fail> {
+    let mut program = program(rt.alloc())?;
+    program.row().discriminator = 5;
+    assert!(rt; put_row(&mut program, 4, 3)?);
+    assert_eq!(rt; program.row().discriminator, 0);
+    assert_eq!(rt; program.row().line, 3);
+    assert!(rt; put_end(&mut program, 8)?);
+    assert_eq!(rt; program.row().line, 1);
+    Ok(())
+}
+
+fn set_address(program: &mut LineProgram, address: u64) -> Result<()>
+    requires { program.old.is_none ≡ false }
+    ensures { program.new.is_none ≡ false }
+{
+    program.set_address(Address::Constant(address))
+}
+
+#[test]
+fn address_in_mid_sequence(rt: HostRuntime) -> std::result::Result<(), Fail> {
+    let mut program = program(rt.alloc())?;
+    set_row(&mut program, 7, 1);
+    set_address(&mut program, 16)?;
+    assert_eq!(rt; program.row().address_offset, 7);
+    assert!(rt; put_row(&mut program, 7, 1)?);
+    set_address(&mut program, 32)?;
+    assert_eq!(rt; program.row().address_offset, 0);
+    assert!(rt; put_row(&mut program, 0, 1)?);
+    Ok(())
+}
+
+#[test]
+fn copies(rt: HostRuntime) -> std::result::Result<(), Fail> {
+    let mut program = program(rt.alloc())?;
+    put_file(&mut program, rt.alloc(), b'a', None)?;
+    set_address(&mut program, 16)?;
+    let copy = program.clone()?;
+    assert!(rt; copy.in_sequence());
+    let (kind, number) = item_number(copy.items().next());
+    assert_eq!(rt; kind, 1);
+    assert_eq!(rt; number, 16);
+    assert_eq!(rt; next_name(&mut copy.files()), b'a');
+    Ok(())
+}
+
+/// A sequence without an address is no item, and can be ended.
+#[test]
+fn sequence_without_an_address(rt: HostRuntime) -> std::result::Result<(), Fail> {
+    let mut program = program(rt.alloc())?;
+    program.begin_sequence(None)?;
+    assert!(rt; program.is_empty());
+    assert!(rt; program.in_sequence());
+    assert!(rt; put_end(&mut program, 0)?);
+    assert!(rt; !program.is_empty());
+    assert!(rt; !program.in_sequence());
+    Ok(())
+}
+
+// ---- texts
+
+/// A text of this version is in the program or in the table.
+fn check_new_text(
+    rt: &impl Abort,
+    version: u16,
+    line_strings: &mut LineStringTable,
+    form: DwForm,
+    count: usize,
+) -> Result<()> {
+    let encoding = Encoding {
+        address_size: 4,
+        format: Format::Dwarf32,
+        version,
+    };
+    let text = LineString::new(b"a.c", encoding, line_strings)?;
+    assert_eq!(rt; text.form(), form);
+    assert_eq!(rt; line_strings.count(), count);
+    Ok(())
+}
+
+#[test]
+fn forms_of_texts(rt: HostRuntime) -> std::result::Result<(), Fail> {
+    let mut line_strings = LineStringTable::default(rt.alloc());
+    check_new_text(&rt, 4, &mut line_strings, DW_FORM_string, 0)?;
+    check_new_text(&rt, 5, &mut line_strings, DW_FORM_line_strp, 1)?;
+    check_new_text(&rt, 5, &mut line_strings, DW_FORM_line_strp, 1)?;
+    assert_eq!(rt; LineString::StringRef(StringId(0)).form(), DW_FORM_strp);
+    Ok(())
+}
+
+/// Each form finds its text.
+#[test]
+fn bytes_of_texts(rt: HostRuntime) -> std::result::Result<(), Fail> {
+    let mut strings = StringTable::default(rt.alloc());
+    let mut line_strings = LineStringTable::default(rt.alloc());
+    let one = LineString::StringRef(strings.add(b"one")?);
+    let two = LineString::LineStringRef(line_strings.add(b"two")?);
+    let three = LineString::String(b"three".to_vec(rt.alloc())?);
+    assert_eq!(rt; one.get(&strings, &line_strings), b"one".as_slice());
+    assert_eq!(rt; two.get(&strings, &line_strings), b"two".as_slice());
+    assert_eq!(rt; three.get(&strings, &line_strings), b"three".as_slice());
+    Ok(())
+}
+
+// ---- equal ids, rows and items
+
+/// Rows, each two of which differ in one part.
+fn rows_of(row: BuiltRow, file: FileId) -> [BuiltRow; 12] {
+    [
+        row,
+        BuiltRow {
+            address_offset: 9,
+            ..row
+        },
+        BuiltRow { op_index: 9, ..row },
+        BuiltRow { file, ..row },
+        BuiltRow { line: 9, ..row },
+        BuiltRow { column: 9, ..row },
+        BuiltRow {
+            discriminator: 9,
+            ..row
+        },
+        BuiltRow {
+            is_statement: false,
+            ..row
+        },
+        BuiltRow {
+            basic_block: true,
+            ..row
+        },
+        BuiltRow {
+            prologue_end: true,
+            ..row
+        },
+        BuiltRow {
+            epilogue_begin: true,
+            ..row
+        },
+        BuiltRow { isa: 9, ..row },
+    ]
+}
+
+/// Items, each two of which differ in one part.
+fn items_of(row: BuiltRow, file: FileId) -> [BuiltItem; 7] {
+    let other = BuiltRow { file, ..row };
+    [
+        BuiltItem::SetAddress(Address::Constant(0)),
+        BuiltItem::SetAddress(Address::Constant(9)),
+        BuiltItem::Row(row),
+        BuiltItem::Row(other),
+        BuiltItem::End {
+            address_offset: 0,
+            op_index: 0,
+        },
+        BuiltItem::End {
+            address_offset: 9,
+            op_index: 0,
+        },
+        BuiltItem::End {
+            address_offset: 0,
+            op_index: 9,
+        },
+    ]
+}
+
+/// Equal ids hash alike.
+#[test]
+fn equal_ids(rt: HostRuntime) -> std::result::Result<(), Fail> {
+    let mut program = program(rt.alloc())?;
+    let directory = put_directory(&mut program, rt.alloc(), b'i')?;
+    let directories = [program.default_directory(), directory];
+    check_distinct(&rt, "directory", &directories);
+    check_alike(&rt, "directory", &directories, &directories);
+    let (first, second) = put_two_files(&mut program, rt.alloc())?;
+    check_distinct(&rt, "file", &[first, second]);
+    check_alike(&rt, "file", &[first, second], &[first, second]);
+    Ok(())
+}
+
+/// The current row is a sequence's first, in the first file.
+#[test]
+fn equal_rows_and_items(rt: HostRuntime) -> std::result::Result<(), Fail> {
+    let mut program = program(rt.alloc())?;
+    let (first, second) = put_two_files(&mut program, rt.alloc())?;
+    let row = *program.row();
+    assert_eq!(rt; row.file, first);
+    assert!(rt; row.is_statement && row.line == 1 && row.address_offset == 0);
+    check_distinct(&rt, "row", &rows_of(row, second));
+    check_distinct(&rt, "item", &items_of(row, second));
+    Ok(())
+}

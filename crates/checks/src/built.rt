@@ -1,0 +1,107 @@
+//! The demo unit's program, built, and its section.
+
+ghost use Rattle.std.specs.Prelude.{◌≡◌, [], OnOk, IfOk};
+ghost use Rattle.gimli_write.specs.Conditions.{CanWrite};
+
+use gimli_core::{DebugLineOffset, Encoding, Format, LineEncoding};
+use gimli_write::{
+    Address, DebugLine, Error, LineProgram, LineString, LineStringTable, Result, StringTable,
+    Writer,
+};
+use std::alloc::Global;
+
+/// A program of version 4 without a file and without rows, whose working directory is `/w`.
+fn empty_program(alloc: Global) -> Result<LineProgram>
+    ensures can { IfOk result (λ program. CanWrite program [] []) }
+    ensures files { IfOk result (λ program. program.files ≡ []) }
+{
+    let encoding = Encoding {
+        address_size: 4,
+        format: Format::Dwarf32,
+        version: 4,
+    };
+    let lines = LineEncoding::default();
+    if !LineProgram::accepts(encoding, lines) {
+        return Err(Error::InvalidAttributeValue);
+    }
+    let working_dir = LineString::String(b"/w".to_vec(alloc)?);
+    let source_file = LineString::String(b"a.c".to_vec(alloc)?);
+    LineProgram::new(alloc, encoding, lines, working_dir, None, source_file, None)
+}
+
+/// Adds the file `a.c` to a program that has none.
+fn put_file(program: &mut LineProgram, alloc: Global) -> Result<()>
+    requires can { CanWrite program.old [] [] }
+    requires files { program.old.files ≡ [] }
+    ensures { OnOk result (CanWrite program.new [] []) }
+{
+    let name = LineString::String(b"a.c".to_vec(alloc)?);
+    let directory = program.default_directory();
+    program.add_file(name, directory, None)?;
+    Ok(())
+}
+
+fn set_row(program: &mut LineProgram, offset: u64, line: u64)
+    requires { CanWrite program.old [] [] }
+    ensures { CanWrite program.new [] [] }
+{
+    let row = program.row();
+    row.address_offset = offset;
+    row.line = line;
+}
+
+fn put_row(program: &mut LineProgram, offset: u64, line: u64) -> Result<()>
+    requires { CanWrite program.old [] [] }
+    ensures { OnOk result (CanWrite program.new [] []) }
+{
+    set_row(program, offset, line);
+    if !program.can_generate_row() {
+        return Err(Error::InvalidRange);
+    }
+    program.generate_row()?;
+    Ok(())
+}
+
+fn put_end(program: &mut LineProgram, offset: u64) -> Result<()>
+    requires { CanWrite program.old [] [] }
+    ensures { OnOk result (CanWrite program.new [] []) }
+{
+    if !program.can_end_sequence(offset) {
+        return Err(Error::InvalidRange);
+    }
+    program.end_sequence(offset)?;
+    Ok(())
+}
+
+/// The program of the demo unit, with this address.
+pub fn demo_at(alloc: Global, address: Address) -> Result<LineProgram>
+    ensures { IfOk result (λ program. CanWrite program [] []) }
+{
+    let mut program = empty_program(alloc)?;
+    put_file(&mut program, alloc)?;
+    program.set_address(address)?;
+    put_row(&mut program, 0, 1)?;
+    put_row(&mut program, 4, 3)?;
+    put_end(&mut program, 8)?;
+    Ok(program)
+}
+
+/// The program of the demo unit.
+pub fn demo(alloc: Global) -> Result<LineProgram>
+    ensures { IfOk result (λ program. CanWrite program [] []) }
+{
+    demo_at(alloc, Address::Constant(0x1000))
+}
+
+/// Writes a program that names no text of a table to a section.
+pub fn write<W: Writer>(
+    alloc: Global,
+    program: &LineProgram,
+    section: &mut DebugLine<W>,
+) -> Result<DebugLineOffset>
+    requires { CanWrite program.now [] [] }
+{
+    let mut strings = StringTable::default(alloc);
+    let mut line_strings = LineStringTable::default(alloc);
+    program.write(section, program.encoding(), &mut line_strings, &mut strings)
+}

@@ -1,0 +1,330 @@
+//! Equality, order and hashes.
+
+use crate::instructions::executed_by_unit;
+use crate::units::{HEADER_OF_TWO_FILES, Slice, UNIT_OF_VERSION_4, program, slice, unit};
+use gimli_core::{
+    AttributeValue, DW_FORM_string, DW_FORM_udata, DW_LNCT_MD5, DW_LNCT_path, DebugLineStrOffset,
+    DebugStrOffset, DwLne, DwLns, EndianSlice, Reader, Result, RunTimeEndian,
+};
+use gimli_line::LineInstruction::{
+    AdvanceLine, AdvancePc, ConstAddPc, Copy, EndSequence, FixedAddPc, NegateStatement, SetAddress,
+    SetBasicBlock, SetColumn, SetDiscriminator, SetEpilogueBegin, SetFile, SetIsa, SetPrologueEnd,
+    Special, UnknownExtended, UnknownStandard0, UnknownStandard1, UnknownStandardN,
+};
+use gimli_line::{ColumnType, FileEntryFormat, LineInstruction, LineRow};
+use gimli_write::{Address, FileInfo, LineString, LineStringId, StringId};
+use std::alloc::{AllocError, Global};
+use std::hash::{DefaultHasher, Hash, Hasher};
+use std::num::NonZeroU64;
+use std::process::Abort;
+use std::test::Fail;
+
+/// Each value equals itself and no other.
+pub fn check_distinct<T: PartialEq>(rt: &impl Abort, name: &str, values: &[T]) {
+    for (i, one) in values.iter().enumerate() {
+        for (j, other) in values.iter().enumerate() {
+            assert_eq!(rt; *one == *other, i == j, "{name} {i} and {j}");
+        }
+    }
+}
+
+/// The values are equal one by one, and hash alike.
+pub fn check_alike<T: Hash>(rt: &impl Abort, name: &str, values: &[T], others: &[T]) {
+    assert_eq!(rt; values.len(), others.len());
+    for (i, (one, other)) in values.iter().zip(others).enumerate() {
+        assert!(rt; *one == *other, "{name} {i}");
+        assert_eq!(rt; hash_of(one), hash_of(other), "{name} {i}");
+    }
+}
+
+fn hash_of<T: Hash>(value: &T) -> u64 {
+    let mut state = DefaultHasher::new();
+    value.hash(&mut state);
+    state.finish()
+}
+
+/// Each value is less than all that follow it.
+fn check_ascending<T: Ord>(rt: &impl Abort, values: &[T]) {
+    for (i, one) in values.iter().enumerate() {
+        for (j, other) in values.iter().enumerate() {
+            assert_eq!(rt; one.cmp(other), i.cmp(&j), "{i} and {j}");
+            assert_eq!(rt; *one < *other, i < j, "{i} and {j}");
+        }
+    }
+}
+
+/// The left edge is least, and columns go by their number.
+#[test]
+fn columns_in_order(rt: HostRuntime) {
+    if let (Some(one), Some(two), Some(last)) = (
+        NonZeroU64::new(1),
+        NonZeroU64::new(2),
+        NonZeroU64::new(u64::MAX),
+    ) {
+        let columns = [
+            ColumnType::LeftEdge,
+            ColumnType::Column(one),
+            ColumnType::Column(two),
+            ColumnType::Column(last),
+        ];
+        check_ascending(&rt, &columns);
+        check_distinct(&rt, "column", &columns);
+    }
+}
+
+// ---- what is read
+
+const FORMATS: [FileEntryFormat; 3] = [
+    FileEntryFormat {
+        content_type: DW_LNCT_path,
+        form: DW_FORM_string,
+    },
+    FileEntryFormat {
+        content_type: DW_LNCT_path,
+        form: DW_FORM_udata,
+    },
+    FileEntryFormat {
+        content_type: DW_LNCT_MD5,
+        form: DW_FORM_string,
+    },
+];
+
+/// Instructions, each two of which differ in their kind or in one operand.
+fn instructions() -> [LineInstruction<Slice<'static>>; 27] {
+    [
+        Special(13),
+        Special(14),
+        Copy,
+        AdvancePc(1),
+        AdvancePc(2),
+        AdvanceLine(1),
+        AdvanceLine(-1),
+        SetFile(1),
+        SetFile(2),
+        SetColumn(1),
+        NegateStatement,
+        SetBasicBlock,
+        ConstAddPc,
+        FixedAddPc(1),
+        FixedAddPc(2),
+        SetPrologueEnd,
+        SetEpilogueBegin,
+        SetIsa(1),
+        UnknownStandard0(DwLns(13)),
+        UnknownStandard1(DwLns(13), 1),
+        UnknownStandard1(DwLns(13), 2),
+        UnknownStandardN(DwLns(13), slice(b"\x01\x02")),
+        EndSequence,
+        SetAddress(1),
+        SetDiscriminator(1),
+        UnknownExtended(DwLne(99), slice(b"\x01")),
+        UnknownExtended(DwLne(99), slice(b"\x02")),
+    ]
+}
+
+/// Values, each two of which differ in their form or their contents.
+fn values() -> [AttributeValue<Slice<'static>>; 16] {
+    [
+        AttributeValue::String(slice(b"a")),
+        AttributeValue::String(slice(b"b")),
+        AttributeValue::Block(slice(b"a")),
+        AttributeValue::Block(slice(b"")),
+        AttributeValue::Data1(1),
+        AttributeValue::Data2(1),
+        AttributeValue::Data4(1),
+        AttributeValue::Data8(1),
+        AttributeValue::Udata(1),
+        AttributeValue::Sdata(1),
+        AttributeValue::Sdata(-1),
+        AttributeValue::Flag(true),
+        AttributeValue::Flag(false),
+        AttributeValue::SecOffset(1),
+        AttributeValue::DebugStrRef(DebugStrOffset(1)),
+        AttributeValue::DebugLineStrRef(DebugLineStrOffset(1)),
+    ]
+}
+
+/// Readers of the same bytes in different orders are different, too.
+#[test]
+fn equal_values_and_readers(rt: HostRuntime) {
+    check_distinct(&rt, "value", &values());
+    check_distinct(
+        &rt,
+        "reader",
+        &[
+            EndianSlice::new(b"a", RunTimeEndian::Little),
+            EndianSlice::new(b"a", RunTimeEndian::Big),
+            EndianSlice::new(b"b", RunTimeEndian::Little),
+            EndianSlice::new(b"", RunTimeEndian::Little),
+        ],
+    );
+}
+
+#[test]
+fn equal_formats_and_instructions(rt: HostRuntime) {
+    check_distinct(&rt, "format", &FORMATS);
+    check_distinct(&rt, "instruction", &instructions());
+}
+
+/// The two files of a header differ, and a copy of one equals it.
+fn check_entries<R: Reader + PartialEq>(rt: &impl Abort, alloc: Global, unit: R) -> Result<()> {
+    let program = program(alloc, unit, 4)?;
+    check_distinct(rt, "file", program.header().file_names());
+    let first = program.header().file(1).copied();
+    assert!(rt; first.is_some());
+    assert!(rt; first == program.header().file_names().first().copied());
+    Ok(())
+}
+
+#[test]
+fn equal_entries(rt: HostRuntime) -> std::result::Result<(), Fail> {
+    check_entries(&rt, rt.alloc(), slice(UNIT_OF_VERSION_4))?;
+    Ok(())
+}
+
+/// Programs, each of which changes one register alone; the last hides what follows it.
+const CHANGES: [&[u8]; 13] = [
+    &[],
+    &[2, 1],
+    &[3, 1],
+    &[4, 2],
+    &[5, 1],
+    &[6],
+    &[7],
+    &[10],
+    &[11],
+    &[12, 1],
+    &[0, 1, 1],
+    &[0, 2, 4, 1],
+    &[0, 5, 2, 0xff, 0xff, 0xff, 0xff],
+];
+
+/// The row behind each of them.
+fn changed_rows(alloc: Global) -> std::result::Result<Vec<LineRow>, Fail> {
+    let mut rows = Vec::new(alloc);
+    for bytes in CHANGES {
+        let unit = unit(alloc, HEADER_OF_TWO_FILES, bytes)?;
+        let (_, row) = executed_by_unit(alloc, slice(&unit), 4)?;
+        rows.push(row)?;
+    }
+    Ok(rows)
+}
+
+#[test]
+fn equal_rows(rt: HostRuntime) -> std::result::Result<(), Fail> {
+    let rows = changed_rows(rt.alloc())?;
+    check_distinct(&rt, "row", &rows);
+    assert!(rt; changed_rows(rt.alloc())? == rows);
+    Ok(())
+}
+
+// ---- what is built
+
+const ADDRESSES: [Address; 5] = [
+    Address::Constant(0),
+    Address::Constant(1),
+    Address::Symbol {
+        symbol: 0,
+        addend: 0,
+    },
+    Address::Symbol {
+        symbol: 1,
+        addend: 0,
+    },
+    Address::Symbol {
+        symbol: 0,
+        addend: -1,
+    },
+];
+
+/// Texts, each two of which differ in their form or their contents.
+fn texts(alloc: Global) -> std::result::Result<[LineString; 7], AllocError> {
+    Ok([
+        LineString::String(b"a.c".to_vec(alloc)?),
+        LineString::String(b"b.c".to_vec(alloc)?),
+        LineString::String(Vec::new(alloc)),
+        LineString::StringRef(StringId(0)),
+        LineString::StringRef(StringId(1)),
+        LineString::LineStringRef(LineStringId(0)),
+        LineString::LineStringRef(LineStringId(1)),
+    ])
+}
+
+#[test]
+fn equal_addresses_and_texts(rt: HostRuntime) -> std::result::Result<(), Fail> {
+    check_distinct(&rt, "address", &ADDRESSES);
+    check_alike(&rt, "address", &ADDRESSES, &ADDRESSES);
+    let ids = [StringId(0), StringId(1)];
+    check_distinct(&rt, "string", &ids);
+    check_alike(&rt, "string", &ids, &ids);
+    let ids = [LineStringId(0), LineStringId(1)];
+    check_distinct(&rt, "line string", &ids);
+    check_alike(&rt, "line string", &ids, &ids);
+    let texts_now = texts(rt.alloc())?;
+    check_distinct(&rt, "text", &texts_now);
+    check_alike(&rt, "text", &texts_now, &texts(rt.alloc())?);
+    Ok(())
+}
+
+/// Details of files, each two of which differ in one part.
+fn details(alloc: Global) -> std::result::Result<[FileInfo; 7], AllocError> {
+    Ok([
+        FileInfo::default(),
+        FileInfo {
+            timestamp: 1,
+            size: 0,
+            md5: [0; 16],
+            source: None,
+        },
+        FileInfo {
+            timestamp: 0,
+            size: 1,
+            md5: [0; 16],
+            source: None,
+        },
+        FileInfo {
+            timestamp: 0,
+            size: 0,
+            md5: [1; 16],
+            source: None,
+        },
+        FileInfo {
+            timestamp: 0,
+            size: 0,
+            md5: [0, 0, 0, 0, 0, 0, 0, 0, 0, 0, 0, 0, 0, 0, 0, 1],
+            source: None,
+        },
+        FileInfo {
+            timestamp: 0,
+            size: 0,
+            md5: [0; 16],
+            source: Some(LineString::String(b"x".to_vec(alloc)?)),
+        },
+        FileInfo {
+            timestamp: 0,
+            size: 0,
+            md5: [0; 16],
+            source: Some(LineString::String(Vec::new(alloc))),
+        },
+    ])
+}
+
+/// Copies of a text and of details are equal to them.
+fn check_copies(rt: &impl Abort, alloc: Global) -> std::result::Result<(), AllocError> {
+    for text in &texts(alloc)? {
+        assert!(rt; text.clone()? == *text, "at {text:?}");
+    }
+    for info in &details(alloc)? {
+        assert!(rt; info.clone()? == *info, "at {info:?}");
+    }
+    Ok(())
+}
+
+#[test]
+fn equal_details(rt: HostRuntime) -> std::result::Result<(), Fail> {
+    let infos = details(rt.alloc())?;
+    check_distinct(&rt, "info", &infos);
+    assert!(rt; infos == details(rt.alloc())?);
+    check_copies(&rt, rt.alloc())?;
+    Ok(())
+}

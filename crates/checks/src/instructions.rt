@@ -1,0 +1,502 @@
+//! Instructions one by one: what comes behind the last and behind a refusal, and what each does to a row by itself.
+
+use crate::units::{
+    HEADER, HEADER_OF_RANGE_12, HEADER_OF_TWO_FILES, file_count, flags, is_text, numbers, program,
+    slice, unit,
+};
+use gimli_core::{Error, Reader, ReaderOffsetId, Result};
+use gimli_line::LineInstruction::{
+    AdvancePc, EndSequence, FixedAddPc, SetAddress, SetFile, SetIsa,
+};
+use gimli_line::{
+    CompleteLineProgram, IncompleteLineProgram, LineInstruction, LineInstructions, LineProgram,
+    LineProgramHeader, LineRow,
+};
+use std::alloc::Global;
+use std::process::Abort;
+use std::test::Fail;
+
+// ---- taken
+
+/// Whether this is the first instruction of a program.
+fn begins_with<R: Reader + PartialEq>(
+    program: &IncompleteLineProgram<R>,
+    first: LineInstruction<R>,
+) -> bool {
+    let mut instructions = program.header().instructions();
+    match instructions.next_instruction(program.header()) {
+        Ok(Some(instruction)) => instruction == first,
+        _ => false,
+    }
+}
+
+/// Whether the first instruction of a program is refused so.
+fn refuses<R: Reader>(program: &IncompleteLineProgram<R>, error: Error) -> bool {
+    let mut instructions = program.header().instructions();
+    match instructions.next_instruction(program.header()) {
+        Err(e) => e == error,
+        Ok(_) => false,
+    }
+}
+
+/// Whether nothing stands behind the first instruction of a program, or behind its refusal, however often it is
+/// asked; nor does it in a copy.
+fn ends_behind_first<R: Reader>(program: &IncompleteLineProgram<R>) -> bool {
+    let mut instructions = program.header().instructions();
+    let _ = instructions.next_instruction(program.header());
+    let mut copy = instructions.clone();
+    matches!(copy.next_instruction(program.header()), Ok(None))
+        && matches!(instructions.next_instruction(program.header()), Ok(None))
+        && matches!(instructions.next_instruction(program.header()), Ok(None))
+}
+
+/// Whether a unit's only instruction is this, and nothing stands behind it.
+fn is_only<R: Reader + PartialEq>(
+    alloc: Global,
+    unit: R,
+    only: LineInstruction<R>,
+) -> Result<bool> {
+    let program = program(alloc, unit, 8)?;
+    Ok(begins_with(&program, only) && ends_behind_first(&program))
+}
+
+/// Whether a unit's first instruction is refused so, and nothing stands behind it.
+fn is_refused<R: Reader>(alloc: Global, unit: R, error: Error) -> Result<bool> {
+    let program = program(alloc, unit, 8)?;
+    Ok(refuses(&program, error) && ends_behind_first(&program))
+}
+
+/// An instruction of each number of operands, and with an end of sequence.
+#[test]
+fn nothing_behind_the_last_instruction(rt: HostRuntime) -> std::result::Result<(), Fail> {
+    let only = [
+        (b"\x0c\xb9\x64".as_slice(), SetIsa(12857)),
+        (b"\x09\x2a\0".as_slice(), FixedAddPc(42)),
+        (b"\0\x01\x01".as_slice(), EndSequence),
+    ];
+    for (bytes, instruction) in only {
+        let unit = unit(rt.alloc(), HEADER, bytes)?;
+        assert!(rt;
+            is_only(rt.alloc(), slice(&unit), instruction)?,
+            "at {bytes:?}"
+        );
+    }
+    Ok(())
+}
+
+/// Programs whose first instruction is refused, and by what. The number of a refusal counts the bytes that were
+/// left.
+const REFUSED: [(&[u8], Error); 9] = [
+    (&[0x00], Error::UnexpectedEof(ReaderOffsetId(0))),
+    (&[0x00, 0x00, 0x01], Error::UnexpectedEof(ReaderOffsetId(0))),
+    (
+        &[0x00, 0x03, 0x01, 0x01],
+        Error::UnexpectedEof(ReaderOffsetId(2)),
+    ),
+    (
+        &[0x00, 0x03, 0x02, 0x01, 0x02, 0x01],
+        Error::UnexpectedEof(ReaderOffsetId(2)),
+    ),
+    (
+        &[0x00, 0x01, 0x04, 0x01],
+        Error::UnexpectedEof(ReaderOffsetId(0)),
+    ),
+    (&[0x02], Error::UnexpectedEof(ReaderOffsetId(0))),
+    (&[0x09, 0x2a], Error::UnexpectedEof(ReaderOffsetId(1))),
+    (
+        &[
+            0x02, 0x80, 0x80, 0x80, 0x80, 0x80, 0x80, 0x80, 0x80, 0x80, 0x02, 0x01,
+        ],
+        Error::BadUnsignedLeb128,
+    ),
+    (
+        &[
+            0x03, 0x80, 0x80, 0x80, 0x80, 0x80, 0x80, 0x80, 0x80, 0x80, 0x01, 0x01,
+        ],
+        Error::BadSignedLeb128,
+    ),
+];
+
+#[test]
+fn nothing_behind_a_refused_instruction(rt: HostRuntime) -> std::result::Result<(), Fail> {
+    for (bytes, error) in REFUSED {
+        let unit = unit(rt.alloc(), HEADER, bytes)?;
+        assert!(rt;
+            is_refused(rt.alloc(), slice(&unit), error)?,
+            "at {bytes:?}"
+        );
+    }
+    Ok(())
+}
+
+// ---- executed
+
+/// Executes the instructions of a program on a row, up to eight, and answers what the last one answered.
+fn execute_all<R: Reader>(
+    row: &mut LineRow,
+    instructions: &mut LineInstructions<R>,
+    program: &mut IncompleteLineProgram<R>,
+) -> Result<bool> {
+    let mut last = Ok(false);
+    for _ in 0..8 {
+        match instructions.next_instruction(program.header()) {
+            Ok(Some(instruction)) => last = row.execute(instruction, program),
+            Ok(None) => return last,
+            Err(e) => return Err(e),
+        }
+    }
+    last
+}
+
+/// The last answer of a program, and the row behind it.
+fn executed_by<R: Reader>(program: &mut IncompleteLineProgram<R>) -> (Result<bool>, LineRow) {
+    let mut instructions = program.header().instructions();
+    let mut row = LineRow::new(program.header());
+    let last = execute_all(&mut row, &mut instructions, program);
+    (last, row)
+}
+
+/// The same of a unit.
+pub fn executed_by_unit<R: Reader>(
+    alloc: Global,
+    unit: R,
+    size: u8,
+) -> Result<(Result<bool>, LineRow)> {
+    let mut program = program(alloc, unit, size)?;
+    Ok(executed_by(&mut program))
+}
+
+/// Numbers of a new row.
+const NEW: [u64; 7] = [0, 0, 1, 1, 0, 0, 0];
+
+/// Flags of a new row.
+const STATEMENT: [bool; 5] = [true, false, false, false, false];
+
+/// A program with line base -3 and line range 12, the size of an address, the last answer, and the numbers
+/// and the flags behind it.
+const EXECUTED: [(&[u8], u8, Result<bool>, [u64; 7], [bool; 5]); 37] = [
+    (&[], 8, Ok(false), NEW, STATEMENT),
+    (&[16], 8, Ok(true), NEW, STATEMENT),
+    (&[19], 8, Ok(true), [0, 0, 1, 4, 0, 0, 0], STATEMENT),
+    (&[52], 8, Ok(true), [3, 0, 1, 1, 0, 0, 0], STATEMENT),
+    (&[55], 8, Ok(true), [3, 0, 1, 4, 0, 0, 0], STATEMENT),
+    (&[3, 9, 13], 8, Ok(true), [0, 0, 1, 7, 0, 0, 0], STATEMENT),
+    (&[3, 9, 49], 8, Ok(true), [3, 0, 1, 7, 0, 0, 0], STATEMENT),
+    (&[3, 1, 13], 8, Ok(true), [0, 0, 1, 0, 0, 0, 0], STATEMENT),
+    (&[1], 8, Ok(true), NEW, STATEMENT),
+    (&[2, 42], 8, Ok(false), [42, 0, 1, 1, 0, 0, 0], STATEMENT),
+    (&[3, 42], 8, Ok(false), [0, 0, 1, 43, 0, 0, 0], STATEMENT),
+    (
+        &[
+            3, 0xff, 0xff, 0xff, 0xff, 0xff, 0xff, 0xff, 0xff, 0xff, 0, 3, 0xff, 0xff, 0xff, 0xff,
+            0xff, 0xff, 0xff, 0xff, 0xff, 0, 3, 42,
+        ],
+        8,
+        Ok(false),
+        [0, 0, 1, 41, 0, 0, 0],
+        STATEMENT,
+    ),
+    (&[4, 1], 8, Ok(false), NEW, STATEMENT),
+    (&[4, 100], 8, Ok(false), [0, 0, 100, 1, 0, 0, 0], STATEMENT),
+    (&[5, 42], 8, Ok(false), [0, 0, 1, 1, 42, 0, 0], STATEMENT),
+    (&[5, 42, 5, 0], 8, Ok(false), NEW, STATEMENT),
+    (&[6], 8, Ok(false), NEW, [false, false, false, false, false]),
+    (&[6, 6], 8, Ok(false), NEW, STATEMENT),
+    (&[7], 8, Ok(false), NEW, [true, true, false, false, false]),
+    (&[8], 8, Ok(false), [20, 0, 1, 1, 0, 0, 0], STATEMENT),
+    (&[9, 10, 0], 8, Ok(false), [10, 0, 1, 1, 0, 0, 0], STATEMENT),
+    (&[10], 8, Ok(false), NEW, [true, false, false, true, false]),
+    (&[11], 8, Ok(false), NEW, [true, false, false, false, true]),
+    (
+        &[12, 0xc9, 0x0f],
+        8,
+        Ok(false),
+        [0, 0, 1, 1, 0, 1993, 0],
+        STATEMENT,
+    ),
+    (
+        &[0, 1, 1],
+        8,
+        Ok(true),
+        NEW,
+        [true, false, true, false, false],
+    ),
+    (
+        &[0, 9, 2, 0xd6, 0x0b, 0, 0, 0, 0, 0, 0],
+        8,
+        Ok(false),
+        [3030, 0, 1, 1, 0, 0, 0],
+        STATEMENT,
+    ),
+    (
+        &[0, 2, 4, 9],
+        8,
+        Ok(false),
+        [0, 0, 1, 1, 0, 0, 9],
+        STATEMENT,
+    ),
+    (&[0, 2, 0x63, 1], 8, Ok(false), NEW, STATEMENT),
+    (
+        &[
+            0, 9, 2, 0xfd, 0xff, 0xff, 0xff, 0xff, 0xff, 0xff, 0xff, 2, 42,
+        ],
+        8,
+        Err(Error::AddressOverflow),
+        [0xffff_ffff_ffff_fffd, 0, 1, 1, 0, 0, 0],
+        STATEMENT,
+    ),
+    (
+        &[0, 9, 2, 0xfd, 0xff, 0xff, 0xff, 0xff, 0xff, 0xff, 0xff, 8],
+        8,
+        Err(Error::AddressOverflow),
+        [0xffff_ffff_ffff_fffd, 0, 1, 1, 0, 0, 0],
+        STATEMENT,
+    ),
+    (
+        &[
+            0, 9, 2, 0xfd, 0xff, 0xff, 0xff, 0xff, 0xff, 0xff, 0xff, 9, 10, 0,
+        ],
+        8,
+        Err(Error::AddressOverflow),
+        [0xffff_ffff_ffff_fffd, 0, 1, 1, 0, 0, 0],
+        STATEMENT,
+    ),
+    (
+        &[0, 5, 2, 0xfd, 0xff, 0xff, 0xff, 2, 42],
+        4,
+        Err(Error::AddressOverflow),
+        [0xffff_fffd, 0, 1, 1, 0, 0, 0],
+        STATEMENT,
+    ),
+    (
+        &[0, 5, 2, 0xfd, 0xff, 0xff, 0xff, 2, 2],
+        4,
+        Ok(false),
+        [0xffff_ffff, 0, 1, 1, 0, 0, 0],
+        STATEMENT,
+    ),
+    // The two greatest addresses hide; the registers of the pointer stay.
+    (
+        &[0, 5, 2, 0xfe, 0xff, 0xff, 0xff, 2, 42, 55],
+        4,
+        Ok(true),
+        [0, 0, 1, 4, 0, 0, 0],
+        STATEMENT,
+    ),
+    (
+        &[0, 5, 2, 0xff, 0xff, 0xff, 0xff, 8, 9, 1, 0],
+        4,
+        Ok(false),
+        NEW,
+        STATEMENT,
+    ),
+    // So does an address that goes back, and an equal one doesn't.
+    (
+        &[2, 16, 0, 2, 2, 8, 2, 9],
+        1,
+        Ok(false),
+        [16, 0, 1, 1, 0, 0, 0],
+        STATEMENT,
+    ),
+    (
+        &[2, 16, 0, 2, 2, 16, 2, 9],
+        1,
+        Ok(false),
+        [25, 0, 1, 1, 0, 0, 0],
+        STATEMENT,
+    ),
+];
+
+#[test]
+fn one_instruction_executed(rt: HostRuntime) -> std::result::Result<(), Fail> {
+    for (bytes, size, answer, registers, marks) in EXECUTED {
+        let unit = unit(rt.alloc(), HEADER_OF_RANGE_12, bytes)?;
+        let (last, row) = executed_by_unit(rt.alloc(), slice(&unit), size)?;
+        assert_eq!(rt; last, answer, "at {bytes:?}");
+        assert_eq!(rt; numbers(&row), registers, "at {bytes:?}");
+        assert_eq!(rt; flags(&row), marks, "at {bytes:?}");
+    }
+    Ok(())
+}
+
+// ---- files
+
+/// Whether the row behind a program is in a file of this path, or in none that the header has.
+fn is_in_path<R: Reader>(alloc: Global, unit: R, path: Option<&[u8]>) -> Result<bool> {
+    let mut program = program(alloc, unit, 8)?;
+    let (last, row) = executed_by(&mut program);
+    last?;
+    let found = row.file(program.header()).map(|file| file.path_name());
+    Ok(match path {
+        Some(path) => is_text(found, path),
+        None => found.is_none(),
+    })
+}
+
+#[test]
+fn files_of_a_row(rt: HostRuntime) -> std::result::Result<(), Fail> {
+    let paths: [(&[u8], Option<&[u8]>); 4] = [
+        (&[4, 0], None),
+        (&[4, 1], Some(b"foo.rs")),
+        (&[4, 2], Some(b"bar.h")),
+        (&[4, 100], None),
+    ];
+    for (bytes, path) in paths {
+        let unit = unit(rt.alloc(), HEADER_OF_TWO_FILES, bytes)?;
+        assert!(rt; is_in_path(rt.alloc(), slice(&unit), path)?, "at {bytes:?}");
+    }
+    Ok(())
+}
+
+/// A program that defines the file `foo.c`, in directory 0, of timestamp 1 and size 2.
+const DEFINES: &[u8] = b"\0\x0a\x03foo.c\0\0\x01\x02";
+
+/// The second file of two is `foo.c`.
+fn has_defined<R: Reader>(header: &LineProgramHeader<R>) -> bool {
+    let Some(file) = header.file(2) else {
+        return false;
+    };
+    file_count(header) == 2
+        && is_text(Some(file.path_name()), b"foo.c")
+        && [file.directory_index(), file.timestamp(), file.size()] == [0, 1, 2]
+        && *file.md5() == [0; 16]
+        && file.source().is_none()
+}
+
+/// A file that is defined changes no register, and is the row's file once the row has its number.
+fn check_definition<R: Reader>(
+    rt: &impl Abort,
+    program: &mut IncompleteLineProgram<R>,
+) -> std::result::Result<(), Fail> {
+    let mut instructions = program.header().instructions();
+    let defines = instructions.next_instruction(program.header())?;
+    let defines = defines.ok_or("no instruction")?;
+    let mut row = LineRow::new(program.header());
+    row.execute(SetFile(2), program)?;
+    let before = row;
+    assert!(rt; row.file(program.header()).is_none());
+    assert_eq!(rt; row.execute(defines, program), Ok(false));
+    assert_eq!(rt; row, before);
+    assert!(rt; has_defined(program.header()));
+    assert!(rt; row.file(program.header()).is_some());
+    Ok(())
+}
+
+/// A program whose files are complete takes no more, and refuses nothing.
+fn check_complete<R: Reader>(
+    rt: &impl Abort,
+    program: &CompleteLineProgram<R>,
+) -> std::result::Result<(), Fail> {
+    let mut instructions = program.header().instructions();
+    let defines = instructions.next_instruction(program.header())?;
+    let defines = defines.ok_or("no instruction")?;
+    let mut row = LineRow::new(program.header());
+    let mut lent = program;
+    assert_eq!(rt; row.execute(defines, &mut lent), Ok(false));
+    assert!(rt; has_defined(program.header()));
+    Ok(())
+}
+
+/// A file is added to a program that isn't complete, and to no other, by the trait's own call.
+fn check_added<R: Reader>(
+    rt: &impl Abort,
+    program: &mut IncompleteLineProgram<R>,
+) -> std::result::Result<(), Fail> {
+    let file = *program.header().file(1).ok_or("no file")?;
+    program.add_file(file)?;
+    assert_eq!(rt; file_count(LineProgram::header(program)), 3);
+    Ok(())
+}
+
+/// The same of a unit.
+fn check_definition_of_unit<R: Reader>(
+    rt: &impl Abort,
+    alloc: Global,
+    unit: R,
+) -> std::result::Result<(), Fail> {
+    let mut program = program(alloc, unit, 4)?;
+    let (complete, _) = program.clone()?.sequences()?;
+    check_definition(rt, &mut program)?;
+    check_complete(rt, &complete)?;
+    check_added(rt, &mut program)
+}
+
+#[test]
+fn file_defined_by_an_instruction(rt: HostRuntime) -> std::result::Result<(), Fail> {
+    let unit = unit(rt.alloc(), HEADER, DEFINES)?;
+    check_definition_of_unit(&rt, rt.alloc(), slice(&unit))
+}
+
+// ---- behind a row
+
+/// A row behind a program, before and behind a reset.
+fn check_reset<R: Reader>(
+    rt: &impl Abort,
+    row: &mut LineRow,
+    program: &mut IncompleteLineProgram<R>,
+) -> Result<()> {
+    let mut instructions = program.header().instructions();
+    execute_all(row, &mut instructions, program)?;
+    assert_eq!(rt; numbers(row), [42, 0, 1, 1, 0, 0, 9]);
+    assert_eq!(rt; flags(row), [false, true, false, true, true]);
+    row.reset(program.header());
+    assert_eq!(rt; numbers(row), [42, 0, 1, 1, 0, 0, 0]);
+    assert_eq!(rt; flags(row), [false, false, false, false, false]);
+    Ok(())
+}
+
+/// An address that goes back hides what follows.
+fn check_hidden<R: Reader>(
+    rt: &impl Abort,
+    row: &mut LineRow,
+    program: &mut IncompleteLineProgram<R>,
+) -> Result<()> {
+    row.execute(SetAddress(8), program)?;
+    row.execute(AdvancePc(1), program)?;
+    assert_eq!(rt; row.address(), 42);
+    Ok(())
+}
+
+/// Rebase ends that.
+fn check_rebased<R: Reader>(
+    rt: &impl Abort,
+    row: &mut LineRow,
+    program: &mut IncompleteLineProgram<R>,
+) -> Result<()> {
+    row.rebase();
+    row.execute(AdvancePc(1), program)?;
+    assert_eq!(rt; row.address(), 1);
+    Ok(())
+}
+
+/// An end, and a reset behind it.
+fn check_ended<R: Reader>(
+    rt: &impl Abort,
+    row: &mut LineRow,
+    program: &mut IncompleteLineProgram<R>,
+) -> Result<()> {
+    row.execute(EndSequence, program)?;
+    assert!(rt; row.end_sequence());
+    row.reset(program.header());
+    assert_eq!(rt; *row, LineRow::new(program.header()));
+    Ok(())
+}
+
+#[test]
+fn registers_reset_and_rebased(rt: HostRuntime) -> std::result::Result<(), Fail> {
+    let marked: &[u8] = &[2, 42, 6, 7, 10, 11, 0, 2, 4, 9];
+    let unit = unit(rt.alloc(), HEADER, marked)?;
+    check_registers(&rt, rt.alloc(), slice(&unit))?;
+    Ok(())
+}
+
+/// The registers of a row of one-byte addresses behind each of these steps.
+fn check_registers<R: Reader>(rt: &impl Abort, alloc: Global, unit: R) -> Result<()> {
+    let mut program = program(alloc, unit, 1)?;
+    let mut row = LineRow::new(program.header());
+    check_reset(rt, &mut row, &mut program)?;
+    check_hidden(rt, &mut row, &mut program)?;
+    check_rebased(rt, &mut row, &mut program)?;
+    check_ended(rt, &mut row, &mut program)?;
+    Ok(())
+}

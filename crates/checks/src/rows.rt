@@ -1,0 +1,279 @@
+//! The rows of a run, one by one: what comes behind the last row and behind a refusal, and the files at a row.
+
+use crate::units::{HEADER, file_count, is_text, program, slice, unit};
+use gimli_core::{Error, Reader, ReaderOffsetId};
+use gimli_line::{LineProgramHeader, LineRow, OneShotLineRows, ResumedLineRows};
+use std::alloc::Global;
+use std::process::Abort;
+use std::test::Fail;
+
+/// What `next_row` answers.
+#[derive(Clone, Copy, Debug, PartialEq, Eq)]
+pub enum Event {
+    /// A row, by its address, op_index and line.
+    Row(u64, u64, u64),
+    /// The same of the end of a sequence.
+    End(u64, u64, u64),
+    /// The address overflows.
+    Overflow,
+    /// Bytes are wanting.
+    Eof,
+    /// Any other refusal.
+    Other,
+    /// There is nothing more.
+    Done,
+}
+
+use Event::{Done, End, Eof, Other, Overflow, Row};
+
+/// A row by its pointer and its line.
+fn event_of(row: &LineRow) -> Event {
+    let line = match row.line() {
+        Some(line) => line.get(),
+        None => 0,
+    };
+    if row.end_sequence() {
+        End(row.address(), row.op_index(), line)
+    } else {
+        Row(row.address(), row.op_index(), line)
+    }
+}
+
+/// The next event of a run.
+pub fn next<R: Reader>(rows: &mut OneShotLineRows<R>) -> Event {
+    match rows.next_row() {
+        Ok(Some((_, row))) => event_of(row),
+        Ok(None) => Done,
+        Err(Error::AddressOverflow) => Overflow,
+        Err(Error::UnexpectedEof(_)) => Eof,
+        Err(_) => Other,
+    }
+}
+
+/// Whether a run gives these events, and nothing behind them, however often it is asked.
+pub fn gives<R: Reader>(rows: &mut OneShotLineRows<R>, events: &[Event]) -> bool {
+    for event in events {
+        if next(rows) != *event {
+            return false;
+        }
+    }
+    next(rows) == Done && next(rows) == Done
+}
+
+/// The same of a unit.
+fn unit_gives<R: Reader>(
+    alloc: Global,
+    unit: R,
+    size: u8,
+    events: &[Event],
+) -> gimli_core::Result<bool> {
+    let mut rows = program(alloc, unit, size)?.rows();
+    Ok(gives(&mut rows, events))
+}
+
+/// Programs, the size of their addresses, and the events. Behind an instruction that isn't there nothing comes;
+/// behind an address that overflows the run goes on.
+const RUNS: [(&[u8], u8, &[Event]); 7] = [
+    (&[], 4, &[]),
+    (&[1], 4, &[Row(0, 0, 1)]),
+    (&[0, 0, 1], 4, &[Eof]),
+    (&[1, 0x21, 2, 0x80], 4, &[Row(0, 0, 1), Row(1, 0, 2), Eof]),
+    (&[2, 0xff, 1, 2, 1, 1], 1, &[Overflow, Row(255, 0, 1)]),
+    (&[2, 0xff, 1, 0x21, 1], 1, &[Overflow, Row(255, 0, 2)]),
+    (
+        &[2, 0xff, 1, 2, 1, 8, 1, 0, 1, 1, 1],
+        1,
+        &[
+            Overflow,
+            Overflow,
+            Row(255, 0, 1),
+            End(255, 0, 1),
+            Row(0, 0, 1),
+        ],
+    ),
+];
+
+#[test]
+fn behind_the_last_row_and_behind_a_refusal(rt: HostRuntime) -> Result<(), Fail> {
+    for (bytes, size, events) in RUNS {
+        let unit = unit(rt.alloc(), HEADER, bytes)?;
+        let found = unit_gives(rt.alloc(), slice(&unit), size, events)?;
+        assert!(rt; found, "at {bytes:?}");
+    }
+    Ok(())
+}
+
+// ---- faults of cutting
+
+/// The refusal of cutting the program of a unit.
+fn refusal<R: Reader>(alloc: Global, unit: R, size: u8) -> Option<Error> {
+    match program(alloc, unit, size) {
+        Ok(program) => program.sequences().err(),
+        Err(e) => Some(e),
+    }
+}
+
+/// Programs, the size of their addresses, and what refuses to cut them: a fault behind the last end too, and of two
+/// faults the first.
+const UNCUT: [(&[u8], u8, Option<Error>); 4] = [
+    (
+        b"\x01\0\x01\x01\0",
+        4,
+        Some(Error::UnexpectedEof(ReaderOffsetId(0))),
+    ),
+    (
+        b"\x01\0\x01\x01\x02\xff\x01\x02\x01",
+        1,
+        Some(Error::AddressOverflow),
+    ),
+    (b"\x02\xff\x01\x02\x01\0", 1, Some(Error::AddressOverflow)),
+    (b"", 4, None),
+];
+
+#[test]
+fn first_fault_of_cutting(rt: HostRuntime) -> Result<(), Fail> {
+    for (bytes, size, refused) in UNCUT {
+        let unit = unit(rt.alloc(), HEADER, bytes)?;
+        let found = refusal(rt.alloc(), slice(&unit), size);
+        assert_eq!(rt; found, refused, "at {bytes:?}");
+    }
+    Ok(())
+}
+
+// ---- files at a row
+
+/// A row in file 2, then file 2 is defined, then a row, an end.
+const DEFINES_BEHIND_A_ROW: &[u8] = b"\x04\x02\x01\0\x08\x03b.c\0\0\0\0\x01\0\x01\x01";
+
+/// How many files the header has at the next row, and whether the row is in the defined file.
+fn file_of_next<R: Reader>(rows: &mut OneShotLineRows<R>) -> (usize, bool) {
+    match rows.next_row() {
+        Ok(Some((header, row))) => (file_count(header), is_in_file(header, row, b"b.c")),
+        _ => (0, false),
+    }
+}
+
+/// The file of a row has this path.
+fn is_in_file<R: Reader>(header: &LineProgramHeader<R>, row: &LineRow, path: &[u8]) -> bool {
+    is_text(row.file(header).map(|file| file.path_name()), path)
+}
+
+/// The header of a run has the files that were defined so far.
+fn check_files<R: Reader>(rt: &impl Abort, alloc: Global, unit: R) -> gimli_core::Result<()> {
+    let mut rows = program(alloc, unit, 4)?.rows();
+    assert_eq!(rt; file_count(rows.header()), 1);
+    for expected in [(1, false), (2, true), (2, true), (0, false)] {
+        assert_eq!(rt; file_of_next(&mut rows), expected);
+    }
+    assert_eq!(rt; file_count(rows.header()), 2);
+    Ok(())
+}
+
+/// The three rows of a sequence are in the defined file.
+fn check_rows_of_sequence<R: Reader>(
+    rt: &impl Abort,
+    rows: ResumedLineRows<'_, R>,
+) -> gimli_core::Result<()> {
+    let mut rows = rows;
+    for _ in 0..3 {
+        let named = match rows.next_row()? {
+            Some((header, row)) => is_in_file(header, row, b"b.c"),
+            None => false,
+        };
+        assert!(rt; named);
+    }
+    Ok(())
+}
+
+/// A program of two files and one sequence, whose rows are in the second.
+fn check_files_of_sequence<R: Reader>(
+    rt: &impl Abort,
+    alloc: Global,
+    unit: R,
+) -> gimli_core::Result<()> {
+    let (program, sequences) = program(alloc, unit, 4)?.sequences()?;
+    assert_eq!(rt; file_count(program.header()), 2);
+    assert_eq!(rt; sequences.len(), 1);
+    for sequence in &sequences {
+        check_rows_of_sequence(rt, program.resume_from(sequence))?;
+    }
+    Ok(())
+}
+
+#[test]
+fn files_before_and_behind_a_definition(rt: HostRuntime) -> Result<(), Fail> {
+    let unit = unit(rt.alloc(), HEADER, DEFINES_BEHIND_A_ROW)?;
+    check_files(&rt, rt.alloc(), slice(&unit))?;
+    check_files_of_sequence(&rt, rt.alloc(), slice(&unit))?;
+    Ok(())
+}
+
+// ---- copies of runs
+
+/// A run of a unit's only sequence gives these rows.
+fn resumed_gives<R: Reader>(rows: ResumedLineRows<'_, R>, events: &[Event]) -> bool {
+    let mut rows = rows;
+    for event in events {
+        match rows.next_row() {
+            Ok(Some((_, row))) if event_of(row) == *event => {}
+            _ => return false,
+        }
+    }
+    matches!(rows.next_row(), Ok(None))
+}
+
+/// The rows of the demo unit.
+const DEMO_ROWS: [Event; 3] = [Row(0x1000, 0, 1), Row(0x1004, 0, 3), End(0x1008, 0, 3)];
+
+/// A copy of a run in its middle gives the rows that are still to come; so does the run.
+fn check_resumed_copies<R: Reader>(
+    rt: &impl Abort,
+    rows: ResumedLineRows<'_, R>,
+) -> gimli_core::Result<()> {
+    let mut rows = rows;
+    assert!(rt; resumed_gives(rows.clone(), &DEMO_ROWS));
+    rows.next_row()?;
+    assert!(rt; resumed_gives(rows.clone(), &DEMO_ROWS[1..]));
+    assert!(rt; resumed_gives(rows, &DEMO_ROWS[1..]));
+    Ok(())
+}
+
+/// A copy of a sequence tells the same addresses, and gives the same rows; so does a copy of the program.
+fn check_copied_sequences<R: Reader>(
+    rt: &impl Abort,
+    alloc: Global,
+    unit: R,
+) -> gimli_core::Result<()> {
+    let (program, sequences) = program(alloc, unit, 4)?.sequences()?;
+    assert_eq!(rt; sequences.len(), 1);
+    for sequence in &sequences {
+        let copy = sequence.clone();
+        assert_eq!(rt; (copy.start, copy.end), (0x1000, 0x1008));
+        assert!(rt; resumed_gives(program.resume_from(&copy), &DEMO_ROWS));
+        check_resumed_copies(rt, program.resume_from(sequence))?;
+        let other = program.clone()?;
+        assert!(rt; resumed_gives(other.resume_from(sequence), &DEMO_ROWS));
+    }
+    Ok(())
+}
+
+/// A copy of a run gives the same rows, as the run does afterwards.
+fn check_copied_run<R: Reader>(rt: &impl Abort, alloc: Global, unit: R) -> Result<(), Fail> {
+    let program = program(alloc, unit, 4)?;
+    let mut copy = program.clone()?.rows();
+    assert!(rt; gives(&mut copy, &DEMO_ROWS));
+    let mut rows = program.rows();
+    assert_eq!(rt; next(&mut rows), Row(0x1000, 0, 1));
+    let mut copy = rows.clone()?;
+    assert!(rt; gives(&mut copy, &DEMO_ROWS[1..]));
+    assert!(rt; gives(&mut rows, &DEMO_ROWS[1..]));
+    Ok(())
+}
+
+#[test]
+fn copies_of_runs_and_sequences(rt: HostRuntime) -> Result<(), Fail> {
+    let unit = slice(crate::units::DEMO_UNIT);
+    check_copied_run(&rt, rt.alloc(), unit)?;
+    check_copied_sequences(&rt, rt.alloc(), unit)?;
+    Ok(())
+}

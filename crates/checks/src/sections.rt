@@ -1,0 +1,200 @@
+//! Sections and vectors: their bytes and their copies, and what stands of them where a unit is refused.
+
+ghost use Rattle.std.specs.Prelude.{[]};
+ghost use Rattle.gimli_write.specs.Conditions.{CanWrite};
+
+use crate::built::{demo, demo_at, write};
+use crate::units::{DEMO_UNIT, numbers};
+use gimli_core::{
+    BigEndian, DebugLineOffset, DebugLineStrOffset, DebugStrOffset, Encoding, LittleEndian,
+};
+use gimli_write::{
+    Address, DebugLine, DebugLineStr, DebugStr, EndianVec, Error, Leb128, LineProgram,
+    LineStringTable, Result, RoundTrip, StringTable, Writer, round_trip,
+};
+use std::alloc::Global;
+use std::process::Abort;
+use std::test::Fail;
+
+// ---- vectors
+
+/// A copy is written to alone.
+fn check_copy(rt: &impl Abort, w: &EndianVec<BigEndian>) -> Result<()> {
+    let mut copy = w.clone()?;
+    copy.write(b"d")?;
+    assert_eq!(rt; copy.into_vec().as_slice(), b"abcd".as_slice());
+    assert_eq!(rt; w.slice(), b"abc".as_slice());
+    Ok(())
+}
+
+fn check_take(rt: &impl Abort, w: &mut EndianVec<BigEndian>) -> Result<()> {
+    assert_eq!(rt; w.take().as_slice(), b"abc".as_slice());
+    assert_eq!(rt; w.slice(), b"".as_slice());
+    w.write_u16(1)?;
+    assert_eq!(rt; w.slice(), [0, 1].as_slice());
+    Ok(())
+}
+
+#[test]
+fn copies_and_taken_bytes(rt: HostRuntime) -> std::result::Result<(), Fail> {
+    let mut w = EndianVec::new(rt.alloc(), BigEndian);
+    assert_eq!(rt; w.endian(), BigEndian);
+    w.write(b"abc")?;
+    check_copy(&rt, &w)?;
+    check_take(&rt, &mut w)?;
+    Ok(())
+}
+
+/// The numbers of DWARF 5, section 7.6.
+#[test]
+fn numbers_by_themselves(rt: HostRuntime) {
+    for (number, bytes) in [(2, [0x02].as_slice()), (127, &[0x7f]), (128, &[0x80, 1])] {
+        assert_eq!(rt; Leb128::unsigned(number).bytes(), bytes, "at {number}");
+    }
+    for (number, bytes) in [(2, [0x02].as_slice()), (-2, &[0x7e]), (-127, &[0x81, 0x7f])] {
+        assert_eq!(rt; Leb128::signed(number).bytes(), bytes, "at {number}");
+    }
+}
+
+// ---- sections
+
+/// The offset of a section is that of what is appended next.
+#[test]
+fn offsets_of_sections(rt: HostRuntime) -> std::result::Result<(), Fail> {
+    let mut lines = DebugLine::from(EndianVec::new(rt.alloc(), LittleEndian));
+    let mut strings = DebugStr::from(EndianVec::new(rt.alloc(), BigEndian));
+    let mut line_strings = DebugLineStr::from(EndianVec::new(rt.alloc(), BigEndian));
+    assert_eq!(rt; lines.offset(), DebugLineOffset(0));
+    lines.0.write(b"abc")?;
+    strings.0.write(b"ab")?;
+    line_strings.0.write(b"a")?;
+    assert_eq!(rt; lines.offset(), DebugLineOffset(3));
+    assert_eq!(rt; strings.offset(), DebugStrOffset(2));
+    assert_eq!(rt; line_strings.offset(), DebugLineStrOffset(1));
+    Ok(())
+}
+
+/// The tables of a section hold ids, texts and offsets, and are written behind what is there.
+#[test]
+fn tables_of_texts(rt: HostRuntime) -> std::result::Result<(), Fail> {
+    let mut table = LineStringTable::default(rt.alloc());
+    let directory = table.add(b"/w")?;
+    let file = table.add(b"a.c")?;
+    assert!(rt; table.add(b"/w")? == directory && directory != file);
+    assert!(rt; directory.0 < table.count() && file.0 < table.count());
+    assert_eq!(rt; table.get(file), b"a.c".as_slice());
+    assert_eq!(rt; table.offset(file), DebugLineStrOffset(3));
+    assert_eq!(rt; table.count(), 2);
+    let mut section = DebugLineStr::from(EndianVec::new(*table.allocator(), BigEndian));
+    section.0.write(b"..")?;
+    table.write(&mut section)?;
+    assert_eq!(rt; section.0.slice(), b"../w\0a.c\0".as_slice());
+    Ok(())
+}
+
+// ---- units behind other bytes
+
+/// A section of three bytes.
+fn section_of_three(alloc: Global) -> Result<DebugLine<EndianVec<LittleEndian>>> {
+    let mut section = DebugLine::from(EndianVec::new(alloc, LittleEndian));
+    section.0.write(b"\xaa\xbb\xcc")?;
+    Ok(section)
+}
+
+/// A unit that can't be written whole leaves the old bytes as a beginning.
+fn check_refused(rt: &impl Abort, alloc: Global) -> Result<()> {
+    let symbol = Address::Symbol {
+        symbol: 0,
+        addend: 0,
+    };
+    let program = demo_at(alloc, symbol)?;
+    let mut section = section_of_three(alloc)?;
+    let answer = write(alloc, &program, &mut section);
+    assert_eq!(rt; answer, Err(Error::InvalidAddress));
+    assert!(rt; section.0.slice().starts_with(b"\xaa\xbb\xcc"));
+    Ok(())
+}
+
+/// Of a unit of another address size nothing is appended.
+fn check_incompatible(rt: &impl Abort, alloc: Global, program: &LineProgram) -> Result<()>
+    requires { CanWrite program.now [] [] }
+{
+    let mut strings = StringTable::default(alloc);
+    let mut line_strings = LineStringTable::default(alloc);
+    let mut section = section_of_three(alloc)?;
+    let encoding = Encoding {
+        address_size: 8,
+        ..program.encoding()
+    };
+    let answer = program.write(&mut section, encoding, &mut line_strings, &mut strings);
+    assert_eq!(rt; answer, Err(Error::IncompatibleLineProgramEncoding));
+    assert_eq!(rt; section.0.slice(), b"\xaa\xbb\xcc".as_slice());
+    Ok(())
+}
+
+/// A unit stands behind the old bytes, at the offset that is answered.
+fn check_written(rt: &impl Abort, alloc: Global, program: &LineProgram) -> Result<()>
+    requires { CanWrite program.now [] [] }
+{
+    let mut section = section_of_three(alloc)?;
+    assert_eq!(rt; write(alloc, program, &mut section)?, DebugLineOffset(3));
+    assert!(rt; section.0.slice().starts_with(b"\xaa\xbb\xcc"));
+    assert!(rt; section.0.slice().ends_with(DEMO_UNIT));
+    assert_eq!(rt; section.0.len(), 54);
+    Ok(())
+}
+
+#[test]
+fn units_behind_other_bytes(rt: HostRuntime) -> std::result::Result<(), Fail> {
+    let program = demo(rt.alloc())?;
+    check_written(&rt, rt.alloc(), &program)?;
+    check_incompatible(&rt, rt.alloc(), &program)?;
+    check_refused(&rt, rt.alloc())?;
+    Ok(())
+}
+
+/// What is read of the demo unit, wherever it stands.
+fn check_read(rt: &impl Abort, answer: &RoundTrip) {
+    assert_eq!(rt; answer.offset, DebugLineOffset(3));
+    assert_eq!(rt; answer.directories.len(), 1);
+    assert_eq!(rt; answer.files.len(), 1);
+    assert_eq!(rt; answer.rows.len(), 3);
+    for (row, expected) in answer.rows.iter().zip([
+        [0x1000, 0, 1, 1, 0, 0, 0],
+        [0x1004, 0, 1, 3, 0, 0, 0],
+        [0x1008, 0, 1, 3, 0, 0, 0],
+    ]) {
+        assert_eq!(rt; numbers(row), expected);
+    }
+}
+
+/// A round trip behind three bytes.
+fn check_round_trip(
+    rt: &impl Abort,
+    alloc: Global,
+    program: &LineProgram,
+) -> std::result::Result<(), Fail>
+    requires { CanWrite program.now [] [] }
+{
+    let mut strings = StringTable::default(alloc);
+    let mut line_strings = LineStringTable::default(alloc);
+    let mut section = section_of_three(alloc)?;
+    let encoding = program.encoding();
+    let answer = round_trip(
+        program,
+        &mut section,
+        encoding,
+        &mut line_strings,
+        &mut strings,
+    )?;
+    check_read(rt, &answer);
+    assert!(rt; section.0.slice().starts_with(b"\xaa\xbb\xcc"));
+    assert!(rt; section.0.slice().ends_with(DEMO_UNIT));
+    Ok(())
+}
+
+#[test]
+fn round_trip_behind_other_bytes(rt: HostRuntime) -> std::result::Result<(), Fail> {
+    let program = demo(rt.alloc())?;
+    check_round_trip(&rt, rt.alloc(), &program)
+}

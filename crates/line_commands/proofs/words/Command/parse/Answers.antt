@@ -1,0 +1,30 @@
+use Rattle.std.proofs.Common.{◌≡◌, ◌<◌, ◌≤◌, ℕ, map, length, get_or, List, [], ◌∷◌, Bor, refl, arith}
+use Rattle.line_commands.proofs.words.Command.parse.Goals as goal
+
+-- the texts of five words
+five : (words : List (Bor (List ℕ))) (d : Bor (List ℕ)) → 5 ≤ length words → length words < 6
+    → map (λ word. word.now) words ≡ (get_or words 0 d).now ∷ (get_or words 1 d).now ∷ (get_or words 2 d).now ∷ (get_or words 3 d).now ∷ (get_or words 4 d).now ∷ []
+five [] d l m = grind arith
+five (a ∷ []) d l m = grind arith
+five (a ∷ b ∷ []) d l m = grind arith
+five (a ∷ b ∷ c ∷ []) d l m = grind arith
+five (a ∷ b ∷ c ∷ e ∷ []) d l m = grind arith
+five (a ∷ b ∷ c ∷ e ∷ f ∷ []) d l m = refl
+five (a ∷ b ∷ c ∷ e ∷ f ∷ g ∷ rest) d l m = grind arith
+
+-- src/words.rt:55:5
+pub returns-in_ok-parse-in-rows-clause-command : goal.returns-in_ok-parse-in-rows-clause-command
+returns-in_ok-parse-in-rows-clause-command c =
+    let words = c.args.words.now in
+    let d : Bor (List ℕ) = record { ref_ptr = (0, 0); now = [] } in
+    let is_rows = c.in-rows.is-rows in
+    let whole = five words d c.in-rows.len_at_least c.in-rows.len_below in
+    ((get_or words 1 d).now, (get_or words 2 d).now, (get_or words 3 d).now, (get_or words 4 d).now, cc, c.in_ok-parse-in-rows.ensures.named)
+
+pub returns-in_ok-parse-in-sequences-clause-command : goal.returns-in_ok-parse-in-sequences-clause-command
+returns-in_ok-parse-in-sequences-clause-command c =
+    let words = c.args.words.now in
+    let d : Bor (List ℕ) = record { ref_ptr = (0, 0); now = [] } in
+    let is_sequences = c.in-sequences.is-sequences in
+    let whole = five words d c.in-sequences.len_at_least c.in-sequences.len_below in
+    ((get_or words 1 d).now, (get_or words 2 d).now, (get_or words 3 d).now, (get_or words 4 d).now, cc, c.in_ok-parse-in-sequences.ensures.named)

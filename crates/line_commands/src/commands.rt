@@ -1,0 +1,200 @@
+//! What the program does, over its words, a reader in the place of the file, and writers in the place of standard
+//! output and standard error.
+
+ghost use Rattle.std.specs.Prelude.{◌≡◌, ◌≢◌, ◌≤◌, Err, IfErr, IsNone, map};
+ghost use Rattle.line_commands.specs.Words.{IsCommand, ReadsFile};
+
+use crate::demo::print_demo;
+use crate::print::{RowLine, SequenceLine};
+use crate::refusal::Refusal;
+use crate::words::{Command, Place};
+use gimli_core::{DebugLineOffset, EndianSlice, Reader, RunTimeEndian};
+use gimli_line::{
+    CompleteLineProgram, DebugLine, IncompleteLineProgram, LineProgram, LineRow, LineRows,
+    LineSequence, ResumedLineRows,
+};
+use std::alloc::Global;
+use std::io::{Read, Write};
+
+/// Does what the words after the program's name ask for, and answers the status of the program. `file` is the
+/// opened file that the second word names, where there is one.
+pub fn run<F: Read + Drop, O: Write, E: Write>(
+    alloc: Global,
+    words: &[&str],
+    file: Option<F>,
+    out: &mut O,
+    err: &mut E,
+) -> u8
+    ensures usage { ((command : Command) → IsCommand (map (λ word. word.now) words.now) command → ⊥) → result ≡ 2 }
+    ensures command { (command : Command) → IsCommand (map (λ word. word.now) words.now) command → result ≤ 1 }
+    ensures no_file { (command : Command) → IsCommand (map (λ word. word.now) words.now) command → ReadsFile command → IsNone file → result ≡ 1 }
+{
+    match perform(alloc, words, file, out) {
+        Ok(()) => 0,
+        Err(refusal) => refusal.report(err),
+    }
+}
+
+/// Does what the words ask for.
+fn perform<F: Read + Drop, O: Write>(
+    alloc: Global,
+    words: &[&str],
+    file: Option<F>,
+    out: &mut O,
+) -> Result<(), Refusal>
+    ensures usage { ((command : Command) → IsCommand (map (λ word. word.now) words.now) command → ⊥) → result ≡ Err Refusal.Usage }
+    ensures command { (command : Command) → IsCommand (map (λ word. word.now) words.now) command → result ≢ Err Refusal.Usage }
+    ensures no_file { (command : Command) → IsCommand (map (λ word. word.now) words.now) command → ReadsFile command → IsNone file → result ≡ Err Refusal.File }
+{
+    match Command::parse(words).ok_or(Refusal::Usage)? {
+        Command::Demo => print_demo(alloc, out),
+        Command::Rows(place) => {
+            let section = read_section(alloc, file)?;
+            print_unit(alloc, &section, place, out)
+        }
+        Command::Sequences(place) => {
+            let section = read_section(alloc, file)?;
+            print_sequences(alloc, &section, place, out)
+        }
+    }
+}
+
+/// The bytes of the file.
+fn read_section<F: Read + Drop>(alloc: Global, file: Option<F>) -> Result<Vec<u8>, Refusal>
+    ensures no_file { IsNone file → result ≡ Err Refusal.File }
+    ensures refusal { IfErr result (λ r. r ≢ Refusal.Usage) }
+{
+    let mut section = Vec::new(alloc);
+    match file.ok_or(Refusal::File)?.read_to_end(&mut section) {
+        Ok(_) => Ok(section),
+        Err(e) => Err(Refusal::of_reading(&e)),
+    }
+}
+
+/// Prints the rows of a unit.
+fn print_unit<O: Write>(
+    alloc: Global,
+    section: &[u8],
+    place: Place,
+    out: &mut O,
+) -> Result<(), Refusal>
+    ensures refusal { IfErr result (λ r. r ≢ Refusal.Usage) }
+{
+    let program = program_at(alloc, section, place)?;
+    let outcome = print_rows(program.rows(), out);
+    finished(outcome, out)
+}
+
+/// Prints the sequences of a unit. Nothing is printed where it can't be cut.
+fn print_sequences<O: Write>(
+    alloc: Global,
+    section: &[u8],
+    place: Place,
+    out: &mut O,
+) -> Result<(), Refusal>
+    ensures refusal { IfErr result (λ r. r ≢ Refusal.Usage) }
+{
+    let program = program_at(alloc, section, place)?;
+    let (program, sequences) = program
+        .sequences()
+        .map_err(|e| Refusal::of_unit(e, Refusal::Rows))?;
+    let outcome = print_each(&program, &sequences, out);
+    finished(outcome, out)
+}
+
+/// What became of a command whose output is complete.
+pub(crate) fn finished<O: Write>(outcome: Result<(), Refusal>, out: &mut O) -> Result<(), Refusal>
+    requires { IfErr outcome (λ r. r ≢ Refusal.Usage) }
+    ensures refusal { IfErr result (λ r. r ≢ Refusal.Usage) }
+{
+    match out.flush() {
+        Ok(()) => outcome,
+        Err(_) => Err(Refusal::Output),
+    }
+}
+
+/// Prints sequences one after the other, each with its rows.
+fn print_each<R: Reader, O: Write>(
+    program: &CompleteLineProgram<R>,
+    sequences: &[LineSequence<R>],
+    out: &mut O,
+) -> Result<(), Refusal>
+    ensures refusal { IfErr result (λ r. r ≢ Refusal.Usage) }
+{
+    for sequence in sequences {
+        let line = SequenceLine {
+            start: sequence.start,
+            end: sequence.end,
+            rows: count_of_rows(program.resume_from(sequence)),
+        };
+        print_line(line, out)?;
+        print_rows(program.resume_from(sequence), out)?;
+    }
+    Ok(())
+}
+
+/// How many rows are still to come.
+fn count_of_rows<R: Reader>(rows: ResumedLineRows<'_, R>) -> u64 {
+    let mut rows = rows;
+    for count in 0..u64::MAX {
+        match rows.next_row() {
+            Ok(Some(_)) => {}
+            Ok(None) | Err(_) => return count,
+        }
+    }
+    u64::MAX
+}
+
+/// Prints the line of a sequence.
+fn print_line<O: Write>(line: SequenceLine, out: &mut O) -> Result<(), Refusal>
+    ensures refusal { IfErr result (λ r. r ≡ Refusal.Output) }
+{
+    match writeln!(out, "{line}") {
+        Ok(()) => Ok(()),
+        Err(_) => Err(Refusal::Output),
+    }
+}
+
+/// Prints the rows that are still to come. The first fault stops it, after the rows before it.
+fn print_rows<R: Reader, P: LineProgram<R> + Drop, O: Write>(
+    rows: LineRows<R, P>,
+    out: &mut O,
+) -> Result<(), Refusal>
+    ensures refusal { IfErr result (λ r. r ≢ Refusal.Usage) }
+{
+    let mut rows = rows;
+    'rows: loop {
+        let row = match rows.next_row() {
+            Ok(Some((_, row))) => *row,
+            Ok(None) => return Ok(()),
+            Err(e) => return Err(Refusal::of_unit(e, Refusal::Rows)),
+        };
+        print_row(row, out)?;
+    }
+}
+
+/// Prints the line of a row.
+pub(crate) fn print_row<O: Write>(row: LineRow, out: &mut O) -> Result<(), Refusal>
+    ensures refusal { IfErr result (λ r. r ≡ Refusal.Output) }
+{
+    let line = RowLine(row);
+    match writeln!(out, "{line}") {
+        Ok(()) => Ok(()),
+        Err(_) => Err(Refusal::Output),
+    }
+}
+
+/// The program of a unit, without a directory or a name from outside.
+fn program_at<'i>(
+    alloc: Global,
+    section: &'i [u8],
+    place: Place,
+) -> Result<IncompleteLineProgram<EndianSlice<'i, RunTimeEndian>>, Refusal>
+    ensures refusal { IfErr result (λ r. r ≢ Refusal.Usage) }
+{
+    let section = DebugLine::new(section, place.order);
+    let offset = DebugLineOffset(place.offset);
+    section
+        .program(alloc, offset, place.address_size.bytes(), None, None)
+        .map_err(|e| Refusal::of_unit(e, Refusal::Header))
+}

@@ -1,0 +1,140 @@
+//! A unit that is built, written, and read again.
+
+ghost use Rattle.std.specs.Prelude.{◌≡◌, ◌≢◌, [], OnOk, IfErr, IfOk};
+ghost use Rattle.gimli_write.specs.Conditions.{CanWrite};
+ghost use Rattle.line_commands.specs.Demo.{IsAtStart};
+
+use crate::commands::{finished, print_row};
+use crate::refusal::Refusal;
+use gimli_core::{Encoding, Format, LineEncoding, LittleEndian};
+use gimli_write::{
+    Address, ConvertError, DebugLine, EndianVec, Error, LineProgram, LineString, LineStringTable,
+    RoundTrip, StringTable, round_trip,
+};
+use row_text::print_bytes;
+use std::alloc::Global;
+use std::io::Write;
+
+/// Prints the bytes of the unit, and what is read of it.
+pub fn print_demo<O: Write>(alloc: Global, out: &mut O) -> Result<(), Refusal>
+    ensures refusal { IfErr result (λ r. r ≢ Refusal.Usage) }
+{
+    let mut section = DebugLine::from(EndianVec::new(alloc, LittleEndian));
+    let answer = write_demo(alloc, &mut section)?;
+    let outcome = print_unit(section.0.slice(), &answer, out);
+    finished(outcome, out)
+}
+
+/// Writes the unit, and reads it again.
+fn write_demo(
+    alloc: Global,
+    section: &mut DebugLine<EndianVec<LittleEndian>>,
+) -> Result<RoundTrip, Refusal>
+    ensures refusal { IfErr result (λ r. r ≢ Refusal.Usage) }
+{
+    let Ok(program) = demo_program(alloc) else {
+        return Err(Refusal::Memory);
+    };
+    let mut strings = StringTable::default(alloc);
+    let mut line_strings = LineStringTable::default(alloc);
+    match round_trip(
+        &program,
+        section,
+        program.encoding(),
+        &mut line_strings,
+        &mut strings,
+    ) {
+        Ok(answer) => Ok(answer),
+        Err(e) => Err(Refusal::of_conversion(e)),
+    }
+}
+
+/// The program of the unit: a file, and a sequence of two rows. Refused by `OutOfMemory` alone.
+fn demo_program(alloc: Global) -> Result<LineProgram, Error>
+    ensures ok { IfOk result (λ program. CanWrite program [] []) }
+    ensures err { IfErr result (λ e. e ≡ Error.OutOfMemory) }
+{
+    let mut program = empty_program(alloc)?;
+    put_file(&mut program, alloc)?;
+    put_rows(&mut program)?;
+    Ok(program)
+}
+
+/// A program of version 4 whose working directory is `/w`. Refused by `OutOfMemory` alone.
+fn empty_program(alloc: Global) -> Result<LineProgram, Error>
+    ensures can { IfOk result (λ program. CanWrite program [] []) }
+    ensures files { IfOk result (λ program. program.files ≡ []) }
+    ensures start { IfOk result IsAtStart }
+    ensures err { IfErr result (λ e. e ≡ Error.OutOfMemory) }
+{
+    let encoding = Encoding {
+        address_size: 4,
+        format: Format::Dwarf32,
+        version: 4,
+    };
+    let working_dir = LineString::String(b"/w".to_vec(alloc)?);
+    let source_file = LineString::String(b"a.c".to_vec(alloc)?);
+    LineProgram::new(
+        alloc,
+        encoding,
+        LineEncoding::default(),
+        working_dir,
+        None,
+        source_file,
+        None,
+    )
+}
+
+/// Adds the file `a.c`. Refused by `OutOfMemory` alone.
+fn put_file(program: &mut LineProgram, alloc: Global) -> Result<(), Error>
+    requires can { CanWrite program.old [] [] }
+    requires files { program.old.files ≡ [] }
+    requires start { IsAtStart program.old }
+    ensures can { OnOk result (CanWrite program.new [] []) }
+    ensures start { OnOk result (IsAtStart program.new) }
+    ensures err { IfErr result (λ e. e ≡ Error.OutOfMemory) }
+{
+    let name = LineString::String(b"a.c".to_vec(alloc)?);
+    let directory = program.default_directory();
+    program.add_file(name, directory, None)?;
+    Ok(())
+}
+
+/// A row at the address, a row 4 bytes and 2 lines further on, and an end 4 bytes later. Refused by `OutOfMemory`
+/// alone.
+fn put_rows(program: &mut LineProgram) -> Result<(), Error>
+    requires can { CanWrite program.old [] [] }
+    requires start { IsAtStart program.old }
+    ensures can { OnOk result (CanWrite program.new [] []) }
+    ensures err { IfErr result (λ e. e ≡ Error.OutOfMemory) }
+{
+    program.set_address(Address::Constant(0x1000))?;
+    program.generate_row()?;
+    move_on(program);
+    program.generate_row()?;
+    program.end_sequence(8)
+}
+
+/// Moves the current row 4 bytes and 2 lines on from the start.
+fn move_on(program: &mut LineProgram)
+    ensures { program.new ≡ record program.old {
+      row = record program.old.row { address_offset = 4; line = 3 };
+    } }
+{
+    let row = program.row();
+    row.address_offset = 4;
+    row.line = 3;
+}
+
+/// Prints bytes and rows.
+fn print_unit<O: Write>(bytes: &[u8], answer: &RoundTrip, out: &mut O) -> Result<(), Refusal>
+    ensures refusal { IfErr result (λ r. r ≢ Refusal.Usage) }
+{
+    if print_bytes(bytes, out).is_err() {
+        return Err(Refusal::Output);
+    }
+    for row in answer.rows.as_slice() {
+        print_row(*row, out)?;
+    }
+    Ok(())
+}

@@ -1,0 +1,13 @@
+//! The commands of the program `linetool`, over its words, a reader in the place of the file, and two writers.
+#![tactic(auto)]
+
+mod commands;
+mod demo;
+mod print;
+mod refusal;
+mod words;
+
+pub use commands::run;
+pub use print::{RowLine, SequenceLine};
+pub use refusal::Refusal;
+pub use words::{AddressSize, Command, Place};

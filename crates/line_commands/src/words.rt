@@ -1,0 +1,135 @@
+//! The words after the program's name, and what they ask for.
+
+ghost use Rattle.std.specs.Prelude.{◌≡◌, ◌<◌, ◌^◌, ◌↔◌, IfSome, IsSome, IsTrue, Some, codes};
+ghost use Rattle.std.specs.Str.Parse.{IsNumeral, digits_value};
+ghost use Rattle.gimli_core.specs.Numbers.{is_address_size};
+
+use gimli_core::RunTimeEndian;
+
+/// A command, with what its words say.
+#[derive(Clone, Copy, Debug, PartialEq, Eq)]
+pub enum Command {
+    /// Prints a unit that is built, and its rows.
+    Demo,
+    /// Prints the rows of a unit.
+    Rows(Place),
+    /// Prints the sequences of a unit, each with its rows.
+    Sequences(Place),
+}
+
+/// Where a unit stands in a section, and how its numbers are read.
+#[derive(Clone, Copy, Debug, PartialEq, Eq)]
+pub struct Place {
+    /// The order of bytes.
+    pub order: RunTimeEndian,
+    /// How wide an address is.
+    pub address_size: AddressSize,
+    /// The offset of the unit in the section.
+    pub offset: usize,
+}
+
+/// How wide an address is.
+#[derive(Clone, Copy, Debug, PartialEq, Eq)]
+pub enum AddressSize {
+    One,
+    Two,
+    Four,
+    Eight,
+}
+
+impl AddressSize {
+    ghost use Rattle.line_commands.specs.Words.{size_number};
+
+    /// The number of bytes.
+    pub fn bytes(self) -> u8
+        ensures size { IsTrue (is_address_size result) }
+        ensures number { result ≡ size_number self }
+    {
+        match self {
+            AddressSize::One => 1,
+            AddressSize::Two => 2,
+            AddressSize::Four => 4,
+            AddressSize::Eight => 8,
+        }
+    }
+}
+
+impl Command {
+    ghost use Rattle.std.specs.Prelude.{map};
+    ghost use Rattle.line_commands.specs.Words.{IsCommand};
+
+    /// What the words ask for; None where they are no command.
+    pub fn parse(words: &[&str]) -> Option<Command>
+        ensures command { IfSome result (IsCommand (map (λ word. word.now) words.now)) }
+        ensures only { (command : Command) → IsCommand (map (λ word. word.now) words.now) command → result ≡ Some command }
+    {
+        match words {
+            ["demo"] => Some(Command::Demo),
+            ["rows", _file, order, size, offset] => {
+                Some(Command::Rows(Place::parse(order, size, offset)?))
+            }
+            ["sequences", _file, order, size, offset] => {
+                Some(Command::Sequences(Place::parse(order, size, offset)?))
+            }
+            _ => None,
+        }
+    }
+}
+
+impl Place {
+    ghost use Rattle.line_commands.specs.Words.{NamesPlace};
+
+    /// The place that three words name.
+    fn parse(order: &str, size: &str, offset: &str) -> Option<Place>
+        ensures named { IfSome result (NamesPlace order.now size.now offset.now) }
+        ensures only { (place : Place) → NamesPlace order.now size.now offset.now place → result ≡ Some place }
+    {
+        let order = parse_order(order)?;
+        let address_size = parse_size(size)?;
+        let offset = parse_offset(offset)?;
+        Some(Place {
+            order,
+            address_size,
+            offset,
+        })
+    }
+}
+
+/// An order of bytes.
+fn parse_order(word: &str) -> Option<RunTimeEndian>
+    ensures little { (result ≡ Some RunTimeEndian.Little) ↔ (word.now ≡ codes "little") }
+    ensures big { (result ≡ Some RunTimeEndian.Big) ↔ (word.now ≡ codes "big") }
+{
+    match word {
+        "little" => Some(RunTimeEndian::Little),
+        "big" => Some(RunTimeEndian::Big),
+        _ => None,
+    }
+}
+
+/// How wide an address is.
+fn parse_size(word: &str) -> Option<AddressSize>
+    ensures one { (result ≡ Some AddressSize.One) ↔ (word.now ≡ codes "1") }
+    ensures two { (result ≡ Some AddressSize.Two) ↔ (word.now ≡ codes "2") }
+    ensures four { (result ≡ Some AddressSize.Four) ↔ (word.now ≡ codes "4") }
+    ensures eight { (result ≡ Some AddressSize.Eight) ↔ (word.now ≡ codes "8") }
+{
+    match word {
+        "1" => Some(AddressSize::One),
+        "2" => Some(AddressSize::Two),
+        "4" => Some(AddressSize::Four),
+        "8" => Some(AddressSize::Eight),
+        _ => None,
+    }
+}
+
+/// A number in decimal digits, where it fits.
+fn parse_offset(word: &str) -> Option<usize>
+    ensures digits { IfSome result (λ n. IsNumeral 10 word.now × (n ≡ digits_value 10 word.now)) }
+    ensures fits { IsNumeral 10 word.now → digits_value 10 word.now < 2 ^ 64 → IsSome result }
+{
+    if word.starts_with('+') {
+        return None;
+    }
+    word.parse::<usize>().ok()
+}

@@ -1,0 +1,142 @@
+//! The commands.
+
+ghost use Rattle.std.specs.Prelude.{◌≡◌, ◌⊎◌, IfOk, Ok};
+
+use crate::header_text::print_header;
+use crate::instruction_text::{print_instructions, print_refusal};
+use crate::request::{Handed, Place};
+use crate::value_text::{Refusal, Slice};
+use gimli_core::{DebugLineOffset, EndianSlice, Error};
+use gimli_line::{DebugLine, IncompleteLineProgram};
+use row_text::Attempts;
+use std::alloc::{AllocError, Global};
+use std::io;
+
+/// Prints the header of a unit, or why it is refused. The words are the order of bytes, the size of an address, the
+/// offset of the unit, and the directory and the name that are handed in. The status is 2 for other words, else 0.
+pub fn header(
+    alloc: Global,
+    words: &[&str],
+    section: &[u8],
+    attempts: Attempts,
+    out: &mut Vec<u8>,
+) -> Result<u8, AllocError>
+    ensures status { IfOk result (λ status. (status ≡ 0) ⊎ (status ≡ 2)) }
+    ensures words { result ≡ Ok 2 → out.new.items ≡ out.old.items }
+{
+    let [order, size, offset, directory, name] = words else {
+        return Ok(2);
+    };
+    let Some(place) = Place::parse(order, size, offset) else {
+        return Ok(2);
+    };
+    let Some(handed) = Handed::parse(alloc, directory, name)? else {
+        return Ok(2);
+    };
+    let unit = Unit {
+        section,
+        place,
+        handed: &handed,
+    };
+    printed(unit.print_header(alloc, attempts, out))
+}
+
+/// Prints the instructions of a unit, or why it is refused. The words are the order of bytes, the size of an address
+/// and the offset of the unit. The status is 2 for other words, else 0.
+pub fn instructions(
+    alloc: Global,
+    words: &[&str],
+    section: &[u8],
+    attempts: Attempts,
+    out: &mut Vec<u8>,
+) -> Result<u8, AllocError>
+    ensures status { IfOk result (λ status. (status ≡ 0) ⊎ (status ≡ 2)) }
+    ensures words { result ≡ Ok 2 → out.new.items ≡ out.old.items }
+{
+    let [order, size, offset] = words else {
+        return Ok(2);
+    };
+    let Some(place) = Place::parse(order, size, offset) else {
+        return Ok(2);
+    };
+    let handed = Handed::nothing();
+    let unit = Unit {
+        section,
+        place,
+        handed: &handed,
+    };
+    printed(unit.print_instructions(alloc, attempts, out))
+}
+
+/// The status of a command whose output went into a vector, which refuses for want of memory alone.
+fn printed(outcome: io::Result<()>) -> Result<u8, AllocError>
+    ensures { IfOk result (λ status. status ≡ 0) }
+{
+    match outcome {
+        Ok(()) => Ok(0),
+        Err(_) => Err(AllocError),
+    }
+}
+
+/// A unit of a section, with what is handed in with it.
+#[derive(Clone, Copy)]
+struct Unit<'i> {
+    section: &'i [u8],
+    place: Place,
+    handed: &'i Handed,
+}
+
+impl<'i> Unit<'i> {
+    /// Prints the header, or why it is refused.
+    fn print_header(self, alloc: Global, attempts: Attempts, out: &mut Vec<u8>) -> io::Result<()> {
+        match self.program(alloc, attempts) {
+            Ok(program) => print_header(program.header(), out),
+            Err(e) => print_refusal(Refusal(e), out),
+        }
+    }
+
+    /// Prints the instructions, or why the header is refused.
+    fn print_instructions(
+        self,
+        alloc: Global,
+        attempts: Attempts,
+        out: &mut Vec<u8>,
+    ) -> io::Result<()> {
+        match self.program(alloc, attempts) {
+            Ok(program) => print_instructions(program.header(), out),
+            Err(e) => print_refusal(Refusal(e), out),
+        }
+    }
+
+    /// The program of the unit. Where memory was refused it is made once more, if that is asked for.
+    fn program(
+        self,
+        alloc: Global,
+        attempts: Attempts,
+    ) -> gimli_core::Result<IncompleteLineProgram<Slice<'i>>> {
+        match self.parse(alloc) {
+            Err(Error::OutOfMemory) if attempts == Attempts::Two => self.parse(alloc),
+            outcome => outcome,
+        }
+    }
+
+    /// The program of the unit.
+    fn parse(self, alloc: Global) -> gimli_core::Result<IncompleteLineProgram<Slice<'i>>> {
+        let section = DebugLine::new(self.section, self.place.order);
+        section.program(
+            alloc,
+            DebugLineOffset(self.place.offset),
+            self.place.address_size.bytes(),
+            self.reader(&self.handed.directory),
+            self.reader(&self.handed.name),
+        )
+    }
+
+    /// A reader over a text that is handed in.
+    fn reader(self, text: &'i Option<Vec<u8>>) -> Option<Slice<'i>> {
+        match text {
+            Some(text) => Some(EndianSlice::new(text, self.place.order)),
+            None => None,
+        }
+    }
+}

@@ -1,0 +1,74 @@
+//! What must stand where memory is refused to the rows of a unit.
+
+use crate::run::print_line;
+use gimli_core::{DebugLineOffset, EndianSlice, Error, Reader, RunTimeEndian};
+use gimli_line::{DebugLine, IncompleteLineProgram, LineProgram, LineRows};
+use line_commands::Place;
+use std::alloc::{AllocError, Global};
+
+/// The rows of a unit, where memory is refused them: the files must be as before, and each later call must say that
+/// there is no more row. Prints `state` and the count of calls where this doesn't hold.
+pub fn watch_rows(
+    alloc: Global,
+    section: &[u8],
+    place: Place,
+    out: &mut Vec<u8>,
+) -> Result<(), AllocError> {
+    let Some(program) = program_at(alloc, section, place) else {
+        return Ok(());
+    };
+    match refused_call(program.rows()) {
+        Some((call, Left::Broken)) => print_line(out, format_args!("state {call}")),
+        _ => Ok(()),
+    }
+}
+
+/// The program of a unit, by a second call where the first is refused memory.
+fn program_at<'i>(
+    alloc: Global,
+    section: &'i [u8],
+    place: Place,
+) -> Option<IncompleteLineProgram<EndianSlice<'i, RunTimeEndian>>> {
+    let section = DebugLine::new(section, place.order);
+    let offset = DebugLineOffset(place.offset);
+    let size = place.address_size.bytes();
+    match section.program(alloc, offset, size, None, None) {
+        Err(Error::OutOfMemory) => section.program(alloc, offset, size, None, None).ok(),
+        answer => answer.ok(),
+    }
+}
+
+/// What a refused call left.
+#[derive(Clone, Copy, Debug, PartialEq, Eq)]
+enum Left {
+    /// What must stand.
+    AsBefore,
+    /// Something else.
+    Broken,
+}
+
+/// The count of the call that memory was refused to, and what it left; None where there is none.
+fn refused_call<R: Reader, P: LineProgram<R> + Drop>(rows: LineRows<R, P>) -> Option<(u64, Left)> {
+    let mut rows = rows;
+    for call in 1..u64::MAX {
+        let files = rows.header().file_names().len();
+        match rows.next_row() {
+            Ok(Some(_)) => {}
+            Ok(None) => return None,
+            Err(Error::OutOfMemory) => return Some((call, left_by(rows, files))),
+            Err(_) => return None,
+        }
+    }
+    None
+}
+
+/// What a refused call left, after which there must be so many files and no row.
+fn left_by<R: Reader, P: LineProgram<R> + Drop>(rows: LineRows<R, P>, files: usize) -> Left {
+    let mut rows = rows;
+    for _ in 0..3 {
+        if rows.header().file_names().len() != files || !matches!(rows.next_row(), Ok(None)) {
+            return Left::Broken;
+        }
+    }
+    Left::AsBefore
+}

@@ -1,0 +1,156 @@
+//! The program `vectors`: runs rows, each a command with its input and the output that is expected of it.
+//!
+//! | Words | Does |
+//! |---|---|
+//! | `check FILE..` | runs the rows of these files; prints each row whose output isn't the expected one, and for each file how many are as stated. Status 0 where all are, else 1 |
+//! | `again FILE..` | the same, with each call that answers want of memory made once more; `state LINE` where something doesn't stand as it must. Status 0, or 3 where the program's own memory is refused |
+//! | `write` | reads builder scripts from standard input, and prints what each gives |
+//! | `header FILE little\|big SIZE OFFSET DIR NAME` | prints a header |
+//! | `instructions FILE little\|big SIZE OFFSET` | prints the instructions of a unit |
+//!
+//! Other words, a bad script and a file that isn't one of rows: status 2, with a line on standard error.
+//!
+//! A row stands in a file so:
+//!
+//! ```text
+//! == demo unit                         a name that no other row of the file has
+//! -- DWARF 4, 6.2, by hand             where the expected output comes from
+//! > rows little 4 0                    the command, without a file
+//! unit(@header_13 00 05 02 3*00 01)    its input: a script, or bytes in hexadecimal
+//! <                                    the expected output, or `!!` for one that it must not give
+//! 0000000000001000 0 1 1 0 0 0 s
+//! ```
+//!
+//! The commands are `write`, `read` and `bytes`, which take a script, `header`, `instructions`, and those of
+//! `linetool`. A line `:= NAME BYTES` defines a part, for which `@NAME` then stands; `unit(..)` puts a unit length
+//! before its bytes, and `N*HH` is N times a byte. Blanks at the end of a line, and blank lines at the end of the
+//! output, don't count.
+#![tactic(auto)]
+
+mod again;
+mod check;
+mod parts;
+mod rows;
+mod run;
+
+use check::check_rows;
+use row_text::Attempts;
+use rows::{Fault, parse_rows};
+use std::io::{BufWriter, ErrorKind, Write};
+use std::process::ExitCode;
+use std::{env, fmt, fs, io};
+
+/// The status where the words, a script or a file aren't what they must be.
+const MALFORMED: u8 = 2;
+
+/// The status where a row isn't as stated.
+const NOT_AS_STATED: u8 = 1;
+
+fn main(rt: HostRuntime) -> ExitCode {
+    let status = match start(&rt) {
+        Ok(status) => status,
+        Err(e) => tell_error(&rt, &e),
+    };
+    ExitCode::from(status)
+}
+
+/// Tells an error, and answers the status of the program: 3 where memory is refused.
+fn tell_error(rt: &HostRuntime, error: &io::Error) -> u8 {
+    match error.kind() {
+        ErrorKind::OutOfMemory => tell(rt, "memory is refused", 3),
+        _ => tell(
+            rt,
+            "a file can't be read, or the output can't be written",
+            MALFORMED,
+        ),
+    }
+}
+
+/// Tells something on standard error, and answers a status.
+fn tell(rt: &HostRuntime, text: impl fmt::Display + Drop, status: u8) -> u8 {
+    let _ = writeln!(rt.stderr(), "vectors: {text}");
+    status
+}
+
+/// Runs on the words after the program's name, and answers the status of the program.
+fn start(rt: &HostRuntime) -> io::Result<u8> {
+    let arguments: Vec<String> = env::args(rt)?.collect(rt.alloc())?;
+    let mut words = Vec::with_capacity(rt.alloc(), arguments.len())?;
+    for word in arguments.iter().skip(1) {
+        words.push(word.as_str())?;
+    }
+    match words.as_slice() {
+        ["check", files @ ..] if !files.is_empty() => check_files(rt, files, Attempts::One),
+        ["again", files @ ..] if !files.is_empty() => {
+            let status = check_files(rt, files, Attempts::Two)?;
+            Ok(if status == NOT_AS_STATED { 0 } else { status })
+        }
+        ["write"] => print_scripts(rt),
+        ["header", file, rest @ ..] => {
+            let section = fs::read(rt, *file)?;
+            let mut out = Vec::new(rt.alloc());
+            let status = unit_text::header(rt.alloc(), rest, &section, Attempts::One, &mut out)?;
+            print_all(rt, &out, status)
+        }
+        ["instructions", file, rest @ ..] => {
+            let section = fs::read(rt, *file)?;
+            let mut out = Vec::new(rt.alloc());
+            let status = unit_text::instructions(
+                rt.alloc(),
+                rest,
+                &section,
+                Attempts::One,
+                &mut out,
+            )?;
+            print_all(rt, &out, status)
+        }
+        _ => Ok(tell(rt, "no such words", MALFORMED)),
+    }
+}
+
+/// Runs the rows of files, prints how many of each are as stated, and answers the status of the program.
+fn check_files(rt: &HostRuntime, files: &[&str], attempts: Attempts) -> io::Result<u8> {
+    let mut out = BufWriter::new(rt.alloc(), rt.stdout())?;
+    let mut status = 0;
+    for file in files {
+        let text = fs::read_to_string(rt, *file)?;
+        let rows = match parse_rows(rt.alloc(), text.as_str()) {
+            Ok(rows) => rows,
+            Err(Fault::Memory) => return Err(io::Error::from(ErrorKind::OutOfMemory)),
+            Err(Fault::Line(line)) => {
+                out.flush()?;
+                return Ok(tell(
+                    rt,
+                    format_args!("{file}:{line}: this can't stand here"),
+                    MALFORMED,
+                ));
+            }
+        };
+        let tally = check_rows(rt.alloc(), &rows, attempts, &mut out)?;
+        let as_stated = tally.as_stated;
+        let not = tally.not;
+        writeln!(out, "{file}: {as_stated} rows as stated, {not} not")?;
+        if not != 0 {
+            status = NOT_AS_STATED;
+        }
+    }
+    out.flush()?;
+    Ok(status)
+}
+
+/// Runs the scripts on standard input, and prints what they give.
+fn print_scripts(rt: &HostRuntime) -> io::Result<u8> {
+    let script = io::read_to_string(rt.alloc(), rt.stdin())?;
+    let mut out = Vec::new(rt.alloc());
+    let status = builder_scripts::write(rt.alloc(), &[], script.as_str(), Attempts::One, &mut out)?;
+    print_all(rt, &out, status)
+}
+
+/// Prints what a command gave, and answers its status.
+fn print_all(rt: &HostRuntime, text: &[u8], status: u8) -> io::Result<u8> {
+    rt.stdout().write_all(text)?;
+    match status {
+        MALFORMED => Ok(tell(rt, "not what the command takes", MALFORMED)),
+        _ => Ok(status),
+    }
+}

@@ -1,0 +1,233 @@
+//! Files of rows as they are read.
+
+use crate::parts::{Order, Parts};
+use std::alloc::{AllocError, Global};
+
+/// A row: a command with its input, and the output that is expected of it.
+#[derive(Drop)]
+pub struct Row<'t> {
+    pub name: &'t str,
+    /// The command and its other words.
+    pub words: &'t str,
+    pub input: Input,
+    /// The lines of the output.
+    pub expected: String,
+    /// Whether the output must be another one than this.
+    pub must_differ: bool,
+}
+
+/// What a command is given.
+#[derive(Drop)]
+pub enum Input {
+    /// The text of a script.
+    Script(String),
+    /// The bytes of a section.
+    Section(Vec<u8>),
+}
+
+/// Why a file of rows can't be read.
+#[derive(Clone, Copy, Debug, PartialEq, Eq)]
+pub enum Fault {
+    /// Memory was refused.
+    Memory,
+    /// This line isn't what must stand there; lines count from 1.
+    Line(usize),
+}
+
+impl From<AllocError> for Fault {
+    fn from(_: AllocError) -> Fault {
+        Fault::Memory
+    }
+}
+
+/// The rows of a file.
+pub fn parse_rows<'t>(alloc: Global, text: &'t str) -> Result<Vec<Row<'t>>, Fault> {
+    let mut file = RowsReader {
+        alloc,
+        rows: Vec::new(alloc),
+        parts: Parts::new(alloc),
+        draft: None,
+    };
+    let mut count = 0usize;
+    for line in text.lines() {
+        count = count.saturating_add(1);
+        if !file.take_line(line)? {
+            return Err(Fault::Line(count));
+        }
+    }
+    if !file.end_row()? {
+        return Err(Fault::Line(count));
+    }
+    Ok(file.rows)
+}
+
+/// A row as far as it was read.
+#[derive(Drop)]
+struct Draft<'t> {
+    name: &'t str,
+    words: Option<&'t str>,
+    /// The lines of the input.
+    text: String,
+    input: Option<Input>,
+    expected: String,
+    must_differ: bool,
+}
+
+/// What the next line of a file is a part of.
+#[derive(Clone, Copy)]
+enum Place<'t> {
+    /// What stands before a command: parts, and where rows come from.
+    Head,
+    /// The input of the command with these words.
+    Input(&'t str),
+    /// The output of a command.
+    Output,
+}
+
+/// A file of rows as far as it was read.
+#[derive(Drop)]
+struct RowsReader<'t> {
+    alloc: Global,
+    rows: Vec<Row<'t>>,
+    parts: Parts<'t>,
+    draft: Option<Draft<'t>>,
+}
+
+impl<'t> RowsReader<'t> {
+    /// Takes a line. False where it can't stand there.
+    fn take_line(&mut self, line: &'t str) -> Result<bool, AllocError> {
+        if let Some(name) = line.strip_prefix("== ") {
+            return Ok(self.end_row()? && self.begin_row(name.trim()));
+        }
+        if let Some(part) = line.strip_prefix(":= ") {
+            return self.parts.define(self.alloc, part.trim());
+        }
+        match self.place() {
+            Place::Head => self.take_head(line.trim()),
+            Place::Input(words) => self.take_input(words, line),
+            Place::Output => self.take_output(line),
+        }
+    }
+
+    /// What the next line is a part of.
+    fn place(&self) -> Place<'t> {
+        let Some(draft) = &self.draft else {
+            return Place::Head;
+        };
+        match (draft.words, &draft.input) {
+            (None, _) => Place::Head,
+            (Some(words), None) => Place::Input(words),
+            (Some(_), Some(_)) => Place::Output,
+        }
+    }
+
+    /// Begins a row. False where another has its name.
+    fn begin_row(&mut self, name: &'t str) -> bool {
+        if name.is_empty() || self.rows.iter().any(|row| row.name == name) {
+            return false;
+        }
+        self.draft = Some(Draft {
+            name,
+            words: None,
+            text: String::new(self.alloc),
+            input: None,
+            expected: String::new(self.alloc),
+            must_differ: false,
+        });
+        true
+    }
+
+    /// Takes a line before a command: the command of a row, where a row comes from, or more bytes of a part.
+    fn take_head(&mut self, line: &'t str) -> Result<bool, AllocError> {
+        match (line.strip_prefix('>'), &mut self.draft) {
+            (Some(words), Some(draft)) => {
+                draft.words = Some(words.trim());
+                Ok(true)
+            }
+            _ if line.is_empty() || line.starts_with("--") => Ok(true),
+            _ => self.parts.extend_last(self.alloc, line),
+        }
+    }
+
+    /// Takes a line of the input, or the one that ends it.
+    fn take_input(&mut self, words: &str, line: &str) -> Result<bool, AllocError> {
+        match line.trim_end() {
+            "<" => self.end_input(words, false),
+            "!!" => self.end_input(words, true),
+            line => match &mut self.draft {
+                Some(draft) => push_line(&mut draft.text, line),
+                None => Ok(false),
+            },
+        }
+    }
+
+    /// Takes a line of the output.
+    fn take_output(&mut self, line: &str) -> Result<bool, AllocError> {
+        match &mut self.draft {
+            Some(draft) => push_line(&mut draft.expected, line),
+            None => Ok(false),
+        }
+    }
+
+    /// Ends the input: a script for the commands that take one, else bytes. False where it is none.
+    fn end_input(&mut self, words: &str, must_differ: bool) -> Result<bool, AllocError> {
+        let Some(draft) = &mut self.draft else {
+            return Ok(false);
+        };
+        let text = String::new(self.alloc);
+        let input = if takes_script(words) {
+            Input::Script(std::mem::replace(&mut draft.text, text))
+        } else {
+            let order = order_of(words);
+            match self.parts.expand(self.alloc, &draft.text, order)? {
+                Some(section) => Input::Section(section),
+                None => return Ok(false),
+            }
+        };
+        draft.input = Some(input);
+        draft.must_differ = must_differ;
+        Ok(true)
+    }
+
+    /// Ends the row, if there is one. False where it has no command, or no output.
+    fn end_row(&mut self) -> Result<bool, AllocError> {
+        let Some(draft) = self.draft.take() else {
+            return Ok(true);
+        };
+        let (Some(words), Some(input)) = (draft.words, draft.input) else {
+            return Ok(false);
+        };
+        self.rows.push(Row {
+            name: draft.name,
+            words,
+            input,
+            expected: draft.expected,
+            must_differ: draft.must_differ,
+        })?;
+        Ok(true)
+    }
+}
+
+/// Adds a line to a text.
+fn push_line(text: &mut String, line: &str) -> Result<bool, AllocError> {
+    text.push_str(line)?;
+    text.push('\n')?;
+    Ok(true)
+}
+
+/// Whether the command with these words takes a script.
+fn takes_script(words: &str) -> bool {
+    match words.split_whitespace().next() {
+        Some(word) => matches!(word, "write" | "read" | "bytes"),
+        None => false,
+    }
+}
+
+/// The order of bytes that the words of a command name, little if none.
+fn order_of(words: &str) -> Order {
+    if words.split_whitespace().any(|word| word == "big") {
+        Order::Big
+    } else {
+        Order::Little
+    }
+}

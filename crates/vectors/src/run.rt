@@ -1,0 +1,110 @@
+//! What the command of a row gives.
+
+use crate::again::watch_rows;
+use crate::rows::{Input, Row};
+use line_commands::Command;
+use row_text::Attempts;
+use std::alloc::{AllocError, Global};
+use std::fmt;
+use std::io::Write;
+
+/// What the command of a row prints: its output, its lines on standard error behind `stderr`, and its status, where
+/// it isn't 0, behind `status`.
+pub fn run_row(alloc: Global, row: &Row<'_>, attempts: Attempts) -> Result<Vec<u8>, AllocError> {
+    let words: Vec<&str> = row.words.split_whitespace().collect(alloc)?;
+    let mut out = Vec::new(alloc);
+    let status = match &row.input {
+        Input::Script(script) => run_script(alloc, &words, script, attempts, &mut out)?,
+        Input::Section(section) => run_over(alloc, &words, section, attempts, &mut out)?,
+    };
+    if status != 0 {
+        print_line(&mut out, format_args!("status {status}"))?;
+    }
+    Ok(out)
+}
+
+/// Runs a command on a script, and answers its status.
+fn run_script(
+    alloc: Global,
+    words: &[&str],
+    script: &str,
+    attempts: Attempts,
+    out: &mut Vec<u8>,
+) -> Result<u8, AllocError> {
+    match words {
+        ["write", rest @ ..] => builder_scripts::write(alloc, rest, script, attempts, out),
+        ["read", rest @ ..] => call_scripts::read(alloc, rest, script, attempts, out),
+        ["bytes", rest @ ..] => call_scripts::bytes(alloc, rest, script, attempts, out),
+        _ => Ok(2),
+    }
+}
+
+/// Runs a command over a section, and answers its status.
+fn run_over(
+    alloc: Global,
+    words: &[&str],
+    section: &[u8],
+    attempts: Attempts,
+    out: &mut Vec<u8>,
+) -> Result<u8, AllocError> {
+    match words {
+        ["header", rest @ ..] => unit_text::header(alloc, rest, section, attempts, out),
+        ["instructions", rest @ ..] => {
+            unit_text::instructions(alloc, rest, section, attempts, out)
+        }
+        ["demo", ..] | [] => run_linetool(alloc, words, section, attempts, out),
+        [command, rest @ ..] => {
+            let mut all = Vec::with_capacity(alloc, words.len())?;
+            all.push(*command)?;
+            all.push("FILE")?;
+            all.extend_from_slice(rest)?;
+            run_linetool(alloc, &all, section, attempts, out)
+        }
+    }
+}
+
+/// Runs a command of `linetool`, a second time from the start where memory is refused it and attempts are two, and
+/// answers its status.
+fn run_linetool(
+    alloc: Global,
+    words: &[&str],
+    section: &[u8],
+    attempts: Attempts,
+    out: &mut Vec<u8>,
+) -> Result<u8, AllocError> {
+    let start = out.len();
+    let mut err = Vec::new(alloc);
+    let mut status = line_commands::run(alloc, words, Some(section), out, &mut err);
+    if attempts == Attempts::Two {
+        if err.as_slice() == b"refused: memory\n".as_slice() {
+            out.truncate(start);
+            err.clear();
+            status = line_commands::run(alloc, words, Some(section), out, &mut err);
+        }
+        if let Some(Command::Rows(place)) = Command::parse(words) {
+            watch_rows(alloc, section, place, out)?;
+        }
+    }
+    // A vector takes no more output only where memory is refused.
+    if status != 0 && err.is_empty() {
+        return Err(AllocError);
+    }
+    print_errors(&err, out)?;
+    Ok(status)
+}
+
+/// Prints what stands on standard error.
+fn print_errors(err: &[u8], out: &mut Vec<u8>) -> Result<(), AllocError> {
+    for line in str::from_utf8(err).unwrap_or("").lines() {
+        print_line(out, format_args!("stderr {line}"))?;
+    }
+    Ok(())
+}
+
+/// Prints a line into a vector, which refuses for memory alone.
+pub fn print_line(out: &mut Vec<u8>, line: impl fmt::Display + Drop) -> Result<(), AllocError> {
+    match writeln!(out, "{line}") {
+        Ok(()) => Ok(()),
+        Err(_) => Err(AllocError),
+    }
+}
