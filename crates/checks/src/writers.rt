@@ -243,6 +243,12 @@ fn is_within(strings: &StringTable, line_strings: &LineStringTable, text: &LineS
     }
 }
 
+const ENCODING: Encoding = Encoding {
+    address_size: 8,
+    format: Format::Dwarf32,
+    version: 5,
+};
+
 /// A program of version 5 whose working directory and file are these.
 fn referring(
     alloc: Global,
@@ -255,19 +261,14 @@ fn referring(
     requires source_file { HasNoZero (line_text source_file) }
     ensures { IfOk result (λ program. CanWrite program strings.now line_strings.now) }
 {
-    let encoding = Encoding {
-        address_size: 8,
-        format: Format::Dwarf32,
-        version: 5,
-    };
     let lines = LineEncoding::default();
-    if !LineProgram::accepts(encoding, lines)
+    if !LineProgram::accepts(ENCODING, lines)
         || !is_within(strings, line_strings, &working_dir)
         || !is_within(strings, line_strings, &source_file)
     {
         return Err(Error::InvalidReference);
     }
-    let program = LineProgram::new(alloc, encoding, lines, working_dir, None, source_file, None)?;
+    let program = LineProgram::new(alloc, ENCODING, lines, working_dir, None, source_file, None)?;
     Ok(program)
 }
 
