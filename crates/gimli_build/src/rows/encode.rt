@@ -217,7 +217,11 @@ fn write_changes<W: Writer>(
 
 /// Appends the line advance where no special opcode has it, and answers the special opcode that is due
 /// for the line.
-fn write_line_advance<W: Writer>(w: &mut W, line_encoding: &LineEncoding, advance: i64) -> Result<u8>
+fn write_line_advance<W: Writer>(
+    w: &mut W,
+    line_encoding: &LineEncoding,
+    advance: i64,
+) -> Result<u8>
     requires can { CanEncode line_encoding.now }
     ensures keeps { Begins (W.contents w.old) (W.contents w.new) }
     ensures ordered { W.big w.new ≡ W.big w.old }

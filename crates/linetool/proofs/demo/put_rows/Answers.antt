@@ -2,8 +2,8 @@ use Rattle.std.proofs.Common.{◌≡◌, [], Bool, List}
 use Rattle.std.proofs.lemmas.Result.{on_ok_weaker}
 use Rattle.gimli_write.specs.Built.{Built}
 use Rattle.gimli_write.specs.Conditions.{CanWrite}
-use Rattle.gimli_write.specs.declared.items.BuiltItem.{BuiltItem}
-use Rattle.gimli_write.specs.declared.row.LineRow.{LineRow}
+use Rattle.gimli_write.specs.BuiltItem.{BuiltItem}
+use Rattle.gimli_write.specs.LineRow.{LineRow}
 use Rattle.linetool.proofs.demo.put_rows.Goals as goal
 
 -- what can be written can be written with other items
