@@ -9,9 +9,9 @@ mod read_back;
 mod text;
 
 pub use convert_error::{ConvertError, ConvertResult};
-pub use gimli_build::laws;
 pub use gimli_build::{
     BuiltItem, BuiltItems, DirectoryId, FileId, FileInfo, Files, LineProgram, LineRow, LineString,
+    laws,
 };
 pub use gimli_bytes::{
     Address, DebugLine, DebugLineStr, DebugStr, EndianVec, Error, InitialLengthOffset, Leb128,
