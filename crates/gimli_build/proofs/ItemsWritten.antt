@@ -1,11 +1,11 @@
 -- Items written one after the other.
-use Rattle.std.proofs.Common.{◌≡◌, ℕ, ◌+◌, ◌<◌, ◌^◌, Bool, List, [], ◌∷◌, ◌++◌, Ok, Err, refl, sym, ap, ◌∙◌, append_assoc, lit<, length, get_or, add-one, take, min, ◌≤◌, arith}
-use Rattle.std.proofs.lemmas.List.{append-nil, take-take, length-take}
-use Rattle.std.proofs.Math.Seq.{take-length, take-suc}
+use Rattle.std.proofs.Common.{◌≡◌, ℕ, ◌+◌, ◌<◌, ◌^◌, Bool, List, [], ◌∷◌, ◌++◌, Ok, Err, refl, sym, ap, ◌∙◌, append_assoc, lit<, length, get_or, add-one, take}
+use Rattle.std.proofs.lemmas.List.{append-nil}
+use Rattle.std.proofs.Math.Seq.{take-suc}
 use Rattle.std.specs.Prelude.{Result}
 use Rattle.gimli_core.specs.declared.common.Encoding.{Encoding}
 use Rattle.gimli_core.specs.declared.common.LineEncoding.{LineEncoding}
-use Rattle.gimli_bytes.specs.Written.{Begins, Appends}
+use Rattle.gimli_bytes.specs.Written.{Appends}
 use Rattle.gimli_bytes.specs.declared.error.Error.{Error}
 use Rattle.gimli_build.specs.declared.built.row.LineRow.{LineRow}
 use Rattle.gimli_build.specs.declared.built.items.BuiltItem.{BuiltItem}
@@ -67,17 +67,6 @@ pub way_on : (version : ℕ) (e : LineEncoding) (can : CanEncode e) (previous : 
 way_on version e can previous (SetAddress a) left way = record { place = start_place e can; line = way.line; built = way.built.1 }
 way_on version e can previous (Row r) left way = record { place = way.built.0.0.place; line = way.built.0.1; built = way.built.1 }
 way_on version e can previous (End o i) left way = record { place = start_place e can; line = lit< tt; built = way.built.1 }
-
--- ---- beginnings
-
-pub begins_self : (bytes : List ℕ) → Begins bytes bytes
-begins_self bytes = take-length bytes
-
-pub begins_then : (a b c : List ℕ) → Begins a b → Begins b c → Begins a c
-begins_then a b c first second =
-    let size : min (length a) (length b) ≡ length a = sym (length-take (length a) b) ∙ ap length first in
-    let le : length a ≤ length b = omega (arith, size) in
-    sym (take-take (length a) (length b) c le) ∙ ap (λ (l : List ℕ). take (length a) l) second ∙ first
 
 pub taken_next : {A : Type 0} (xs : List A) (i : ℕ) (x : A) → i < length xs → x ≡ get_or xs i x → take (i + 1) xs ≡ take i xs ++ x ∷ []
 taken_next xs i x lt is = rw add-one (take-suc xs i x lt ∙ ap (λ y. take i xs ++ y ∷ []) (sym is))

@@ -1,8 +1,8 @@
 -- Parts written one after the other.
-use Rattle.std.proofs.Common.{◌≡◌, ℕ, ◌+◌, ◌<◌, ◌≤◌, List, [], ◌∷◌, ◌++◌, length, drop, drop-cons, take, map, slice_get, get_or, suc, add-one, Some, Ok, Err, OnOk, IfErr, refl, sym, ap, ◌∙◌, append_assoc, inl, inr}
-use Rattle.std.proofs.lemmas.List.{append-nil, drop-map, take-take}
+use Rattle.std.proofs.Common.{◌≡◌, ℕ, ◌+◌, ◌<◌, ◌≤◌, List, [], ◌∷◌, ◌++◌, length, drop, drop-cons, take, map, slice_get, get_or, suc, add-one, Some, Ok, Err, OnOk, IfErr, refl, sym, ap, ◌∙◌, append_assoc, inl, inr, min, arith}
+use Rattle.std.proofs.lemmas.List.{append-nil, drop-map, take-take, length-take}
 use Rattle.std.proofs.lemmas.Option.{slice_get_within, get_or_from_slice_get}
-use Rattle.std.proofs.Math.Seq.{take-suc}
+use Rattle.std.proofs.Math.Seq.{take-length, take-suc}
 use Rattle.std.specs.Prelude.{Result, All}
 use Rattle.std.proofs.lemmas.List.Elements.{All-head, All-drop}
 use Rattle.gimli_bytes.specs.Written.{Begins, Appends}
@@ -107,6 +107,17 @@ taken_at xs i x is =
 -- what all elements have, the next one has
 pub all_seen : {A B : Type 0} (P : B → Type 0) (f : A → B) (xs : List A) (i : ℕ) (x : A) → i < length xs → x ≡ get_or xs i x → All P (map f xs) → P (f x)
 all_seen P f xs i x lt is all = All-head P (f x) (drop (i + 1) (map f xs)) (rw (next_seen f xs i x lt is) at (All-drop P i (map f xs) all))
+
+-- ---- beginnings
+
+pub begins_self : (bytes : List ℕ) → Begins bytes bytes
+begins_self bytes = take-length bytes
+
+pub begins_then : (a b c : List ℕ) → Begins a b → Begins b c → Begins a c
+begins_then a b c first second =
+    let size : min (length a) (length b) ≡ length a = sym (length-take (length a) b) ∙ ap length first in
+    let le : length a ≤ length b = omega (arith, size) in
+    sym (take-take (length a) (length b) c le) ∙ ap (λ (l : List ℕ). take (length a) l) second ∙ first
 
 -- a beginning stays where bytes behind it change
 pub begins_before : (old bytes new : List ℕ) (at : ℕ) → Begins old bytes → length old ≤ at → take at new ≡ take at bytes → Begins old new

@@ -18,12 +18,6 @@ then_bytes old is js = append_assoc old (instructions_bytes is) (instructions_by
 
 pub ruleset joins = (then_bytes, bytes_append, append_assoc)
 
--- four parts
-pub four_parts : (c0 c1 c2 c3 c4 : List ℕ) (f g h k : List Ins) → c1 ≡ c0 ++ instructions_bytes f → c2 ≡ c1 ++ instructions_bytes g → c3 ≡ c2 ++ instructions_bytes h → c4 ≡ c3 ++ instructions_bytes k
-    → c4 ≡ c0 ++ instructions_bytes (f ++ g ++ h ++ k)
-four_parts c0 c1 c2 c3 c4 f g h k e1 e2 e3 e4 =
-    e4 ∙ ap (λ (l : List ℕ). l ++ instructions_bytes k) (e3 ∙ ap (λ (l : List ℕ). l ++ instructions_bytes h) (e2 ∙ ap (λ (l : List ℕ). l ++ instructions_bytes g) e1 ∙ then_bytes c0 f g) ∙ then_bytes c0 (f ++ g) h) ∙ then_bytes c0 (f ++ g ++ h) k
-
 -- there is no room for so many operations in a special opcode
 pub no_room : (g s n : ℕ) → 1 ≤ g → s ≤ 255 → (255 - s) / g < n → nat_le (s + n * g) 255 ≡ false
 no_room g s n pg small over =
@@ -36,9 +30,3 @@ no_room g s n pg small over =
 pub by_advance : (e : LineEncoding) (s n : ℕ) → 1 ≤ e.line_range → s ≤ 255 → (255 - s) / e.line_range < n → (255 - s) / e.line_range < n - constant_advance e
     → operation_part e s n ≡ AdvancePc n ∷ row_maker e s ∷ []
 by_advance e s n pg small over rest = rw (no_room e.line_range s n pg small over, no_room e.line_range s (n - constant_advance e) pg small rest) refl
-
--- two instructions
-pub two_parts : (c0 c1 c2 : List ℕ) (i j : Ins) (is : List Ins) → c1 ≡ c0 ++ instruction_bytes i → c2 ≡ c1 ++ instruction_bytes j → is ≡ i ∷ j ∷ [] → c2 ≡ c0 ++ instructions_bytes is
-two_parts c0 c1 c2 i j is e1 e2 whole =
-    let ends : instructions_bytes (i ∷ j ∷ []) ≡ instruction_bytes i ++ instruction_bytes j = ap (λ (l : List ℕ). instruction_bytes i ++ l) (append-nil (instruction_bytes j)) in
-    e2 ∙ ap (λ (l : List ℕ). l ++ instruction_bytes j) e1 ∙ append_assoc c0 (instruction_bytes i) (instruction_bytes j) ∙ ap (λ (l : List ℕ). c0 ++ l) (sym ends ∙ ap instructions_bytes (sym whole))

@@ -12,6 +12,7 @@ pub mod FirstTables
 pub mod Built
 pub mod SameRow
 pub mod Joined
+pub mod Writes
 pub mod Items
 pub mod Sizes
 pub mod Conditions

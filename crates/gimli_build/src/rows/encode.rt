@@ -1,8 +1,6 @@
 //! Rows and ends as instructions. Each instruction is written at once; none is kept.
 
-ghost use Rattle.std.specs.Prelude.{◌≡◌, ◌⊎◌, Err, ◌+◌, ◌<◌, ◌≤◌, ◌^◌, IsTrue, IfOk, IfErr, OnOk, Ok, pos, ◌-ℤ◌, ◌≤ℤ◌, ◌<ℤ◌, unsigned_abs};
-ghost use Rattle.gimli_bytes.specs.Written.{Begins, Appends, Refuses};
-ghost use Rattle.gimli_bytes.specs.declared.error.Error.TheVariants.{OutOfMemory};
+ghost use Rattle.std.specs.Prelude.{◌≡◌, ◌+◌, ◌<◌, ◌^◌, IfOk, OnOk, Ok, pos, ◌-ℤ◌, unsigned_abs};
 ghost use Rattle.gimli_build.specs.Conditions.{CanBuild, AreBuilt};
 ghost use Rattle.gimli_build.specs.Items.{next_previous, item_bytes, items_bytes, FitsItem, AreFit};
 ghost use Rattle.gimli_build.specs.Rows.{initial_row};
@@ -11,6 +9,7 @@ ghost use Rattle.gimli_build.specs.Encode.{marks, changes, is_special_advance, l
 ghost use Rattle.gimli_build.specs.InstructionBytes.{instructions_bytes, FitsInstructions};
 ghost use Rattle.gimli_build.specs.FileNumber.{file_number};
 ghost use Rattle.gimli_build.specs.ReadAs.{read_as};
+ghost use Rattle.gimli_build.specs.Writes.{Writes};
 
 use crate::built::items::BuiltItem;
 use crate::built::row::LineRow;
@@ -31,15 +30,9 @@ pub(crate) fn write_items<W: Writer>(
 ) -> Result<()>
     requires can { CanEncode line_encoding }
     requires built { AreBuilt line_encoding (0, 0) items.now }
-    ensures keeps { Begins (W.contents w.old) (W.contents w.new) }
-    ensures ordered { W.big w.new ≡ W.big w.old }
-    ensures ok { IsTrue W.keeps_bytes → OnOk result
-        (Appends (items_bytes (W.big w.old) encoding line_encoding
-        (initial_row encoding.version line_encoding.default_is_stmt) items.now)
-        (W.contents w.old) (W.contents w.new)) }
-    ensures err { IsTrue W.keeps_bytes → IsTrue W.fails_for_memory_alone → IfErr result
-        (λ e. (e ≡ OutOfMemory) ⊎ (items_bytes (W.big w.old) encoding line_encoding
-        (initial_row encoding.version line_encoding.default_is_stmt) items.now ≡ Err e)) }
+    ensures writes { Writes W.Writer w.old w.new result
+        (items_bytes (W.big w.old) encoding line_encoding
+        (initial_row encoding.version line_encoding.default_is_stmt) items.now) }
     ensures fit { OnOk result (AreFit encoding.version items.now) }
 {
     let mut previous = LineRow::initial(encoding, line_encoding);
@@ -62,13 +55,8 @@ fn write_item<W: Writer>(
     requires place { IsPlace line_encoding previous.now.address_offset previous.now.op_index }
     requires previous_line { previous.now.line < 2 ^ 63 }
     requires built { CanBuild line_encoding (previous.now.address_offset, previous.now.op_index) item.now }
-    ensures keeps { Begins (W.contents w.old) (W.contents w.new) }
-    ensures ordered { W.big w.new ≡ W.big w.old }
-    ensures ok { IsTrue W.keeps_bytes → OnOk result
-        (Appends (item_bytes (W.big w.old) encoding line_encoding previous.now item.now)
-        (W.contents w.old) (W.contents w.new)) }
-    ensures err { IsTrue W.fails_for_memory_alone → IfErr result (λ e. (e ≡ OutOfMemory)
-        ⊎ (item_bytes (W.big w.old) encoding line_encoding previous.now item.now ≡ Err e)) }
+    ensures writes { Writes W.Writer w.old w.new result
+        (item_bytes (W.big w.old) encoding line_encoding previous.now item.now) }
     ensures fit { OnOk result (FitsItem encoding.version item.now) }
 {
     match item {
@@ -116,15 +104,9 @@ pub(crate) fn write_row<W: Writer>(
         row.now.address_offset row.now.op_index }
     requires previous_line { previous.now.line < 2 ^ 63 }
     requires line { row.now.line < 2 ^ 63 }
-    ensures keeps { Begins (W.contents w.old) (W.contents w.new) }
-    ensures ordered { W.big w.new ≡ W.big w.old }
-    ensures ok { IsTrue W.keeps_bytes → OnOk result
-        (Appends (Ok (instructions_bytes
-        (row_instructions encoding.version line_encoding previous.now row.now)))
-        (W.contents w.old) (W.contents w.new)) }
-    ensures err { IsTrue W.fails_for_memory_alone → IfErr result
-        (Refuses (Ok (instructions_bytes
-        (row_instructions encoding.version line_encoding previous.now row.now)))) }
+    ensures writes { Writes W.Writer w.old w.new result
+        (Ok (instructions_bytes
+        (row_instructions encoding.version line_encoding previous.now row.now))) }
     ensures fit { OnOk result (FitsInstructions encoding.version row.now) }
 {
     write_marks(w, row)?;
@@ -147,15 +129,9 @@ pub(crate) fn write_end<W: Writer>(
     requires place { IsPlace line_encoding previous.now.address_offset previous.now.op_index }
     requires follows { CanFollow line_encoding previous.now.address_offset previous.now.op_index
         address_offset op_index }
-    ensures keeps { Begins (W.contents w.old) (W.contents w.new) }
-    ensures ordered { W.big w.new ≡ W.big w.old }
-    ensures ok { IsTrue W.keeps_bytes → OnOk result
-        (Appends (Ok (instructions_bytes
-        (end_instructions line_encoding previous.now address_offset op_index)))
-        (W.contents w.old) (W.contents w.new)) }
-    ensures err { IsTrue W.fails_for_memory_alone → IfErr result
-        (Refuses (Ok (instructions_bytes
-        (end_instructions line_encoding previous.now address_offset op_index)))) }
+    ensures { Writes W.Writer w.old w.new result
+        (Ok (instructions_bytes
+        (end_instructions line_encoding previous.now address_offset op_index))) }
 {
     let count = operation_advance(&line_encoding, previous, address_offset, op_index);
     write_if(w, count != 0, LineInstruction::AdvancePc(count))?;
@@ -165,12 +141,7 @@ pub(crate) fn write_end<W: Writer>(
 /// Appends what stands for the row alone.
 #[tactic(auto, using(crate::proofs::Joins::joins))]
 fn write_marks<W: Writer>(w: &mut W, row: &LineRow) -> Result<()>
-    ensures keeps { Begins (W.contents w.old) (W.contents w.new) }
-    ensures ordered { W.big w.new ≡ W.big w.old }
-    ensures ok { IsTrue W.keeps_bytes → OnOk result
-        (Appends (Ok (instructions_bytes (marks row.now))) (W.contents w.old) (W.contents w.new)) }
-    ensures err { IsTrue W.fails_for_memory_alone →
-        IfErr result (Refuses (Ok (instructions_bytes (marks row.now)))) }
+    ensures writes { Writes W.Writer w.old w.new result (Ok (instructions_bytes (marks row.now))) }
     ensures fit { OnOk result (row.now.discriminator < 2 ^ 64) }
 {
     let discriminator = LineInstruction::SetDiscriminator(row.discriminator);
@@ -189,13 +160,8 @@ fn write_changes<W: Writer>(
     previous: &LineRow,
     row: &LineRow,
 ) -> Result<()>
-    ensures keeps { Begins (W.contents w.old) (W.contents w.new) }
-    ensures ordered { W.big w.new ≡ W.big w.old }
-    ensures ok { IsTrue W.keeps_bytes → OnOk result
-        (Appends (Ok (instructions_bytes (changes version previous.now row.now)))
-        (W.contents w.old) (W.contents w.new)) }
-    ensures err { IsTrue W.fails_for_memory_alone →
-        IfErr result (Refuses (Ok (instructions_bytes (changes version previous.now row.now)))) }
+    ensures writes { Writes W.Writer w.old w.new result
+        (Ok (instructions_bytes (changes version previous.now row.now))) }
     ensures fit { OnOk result ((file_number version row.now.file < 2 ^ 64)
         × (row.now.column < 2 ^ 64) × (row.now.isa < 2 ^ 64)) }
 {
@@ -223,13 +189,8 @@ fn write_line_advance<W: Writer>(
     advance: i64,
 ) -> Result<u8>
     requires can { CanEncode line_encoding.now }
-    ensures keeps { Begins (W.contents w.old) (W.contents w.new) }
-    ensures ordered { W.big w.new ≡ W.big w.old }
-    ensures ok { IsTrue W.keeps_bytes → OnOk result
-        (Appends (Ok (instructions_bytes (line_part line_encoding.now advance)))
-        (W.contents w.old) (W.contents w.new)) }
-    ensures err { IsTrue W.fails_for_memory_alone →
-        IfErr result (Refuses (Ok (instructions_bytes (line_part line_encoding.now advance)))) }
+    ensures writes { Writes W.Writer w.old w.new result
+        (Ok (instructions_bytes (line_part line_encoding.now advance))) }
     ensures opcode { IfOk result (λ s. s ≡ line_opcode line_encoding.now advance) }
 {
     if has_special(line_encoding, advance) {
@@ -256,13 +217,8 @@ fn write_operation_advance<W: Writer>(
     count: u64,
 ) -> Result<()>
     requires can { CanEncode line_encoding.now }
-    ensures keeps { Begins (W.contents w.old) (W.contents w.new) }
-    ensures ordered { W.big w.new ≡ W.big w.old }
-    ensures ok { IsTrue W.keeps_bytes → OnOk result
-        (Appends (Ok (instructions_bytes (operation_part line_encoding.now opcode count)))
-        (W.contents w.old) (W.contents w.new)) }
-    ensures err { IsTrue W.fails_for_memory_alone → IfErr result
-        (Refuses (Ok (instructions_bytes (operation_part line_encoding.now opcode count)))) }
+    ensures { Writes W.Writer w.old w.new result
+        (Ok (instructions_bytes (operation_part line_encoding.now opcode count))) }
 {
     let range = u64::from(line_encoding.line_range);
     let room = u64::from(u8::MAX - opcode) / range;

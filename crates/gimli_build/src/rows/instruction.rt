@@ -1,12 +1,11 @@
 //! Instructions, one at a time.
 
-ghost use Rattle.std.specs.Prelude.{◌≡◌, ◌+◌, ◌++◌, ◌⊎◌, [], ◌∷◌, IsTrue, IfErr, OnOk, Ok, Err};
-ghost use Rattle.gimli_bytes.specs.Written.{Begins, Appends, Refuses};
+ghost use Rattle.std.specs.Prelude.{◌+◌, ◌∷◌, Ok};
 ghost use Rattle.gimli_bytes.specs.Number.{uleb, sleb};
-ghost use Rattle.gimli_bytes.specs.declared.error.Error.TheVariants.{OutOfMemory};
 ghost use Rattle.gimli_build.specs.InstructionBytes.{instruction_bytes, instructions_bytes, set_address_bytes};
 ghost use Rattle.gimli_build.specs.Encode.{when};
 ghost use Rattle.gimli_build.specs.ReadAs.{read_as};
+ghost use Rattle.gimli_build.specs.Writes.{Writes};
 ghost use Rattle.gimli_line.specs.declared.run.instruction.LineInstruction.TheVariants.{SetDiscriminator};
 
 use crate::bytes::write_byte;
@@ -34,12 +33,7 @@ pub(crate) enum LineInstruction {
 
 /// Appends an instruction.
 pub(crate) fn write_instruction<W: Writer>(w: &mut W, instruction: LineInstruction) -> Result<()>
-    ensures keeps { Begins (W.contents w.old) (W.contents w.new) }
-    ensures ordered { W.big w.new ≡ W.big w.old }
-    ensures ok { IsTrue W.keeps_bytes → OnOk result
-        (Appends (Ok (instruction_bytes (read_as instruction))) (W.contents w.old) (W.contents w.new)) }
-    ensures err { IsTrue W.fails_for_memory_alone →
-        IfErr result (Refuses (Ok (instruction_bytes (read_as instruction)))) }
+    ensures { Writes W.Writer w.old w.new result (Ok (instruction_bytes (read_as instruction))) }
 {
     match instruction {
         LineInstruction::Special(opcode) => write_byte(w, opcode),
@@ -61,13 +55,8 @@ pub(crate) fn write_instruction<W: Writer>(w: &mut W, instruction: LineInstructi
 
 /// Appends an instruction where it is due.
 pub(crate) fn write_if<W: Writer>(w: &mut W, due: bool, instruction: LineInstruction) -> Result<()>
-    ensures keeps { Begins (W.contents w.old) (W.contents w.new) }
-    ensures ordered { W.big w.new ≡ W.big w.old }
-    ensures ok { IsTrue W.keeps_bytes → OnOk result
-        (Appends (Ok (instructions_bytes (when due (read_as instruction))))
-        (W.contents w.old) (W.contents w.new)) }
-    ensures err { IsTrue W.fails_for_memory_alone →
-        IfErr result (Refuses (Ok (instructions_bytes (when due (read_as instruction))))) }
+    ensures { Writes W.Writer w.old w.new result
+        (Ok (instructions_bytes (when due (read_as instruction)))) }
 {
     if due {
         write_instruction(w, instruction)?;
@@ -78,13 +67,7 @@ pub(crate) fn write_if<W: Writer>(w: &mut W, due: bool, instruction: LineInstruc
 /// Appends a set address of `size` bytes: the instruction's opening, and then the address, whose
 /// refusal is handed on.
 pub(crate) fn write_set_address<W: Writer>(w: &mut W, address: Address, size: u8) -> Result<()>
-    ensures keeps { Begins (W.contents w.old) (W.contents w.new) }
-    ensures ordered { W.big w.new ≡ W.big w.old }
-    ensures ok { IsTrue W.keeps_bytes → OnOk result
-        (Appends (set_address_bytes (W.big w.old) address size)
-        (W.contents w.old) (W.contents w.new)) }
-    ensures err { IsTrue W.fails_for_memory_alone → IfErr result
-        (λ e. (e ≡ OutOfMemory) ⊎ (set_address_bytes (W.big w.old) address size ≡ Err e)) }
+    ensures { Writes W.Writer w.old w.new result (set_address_bytes (W.big w.old) address size) }
 {
     write_byte(w, 0)?;
     w.write_uleb128(u64::from(size) + 1)?;
@@ -94,13 +77,8 @@ pub(crate) fn write_set_address<W: Writer>(w: &mut W, address: Address, size: u8
 
 /// Appends a discriminator.
 fn write_discriminator<W: Writer>(w: &mut W, discriminator: u64) -> Result<()>
-    ensures keeps { Begins (W.contents w.old) (W.contents w.new) }
-    ensures ordered { W.big w.new ≡ W.big w.old }
-    ensures ok { IsTrue W.keeps_bytes → OnOk result
-        (Appends (Ok (instruction_bytes (SetDiscriminator discriminator)))
-        (W.contents w.old) (W.contents w.new)) }
-    ensures err { IsTrue W.fails_for_memory_alone →
-        IfErr result (Refuses (Ok (instruction_bytes (SetDiscriminator discriminator)))) }
+    ensures { Writes W.Writer w.old w.new result
+        (Ok (instruction_bytes (SetDiscriminator discriminator))) }
 {
     let operand = Leb128::unsigned(discriminator);
     write_byte(w, 0)?;
@@ -111,11 +89,7 @@ fn write_discriminator<W: Writer>(w: &mut W, discriminator: u64) -> Result<()>
 
 /// Appends a standard opcode and its unsigned operand.
 fn write_unsigned<W: Writer>(w: &mut W, opcode: DwLns, operand: u64) -> Result<()>
-    ensures keeps { Begins (W.contents w.old) (W.contents w.new) }
-    ensures ordered { W.big w.new ≡ W.big w.old }
-    ensures ok { IsTrue W.keeps_bytes → OnOk result
-        (Appends (Ok (opcode.0 ∷ uleb operand)) (W.contents w.old) (W.contents w.new)) }
-    ensures err { IsTrue W.fails_for_memory_alone → IfErr result (Refuses (Ok (opcode.0 ∷ uleb operand))) }
+    ensures { Writes W.Writer w.old w.new result (Ok (opcode.0 ∷ uleb operand)) }
 {
     write_byte(w, opcode.0)?;
     w.write_uleb128(operand)
@@ -123,11 +97,7 @@ fn write_unsigned<W: Writer>(w: &mut W, opcode: DwLns, operand: u64) -> Result<(
 
 /// Appends a standard opcode and its signed operand.
 fn write_signed<W: Writer>(w: &mut W, opcode: DwLns, operand: i64) -> Result<()>
-    ensures keeps { Begins (W.contents w.old) (W.contents w.new) }
-    ensures ordered { W.big w.new ≡ W.big w.old }
-    ensures ok { IsTrue W.keeps_bytes → OnOk result
-        (Appends (Ok (opcode.0 ∷ sleb operand)) (W.contents w.old) (W.contents w.new)) }
-    ensures err { IsTrue W.fails_for_memory_alone → IfErr result (Refuses (Ok (opcode.0 ∷ sleb operand))) }
+    ensures { Writes W.Writer w.old w.new result (Ok (opcode.0 ∷ sleb operand)) }
 {
     write_byte(w, opcode.0)?;
     w.write_sleb128(operand)

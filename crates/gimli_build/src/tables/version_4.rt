@@ -1,14 +1,13 @@
 //! The tables of a unit up to version 4: names and numbers one after the other, up to a zero byte.
 
-ghost use Rattle.std.specs.Prelude.{◌≡◌, [], ◌++◌, map, drop, All, IsTrue, IfErr, OnOk, Ok};
+ghost use Rattle.std.specs.Prelude.{◌≡◌, [], ◌++◌, map, drop, All, OnOk, Ok};
 ghost use Rattle.gimli_bytes.specs.Number.{uleb};
-ghost use Rattle.gimli_bytes.specs.Written.{Begins, Appends};
-ghost use Rattle.gimli_bytes.specs.declared.error.Error.TheVariants.{OutOfMemory};
 ghost use Rattle.gimli_build.specs.LineText.{Inline, line_text};
 ghost use Rattle.gimli_build.specs.Tables.{FitsFile};
 ghost use Rattle.gimli_build.specs.TablesInside.{details};
-ghost use Rattle.gimli_build.specs.Joined.{joined, joined_parts, RefusesFor};
+ghost use Rattle.gimli_build.specs.Joined.{joined, joined_parts};
 ghost use Rattle.gimli_build.specs.Version4Tables.{name_bytes, directories_bytes, file_bytes, files_bytes};
+ghost use Rattle.gimli_build.specs.Writes.{Writes};
 
 use crate::built::files::{DirectoryId, FileInfo, FileTable};
 use crate::built::line_string::LineString;
@@ -17,13 +16,8 @@ use gimli_bytes::{Error, Result, Writer};
 
 /// Appends the directories and the files.
 pub(crate) fn write_version_4_tables<W: Writer>(w: &mut W, tables: &FileTable) -> Result<()>
-    ensures keeps { Begins (W.contents w.old) (W.contents w.new) }
-    ensures ordered { W.big w.new ≡ W.big w.old }
-    ensures ok { IsTrue W.keeps_bytes → OnOk result
-        (Appends (joined (directories_bytes tables.now.directories) (files_bytes tables.now.files))
-        (W.contents w.old) (W.contents w.new)) }
-    ensures err { IsTrue W.keeps_bytes → IsTrue W.fails_for_memory_alone → IfErr result
-        (RefusesFor (joined (directories_bytes tables.now.directories) (files_bytes tables.now.files))) }
+    ensures writes { Writes W.Writer w.old w.new result
+        (joined (directories_bytes tables.now.directories) (files_bytes tables.now.files)) }
     ensures fit { OnOk result (All FitsFile tables.now.files) }
 {
     write_directories(w, tables.directories())?;
@@ -32,13 +26,7 @@ pub(crate) fn write_version_4_tables<W: Writer>(w: &mut W, tables: &FileTable) -
 
 /// Appends the directories but for the working directory, and what closes them.
 fn write_directories<W: Writer>(w: &mut W, directories: &[LineString]) -> Result<()>
-    ensures keeps { Begins (W.contents w.old) (W.contents w.new) }
-    ensures ordered { W.big w.new ≡ W.big w.old }
-    ensures ok { IsTrue W.keeps_bytes → OnOk result
-        (Appends (directories_bytes (map line_text directories.now))
-        (W.contents w.old) (W.contents w.new)) }
-    ensures err { IsTrue W.keeps_bytes → IsTrue W.fails_for_memory_alone → IfErr result
-        (RefusesFor (directories_bytes (map line_text directories.now))) }
+    ensures { Writes W.Writer w.old w.new result (directories_bytes (map line_text directories.now)) }
 {
     write_names(w, others(directories))?;
     write_byte(w, 0)
@@ -56,13 +44,7 @@ fn others(directories: &[LineString]) -> &[LineString]
 
 /// Appends names one after the other.
 fn write_names<W: Writer>(w: &mut W, names: &[LineString]) -> Result<()>
-    ensures keeps { Begins (W.contents w.old) (W.contents w.new) }
-    ensures ordered { W.big w.new ≡ W.big w.old }
-    ensures ok { IsTrue W.keeps_bytes → OnOk result
-        (Appends (joined_parts name_bytes (map line_text names.now))
-        (W.contents w.old) (W.contents w.new)) }
-    ensures err { IsTrue W.keeps_bytes → IsTrue W.fails_for_memory_alone → IfErr result
-        (RefusesFor (joined_parts name_bytes (map line_text names.now))) }
+    ensures { Writes W.Writer w.old w.new result (joined_parts name_bytes (map line_text names.now)) }
 {
     for name in names {
         write_name(w, name)?;
@@ -72,13 +54,7 @@ fn write_names<W: Writer>(w: &mut W, names: &[LineString]) -> Result<()>
 
 /// Appends a name that is in the program itself, and a zero byte.
 fn write_name<W: Writer>(w: &mut W, name: &LineString) -> Result<()>
-    ensures keeps { Begins (W.contents w.old) (W.contents w.new) }
-    ensures ordered { W.big w.new ≡ W.big w.old }
-    ensures ok { IsTrue W.keeps_bytes → OnOk result
-        (Appends (name_bytes (line_text name.now))
-        (W.contents w.old) (W.contents w.new)) }
-    ensures err { IsTrue W.keeps_bytes → IsTrue W.fails_for_memory_alone → IfErr result
-        (RefusesFor (name_bytes (line_text name.now))) }
+    ensures { Writes W.Writer w.old w.new result (name_bytes (line_text name.now)) }
 {
     match name {
         LineString::String(text) => write_text(w, text.as_slice()),
@@ -88,13 +64,7 @@ fn write_name<W: Writer>(w: &mut W, name: &LineString) -> Result<()>
 
 /// Appends the files, and what closes them.
 fn write_files<W: Writer>(w: &mut W, tables: &FileTable) -> Result<()>
-    ensures keeps { Begins (W.contents w.old) (W.contents w.new) }
-    ensures ordered { W.big w.new ≡ W.big w.old }
-    ensures ok { IsTrue W.keeps_bytes → OnOk result
-        (Appends (files_bytes tables.now.files)
-        (W.contents w.old) (W.contents w.new)) }
-    ensures err { IsTrue W.keeps_bytes → IsTrue W.fails_for_memory_alone → IfErr result
-        (RefusesFor (files_bytes tables.now.files)) }
+    ensures writes { Writes W.Writer w.old w.new result (files_bytes tables.now.files) }
     ensures fit { OnOk result (All FitsFile tables.now.files) }
 {
     write_each_file(w, tables)?;
@@ -103,13 +73,7 @@ fn write_files<W: Writer>(w: &mut W, tables: &FileTable) -> Result<()>
 
 /// Appends files one after the other.
 fn write_each_file<W: Writer>(w: &mut W, tables: &FileTable) -> Result<()>
-    ensures keeps { Begins (W.contents w.old) (W.contents w.new) }
-    ensures ordered { W.big w.new ≡ W.big w.old }
-    ensures ok { IsTrue W.keeps_bytes → OnOk result
-        (Appends (joined_parts file_bytes tables.now.files)
-        (W.contents w.old) (W.contents w.new)) }
-    ensures err { IsTrue W.keeps_bytes → IsTrue W.fails_for_memory_alone → IfErr result
-        (RefusesFor (joined_parts file_bytes tables.now.files)) }
+    ensures writes { Writes W.Writer w.old w.new result (joined_parts file_bytes tables.now.files) }
     ensures fit { OnOk result (All FitsFile tables.now.files) }
 {
     for index in 0..tables.file_count() {
@@ -126,13 +90,8 @@ fn write_file<W: Writer>(
     directory: DirectoryId,
     info: &FileInfo,
 ) -> Result<()>
-    ensures keeps { Begins (W.contents w.old) (W.contents w.new) }
-    ensures ordered { W.big w.new ≡ W.big w.old }
-    ensures ok { IsTrue W.keeps_bytes → OnOk result
-        (Appends (file_bytes ((line_text path.now, directory), details info.now))
-        (W.contents w.old) (W.contents w.new)) }
-    ensures err { IsTrue W.keeps_bytes → IsTrue W.fails_for_memory_alone → IfErr result
-        (RefusesFor (file_bytes ((line_text path.now, directory), details info.now))) }
+    ensures writes { Writes W.Writer w.old w.new result
+        (file_bytes ((line_text path.now, directory), details info.now)) }
     ensures fit { OnOk result (FitsFile ((line_text path.now, directory), details info.now)) }
 {
     write_name(w, path)?;
@@ -141,12 +100,8 @@ fn write_file<W: Writer>(
 
 /// Appends a file's directory, its timestamp and its size.
 fn write_numbers<W: Writer>(w: &mut W, directory: DirectoryId, info: &FileInfo) -> Result<()>
-    ensures keeps { Begins (W.contents w.old) (W.contents w.new) }
-    ensures ordered { W.big w.new ≡ W.big w.old }
-    ensures ok { IsTrue W.keeps_bytes → OnOk result
-        (Appends (Ok (uleb directory ++ uleb info.now.timestamp ++ uleb info.now.size))
-        (W.contents w.old) (W.contents w.new)) }
-    ensures err { IsTrue W.keeps_bytes → IsTrue W.fails_for_memory_alone → IfErr result (λ e. e ≡ OutOfMemory) }
+    ensures writes { Writes W.Writer w.old w.new result
+        (Ok (uleb directory ++ uleb info.now.timestamp ++ uleb info.now.size)) }
     ensures fit { OnOk result (FitsFile ((Inline [], directory), details info.now)) }
 {
     w.write_uleb128(directory.index() as u64)?;

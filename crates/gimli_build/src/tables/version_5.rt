@@ -1,9 +1,8 @@
 //! The tables of a unit of version 5: each stands behind the formats of its entries and their number.
 
-ghost use Rattle.std.specs.Prelude.{◌≡◌, ◌≤◌, true, [], ◌∷◌, ◌++◌, length, map, if◌then◌else◌, nat_eq, IsTrue, IfOk, IfErr, IfSome, OnOk, OnErr, Ok, Err, Some, None, All, unwrap_or};
+ghost use Rattle.std.specs.Prelude.{◌≡◌, ◌≤◌, true, [], ◌∷◌, ◌++◌, length, map, if◌then◌else◌, nat_eq, IfOk, IfErr, IfSome, OnOk, OnErr, Ok, Err, Some, None, All, unwrap_or};
 ghost use Rattle.std.specs.Option.{is_none};
 ghost use Rattle.std.specs.List.{list_any};
-ghost use Rattle.gimli_bytes.specs.Written.{Begins, Appends};
 ghost use Rattle.gimli_bytes.specs.Number.{uleb};
 ghost use Rattle.gimli_bytes.specs.Texts.{AreTexts, with_text};
 ghost use Rattle.gimli_bytes.specs.declared.error.Error.TheVariants.{OutOfMemory};
@@ -11,9 +10,10 @@ ghost use Rattle.gimli_build.specs.LineText.{Inline, line_text, IsWithin};
 ghost use Rattle.gimli_build.specs.Tables.{FitsFile};
 ghost use Rattle.gimli_build.specs.TablesInside.{details};
 ghost use Rattle.gimli_build.specs.Conditions.{CanWrite};
-ghost use Rattle.gimli_build.specs.Joined.{joined, joined_parts, RefusesFor};
+ghost use Rattle.gimli_build.specs.Joined.{joined, joined_parts};
 ghost use Rattle.gimli_build.specs.Version5Tables.{first_form, path_texts, sources, needs_empty, empty_text, strings_behind, line_strings_behind, formats_bytes, file_formats, text_in_form, directory_table_bytes, source_bytes, file_entry_bytes, file_table_bytes};
 ghost use Rattle.gimli_build.specs.EmptySource.{IsEmptySource, StandsForNone};
+ghost use Rattle.gimli_build.specs.Writes.{Writes};
 
 use crate::built::files::{DirectoryId, FileInfo, FileTable};
 use crate::built::line_program::LineProgram;
@@ -149,17 +149,10 @@ pub(crate) fn write_version_5_tables<W: Writer>(
     requires can { CanWrite program.now strings.now line_strings.now }
     requires empty { StandsForNone program.now strings.now line_strings.now (line_text empty.now) }
     requires version { 5 ≤ program.now.encoding.version }
-    ensures keeps { Begins (W.contents w.old) (W.contents w.new) }
-    ensures ordered { W.big w.new ≡ W.big w.old }
-    ensures ok { IsTrue W.keeps_bytes → OnOk result
-        (Appends (joined (directory_table_bytes (W.big w.old) program.now.encoding.format
+    ensures writes { Writes W.Writer w.old w.new result
+        (joined (directory_table_bytes (W.big w.old) program.now.encoding.format
         strings.now line_strings.now program.now) (file_table_bytes (W.big w.old) program.now.encoding.format
-        strings.now line_strings.now program.now))
-        (W.contents w.old) (W.contents w.new)) }
-    ensures err { IsTrue W.keeps_bytes → IsTrue W.fails_for_memory_alone → IfErr result
-        (RefusesFor (joined (directory_table_bytes (W.big w.old) program.now.encoding.format
-        strings.now line_strings.now program.now) (file_table_bytes (W.big w.old) program.now.encoding.format
-        strings.now line_strings.now program.now))) }
+        strings.now line_strings.now program.now)) }
     ensures fit { OnOk result (All FitsFile program.now.files) }
 {
     write_directory_table(w, program, line_strings, strings)?;
@@ -174,15 +167,9 @@ fn write_directory_table<W: Writer>(
     strings: &StringTable,
 ) -> Result<()>
     requires { All (IsWithin strings.now line_strings.now) program.now.directories }
-    ensures keeps { Begins (W.contents w.old) (W.contents w.new) }
-    ensures ordered { W.big w.new ≡ W.big w.old }
-    ensures ok { IsTrue W.keeps_bytes → OnOk result
-        (Appends (directory_table_bytes (W.big w.old) program.now.encoding.format
-        strings.now line_strings.now program.now)
-        (W.contents w.old) (W.contents w.new)) }
-    ensures err { IsTrue W.keeps_bytes → IsTrue W.fails_for_memory_alone → IfErr result
-        (RefusesFor (directory_table_bytes (W.big w.old) program.now.encoding.format
-        strings.now line_strings.now program.now)) }
+    ensures { Writes W.Writer w.old w.new result
+        (directory_table_bytes (W.big w.old) program.now.encoding.format
+        strings.now line_strings.now program.now) }
 {
     let directories = program.tables().directories();
     let form = directory_form(directories);
@@ -199,13 +186,8 @@ fn write_directory_table<W: Writer>(
 
 /// Appends the formats of directories, and their number.
 fn write_directory_formats<W: Writer>(w: &mut W, form: DwForm, count: usize) -> Result<()>
-    ensures keeps { Begins (W.contents w.old) (W.contents w.new) }
-    ensures ordered { W.big w.new ≡ W.big w.old }
-    ensures ok { IsTrue W.keeps_bytes → OnOk result
-        (Appends (Ok (formats_bytes ((0x0001, form.0) ∷ []) ++ uleb count))
-        (W.contents w.old) (W.contents w.new)) }
-    ensures err { IsTrue W.keeps_bytes → IsTrue W.fails_for_memory_alone → IfErr result
-        (RefusesFor (Ok (formats_bytes ((0x0001, form.0) ∷ []) ++ uleb count))) }
+    ensures { Writes W.Writer w.old w.new result
+        (Ok (formats_bytes ((0x0001, form.0) ∷ []) ++ uleb count)) }
 {
     write_byte(w, 1)?;
     write_format(w, constants::DW_LNCT_path, form)?;
@@ -214,13 +196,7 @@ fn write_directory_formats<W: Writer>(w: &mut W, form: DwForm, count: usize) -> 
 
 /// Appends a content type and a form.
 fn write_format<W: Writer>(w: &mut W, content: DwLnct, form: DwForm) -> Result<()>
-    ensures keeps { Begins (W.contents w.old) (W.contents w.new) }
-    ensures ordered { W.big w.new ≡ W.big w.old }
-    ensures ok { IsTrue W.keeps_bytes → OnOk result
-        (Appends (Ok (uleb content.0 ++ uleb form.0))
-        (W.contents w.old) (W.contents w.new)) }
-    ensures err { IsTrue W.keeps_bytes → IsTrue W.fails_for_memory_alone → IfErr result
-        (RefusesFor (Ok (uleb content.0 ++ uleb form.0))) }
+    ensures { Writes W.Writer w.old w.new result (Ok (uleb content.0 ++ uleb form.0)) }
 {
     w.write_uleb128(u64::from(content.0))?;
     w.write_uleb128(u64::from(form.0))
@@ -236,15 +212,9 @@ fn write_texts<W: Writer>(
     strings: &StringTable,
 ) -> Result<()>
     requires { All (IsWithin strings.now line_strings.now) (map line_text texts.now) }
-    ensures keeps { Begins (W.contents w.old) (W.contents w.new) }
-    ensures ordered { W.big w.new ≡ W.big w.old }
-    ensures ok { IsTrue W.keeps_bytes → OnOk result
-        (Appends (joined_parts (text_in_form (W.big w.old) format
-        strings.now line_strings.now form.0) (map line_text texts.now))
-        (W.contents w.old) (W.contents w.new)) }
-    ensures err { IsTrue W.keeps_bytes → IsTrue W.fails_for_memory_alone → IfErr result
-        (RefusesFor (joined_parts (text_in_form (W.big w.old) format
-        strings.now line_strings.now form.0) (map line_text texts.now))) }
+    ensures { Writes W.Writer w.old w.new result
+        (joined_parts (text_in_form (W.big w.old) format
+        strings.now line_strings.now form.0) (map line_text texts.now)) }
 {
     for text in texts {
         write_line_string(w, format, form, text, line_strings, strings)?;
@@ -262,15 +232,9 @@ fn write_line_string<W: Writer>(
     strings: &StringTable,
 ) -> Result<()>
     requires { IsWithin strings.now line_strings.now (line_text text.now) }
-    ensures keeps { Begins (W.contents w.old) (W.contents w.new) }
-    ensures ordered { W.big w.new ≡ W.big w.old }
-    ensures ok { IsTrue W.keeps_bytes → OnOk result
-        (Appends (text_in_form (W.big w.old) format
-        strings.now line_strings.now form.0 (line_text text.now))
-        (W.contents w.old) (W.contents w.new)) }
-    ensures err { IsTrue W.keeps_bytes → IsTrue W.fails_for_memory_alone → IfErr result
-        (RefusesFor (text_in_form (W.big w.old) format
-        strings.now line_strings.now form.0 (line_text text.now))) }
+    ensures { Writes W.Writer w.old w.new result
+        (text_in_form (W.big w.old) format
+        strings.now line_strings.now form.0 (line_text text.now)) }
 {
     if text.form() != form {
         return Err(Error::LineStringFormMismatch);
@@ -300,15 +264,9 @@ fn write_file_table<W: Writer>(
     requires can { CanWrite program.now strings.now line_strings.now }
     requires empty { StandsForNone program.now strings.now line_strings.now (line_text empty.now) }
     requires version { 5 ≤ program.now.encoding.version }
-    ensures keeps { Begins (W.contents w.old) (W.contents w.new) }
-    ensures ordered { W.big w.new ≡ W.big w.old }
-    ensures ok { IsTrue W.keeps_bytes → OnOk result
-        (Appends (file_table_bytes (W.big w.old) program.now.encoding.format
-        strings.now line_strings.now program.now)
-        (W.contents w.old) (W.contents w.new)) }
-    ensures err { IsTrue W.keeps_bytes → IsTrue W.fails_for_memory_alone → IfErr result
-        (RefusesFor (file_table_bytes (W.big w.old) program.now.encoding.format
-        strings.now line_strings.now program.now)) }
+    ensures writes { Writes W.Writer w.old w.new result
+        (file_table_bytes (W.big w.old) program.now.encoding.format
+        strings.now line_strings.now program.now) }
     ensures fit { OnOk result (All FitsFile program.now.files) }
 {
     let form = source_form(program.tables());
@@ -323,13 +281,8 @@ fn write_file_formats<W: Writer>(
     source_form: DwForm,
 ) -> Result<()>
     requires { source_form.0 ≡ first_form (sources program.now.files) }
-    ensures keeps { Begins (W.contents w.old) (W.contents w.new) }
-    ensures ordered { W.big w.new ≡ W.big w.old }
-    ensures ok { IsTrue W.keeps_bytes → OnOk result
-        (Appends (Ok (formats_bytes (file_formats program.now) ++ uleb (length program.now.files)))
-        (W.contents w.old) (W.contents w.new)) }
-    ensures err { IsTrue W.keeps_bytes → IsTrue W.fails_for_memory_alone → IfErr result
-        (RefusesFor (Ok (formats_bytes (file_formats program.now) ++ uleb (length program.now.files)))) }
+    ensures { Writes W.Writer w.old w.new result
+        (Ok (formats_bytes (file_formats program.now) ++ uleb (length program.now.files))) }
 {
     write_key_formats(w, program)?;
     write_detail_formats(w, program)?;
@@ -344,13 +297,9 @@ fn write_file_formats<W: Writer>(
 
 /// Appends the number of formats of files, and those of the path and the directory.
 fn write_key_formats<W: Writer>(w: &mut W, program: &LineProgram) -> Result<()>
-    ensures keeps { Begins (W.contents w.old) (W.contents w.new) }
-    ensures ordered { W.big w.new ≡ W.big w.old }
-    ensures ok { IsTrue W.keeps_bytes → OnOk result
-        (Appends (Ok (length (file_formats program.now)
-        ∷ (uleb 0x0001 ++ uleb (first_form (path_texts program.now.files))) ++ uleb 0x0002 ++ uleb 0x0f))
-        (W.contents w.old) (W.contents w.new)) }
-    ensures err { IsTrue W.keeps_bytes → IsTrue W.fails_for_memory_alone → IfErr result (λ e. e ≡ OutOfMemory) }
+    ensures { Writes W.Writer w.old w.new result
+        (Ok (length (file_formats program.now)
+        ∷ (uleb 0x0001 ++ uleb (first_form (path_texts program.now.files))) ++ uleb 0x0002 ++ uleb 0x0f)) }
 {
     write_byte(w, format_count(program))?;
     write_format(w, constants::DW_LNCT_path, path_form(program.tables()))?;
@@ -373,14 +322,10 @@ fn format_count(program: &LineProgram) -> u8
 
 /// Appends the formats of what else is stored of files, but for their sources.
 fn write_detail_formats<W: Writer>(w: &mut W, program: &LineProgram) -> Result<()>
-    ensures keeps { Begins (W.contents w.old) (W.contents w.new) }
-    ensures ordered { W.big w.new ≡ W.big w.old }
-    ensures ok { IsTrue W.keeps_bytes → OnOk result
-        (Appends (Ok ((if program.now.file_has_timestamp then uleb 0x0003 ++ uleb 0x0f else [])
+    ensures { Writes W.Writer w.old w.new result
+        (Ok ((if program.now.file_has_timestamp then uleb 0x0003 ++ uleb 0x0f else [])
         ++ (if program.now.file_has_size then uleb 0x0004 ++ uleb 0x0f else [])
-        ++ (if program.now.file_has_md5 then uleb 0x0005 ++ uleb 0x1e else [])))
-        (W.contents w.old) (W.contents w.new)) }
-    ensures err { IsTrue W.keeps_bytes → IsTrue W.fails_for_memory_alone → IfErr result (λ e. e ≡ OutOfMemory) }
+        ++ (if program.now.file_has_md5 then uleb 0x0005 ++ uleb 0x1e else []))) }
 {
     let udata = constants::DW_FORM_udata;
     let data16 = constants::DW_FORM_data16;
@@ -396,12 +341,8 @@ fn write_detail_formats<W: Writer>(w: &mut W, program: &LineProgram) -> Result<(
 
 /// Appends a content type and a form, where they are due.
 fn write_format_if<W: Writer>(w: &mut W, due: bool, content: DwLnct, form: DwForm) -> Result<()>
-    ensures keeps { Begins (W.contents w.old) (W.contents w.new) }
-    ensures ordered { W.big w.new ≡ W.big w.old }
-    ensures ok { IsTrue W.keeps_bytes → OnOk result
-        (Appends (Ok (if due then uleb content.0 ++ uleb form.0 else []))
-        (W.contents w.old) (W.contents w.new)) }
-    ensures err { IsTrue W.keeps_bytes → IsTrue W.fails_for_memory_alone → IfErr result (λ e. e ≡ OutOfMemory) }
+    ensures { Writes W.Writer w.old w.new result
+        (Ok (if due then uleb content.0 ++ uleb form.0 else [])) }
 {
     if !due {
         return Ok(());
@@ -422,15 +363,9 @@ fn write_file_entries<W: Writer>(
     requires empty { StandsForNone program.now strings.now line_strings.now (line_text empty.now) }
     requires version { 5 ≤ program.now.encoding.version }
     requires source_form { source_form.0 ≡ first_form (sources program.now.files) }
-    ensures keeps { Begins (W.contents w.old) (W.contents w.new) }
-    ensures ordered { W.big w.new ≡ W.big w.old }
-    ensures ok { IsTrue W.keeps_bytes → OnOk result
-        (Appends (joined_parts (file_entry_bytes (W.big w.old) program.now.encoding.format
-        strings.now line_strings.now program.now) program.now.files)
-        (W.contents w.old) (W.contents w.new)) }
-    ensures err { IsTrue W.keeps_bytes → IsTrue W.fails_for_memory_alone → IfErr result
-        (RefusesFor (joined_parts (file_entry_bytes (W.big w.old) program.now.encoding.format
-        strings.now line_strings.now program.now) program.now.files)) }
+    ensures writes { Writes W.Writer w.old w.new result
+        (joined_parts (file_entry_bytes (W.big w.old) program.now.encoding.format
+        strings.now line_strings.now program.now) program.now.files) }
     ensures fit { OnOk result (All FitsFile program.now.files) }
 {
     let tables = program.tables();
@@ -456,15 +391,9 @@ fn write_file_entry<W: Writer>(
     requires empty { program.now.file_has_source ≡ true → (details file.2.now).source ≡ None
         → IsEmptySource program.now strings.now line_strings.now (line_text empty.now) }
     requires source_form { source_form.0 ≡ first_form (sources program.now.files) }
-    ensures keeps { Begins (W.contents w.old) (W.contents w.new) }
-    ensures ordered { W.big w.new ≡ W.big w.old }
-    ensures ok { IsTrue W.keeps_bytes → OnOk result
-        (Appends (file_entry_bytes (W.big w.old) program.now.encoding.format
-        strings.now line_strings.now program.now ((line_text file.entry.0.now, file.entry.1), details file.entry.2.now))
-        (W.contents w.old) (W.contents w.new)) }
-    ensures err { IsTrue W.keeps_bytes → IsTrue W.fails_for_memory_alone → IfErr result
-        (RefusesFor (file_entry_bytes (W.big w.old) program.now.encoding.format
-        strings.now line_strings.now program.now ((line_text file.entry.0.now, file.entry.1), details file.entry.2.now))) }
+    ensures writes { Writes W.Writer w.old w.new result
+        (file_entry_bytes (W.big w.old) program.now.encoding.format
+        strings.now line_strings.now program.now ((line_text file.entry.0.now, file.entry.1), details file.entry.2.now)) }
     ensures fit { OnOk result (FitsFile ((line_text file.entry.0.now, file.entry.1), details file.entry.2.now)) }
 {
     let form = path_form(program.tables());
@@ -488,15 +417,11 @@ fn write_details<W: Writer>(
     directory: DirectoryId,
     info: &FileInfo,
 ) -> Result<()>
-    ensures keeps { Begins (W.contents w.old) (W.contents w.new) }
-    ensures ordered { W.big w.new ≡ W.big w.old }
-    ensures ok { IsTrue W.keeps_bytes → OnOk result
-        (Appends (Ok (uleb directory
+    ensures writes { Writes W.Writer w.old w.new result
+        (Ok (uleb directory
         ++ (if program.now.file_has_timestamp then uleb info.now.timestamp else [])
         ++ (if program.now.file_has_size then uleb info.now.size else [])
-        ++ (if program.now.file_has_md5 then info.now.md5 else [])))
-        (W.contents w.old) (W.contents w.new)) }
-    ensures err { IsTrue W.keeps_bytes → IsTrue W.fails_for_memory_alone → IfErr result (λ e. e ≡ OutOfMemory) }
+        ++ (if program.now.file_has_md5 then info.now.md5 else []))) }
     ensures fit { OnOk result (FitsFile ((Inline [], directory), details info.now)) }
 {
     w.write_uleb128(directory.index() as u64)?;
@@ -507,12 +432,7 @@ fn write_details<W: Writer>(
 
 /// Appends a number as LEB128, where it is due.
 fn write_number_if<W: Writer>(w: &mut W, due: bool, number: u64) -> Result<()>
-    ensures keeps { Begins (W.contents w.old) (W.contents w.new) }
-    ensures ordered { W.big w.new ≡ W.big w.old }
-    ensures ok { IsTrue W.keeps_bytes → OnOk result
-        (Appends (Ok (if due then uleb number else []))
-        (W.contents w.old) (W.contents w.new)) }
-    ensures err { IsTrue W.keeps_bytes → IsTrue W.fails_for_memory_alone → IfErr result (λ e. e ≡ OutOfMemory) }
+    ensures { Writes W.Writer w.old w.new result (Ok (if due then uleb number else [])) }
 {
     if !due {
         return Ok(());
@@ -522,12 +442,7 @@ fn write_number_if<W: Writer>(w: &mut W, due: bool, number: u64) -> Result<()>
 
 /// Appends a digest, where it is due.
 fn write_digest_if<W: Writer>(w: &mut W, due: bool, digest: &[u8; 16]) -> Result<()>
-    ensures keeps { Begins (W.contents w.old) (W.contents w.new) }
-    ensures ordered { W.big w.new ≡ W.big w.old }
-    ensures ok { IsTrue W.keeps_bytes → OnOk result
-        (Appends (Ok (if due then digest.now else []))
-        (W.contents w.old) (W.contents w.new)) }
-    ensures err { IsTrue W.keeps_bytes → IsTrue W.fails_for_memory_alone → IfErr result (λ e. e ≡ OutOfMemory) }
+    ensures { Writes W.Writer w.old w.new result (Ok (if due then digest.now else [])) }
 {
     if !due {
         return Ok(());
@@ -549,15 +464,9 @@ fn write_source<W: Writer>(
     requires empty { program.now.file_has_source ≡ true → (details info.now).source ≡ None
         → IsEmptySource program.now strings.now line_strings.now (line_text empty.now) }
     requires form { form.0 ≡ first_form (sources program.now.files) }
-    ensures keeps { Begins (W.contents w.old) (W.contents w.new) }
-    ensures ordered { W.big w.new ≡ W.big w.old }
-    ensures ok { IsTrue W.keeps_bytes → OnOk result
-        (Appends (source_bytes (W.big w.old) program.now.encoding.format
-        strings.now line_strings.now program.now ((Inline [], 0), details info.now))
-        (W.contents w.old) (W.contents w.new)) }
-    ensures err { IsTrue W.keeps_bytes → IsTrue W.fails_for_memory_alone → IfErr result
-        (RefusesFor (source_bytes (W.big w.old) program.now.encoding.format
-        strings.now line_strings.now program.now ((Inline [], 0), details info.now))) }
+    ensures { Writes W.Writer w.old w.new result
+        (source_bytes (W.big w.old) program.now.encoding.format
+        strings.now line_strings.now program.now ((Inline [], 0), details info.now)) }
 {
     if !program.file_has_source {
         return Ok(());

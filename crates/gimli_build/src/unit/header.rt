@@ -1,13 +1,12 @@
 //! The header of a unit.
 
-ghost use Rattle.std.specs.Prelude.{◌≡◌, All, IsTrue, IfErr, OnOk};
-ghost use Rattle.gimli_bytes.specs.Written.{Begins, Appends};
+ghost use Rattle.std.specs.Prelude.{All, OnOk};
 ghost use Rattle.gimli_build.specs.LineText.{line_text};
 ghost use Rattle.gimli_build.specs.Tables.{FitsFile};
 ghost use Rattle.gimli_build.specs.Conditions.{CanWrite};
-ghost use Rattle.gimli_build.specs.Joined.{RefusesFor};
 ghost use Rattle.gimli_build.specs.EmptySource.{StandsForNone};
 ghost use Rattle.gimli_build.specs.Unit.{operations_bytes, line_encoding_bytes, tables_bytes, fields_bytes, header_bytes};
+ghost use Rattle.gimli_build.specs.Writes.{Writes};
 
 use crate::built::line_program::LineProgram;
 use crate::built::line_string::LineString;
@@ -28,13 +27,8 @@ pub(crate) fn write_header<W: Writer>(
 ) -> Result<()>
     requires can { CanWrite program.now strings.now line_strings.now }
     requires empty { StandsForNone program.now strings.now line_strings.now (line_text empty.now) }
-    ensures keeps { Begins (W.contents w.old) (W.contents w.new) }
-    ensures ordered { W.big w.new ≡ W.big w.old }
-    ensures ok { IsTrue W.keeps_bytes → OnOk result
-        (Appends (header_bytes (W.big w.old) program.now strings.now line_strings.now)
-        (W.contents w.old) (W.contents w.new)) }
-    ensures err { IsTrue W.keeps_bytes → IsTrue W.fails_for_memory_alone → IfErr result
-        (RefusesFor (header_bytes (W.big w.old) program.now strings.now line_strings.now)) }
+    ensures writes { Writes W.Writer w.old w.new result
+        (header_bytes (W.big w.old) program.now strings.now line_strings.now) }
     ensures fit { OnOk result (All FitsFile program.now.files) }
 {
     let size = program.format().word_size();
@@ -56,13 +50,8 @@ fn write_fields<W: Writer>(
 ) -> Result<()>
     requires can { CanWrite program.now strings.now line_strings.now }
     requires empty { StandsForNone program.now strings.now line_strings.now (line_text empty.now) }
-    ensures keeps { Begins (W.contents w.old) (W.contents w.new) }
-    ensures ordered { W.big w.new ≡ W.big w.old }
-    ensures ok { IsTrue W.keeps_bytes → OnOk result
-        (Appends (fields_bytes (W.big w.old) program.now strings.now line_strings.now)
-        (W.contents w.old) (W.contents w.new)) }
-    ensures err { IsTrue W.keeps_bytes → IsTrue W.fails_for_memory_alone → IfErr result
-        (RefusesFor (fields_bytes (W.big w.old) program.now strings.now line_strings.now)) }
+    ensures writes { Writes W.Writer w.old w.new result
+        (fields_bytes (W.big w.old) program.now strings.now line_strings.now) }
     ensures fit { OnOk result (All FitsFile program.now.files) }
 {
     write_line_encoding(w, program.version(), program.line_encoding())?;
@@ -76,13 +65,7 @@ fn write_line_encoding<W: Writer>(
     version: u16,
     line_encoding: LineEncoding,
 ) -> Result<()>
-    ensures keeps { Begins (W.contents w.old) (W.contents w.new) }
-    ensures ordered { W.big w.new ≡ W.big w.old }
-    ensures ok { IsTrue W.keeps_bytes → OnOk result
-        (Appends (line_encoding_bytes version line_encoding)
-        (W.contents w.old) (W.contents w.new)) }
-    ensures err { IsTrue W.keeps_bytes → IsTrue W.fails_for_memory_alone → IfErr result
-        (RefusesFor (line_encoding_bytes version line_encoding)) }
+    ensures { Writes W.Writer w.old w.new result (line_encoding_bytes version line_encoding) }
 {
     write_byte(w, line_encoding.minimum_instruction_length)?;
     write_operation_count(w, version, line_encoding.maximum_operations_per_instruction)?;
@@ -95,13 +78,7 @@ fn write_line_encoding<W: Writer>(
 
 /// Appends how many operations an instruction has, which before version 4 is one, and isn't said.
 fn write_operation_count<W: Writer>(w: &mut W, version: u16, operations: u8) -> Result<()>
-    ensures keeps { Begins (W.contents w.old) (W.contents w.new) }
-    ensures ordered { W.big w.new ≡ W.big w.old }
-    ensures ok { IsTrue W.keeps_bytes → OnOk result
-        (Appends (operations_bytes version operations)
-        (W.contents w.old) (W.contents w.new)) }
-    ensures err { IsTrue W.keeps_bytes → IsTrue W.fails_for_memory_alone → IfErr result
-        (RefusesFor (operations_bytes version operations)) }
+    ensures { Writes W.Writer w.old w.new result (operations_bytes version operations) }
 {
     if version >= 4 {
         return write_byte(w, operations);
@@ -122,13 +99,8 @@ fn write_tables<W: Writer>(
 ) -> Result<()>
     requires can { CanWrite program.now strings.now line_strings.now }
     requires empty { StandsForNone program.now strings.now line_strings.now (line_text empty.now) }
-    ensures keeps { Begins (W.contents w.old) (W.contents w.new) }
-    ensures ordered { W.big w.new ≡ W.big w.old }
-    ensures ok { IsTrue W.keeps_bytes → OnOk result
-        (Appends (tables_bytes (W.big w.old) program.now strings.now line_strings.now)
-        (W.contents w.old) (W.contents w.new)) }
-    ensures err { IsTrue W.keeps_bytes → IsTrue W.fails_for_memory_alone → IfErr result
-        (RefusesFor (tables_bytes (W.big w.old) program.now strings.now line_strings.now)) }
+    ensures writes { Writes W.Writer w.old w.new result
+        (tables_bytes (W.big w.old) program.now strings.now line_strings.now) }
     ensures fit { OnOk result (All FitsFile program.now.files) }
 {
     if program.version() <= 4 {

@@ -7,13 +7,13 @@ ghost use Rattle.gimli_bytes.specs.declared.error.Error.TheVariants.{OutOfMemory
 ghost use Rattle.gimli_line.specs.header.Header.{UnitEntry};
 ghost use Rattle.gimli_build.specs.LineText.{line_text};
 ghost use Rattle.gimli_build.specs.Conditions.{CanWrite, IsBuilt};
-ghost use Rattle.gimli_build.specs.Joined.{RefusesFor};
 ghost use Rattle.gimli_build.specs.Version5Tables.{strings_behind, line_strings_behind};
 ghost use Rattle.gimli_build.specs.EmptySource.{StandsForNone};
 ghost use Rattle.gimli_build.specs.Unit.{version_bytes, opening_bytes, inside_bytes, whole_bytes, is_incompatible, unit_bytes};
 ghost use Rattle.gimli_build.specs.Cause.{first_cause};
 ghost use Rattle.gimli_build.specs.Texts.{Sections};
 ghost use Rattle.gimli_build.specs.ReadsBack.{ReadsBack, IsReadWell};
+ghost use Rattle.gimli_build.specs.Writes.{Writes};
 
 mod header;
 
@@ -102,13 +102,8 @@ fn write_whole<W: Writer>(
 ) -> Result<()>
     requires can { CanWrite program.now strings.now line_strings.now }
     requires empty { StandsForNone program.now strings.now line_strings.now (line_text empty.now) }
-    ensures keeps { Begins (W.contents w.old) (W.contents w.new) }
-    ensures ordered { W.big w.new ≡ W.big w.old }
-    ensures ok { IsTrue W.keeps_bytes → OnOk result
-        (Appends (whole_bytes (W.big w.old) program.now strings.now line_strings.now)
-        (W.contents w.old) (W.contents w.new)) }
-    ensures err { IsTrue W.keeps_bytes → IsTrue W.fails_for_memory_alone → IfErr result
-        (RefusesFor (whole_bytes (W.big w.old) program.now strings.now line_strings.now)) }
+    ensures writes { Writes W.Writer w.old w.new result
+        (whole_bytes (W.big w.old) program.now strings.now line_strings.now) }
     ensures built { OnOk result (IsBuilt program.now) }
     ensures short { OnOk result (length (W.contents w.new) < 2 ^ 64) }
 {
@@ -130,13 +125,8 @@ fn write_inside<W: Writer>(
 ) -> Result<()>
     requires can { CanWrite program.now strings.now line_strings.now }
     requires empty { StandsForNone program.now strings.now line_strings.now (line_text empty.now) }
-    ensures keeps { Begins (W.contents w.old) (W.contents w.new) }
-    ensures ordered { W.big w.new ≡ W.big w.old }
-    ensures ok { IsTrue W.keeps_bytes → OnOk result
-        (Appends (inside_bytes (W.big w.old) program.now strings.now line_strings.now)
-        (W.contents w.old) (W.contents w.new)) }
-    ensures err { IsTrue W.keeps_bytes → IsTrue W.fails_for_memory_alone → IfErr result
-        (RefusesFor (inside_bytes (W.big w.old) program.now strings.now line_strings.now)) }
+    ensures writes { Writes W.Writer w.old w.new result
+        (inside_bytes (W.big w.old) program.now strings.now line_strings.now) }
     ensures built { OnOk result (IsBuilt program.now) }
 {
     write_opening(w, program.encoding())?;
@@ -151,13 +141,7 @@ fn write_inside<W: Writer>(
 
 /// Appends the version, and in version 5 the address size and a segment selector size of 0.
 fn write_opening<W: Writer>(w: &mut W, encoding: Encoding) -> Result<()>
-    ensures keeps { Begins (W.contents w.old) (W.contents w.new) }
-    ensures ordered { W.big w.new ≡ W.big w.old }
-    ensures ok { IsTrue W.keeps_bytes → OnOk result
-        (Appends (opening_bytes (W.big w.old) encoding)
-        (W.contents w.old) (W.contents w.new)) }
-    ensures err { IsTrue W.keeps_bytes → IsTrue W.fails_for_memory_alone → IfErr result
-        (RefusesFor (opening_bytes (W.big w.old) encoding)) }
+    ensures { Writes W.Writer w.old w.new result (opening_bytes (W.big w.old) encoding) }
 {
     write_version(w, encoding.version)?;
     if encoding.version <= 4 {
@@ -168,13 +152,7 @@ fn write_opening<W: Writer>(w: &mut W, encoding: Encoding) -> Result<()>
 
 /// Appends the version.
 fn write_version<W: Writer>(w: &mut W, version: u16) -> Result<()>
-    ensures keeps { Begins (W.contents w.old) (W.contents w.new) }
-    ensures ordered { W.big w.new ≡ W.big w.old }
-    ensures ok { IsTrue W.keeps_bytes → OnOk result
-        (Appends (version_bytes (W.big w.old) version)
-        (W.contents w.old) (W.contents w.new)) }
-    ensures err { IsTrue W.keeps_bytes → IsTrue W.fails_for_memory_alone → IfErr result
-        (RefusesFor (version_bytes (W.big w.old) version)) }
+    ensures { Writes W.Writer w.old w.new result (version_bytes (W.big w.old) version) }
 {
     if !(2..=5).contains(&version) {
         return Err(Error::UnsupportedVersion(version));

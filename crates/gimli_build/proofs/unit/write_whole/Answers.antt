@@ -1,55 +1,40 @@
-use Rattle.std.proofs.Common.{◌≡◌, ◌+◌, ◌-◌, ◌++◌, length, Ok, refl, sym, ap, ◌∙◌, arith, append_assoc, inr}
+use Rattle.std.proofs.Common.{◌≡◌, ℕ, List, IsTrue, ◌+◌, ◌-◌, ◌++◌, length, Ok, refl, sym, ap, ◌∙◌, arith, append_assoc, inr}
+use Rattle.std.specs.Prelude.{Result}
 use Rattle.gimli_bytes.specs.Number.{length_word}
+use Rattle.gimli_bytes.specs.Written.{Appends}
+use Rattle.gimli_bytes.specs.declared.error.Error.{Error}
 use Rattle.gimli_build.specs.Joined.{joined}
 use Rattle.gimli_build.specs.Unit.{escape_bytes, inside_bytes}
-use Rattle.gimli_build.proofs.ItemsWritten.{begins_then}
-use Rattle.gimli_build.proofs.Joined.{on_ok, if_err, begins_before}
+use Rattle.gimli_build.proofs.Joined.{on_ok, if_err, begins_then, begins_before}
 use Rattle.gimli_build.proofs.Frames.{framed, frame_refused, open_word, escape_is, escape_long, length_word_long}
 use Rattle.gimli_build.proofs.unit.write_whole.Goals as goal
 
-pub returns-clause-keeps : goal.returns-clause-keeps
-returns-clause-keeps g c =
-    let contents = g.W.Writer.contents in
-    let old = contents c.args.w.now in
-    let c1 = contents c.write_initial_length.new.self in
-    let c2 = contents c.write_inside.new.w in
-    begins_before old c2 (contents c.write_initial_length_at.new.self) c.in_ok-length.length.0 (begins_then old c1 c2 c.in_ok-length.ensures.keeps c.in_ok-write_inside.ensures.keeps)
-    c.in_ok-length.ensures.after c.write_initial_length_at.ensures.before
-
-pub returns-clause-ok : goal.returns-clause-ok
-returns-clause-ok g c = λ keeps_bytes.
+pub returns-clause-writes : goal.returns-clause-writes
+returns-clause-writes g c =
     let contents = g.W.Writer.contents in
     let big = g.W.Writer.big c.args.w.now in
     let format = c.args.program.now.encoding.format in
     let old = contents c.args.w.now in
     let c1 = contents c.write_initial_length.new.self in
     let c2 = contents c.write_inside.new.w in
+    let c3 = contents c.write_initial_length_at.new.self in
+    let start = c.in_ok-length.length.0 in
+    let inside = c.in_ok-write_inside.ensures.writes in
     let n = c.len.result - c.len-start.result in
-    let opened = rw c.format-format.ensures at (c.in_ok-length.ensures.ok keeps_bytes) ∙ ap (λ l. old ++ l) (escape_is big format) ∙ sym (append_assoc old (escape_bytes big format) (open_word big format)) in
-    let at = rw c.format-format.ensures at (c.in_ok-length.ensures.place keeps_bytes) ∙ ap (λ k. length old + k) (sym (escape_long big format)) in
-    let written = rw c.in_ok-length.ensures.ordered at (c.in_ok-write_inside.ensures.ok keeps_bytes) in
+    let whole : ℕ → Result (List ℕ) Error = λ k. joined (Ok (escape_bytes big format)) (length_word big format k) in
+    let bytes = inside_bytes big c.args.program.now c.args.strings.now c.args.line_strings.now in
+    let opened : IsTrue g.W.Writer.keeps_bytes → c1 ≡ (old ++ escape_bytes big format) ++ open_word big format = λ keeps_bytes. rw c.format-format.ensures at (c.in_ok-length.ensures.ok keeps_bytes) ∙ ap (λ l. old ++ l) (escape_is big format) ∙ sym (append_assoc old (escape_bytes big format) (open_word big format)) in
+    let at : IsTrue g.W.Writer.keeps_bytes → start ≡ length old + length (escape_bytes big format) = λ keeps_bytes. rw c.format-format.ensures at (c.in_ok-length.ensures.place keeps_bytes) ∙ ap (λ k. length old + k) (sym (escape_long big format)) in
+    let written : IsTrue g.W.Writer.keeps_bytes → Appends bytes c1 c2 = λ keeps_bytes. rw c.in_ok-length.ensures.ordered at (inside.ok keeps_bytes) in
     let counted : n ≡ length c2 - length c1 = omega (arith, c.len.ensures, c.len-start.ensures) in
-    let ordered = c.in_ok-write_inside.ensures.ordered ∙ c.in_ok-length.ensures.ordered in
-    on_ok c.write_initial_length_at.result
-    (framed (λ k. joined (Ok (escape_bytes big format)) (length_word big format k)) (length_word big format) (escape_bytes big format) (open_word big format) old c1 c2 (contents c.write_initial_length_at.new.self) c.in_ok-length.length.0 n
-    (inside_bytes big c.args.program.now c.args.strings.now c.args.line_strings.now) (λ k. refl) opened at written counted (λ word is. length_word_long big format n word is))
-    (rw (ordered, c.format-format.ensures) at (c.write_initial_length_at.ensures.ok keeps_bytes))
-
-pub returns-clause-err : goal.returns-clause-err
-returns-clause-err g c = λ keeps_bytes fails_for_memory_alone.
-    let contents = g.W.Writer.contents in
-    let big = g.W.Writer.big c.args.w.now in
-    let format = c.args.program.now.encoding.format in
-    let old = contents c.args.w.now in
-    let c1 = contents c.write_initial_length.new.self in
-    let c2 = contents c.write_inside.new.w in
-    let n = c.len.result - c.len-start.result in
-    let opened = rw c.format-format.ensures at (c.in_ok-length.ensures.ok keeps_bytes) ∙ ap (λ l. old ++ l) (escape_is big format) ∙ sym (append_assoc old (escape_bytes big format) (open_word big format)) in
-    let at = rw c.format-format.ensures at (c.in_ok-length.ensures.place keeps_bytes) ∙ ap (λ k. length old + k) (sym (escape_long big format)) in
-    let written = rw c.in_ok-length.ensures.ordered at (c.in_ok-write_inside.ensures.ok keeps_bytes) in
-    let counted : n ≡ length c2 - length c1 = omega (arith, c.len.ensures, c.len-start.ensures) in
-    let ordered = c.in_ok-write_inside.ensures.ordered ∙ c.in_ok-length.ensures.ordered in
-    if_err c.write_initial_length_at.result
-    (λ e refused. inr (frame_refused (λ k. joined (Ok (escape_bytes big format)) (length_word big format k)) (length_word big format) (escape_bytes big format) (open_word big format) old c1 c2 (contents c.write_initial_length_at.new.self) c.in_ok-length.length.0 n
-    (inside_bytes big c.args.program.now c.args.strings.now c.args.line_strings.now) (λ k. refl) opened at written counted (λ word is. length_word_long big format n word is) e refused))
-    (rw (ordered, c.format-format.ensures) at (c.write_initial_length_at.ensures.err fails_for_memory_alone))
+    let ordered = inside.ordered ∙ c.in_ok-length.ensures.ordered in
+    record {
+      keeps = begins_before old c2 c3 start (begins_then old c1 c2 c.in_ok-length.ensures.keeps inside.keeps) c.in_ok-length.ensures.after c.write_initial_length_at.ensures.before;
+      ordered = c.write_initial_length_at.ensures.ordered ∙ ordered;
+      ok = λ keeps_bytes. on_ok c.write_initial_length_at.result
+          (framed whole (length_word big format) (escape_bytes big format) (open_word big format) old c1 c2 c3 start n bytes (λ k. refl) (opened keeps_bytes) (at keeps_bytes) (written keeps_bytes) counted (λ word is. length_word_long big format n word is))
+          (rw (ordered, c.format-format.ensures) at (c.write_initial_length_at.ensures.ok keeps_bytes));
+      err = λ keeps_bytes fails_for_memory_alone. if_err c.write_initial_length_at.result
+          (λ e refused. inr (frame_refused whole (length_word big format) (escape_bytes big format) (open_word big format) old c1 c2 c3 start n bytes (λ k. refl) (opened keeps_bytes) (at keeps_bytes) (written keeps_bytes) counted (λ word is. length_word_long big format n word is) e refused))
+          (rw (ordered, c.format-format.ensures) at (c.write_initial_length_at.ensures.err fails_for_memory_alone));
+    }

@@ -4,7 +4,7 @@ use Rattle.gimli_write.specs.Built.{Built}
 use Rattle.gimli_write.specs.Conditions.{CanWrite}
 use Rattle.gimli_write.specs.BuiltItem.{BuiltItem}
 use Rattle.gimli_write.specs.LineRow.{LineRow}
-use Rattle.linetool.proofs.demo.put_rows.Goals as goal
+use Rattle.line_commands.proofs.demo.put_rows.Goals as goal
 
 -- what can be written can be written with other items
 still_can : (p q : Built) (items : List BuiltItem) (row : LineRow) (begun : Bool) → q ≡ record p { items = items; row = row; in_sequence = begun } → CanWrite p [] [] → CanWrite q [] []

@@ -1,16 +1,11 @@
-use Rattle.std.proofs.Common.{◌≡◌, IsTrue, drop, take, All}
-use Rattle.gimli_bytes.specs.Written.{Begins}
+use Rattle.std.proofs.Common.{drop, take, All}
 use Rattle.gimli_build.specs.Tables.{FitsFile}
 use Rattle.gimli_build.specs.Version5Tables.{file_entry_bytes}
-use Rattle.gimli_build.proofs.Joined.{SoFar}
+use Rattle.gimli_build.proofs.Writes.{WritesSoFar}
 use Rattle.gimli_build.proofs.tables.version_5.write_file_entries.Given as goal
 
 abbrev pub invariant-loop-index : goal.invariant-loop-index
-invariant-loop-index g l =
-    let contents = g.W.Writer.contents in
-    record {
-      keeps : Begins (contents l.fn.w) (contents l.w);
-      ordered : g.W.Writer.big l.w ≡ g.W.Writer.big l.fn.w;
-      fit : All FitsFile (take l.index l.program.files);
-      put : IsTrue g.W.Writer.keeps_bytes → SoFar (file_entry_bytes (g.W.Writer.big l.fn.w) l.program.encoding.format l.strings l.line_strings l.program) l.program.files (drop l.index l.program.files) (contents l.fn.w) (contents l.w);
-    }
+invariant-loop-index g l = record {
+  so : WritesSoFar g.W.Writer (file_entry_bytes (g.W.Writer.big l.fn.w) l.program.encoding.format l.strings l.line_strings l.program) l.program.files (drop l.index l.program.files) l.fn.w l.w;
+  fit : All FitsFile (take l.index l.program.files);
+}

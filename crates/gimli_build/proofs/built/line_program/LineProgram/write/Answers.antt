@@ -26,7 +26,7 @@ returns-clause-reads_back g c = λ keeps_bytes.
     let line_same = c.in_ok-empty.ensures.line_strings in
     let texts : AreTexts (strings_behind p strings) = rw same at c.in_ok-empty.ensures.texts in
     let line_texts : AreTexts (line_strings_behind p line_strings) = rw line_same at c.in_ok-empty.ensures.line_texts in
-    let written = rw (same, line_same) at (c.in_ok-write_whole.ensures.ok keeps_bytes) in
+    let written = rw (same, line_same) at (c.in_ok-write_whole.ensures.writes.ok keeps_bytes) in
     let a = appended_bytes (whole_bytes big p (strings_behind p strings) (line_strings_behind p line_strings)) (contents c.args.w.now.0) (contents c.write_whole.new.w) written in
     let compatible : is_incompatible c.args.encoding p.encoding ≡ false = search rules in
     let is : unit_bytes big c.args.encoding p strings line_strings ≡ Ok a.0 = rw compatible a.1 in
@@ -46,7 +46,7 @@ returns-clause-no_cause g c = λ keeps_bytes.
     let p = c.args.self.now in
     let unit = c.args.encoding in
     let compatible : is_incompatible unit p.encoding ≡ false = search rules in
-    let written = rw (c.in_ok-empty.ensures.strings, c.in_ok-empty.ensures.line_strings) at (c.in_ok-write_whole.ensures.ok keeps_bytes) in
+    let written = rw (c.in_ok-empty.ensures.strings, c.in_ok-empty.ensures.line_strings) at (c.in_ok-write_whole.ensures.writes.ok keeps_bytes) in
     let appended : Appends (unit_bytes big unit p c.args.strings.now c.args.line_strings.now) (contents c.args.w.now.0) (contents c.write_whole.new.w) = rw compatible written in
     no-cause big unit p c.args.strings.now c.args.line_strings.now (c.encoding.ensures.accepted c.requires.program).address_size (contents c.args.w.now.0) (contents c.write_whole.new.w) appended
 
@@ -57,6 +57,6 @@ returns-in_err-write_whole-clause-err g c = λ keeps_bytes fails_for_memory_alon
     let unit = c.args.encoding in
     let compatible : is_incompatible unit p.encoding ≡ false = search rules in
     let q = err_from_is_err_and c.from_residual-in_err-write_whole.result c.from_residual-in_err-write_whole.ensures.1 in
-    let for_it = rw (c.in_ok-empty.ensures.strings, c.in_ok-empty.ensures.line_strings) at (c.in_err-write_whole.ensures.err keeps_bytes fails_for_memory_alone) in
+    let for_it = rw (c.in_ok-empty.ensures.strings, c.in_ok-empty.ensures.line_strings) at (c.in_err-write_whole.ensures.writes.err keeps_bytes fails_for_memory_alone) in
     let refused : RefusesFor (unit_bytes big unit p c.args.strings.now c.args.line_strings.now) c.in_err-write_whole.field-0.0 = rw compatible for_it in
     rw (q.1, q.2) (refused-for big unit p c.args.strings.now c.args.line_strings.now (c.encoding.ensures.accepted c.requires.program).address_size c.in_err-write_whole.field-0.0 refused)
