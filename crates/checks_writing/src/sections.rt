@@ -3,16 +3,17 @@
 ghost use Rattle.std.specs.Prelude.{[]};
 ghost use Rattle.gimli_write.specs.Conditions.{CanWrite};
 
-use crate::built::{demo, demo_at, write};
-use crate::units::{DEMO_UNIT, numbers};
+use crate::built::{DEMO_UNIT, demo, demo_at, write};
 use gimli_core::{
     BigEndian, DebugLineOffset, DebugLineStrOffset, DebugStrOffset, Encoding, LittleEndian,
 };
+use gimli_line::{ColumnType, LineRow};
 use gimli_write::{
     Address, DebugLine, DebugLineStr, DebugStr, EndianVec, Error, Leb128, LineProgram,
     LineStringTable, Result, RoundTrip, StringTable, Writer, round_trip,
 };
 use std::alloc::Global;
+use std::num::NonZeroU64;
 use std::process::Abort;
 use std::test::Fail;
 
@@ -153,18 +154,26 @@ fn units_behind_other_bytes(rt: HostRuntime) -> std::result::Result<(), Fail> {
     Ok(())
 }
 
+/// A row of the first file has this address and this line, and its other numbers are those of a new row.
+fn check_row(rt: &impl Abort, row: &LineRow, address: u64, line: u64) {
+    assert_eq!(rt; (row.address(), row.op_index()), (address, 0));
+    assert_eq!(rt; (row.file_index(), row.line()), (1, NonZeroU64::new(line)));
+    assert_eq!(rt; row.column(), ColumnType::LeftEdge);
+    assert_eq!(rt; (row.isa(), row.discriminator()), (0, 0));
+}
+
 /// What is read of the demo unit, wherever it stands.
 fn check_read(rt: &impl Abort, answer: &RoundTrip) {
     assert_eq!(rt; answer.offset, DebugLineOffset(3));
     assert_eq!(rt; answer.directories.len(), 1);
     assert_eq!(rt; answer.files.len(), 1);
     assert_eq!(rt; answer.rows.len(), 3);
-    for (row, expected) in answer.rows.iter().zip([
-        [0x1000, 0, 1, 1, 0, 0, 0],
-        [0x1004, 0, 1, 3, 0, 0, 0],
-        [0x1008, 0, 1, 3, 0, 0, 0],
-    ]) {
-        assert_eq!(rt; numbers(row), expected);
+    for (row, (address, line)) in answer
+        .rows
+        .iter()
+        .zip([(0x1000, 1), (0x1004, 3), (0x1008, 3)])
+    {
+        check_row(rt, row, address, line);
     }
 }
 

@@ -1,6 +1,6 @@
-//! The texts of errors, and how one error becomes another.
+//! The texts of the errors of writing and converting, and how one error becomes another.
 
-use gimli_core::{DwEhPe, Error as ReadError, ReaderOffsetId};
+use gimli_core::{DwEhPe, Error as ReadError};
 use gimli_write::{ConvertError, ConvertResult, Error, Result};
 use std::alloc::AllocError;
 use std::test::Fail;
@@ -227,18 +227,4 @@ fn errors_of_errors(rt: HostRuntime) {
     assert_eq!(rt; ConvertError::from(write), ConvertError::Write(write));
     assert_eq!(rt; Error::from(AllocError), Error::OutOfMemory);
     assert_eq!(rt; ConvertError::from(AllocError), ConvertError::OutOfMemory);
-}
-
-/// A refusal of reading has a text, whatever it is.
-#[test]
-fn texts_of_reading(rt: HostRuntime) -> std::result::Result<(), Fail> {
-    for error in [
-        ReadError::UnexpectedEof(ReaderOffsetId(3)),
-        ReadError::UnknownVersion(6),
-        ReadError::AddressOverflow,
-        ReadError::OutOfMemory,
-    ] {
-        assert!(rt; !error.to_string(rt.alloc())?.is_empty(), "at {error:?}");
-    }
-    Ok(())
 }

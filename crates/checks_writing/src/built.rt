@@ -10,6 +10,11 @@ use gimli_write::{
 };
 use std::alloc::Global;
 
+/// The demo unit: of version 4 with the default line encoding, one file and one sequence.
+pub const DEMO_UNIT: &[u8] =
+    b"\x2f\0\0\0\x04\0\x1b\0\0\0\x01\x01\x01\xfb\x0e\x0d\0\x01\x01\x01\x01\0\0\0\x01\0\0\x01\0a.c\0\0\0\0\0\
+      \0\x05\x02\0\x10\0\0\x01\x4c\x02\x04\0\x01\x01";
+
 /// A program of version 4 without a file and without rows, whose working directory is `/w`.
 fn empty_program(alloc: Global) -> Result<LineProgram>
     ensures can { IfOk result (λ program. CanWrite program [] []) }

@@ -1,13 +1,9 @@
-//! Checks in code, of what no row of input and output can say: readers and writers of one's own, equality and order,
-//! copies, what comes behind an end or a refusal, and what must stand behind one.
+//! Checks in code, of what no row of input and output can say of reading: a reader of one's own, equality and order,
+//! copies, and what comes behind an end or a refusal.
 //!
 //! They use public names alone. Each step is a function of its own, so that a proof stays short.
 #![tactic(auto)]
 
-#[cfg(test)]
-mod builder;
-#[cfg(test)]
-mod built;
 #[cfg(test)]
 mod equality;
 #[cfg(test)]
@@ -23,10 +19,6 @@ mod readers;
 #[cfg(test)]
 mod rows;
 #[cfg(test)]
-mod sections;
-#[cfg(test)]
 mod units;
 #[cfg(test)]
 mod values;
-#[cfg(test)]
-mod writers;

@@ -4,8 +4,7 @@ ghost use Rattle.std.specs.Prelude.{◌≡◌, ◌+◌, ◌≤◌, [], ◌++◌,
 ghost use Rattle.gimli_write.specs.Conditions.{CanWrite};
 ghost use Rattle.gimli_write.specs.LineText.{line_text, HasNoZero, IsWithin};
 
-use crate::built::{demo, demo_at, write};
-use crate::units::DEMO_UNIT;
+use crate::built::{DEMO_UNIT, demo, demo_at, write};
 use gimli_core::{
     DebugLineOffset, Encoding, Endianity, Format, LineEncoding, LittleEndian, SectionId,
 };

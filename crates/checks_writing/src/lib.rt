@@ -1,0 +1,18 @@
+//! Checks in code, of what no row of input and output can say of writing: writers of one's own, a builder's calls one
+//! by one, equality and hashes, copies, and what must stand behind a refusal.
+//!
+//! They use public names alone. Each step is a function of its own, so that a proof stays short.
+#![tactic(auto)]
+
+#[cfg(test)]
+mod builder;
+#[cfg(test)]
+mod built;
+#[cfg(test)]
+mod equality;
+#[cfg(test)]
+mod errors;
+#[cfg(test)]
+mod sections;
+#[cfg(test)]
+mod writers;
