@@ -3,6 +3,15 @@
 use gimli_core::{Encoding, LineEncoding};
 use gimli_write::Address;
 
+/// What a program is written into.
+#[derive(Clone, Copy, Debug, PartialEq, Eq)]
+pub(crate) enum Target {
+    /// A vector.
+    Vector,
+    /// An array of this many bytes.
+    Array(usize),
+}
+
 /// Where a text is put.
 #[derive(Clone, Copy, Debug, PartialEq, Eq)]
 pub(crate) enum Form {

@@ -1,8 +1,7 @@
 //! The words of a script's line.
 
-use crate::calls::{Call, Details, Flags, Form, Registers, Start, Text};
+use crate::calls::{Call, Details, Flags, Form, Registers, Start, Target, Text};
 use crate::fault::Fault;
-use crate::script::Target;
 use gimli_core::{Encoding, Format, LineEncoding, RunTimeEndian};
 use gimli_write::Address;
 use row_text::{parse_bytes, parse_number, parse_signed, parse_text};

@@ -2,9 +2,10 @@
 
 use crate::array_section::ArraySection;
 use crate::builder::Builder;
+use crate::calls::Target;
 use crate::fault::{Fault, Stop};
 use crate::output::{print_answer, print_refusal, print_section, print_table};
-use crate::script::{Line, Script, Target, parse_scripts};
+use crate::script::{Line, Script, parse_scripts};
 use gimli_core::Encoding;
 use gimli_write::{ConvertError, ConvertResult, DebugLine, EndianVec, Error, RoundTrip, Writer};
 use row_text::Attempts;

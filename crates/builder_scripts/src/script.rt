@@ -1,20 +1,11 @@
 //! Scripts: the calls of a program, and how it is written.
 
-use crate::calls::Call;
+use crate::calls::{Call, Target};
 use crate::fault::Fault;
 use crate::parse::{parse_bytes_of, parse_call, parse_encoding, parse_order, parse_target};
 use gimli_core::{Encoding, RunTimeEndian};
 use std::alloc::{AllocError, Global};
 use std::mem;
-
-/// What a program is written into.
-#[derive(Clone, Copy, Debug, PartialEq, Eq)]
-pub(crate) enum Target {
-    /// A vector.
-    Vector,
-    /// An array of this many bytes.
-    Array(usize),
-}
 
 /// A call, and the number of its line.
 #[derive(Debug, Drop)]

@@ -7,7 +7,7 @@ use Rattle.line_commands.specs.declared.words.AddressSize.{AddressSize}
 use Rattle.line_commands.specs.declared.words.AddressSize.TheVariants.{One, Two, Four, Eight}
 use Rattle.line_commands.specs.declared.words.Place.{Place}
 use Rattle.line_commands.specs.declared.words.Command.{Command}
-use Rattle.line_commands.specs.declared.words.Command.TheVariants.{Demo, Rows, Sequences}
+use Rattle.line_commands.specs.declared.words.Command.TheVariants.{Demo, Rows, Sequences, Units}
 
 -- the word of an order
 abbrev pub order_word : RunTimeEndian → List ℕ
@@ -43,6 +43,8 @@ IsCommand words (Rows place) = (file order size offset : List ℕ)
     × (words ≡ codes "rows" ∷ file ∷ order ∷ size ∷ offset ∷ []) × NamesPlace order size offset place
 IsCommand words (Sequences place) = (file order size offset : List ℕ)
     × (words ≡ codes "sequences" ∷ file ∷ order ∷ size ∷ offset ∷ []) × NamesPlace order size offset place
+IsCommand words (Units order size) = (file : List ℕ)
+    × (words ≡ codes "units" ∷ file ∷ order_word order ∷ size_word size ∷ [])
 
 -- a command that prints what stands in a file
 abbrev pub ReadsFile : Command → Type 0

@@ -5,14 +5,13 @@ ghost use Rattle.std.specs.Prelude.{◌≡◌, ◌≢◌, ◌≤◌, Err, IfErr,
 ghost use Rattle.line_commands.specs.Words.{IsCommand, ReadsFile};
 
 use crate::demo::print_demo;
-use crate::print::{RowLine, SequenceLine};
+use crate::print::{SequenceLine, finished, print_line, print_row};
 use crate::refusal::Refusal;
+use crate::section::{program_at, read_section};
+use crate::units::print_units;
 use crate::words::{Command, Place};
-use gimli_core::{DebugLineOffset, EndianSlice, Reader, RunTimeEndian};
-use gimli_line::{
-    CompleteLineProgram, DebugLine, IncompleteLineProgram, LineProgram, LineRow, LineRows,
-    LineSequence, ResumedLineRows,
-};
+use gimli_core::Reader;
+use gimli_line::{CompleteLineProgram, LineProgram, LineRows, LineSequence, ResumedLineRows};
 use std::alloc::Global;
 use std::io::{Read, Write};
 
@@ -56,18 +55,10 @@ fn perform<F: Read + Drop, O: Write>(
             let section = read_section(alloc, file)?;
             print_sequences(alloc, &section, place, out)
         }
-    }
-}
-
-/// The bytes of the file.
-fn read_section<F: Read + Drop>(alloc: Global, file: Option<F>) -> Result<Vec<u8>, Refusal>
-    ensures no_file { IsNone file → result ≡ Err Refusal.File }
-    ensures refusal { IfErr result (λ r. r ≢ Refusal.Usage) }
-{
-    let mut section = Vec::new(alloc);
-    match file.ok_or(Refusal::File)?.read_to_end(&mut section) {
-        Ok(_) => Ok(section),
-        Err(e) => Err(Refusal::of_reading(&e)),
+        Command::Units(order, address_size) => {
+            let section = read_section(alloc, file)?;
+            print_units(alloc, &section, order, address_size, out)
+        }
     }
 }
 
@@ -102,17 +93,6 @@ fn print_sequences<O: Write>(
     finished(outcome, out)
 }
 
-/// What became of a command whose output is complete.
-pub(crate) fn finished<O: Write>(outcome: Result<(), Refusal>, out: &mut O) -> Result<(), Refusal>
-    requires { IfErr outcome (λ r. r ≢ Refusal.Usage) }
-    ensures refusal { IfErr result (λ r. r ≢ Refusal.Usage) }
-{
-    match out.flush() {
-        Ok(()) => outcome,
-        Err(_) => Err(Refusal::Output),
-    }
-}
-
 /// Prints sequences one after the other, each with its rows.
 fn print_each<R: Reader, O: Write>(
     program: &CompleteLineProgram<R>,
@@ -145,16 +125,6 @@ fn count_of_rows<R: Reader>(rows: ResumedLineRows<'_, R>) -> u64 {
     u64::MAX
 }
 
-/// Prints the line of a sequence.
-fn print_line<O: Write>(line: SequenceLine, out: &mut O) -> Result<(), Refusal>
-    ensures refusal { IfErr result (λ r. r ≡ Refusal.Output) }
-{
-    match writeln!(out, "{line}") {
-        Ok(()) => Ok(()),
-        Err(_) => Err(Refusal::Output),
-    }
-}
-
 /// Prints the rows that are still to come. The first fault stops it, after the rows before it.
 fn print_rows<R: Reader, P: LineProgram<R> + Drop, O: Write>(
     rows: LineRows<R, P>,
@@ -171,30 +141,4 @@ fn print_rows<R: Reader, P: LineProgram<R> + Drop, O: Write>(
         };
         print_row(row, out)?;
     }
-}
-
-/// Prints the line of a row.
-pub(crate) fn print_row<O: Write>(row: LineRow, out: &mut O) -> Result<(), Refusal>
-    ensures refusal { IfErr result (λ r. r ≡ Refusal.Output) }
-{
-    let line = RowLine(row);
-    match writeln!(out, "{line}") {
-        Ok(()) => Ok(()),
-        Err(_) => Err(Refusal::Output),
-    }
-}
-
-/// The program of a unit, without a directory or a name from outside.
-fn program_at<'i>(
-    alloc: Global,
-    section: &'i [u8],
-    place: Place,
-) -> Result<IncompleteLineProgram<EndianSlice<'i, RunTimeEndian>>, Refusal>
-    ensures refusal { IfErr result (λ r. r ≢ Refusal.Usage) }
-{
-    let section = DebugLine::new(section, place.order);
-    let offset = DebugLineOffset(place.offset);
-    section
-        .program(alloc, offset, place.address_size.bytes(), None, None)
-        .map_err(|e| Refusal::of_unit(e, Refusal::Header))
 }

@@ -4,7 +4,7 @@ ghost use Rattle.std.specs.Prelude.{◌≡◌, ◌≢◌, [], OnOk, IfErr, IfOk}
 ghost use Rattle.gimli_write.specs.Conditions.{CanWrite};
 ghost use Rattle.line_commands.specs.Demo.{IsAtStart};
 
-use crate::commands::{finished, print_row};
+use crate::print::{finished, print_row};
 use crate::refusal::Refusal;
 use gimli_core::{Encoding, Format, LineEncoding, LittleEndian};
 use gimli_write::{

@@ -5,6 +5,8 @@ mod commands;
 mod demo;
 mod print;
 mod refusal;
+mod section;
+mod units;
 mod words;
 
 pub use commands::run;

@@ -1,7 +1,11 @@
 //! Lines of text.
 
+ghost use Rattle.std.specs.Prelude.{◌≡◌, ◌≢◌, IfErr};
+
+use crate::refusal::Refusal;
 use gimli_line::{ColumnType, LineRow};
 use std::fmt;
+use std::io::Write;
 
 /// The line of a row: its address in sixteen hexadecimal digits, its numbers, and its flags.
 #[derive(Clone, Copy)]
@@ -84,5 +88,33 @@ impl fmt::Display for Flags {
             }
         }
         Ok(())
+    }
+}
+
+/// Prints the line of a row.
+pub(crate) fn print_row<O: Write>(row: LineRow, out: &mut O) -> Result<(), Refusal>
+    ensures refusal { IfErr result (λ r. r ≡ Refusal.Output) }
+{
+    print_line(RowLine(row), out)
+}
+
+/// Prints a line of text.
+pub(crate) fn print_line<T: fmt::Display + Drop, O: Write>(line: T, out: &mut O) -> Result<(), Refusal>
+    ensures refusal { IfErr result (λ r. r ≡ Refusal.Output) }
+{
+    match writeln!(out, "{line}") {
+        Ok(()) => Ok(()),
+        Err(_) => Err(Refusal::Output),
+    }
+}
+
+/// What became of a command whose output is complete.
+pub(crate) fn finished<O: Write>(outcome: Result<(), Refusal>, out: &mut O) -> Result<(), Refusal>
+    requires { IfErr outcome (λ r. r ≢ Refusal.Usage) }
+    ensures refusal { IfErr result (λ r. r ≢ Refusal.Usage) }
+{
+    match out.flush() {
+        Ok(()) => outcome,
+        Err(_) => Err(Refusal::Output),
     }
 }

@@ -15,6 +15,8 @@ pub enum Command {
     Rows(Place),
     /// Prints the sequences of a unit, each with its rows.
     Sequences(Place),
+    /// Prints a line for each unit of a section.
+    Units(RunTimeEndian, AddressSize),
 }
 
 /// Where a unit stands in a section, and how its numbers are read.
@@ -70,6 +72,9 @@ impl Command {
             }
             ["sequences", _file, order, size, offset] => {
                 Some(Command::Sequences(Place::parse(order, size, offset)?))
+            }
+            ["units", _file, order, size] => {
+                Some(Command::Units(parse_order(order)?, parse_size(size)?))
             }
             _ => None,
         }

@@ -1,6 +1,6 @@
 //! What must stand where memory is refused to the rows of a unit.
 
-use crate::run::print_line;
+use crate::output::print_line;
 use gimli_core::{DebugLineOffset, EndianSlice, Error, Reader, RunTimeEndian};
 use gimli_line::{DebugLine, IncompleteLineProgram, LineProgram, LineRows};
 use line_commands::Place;

@@ -29,6 +29,7 @@
 
 mod again;
 mod check;
+mod output;
 mod parts;
 mod rows;
 mod run;

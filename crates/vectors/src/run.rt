@@ -1,12 +1,11 @@
 //! What the command of a row gives.
 
 use crate::again::watch_rows;
+use crate::output::print_line;
 use crate::rows::{Input, Row};
 use line_commands::Command;
 use row_text::Attempts;
 use std::alloc::{AllocError, Global};
-use std::fmt;
-use std::io::Write;
 
 /// What the command of a row prints: its output, its lines on standard error behind `stderr`, and its status, where
 /// it isn't 0, behind `status`.
@@ -99,12 +98,4 @@ fn print_errors(err: &[u8], out: &mut Vec<u8>) -> Result<(), AllocError> {
         print_line(out, format_args!("stderr {line}"))?;
     }
     Ok(())
-}
-
-/// Prints a line into a vector, which refuses for memory alone.
-pub fn print_line(out: &mut Vec<u8>, line: impl fmt::Display + Drop) -> Result<(), AllocError> {
-    match writeln!(out, "{line}") {
-        Ok(()) => Ok(()),
-        Err(_) => Err(AllocError),
-    }
 }

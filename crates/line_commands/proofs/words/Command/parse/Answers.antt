@@ -12,7 +12,16 @@ five (a ∷ b ∷ c ∷ e ∷ []) d l m = grind arith
 five (a ∷ b ∷ c ∷ e ∷ f ∷ []) d l m = refl
 five (a ∷ b ∷ c ∷ e ∷ f ∷ g ∷ rest) d l m = grind arith
 
--- src/words.rt:55:5
+-- the texts of four words
+four : (words : List (Bor (List ℕ))) (d : Bor (List ℕ)) → 4 ≤ length words → length words < 5
+    → map (λ word. word.now) words ≡ (get_or words 0 d).now ∷ (get_or words 1 d).now ∷ (get_or words 2 d).now ∷ (get_or words 3 d).now ∷ []
+four [] d l m = grind arith
+four (a ∷ []) d l m = grind arith
+four (a ∷ b ∷ []) d l m = grind arith
+four (a ∷ b ∷ c ∷ []) d l m = grind arith
+four (a ∷ b ∷ c ∷ e ∷ []) d l m = refl
+four (a ∷ b ∷ c ∷ e ∷ f ∷ rest) d l m = grind arith
+
 pub returns-in_ok-parse-in-rows-clause-command : goal.returns-in_ok-parse-in-rows-clause-command
 returns-in_ok-parse-in-rows-clause-command c =
     let words = c.args.words.now in
