@@ -9,7 +9,8 @@ use Rattle.gimli_line.specs.run.Instruction.{Ins, makes_row}
 use Rattle.gimli_line.specs.header.File.{File}
 use Rattle.gimli_line.specs.declared.run.instruction.LineInstruction.TheVariants.{DefineFile}
 use Rattle.gimli_line.specs.run.OperationPointer.{is_hidden, overflows}
-use Rattle.gimli_line.specs.run.Events.{row, row_at, events_at}
+use Rattle.gimli_line.specs.run.Events.{row, row_at, events_at, behind}
+use Rattle.gimli_line.specs.run.Progress.{files_from}
 use Rattle.gimli_line.specs.run.Machine.{initial, reset_row, stepped, is_refused}
 use Rattle.gimli_line.specs.run.EventsWithFiles.{EventWithFiles, with_files, files_at, events_with_files_behind, step_events, next_registers, events_with_files_from}
 use Rattle.gimli_line.proofs.Backwards.{registers, goes_on, starts_anew, goes_past, row_is}
@@ -40,6 +41,14 @@ files_go : (a : Bool) (files : List File) (past : List Ins) (i : Ins) → files_
 files_go true files past (DefineFile f) = refl
 files_go false files past (DefineFile f) = refl
 files_go a files past i = refl
+
+files_come : (a : Bool) (files : List File) (past list : List Ins) → files_from a (files_at a files past) list ≡ files_at a files (behind past list)
+files_come a files past [] = refl
+files_come a files past (i ∷ list) = rw (files_go a files past i) (files_come a files (i ∷ past) list)
+
+pub files_from_start : (a : Bool) (files : List File) (list : List Ins) → files_from a files list ≡ files_at a files (behind [] list)
+files_from_start true files list = files_come true files [] list
+files_from_start false files list = files_come false files [] list
 
 pub events_with_files_are : (a : Bool) (h : Header) (past list : List Ins) (end : Option Error) → events_with_files_from a h.parameters (registers h.parameters past) (files_at a h.files past) list end ≡ events_with_files_behind a h past list end
 events_with_files_are a h past [] end = refl
