@@ -1,7 +1,8 @@
 //! Laws of the two grammars: a unit has one header or one refusal, a program is decoded in one way. And laws of what
 //! a run gives.
 
-ghost use Rattle.std.specs.Prelude.{◌≡◌, ◌≢◌, ◌≤◌, ◌⊎◌, ◌++◌, ℕ, List, [], Option, length};
+ghost use Rattle.std.specs.Prelude.{◌≡◌, ◌≢◌, ◌≤◌, ◌⊎◌, ◌++◌, ℕ, List, [], Option, Some, length};
+ghost use Rattle.std.specs.Ordering.{nat_cmp};
 ghost use Rattle.gimli_core.specs.Notation.{Notation};
 ghost use Rattle.gimli_core.specs.declared.common.Format.{Format};
 ghost use Rattle.gimli_core.specs.declared.error.Error.{Error};
@@ -13,7 +14,11 @@ ghost use Rattle.gimli_line.specs.run.InstructionGrammar.{Decodes};
 ghost use Rattle.gimli_line.specs.run.Machine.{run, initial};
 ghost use Rattle.gimli_line.specs.run.NonDecreasing.{AreOneSequence, NeverBelow};
 ghost use Rattle.gimli_line.specs.header.Parameters.{Parameters};
+ghost use Rattle.gimli_line.specs.run.Row.{column_number};
 ghost use Rattle.gimli_line.specs.declared.header.file_entry.FileEntryFormat.{FileEntryFormat};
+ghost use Rattle.gimli_line.specs.declared.run.row.ColumnType.{ColumnType as Column};
+
+use crate::run::row::ColumnType;
 
 /// Bytes begin with a unit, or they have a refusal.
 pub fn unit_or_refusal()
@@ -61,4 +66,10 @@ pub fn machine_gives_events()
 /// of rows never go down.
 pub fn addresses_never_go_down()
     ensures { (parameters : Parameters) (past list : List Ins) → AreOneSequence list → NeverBelow 0 (events_behind parameters past list) }
+{}
+
+/// Columns are ordered by their numbers; the left edge, which stands for 0, is below them all.
+pub fn columns_are_ordered()
+    ensures total { (a b : Column) → ⟦<ColumnType as Ord>⟧.cmp a b ≡ nat_cmp (column_number a) (column_number b) }
+    ensures partial { (a b : Column) → ⟦<ColumnType as PartialOrd>⟧.partial_cmp a b ≡ Some (nat_cmp (column_number a) (column_number b)) }
 {}

@@ -221,6 +221,22 @@ impl<'program, R: Reader> LineRows<R, &'program CompleteLineProgram<R>> {
     }
 }
 
+impl<R: Reader> LineRows<R, IncompleteLineProgram<R>> {
+    ghost use Rattle.std.specs.Prelude.{◌≡◌, IfErr, IfOk};
+
+    /// A copy with the same rows to come. Refused by `OutOfMemory` alone.
+    pub fn clone(&self) -> Result<Self>
+        ensures ok { IfOk result (λ copy. copy ≡ self.now) }
+        ensures err { IfErr result (λ e. e ≡ Error.OutOfMemory) }
+    {
+        Ok(LineRows {
+            program: self.program.clone()?,
+            row: self.row,
+            instructions: self.instructions.clone(),
+        })
+    }
+}
+
 impl<R: Reader> IncompleteLineProgram<R> {
     ghost use Rattle.std.specs.Prelude.{◌≡◌, true};
     ghost use Rattle.gimli_line.specs.run.Rows.{events_left, files_at_end, started};
