@@ -1,17 +1,24 @@
 -- The machine gives what is found by looking back, with the files at each place.
-use Rattle.std.proofs.Common.{◌≡◌, Bool, true, false, not, ◌||◌, if◌then◌else◌, List, [], ◌∷◌, ◌++◌, Option, refl, ap, ◌∙◌}
+use Rattle.std.proofs.Common.{◌≡◌, ℕ, Bool, true, false, not, ◌||◌, if◌then◌else◌, List, [], ◌∷◌, ◌++◌, Option, refl, ap, ◌∙◌}
 use Rattle.gimli_core.specs.declared.error.Error.{Error}
 use Rattle.gimli_line.specs.declared.run.row.LineRow.{LineRow}
 use Rattle.gimli_line.specs.header.Parameters.{Parameters}
-use Rattle.gimli_line.specs.header.Header.{Header}
-use Rattle.gimli_line.specs.run.Instruction.{files_behind}
-use Rattle.gimli_line.specs.run.Instruction.{Ins, makes_row}
+use Rattle.gimli_core.specs.Notation.{Notation}
+use Rattle.gimli_line.specs.header.Header.{Header, bare}
+use Rattle.gimli_line.specs.run.Instruction.{Ins, makes_row, files_behind}
 use Rattle.gimli_line.specs.header.File.{File}
 use Rattle.gimli_line.specs.declared.run.instruction.LineInstruction.TheVariants.{DefineFile}
 use Rattle.gimli_line.specs.run.OperationPointer.{is_hidden, overflows}
-use Rattle.gimli_line.specs.run.Events.{row, row_at, events_at}
+use Rattle.gimli_line.specs.run.Events.{row, row_at, events_at, behind}
+use Rattle.gimli_line.specs.run.Progress.{files_from}
 use Rattle.gimli_line.specs.run.Machine.{initial, reset_row, stepped, is_refused}
-use Rattle.gimli_line.specs.run.EventsWithFiles.{EventWithFiles, with_files, files_at, events_with_files_behind, step_events, next_registers, events_with_files_from}
+use Rattle.gimli_line.specs.run.EventsWithFiles.{EventWithFiles, EventsWithFiles, FilesAtEnd, with_files, files_at, events_with_files_behind, step_events, next_registers, events_with_files_from}
+use Rattle.gimli_line.specs.run.InstructionGrammar.{Decodes}
+use Rattle.gimli_line.specs.run.InstructionReading.{decoded_at}
+use Rattle.gimli_line.specs.run.Rows.{events_left, files_at_end, started}
+use Rattle.gimli_line.specs.run.Unread.{Unread}
+use Rattle.gimli_line.proofs.InstructionLaws.{is_decoded}
+use Rattle.gimli_line.proofs.Runs.{bare_decoding}
 use Rattle.gimli_line.proofs.Backwards.{registers, goes_on, starts_anew, goes_past, row_is}
 
 -- what an instruction gives
@@ -41,6 +48,14 @@ files_go true files past (DefineFile f) = refl
 files_go false files past (DefineFile f) = refl
 files_go a files past i = refl
 
+files_come : (a : Bool) (files : List File) (past list : List Ins) → files_from a (files_at a files past) list ≡ files_at a files (behind past list)
+files_come a files past [] = refl
+files_come a files past (i ∷ list) = rw (files_go a files past i) (files_come a files (i ∷ past) list)
+
+pub files_from_start : (a : Bool) (files : List File) (list : List Ins) → files_from a files list ≡ files_at a files (behind [] list)
+files_from_start true files list = files_come true files [] list
+files_from_start false files list = files_come false files [] list
+
 pub events_with_files_are : (a : Bool) (h : Header) (past list : List Ins) (end : Option Error) → events_with_files_from a h.parameters (registers h.parameters past) (files_at a h.files past) list end ≡ events_with_files_behind a h past list end
 events_with_files_are a h past [] end = refl
 events_with_files_are a h past (i ∷ list) end =
@@ -51,3 +66,17 @@ events_with_files_are a h past (i ∷ list) end =
 pub events_with_files_start : (a : Bool) (h : Header) (list : List Ins) (end : Option Error) → events_with_files_from a h.parameters (reset_row h.parameters (initial h.parameters)) h.files list end ≡ events_with_files_behind a h [] list end
 events_with_files_start true h list end = events_with_files_are true h [] list end
 events_with_files_start false h list end = events_with_files_are false h [] list end
+
+-- rows at the start of a sequence, by the bytes that are to come
+module _ (a : Bool) (h : Header) (o : Notation) (offset : ℕ) (s : Unread) where
+  abbrev parts : List Ins × Option Error
+  parts = decoded_at s.notation (bare h) s.bytes
+
+  decoding : Decodes s.notation h s.bytes parts.0 parts.1
+  decoding = bare_decoding s.notation h s.bytes parts.0 parts.1 (is_decoded s.notation (bare h) s.bytes)
+
+  pub started_events : EventsWithFiles s.notation a h s.bytes (events_left (started a h o offset s))
+  started_events = record { list = parts.0; end = parts.1; decoding = decoding; given = events_with_files_start a h parts.0 parts.1 }
+
+  pub started_files : FilesAtEnd s.notation a h s.bytes (files_at_end (started a h o offset s))
+  started_files = record { list = parts.0; end = parts.1; decoding = decoding; given = files_from_start a h.files parts.0 }

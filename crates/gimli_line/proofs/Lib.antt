@@ -4,6 +4,7 @@ pub mod Worked
 pub mod Closed
 pub mod HeaderLaws
 pub mod InstructionLaws
+pub mod InstructionRefusals
 pub mod Bounds
 pub mod Programs
 pub mod Headers

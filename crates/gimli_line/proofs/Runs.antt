@@ -14,13 +14,13 @@ use Rattle.gimli_line.specs.run.Instruction.{Ins, makes_row, defines_file}
 use Rattle.gimli_line.specs.header.File.{File}
 use Rattle.gimli_line.specs.run.InstructionGrammar.{SpellsInstruction, instruction_production, IsEnd, Decodes}
 use Rattle.gimli_line.specs.run.InstructionReading.{decoded_upto, decoded_at}
-use Rattle.gimli_line.specs.run.Events.{Event, row, fault}
+use Rattle.gimli_line.specs.run.Events.{Event, row}
 use Rattle.gimli_line.specs.run.Machine.{stepped, reset_row, is_refused}
 use Rattle.gimli_line.specs.run.EventsWithFiles.{EventWithFiles, step_events, next_registers}
 use Rattle.gimli_line.specs.run.Unread.{Unread}
 use Rattle.gimli_line.specs.run.RunState.{RunState}
 use Rattle.gimli_line.specs.run.Progress.{Progress, ready, events_from, registers_behind, files_from}
-use Rattle.gimli_line.specs.run.Rows.{live_events, events_left, WantsMemory, FaultIs}
+use Rattle.gimli_line.specs.run.Rows.{live_events, events_left, files_at_end, WantsMemory, FaultComes, FaultIs}
 use Rattle.gimli_line.proofs.InstructionLaws.{is_decoded, one_decoding, takes_bytes}
 
 -- ---- what a program is decoded into, by its front
@@ -44,6 +44,13 @@ module _ (notation : Notation) (h : Header) (bytes : List ℕ) where
         spelled = (front, c.front, refl, s, c.spelled);
         ended = c.ended;
       }))
+
+pub decodes_on : (n : Notation) (h : Header) (bytes : List ℕ) (list : List Ins) (front rest : List ℕ) → bytes ≡ front ++ rest → Each (SpellsInstruction n h) front list
+    → decoded_at n h bytes ≡ (list ++ (decoded_at n h rest).0, (decoded_at n h rest).1)
+decodes_on n h bytes [] front rest parts s = ap (decoded_at n h) (parts ∙ ap (λ (xs : List ℕ). xs ++ rest) s)
+decodes_on n h bytes (i ∷ list) front rest parts s =
+    let whole : bytes ≡ s.0 ++ (s.1 ++ rest) = parts ∙ ap (λ (xs : List ℕ). xs ++ rest) s.2 ∙ append_assoc s.0 s.1 rest in
+    decoded_some n h bytes i s.0 (s.1 ++ rest) whole s.3 ∙ ap (λ (c : List Ins × Option Error). (i ∷ c.0, c.1)) (decodes_on n h (s.1 ++ rest) list s.1 rest refl s.4)
 
 -- the files of a header mean nothing to its program
 pub bare_decoding : (notation : Notation) (h : Header) (bytes : List ℕ) (list : List Ins) (end : Option Error) → Decodes notation (bare h) bytes list end → Decodes notation h bytes list end
@@ -96,12 +103,16 @@ none_left a e = rw (decoded_none a.unread.notation a.fixed a.unread.bytes e) ref
 pub none_to_come : (a : RunState) → a.unread.bytes ≡ [] → events_left a ≡ []
 none_to_come a e = none_left (ready a) e
 
+pub end_here : (a : RunState) → a.unread.bytes ≡ [] → files_at_end a ≡ a.files
+end_here a e = rw (decoded_none a.unread.notation a.fixed a.unread.bytes e) refl
+
 -- k is the header that was lent, s2 what was left of the instructions
 module _ (a : Bool) (h k : Header) (same : k ≡ h) (o o2 : Notation) (n n2 : ℕ) (r : LineRow) (s s2 : Unread) where
   pub after_fault : (e : Error) → s.bytes ≢ [] → s2.bytes ≡ [] → (instruction_production s.notation k).Fault s.bytes e → (r2 : LineRow)
-      → live_events (state a h o n r s) ≡ events (fault e) h ∷ events_left (state a h o2 n2 r2 s2)
+      → FaultComes (state a h o n r s) (state a h o2 n2 r2 s2) e
   after_fault e some empty f r2 =
-      rw (decoded_fault s.notation (bare h) s.bytes e some (rw same at f), none_to_come (state a h o2 n2 r2 s2) empty) refl
+      let last = decoded_fault s.notation (bare h) s.bytes e some (rw same at f) in
+      (rw (last, none_to_come (state a h o2 n2 r2 s2) empty) refl, rw (last, end_here (state a h o2 n2 r2 s2) empty) refl, λ _. empty)
 
   module _ (notation : s2.notation ≡ s.notation) (i : Ins) (front : List ℕ) (parts : s.bytes ≡ front ++ s2.bytes) (spelled : SpellsInstruction s.notation k front i) where
     first_decoded : decoded_at s.notation (bare h) s.bytes ≡ (i ∷ (decoded_at s.notation (bare h) s2.bytes).0, (decoded_at s.notation (bare h) s2.bytes).1)
@@ -163,10 +174,13 @@ module _ (a : Bool) (h k : Header) (same : k ≡ h) (o o2 : Notation) (n n2 : �
           rw (first_decoded, behind, row_is, notation, fits, made, was, files) refl
 
       pub after_overflow : h2 ≡ h → is_refused h.parameters i r ≡ true → r2 ≡ stepped h.parameters i r
-          → live_events (state a h o n r s) ≡ events (fault AddressOverflow) h2 ∷ events_left (state a h2 o2 n2 r2 s2)
+          → FaultComes (state a h o n r s) (state a h2 o2 n2 r2 s2) AddressOverflow
       after_overflow kept large row_is =
           let files : files_behind a i h.files ≡ h.files = no_file_at_refusal a h.parameters i r h.files large in
-          rw (first_decoded, kept, row_is, notation, large, files) refl
+          let behind = (decoded_at s.notation (bare h) s2.bytes).0 in
+          let at_end : files_at_end (state a h o n r s) ≡ files_from a h.files behind =
+          ap (λ (c : List Ins × Option Error). files_from a h.files c.0) first_decoded ∙ ap (λ (fs : List File). files_from a fs behind) files in
+          (rw (first_decoded, kept, row_is, notation, large, files) refl, rw (kept, notation) (sym at_end), λ other. absurd (other refl))
 
 -- ---- errors
 
@@ -231,6 +245,14 @@ passes_both a b c es fs p q = record {
   files = rw (p.appends, p.files) at q.files ∙ sym (files_joined a.appends a.files p.list q.list);
 }
 
+-- the files at the end are the same behind what was passed over
+pub same_end : (a b : RunState) (es : List Event) → Progress a b es → files_at_end b ≡ files_at_end a
+same_end a b es p =
+    let behind = (decoded_at a.unread.notation a.fixed b.unread.bytes).0 in
+    let there : files_at_end b ≡ files_from a.appends (files_from a.appends a.files p.list) behind = rw (p.notation, p.fixed, p.appends, p.files) refl in
+    there ∙ sym (files_joined a.appends a.files p.list behind)
+    ∙ ap (λ (c : List Ins × Option Error). files_from a.appends a.files c.0) (sym (decodes_on a.unread.notation a.fixed a.unread.bytes p.list p.front b.unread.bytes p.parts p.spelled))
+
 -- ---- refusals
 
 -- memory is wanting for the file that an instruction defines
@@ -249,6 +271,7 @@ wants a h k same o o2 n n2 r s i front rest parts spelled defines h2 r2 s2 empty
   appends = appends;
   files = ap (λ (k : Header). k.files) kept;
   none = none_to_come (state a h2 o2 n2 r2 s2) empty;
+  empty = empty;
 }
 
 -- a refusal behind instructions that give nothing
@@ -267,6 +290,22 @@ refused_behind a b c e events passed (inl m) = inl (
     appends = m.1.appends;
     files = m.1.files;
     none = m.1.none;
+    empty = m.1.empty;
   },
 )
-refused_behind a b c e events passed (inr f) = inr (events ∙ f)
+refused_behind a b c e events passed (inr f) = inr (events ∙ f.0, f.1 ∙ same_end a b [] passed, f.2)
+
+-- where no bytes are left nothing is refused
+pub never_refused : (a b : RunState) (e : Error) → a.unread.bytes ≡ [] → FaultIs a b e → ⊥
+never_refused a b e empty (inl m) =
+    let w = m.1 in
+    omega (
+      arith,
+      takes_bytes w.place.unread.notation w.place.fixed w.front w.definition w.spelled,
+      length-append w.front w.rest,
+      ap length w.parts,
+      length-append w.passed.front w.place.unread.bytes,
+      ap length w.passed.parts,
+      ap length empty,
+    )
+never_refused a b e empty (inr f) = let none = sym (none_left a empty) ∙ f.0 in absurd cc

@@ -7,7 +7,6 @@ use Rattle.gimli_core.specs.Notation.{Notation}
 use Rattle.gimli_core.specs.Production.{Each}
 use Rattle.gimli_core.specs.declared.error.Error.{Error}
 use Rattle.gimli_line.specs.declared.run.row.LineRow.{LineRow}
-use Rattle.gimli_line.specs.declared.run.instruction.LineInstruction.TheVariants.{DefineFile}
 use Rattle.gimli_line.specs.header.Parameters.{Parameters}
 use Rattle.gimli_line.specs.header.Header.{Header, bare}
 use Rattle.gimli_line.specs.run.Instruction.{files_behind}
@@ -16,19 +15,19 @@ use Rattle.gimli_line.specs.header.File.{File}
 use Rattle.gimli_line.specs.run.InstructionGrammar.{SpellsInstruction}
 use Rattle.gimli_line.specs.run.InstructionReading.{decoded_at}
 use Rattle.gimli_line.specs.run.OperationPointer.{overflows}
-use Rattle.gimli_line.specs.run.Events.{Event, row, fault, events_at, events_behind, end_events, program_events, defined_files, ends_sequence, through_last_end}
+use Rattle.gimli_line.specs.run.Events.{Event, row, fault, events_at, events_behind, end_events, program_events, defined_files, behind, ends_sequence, through_last_end}
 use Rattle.gimli_line.specs.run.Machine.{initial, reset_row}
 use Rattle.gimli_line.specs.run.EventsWithFiles.{EventWithFiles, with_files, events_with_files_from, step_events, next_registers}
 use Rattle.gimli_line.specs.run.Unread.{Unread, in_front}
 use Rattle.gimli_line.specs.run.RunState.{RunState}
-use Rattle.gimli_line.specs.run.Progress.{Progress, ready, events_from, registers_behind, files_from}
+use Rattle.gimli_line.specs.run.Progress.{Progress, ready, events_from, registers_behind}
 use Rattle.gimli_line.specs.run.Rows.{live_events, events_left, started, event_of}
-use Rattle.gimli_line.specs.run.Sequences.{Part, events_of, resumed, first_address, IsSequence, behind, AreSequences, HasFirstFault}
+use Rattle.gimli_line.specs.run.Sequences.{Part, events_of, resumed, first_address, IsSequence, AreSequences, HasFirstFault}
 use Rattle.gimli_line.specs.run.SequenceSplit.{SequenceSplit, with_row}
 use Rattle.gimli_line.proofs.Backwards.{registers}
-use Rattle.gimli_line.proofs.EventsWithFilesLaws.{gives, goes}
+use Rattle.gimli_line.proofs.EventsWithFilesLaws.{gives, goes, files_from_start}
 use Rattle.gimli_line.proofs.InstructionLaws.{is_decoded, one_decoding, takes_bytes}
-use Rattle.gimli_line.proofs.Runs.{decoded_some, bare_decoding, passes_none, passes_both, events_joined}
+use Rattle.gimli_line.proofs.Runs.{decodes_on, bare_decoding, passes_none, passes_both, events_joined}
 
 -- ---- events alone
 
@@ -54,15 +53,6 @@ from_registers h past (i ∷ list) =
 
 pub from_start : (h : Parameters) (list : List Ins) → events_from h (initial h) list ≡ events_behind h [] list
 from_start h list = from_registers h [] list
-
--- the files at the end of a program
-files_on : (files : List File) (past : List Ins) (i : Ins) → files_behind true i (defined_files files past) ≡ defined_files files (i ∷ past)
-files_on files past (DefineFile f) = refl
-files_on files past i = refl
-
-files_at_end : (files : List File) (past list : List Ins) → files_from true (defined_files files past) list ≡ defined_files files (behind past list)
-files_at_end files past [] = refl
-files_at_end files past (i ∷ list) = rw (files_on files past i) (files_at_end files (i ∷ past) list)
 
 -- ---- through the last end
 
@@ -303,16 +293,9 @@ module _ (n : Notation) (offset : ℕ) (h c : Header) (k : SequenceSplit) (done 
       c_is : c ≡ record h { files = defined_files h.files (behind [] p.list) }
       c_is =
           ap (λ (b : Header). let k : Header = record b { files = c.files } in k) (fixed ∙ p.fixed)
-          ∙ ap (λ (fs : List File). let k : Header = record h { files = fs } in k) (files ∙ p.files ∙ files_at_end h.files [] p.list)
+          ∙ ap (λ (fs : List File). let k : Header = record h { files = fs } in k) (files ∙ p.files ∙ files_from_start true h.files p.list)
 
 -- ---- a fault
-
-decodes_on : (n : Notation) (h : Header) (bytes : List ℕ) (list : List Ins) (front rest : List ℕ) → bytes ≡ front ++ rest → Each (SpellsInstruction n h) front list
-    → decoded_at n h bytes ≡ (list ++ (decoded_at n h rest).0, (decoded_at n h rest).1)
-decodes_on n h bytes [] front rest parts s = ap (decoded_at n h) (parts ∙ ap (λ (xs : List ℕ). xs ++ rest) s)
-decodes_on n h bytes (i ∷ list) front rest parts s =
-    let whole : bytes ≡ s.0 ++ (s.1 ++ rest) = parts ∙ ap (λ (xs : List ℕ). xs ++ rest) s.2 ∙ append_assoc s.0 s.1 rest in
-    decoded_some n h bytes i s.0 (s.1 ++ rest) whole s.3 ∙ ap (λ (c : List Ins × Option Error). (i ∷ c.0, c.1)) (decodes_on n h (s.1 ++ rest) list s.1 rest refl s.4)
 
 events_live : (a : RunState) → events_of (live_events a)
     ≡ events_from a.fixed.parameters a.row (decoded_at a.unread.notation a.fixed a.unread.bytes).0 ++ end_events (decoded_at a.unread.notation a.fixed a.unread.bytes).1

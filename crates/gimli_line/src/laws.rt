@@ -1,7 +1,8 @@
 //! Laws of the two grammars: a unit has one header or one refusal, a program is decoded in one way. And laws of what
 //! a run gives.
 
-ghost use Rattle.std.specs.Prelude.{◌≡◌, ◌≢◌, ◌≤◌, ◌⊎◌, ◌++◌, ℕ, List, [], Option, length};
+ghost use Rattle.std.specs.Prelude.{◌≡◌, ◌≢◌, ◌≤◌, ◌⊎◌, ◌++◌, ℕ, Bool, List, [], Option, Some, length};
+ghost use Rattle.std.specs.Ordering.{nat_cmp};
 ghost use Rattle.gimli_core.specs.Notation.{Notation};
 ghost use Rattle.gimli_core.specs.declared.common.Format.{Format};
 ghost use Rattle.gimli_core.specs.declared.error.Error.{Error};
@@ -9,11 +10,19 @@ ghost use Rattle.gimli_line.specs.header.Header.{Header, UnitEntry};
 ghost use Rattle.gimli_line.specs.header.HeaderGrammar.{Entry, SpellsUnit, HasHeaderFault, SpellsEntries};
 ghost use Rattle.gimli_line.specs.run.Events.{events_behind};
 ghost use Rattle.gimli_line.specs.run.Instruction.{Ins};
-ghost use Rattle.gimli_line.specs.run.InstructionGrammar.{Decodes};
+ghost use Rattle.gimli_line.specs.run.EventsWithFiles.{EventsWithFiles, FilesAtEnd, events_with_files_behind, events_with_files_from};
+ghost use Rattle.gimli_line.specs.run.InstructionGrammar.{Decodes, instruction_production, IsInstructionRefusal};
+ghost use Rattle.gimli_line.specs.run.OperationPointer.{OperationPointer, IsPointerList, pointers};
+ghost use Rattle.gimli_line.specs.run.Rows.{events_left, files_at_end, started};
+ghost use Rattle.gimli_line.specs.run.Unread.{Unread};
 ghost use Rattle.gimli_line.specs.run.Machine.{run, initial};
 ghost use Rattle.gimli_line.specs.run.NonDecreasing.{AreOneSequence, NeverBelow};
 ghost use Rattle.gimli_line.specs.header.Parameters.{Parameters};
+ghost use Rattle.gimli_line.specs.run.Row.{column_number};
 ghost use Rattle.gimli_line.specs.declared.header.file_entry.FileEntryFormat.{FileEntryFormat};
+ghost use Rattle.gimli_line.specs.declared.run.row.ColumnType.{ColumnType as Column};
+
+use crate::run::row::ColumnType;
 
 /// Bytes begin with a unit, or they have a refusal.
 pub fn unit_or_refusal()
@@ -52,13 +61,40 @@ pub fn entries_are_bounded()
         (count : List ℕ) × (behind : List ℕ) × (bytes ≡ count ++ behind) × (length entries ≤ length behind) }
 {}
 
-/// The machine, run from the registers at the start of a sequence, gives the rows and faults that looking back says.
+/// The machine, run from the registers at the start of a sequence, gives the rows and faults that looking back says,
+/// with the files of the header at each. So do rows at the start of a sequence, by the bytes that are to come.
 pub fn machine_gives_events()
-    ensures { (parameters : Parameters) (list : List Ins) → run parameters (initial parameters) list ≡ events_behind parameters [] list }
+    ensures without_files { (parameters : Parameters) (list : List Ins) → run parameters (initial parameters) list ≡ events_behind parameters [] list }
+    ensures machine { (appends : Bool) (h : Header) (list : List Ins) (end : Option Error) →
+        events_with_files_from appends h.parameters (initial h.parameters) h.files list end ≡ events_with_files_behind appends h [] list end }
+    ensures started { (appends : Bool) (h : Header) (notation : Notation) (offset : ℕ) (unread : Unread) →
+        EventsWithFiles unread.notation appends h unread.bytes (events_left (started appends h notation offset unread)) }
+    ensures files { (appends : Bool) (h : Header) (notation : Notation) (offset : ℕ) (unread : Unread) →
+        FilesAtEnd unread.notation appends h unread.bytes (files_at_end (started appends h notation offset unread)) }
 {}
 
 /// Between two ends of sequences, whether their rows are hidden or not, and from the start to the first, the addresses
 /// of rows never go down.
 pub fn addresses_never_go_down()
     ensures { (parameters : Parameters) (past list : List Ins) → AreOneSequence list → NeverBelow 0 (events_behind parameters past list) }
+{}
+
+/// Columns are ordered by their numbers; the left edge, which stands for 0, is below them all.
+pub fn columns_are_ordered()
+    ensures total { (a b : Column) → ⟦<ColumnType as Ord>⟧.cmp a b ≡ nat_cmp (column_number a) (column_number b) }
+    ensures partial { (a b : Column) → ⟦<ColumnType as PartialOrd>⟧.partial_cmp a b ≡ Some (nat_cmp (column_number a) (column_number b)) }
+{}
+
+/// A refused instruction is `UnexpectedEof`, `BadUnsignedLeb128` or `BadSignedLeb128`, or it is `UnsupportedOffset`, for
+/// offsets of less than 64 bits.
+pub fn instruction_refusals()
+    ensures { (notation : Notation) (h : Header) (bytes : List ℕ) (e : Error) →
+        (instruction_production notation h).Fault bytes e → IsInstructionRefusal notation e }
+{}
+
+/// The pointers that are found by looking back are a pointer list, and there is no other.
+pub fn one_pointer_list()
+    ensures some { (parameters : Parameters) (past : List Ins) → IsPointerList parameters past (pointers parameters past) }
+    ensures one { (parameters : Parameters) (past : List Ins) (list : List OperationPointer) →
+        IsPointerList parameters past list → list ≡ pointers parameters past }
 {}

@@ -74,6 +74,11 @@ defined_files files [] = files
 defined_files files (DefineFile f ∷ past) = defined_files files past ++ f ∷ []
 defined_files files (i ∷ past) = defined_files files past
 
+-- the instructions before the end of a program, the nearest first
+abbrev pub behind : List Ins → List Ins → List Ins
+behind past [] = past
+behind past (i ∷ list) = behind (i ∷ past) list
+
 -- a row that ends a sequence
 abbrev pub ends_sequence : Event → Bool
 ends_sequence (row r) = r.end_sequence

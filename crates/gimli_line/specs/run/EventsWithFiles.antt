@@ -10,7 +10,7 @@ use Rattle.gimli_line.specs.header.File.{File}
 use Rattle.gimli_line.specs.header.Header.{Header}
 use Rattle.gimli_line.specs.run.Instruction.{files_behind}
 use Rattle.gimli_line.specs.run.InstructionGrammar.{Decodes}
-use Rattle.gimli_line.specs.run.Events.{Event, row, fault, events_at, end_events, defined_files}
+use Rattle.gimli_line.specs.run.Events.{Event, row, fault, events_at, end_events, defined_files, behind}
 use Rattle.gimli_line.specs.run.Machine.{stepped, reset_row, is_refused}
 
 -- an event, and the files of the header at its place
@@ -40,6 +40,13 @@ pub record EventsWithFiles (notation : Notation) (appends : Bool) (h : Header) (
   pub end : Option Error
   pub decoding : Decodes notation h bytes list end
   pub given : events ≡ events_with_files_behind appends h [] list end
+
+-- the files behind the last instruction of the bytes of a program
+pub record FilesAtEnd (notation : Notation) (appends : Bool) (h : Header) (bytes : List ℕ) (files : List File) : Type 0 where
+  pub list : List Ins
+  pub end : Option Error
+  pub decoding : Decodes notation h bytes list end
+  pub given : files ≡ files_at appends h.files (behind [] list)
 
 -- ---- by the machine
 

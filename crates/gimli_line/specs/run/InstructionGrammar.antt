@@ -1,7 +1,8 @@
 -- How instructions are spelled, and how a program is decoded into them (DWARF 5, sections 6.2.3 and 6.2.5).
-use Rattle.std.specs.Prelude.{◌≡◌, ◌≢◌, ℕ, zero, suc, ◌-◌, List, [], ◌∷◌, ◌++◌, nat_eq, nat_le, if◌then◌else◌, Option, Some, None, ℤ, slice_index}
+use Rattle.std.specs.Prelude.{◌≡◌, ◌≢◌, ◌<◌, ◌^◌, ℕ, zero, suc, ◌-◌, List, [], ◌∷◌, ◌++◌, nat_eq, nat_le, if◌then◌else◌, Option, Some, None, ℤ, slice_index}
 use Rattle.gimli_core.specs.Production.{Production, ◌>>=◌, done, choose, times, within, byte, number, some_bytes, text, unsigned, signed, below_limit, Each}
 use Rattle.gimli_core.specs.declared.error.Error.{Error}
+use Rattle.gimli_core.specs.declared.error.Error.TheVariants.{UnexpectedEof, BadUnsignedLeb128, BadSignedLeb128, UnsupportedOffset}
 use Rattle.gimli_line.specs.declared.run.instruction.LineInstruction.TheVariants.{Special, Copy, AdvancePc, AdvanceLine, SetFile, SetColumn, NegateStatement, SetBasicBlock, ConstAddPc, FixedAddPc, SetPrologueEnd, SetEpilogueBegin, SetIsa, UnknownStandard0, UnknownStandard1, UnknownStandardN, EndSequence, SetAddress, DefineFile, SetDiscriminator, UnknownExtended}
 use Rattle.gimli_core.specs.Notation.{Notation}
 use Rattle.gimli_line.specs.run.Instruction.{Ins}
@@ -117,3 +118,14 @@ module _ (notation : Notation) (h : Header) where
     pub parts : bytes ≡ front ++ rest
     pub spelled : Each SpellsInstruction front list
     pub ended : IsEnd rest end
+
+-- ---- refusals
+
+-- the refusals that an instruction may have: bytes are wanting, a LEB128 number is none of 64 bits, or a length is too
+-- large for the reader's offsets, where these have less than 64 bits
+abbrev pub IsInstructionRefusal : Notation → Error → Type 0
+IsInstructionRefusal notation (UnexpectedEof place) = Unit {0}
+IsInstructionRefusal notation BadUnsignedLeb128 = Unit {0}
+IsInstructionRefusal notation BadSignedLeb128 = Unit {0}
+IsInstructionRefusal notation UnsupportedOffset = notation.limit < 2 ^ 64
+IsInstructionRefusal notation e = ⊥

@@ -1,10 +1,10 @@
 -- The column of a row.
-use Rattle.std.specs.Prelude.{◌≡◌, ℕ}
+use Rattle.std.specs.Prelude.{ℕ}
 use Rattle.std.specs.Int.NonZero.{non_zero_u64_get}
 use Rattle.gimli_line.specs.declared.run.row.ColumnType.{ColumnType}
 use Rattle.gimli_line.specs.declared.run.row.ColumnType.TheVariants.{LeftEdge, Column}
 
 -- the left edge stands for 0, a column for its number
-abbrev pub IsColumn : ColumnType → ℕ → Type 0
-IsColumn LeftEdge n = n ≡ 0
-IsColumn (Column column) n = non_zero_u64_get column ≡ n
+abbrev pub column_number : ColumnType → ℕ
+column_number LeftEdge = 0
+column_number (Column column) = non_zero_u64_get column

@@ -1,10 +1,12 @@
 -- What a row iterator still gives.
-use Rattle.std.specs.Prelude.{◌≡◌, ◌⊎◌, ◌<◌, ℕ, Bool, true, List, [], ◌∷◌, ◌++◌, length}
+use Rattle.std.specs.Prelude.{◌≡◌, ◌≢◌, ◌⊎◌, ◌<◌, ℕ, Bool, true, List, [], ◌∷◌, ◌++◌, length}
 use Rattle.gimli_core.specs.declared.error.Error.{Error}
-use Rattle.gimli_core.specs.declared.error.Error.TheVariants.{OutOfMemory}
+use Rattle.gimli_core.specs.declared.error.Error.TheVariants.{AddressOverflow, OutOfMemory}
 use Rattle.gimli_core.specs.Notation.{Notation}
 use Rattle.gimli_line.specs.declared.run.rows.Step.{Step}
 use Rattle.gimli_line.specs.declared.run.rows.Step.TheVariants.{Done, Made, More}
+use Rattle.gimli_line.specs.declared.run.row.LineRow.{LineRow}
+use Rattle.gimli_line.specs.header.File.{File}
 use Rattle.gimli_line.specs.header.Header.{Header, bare}
 use Rattle.gimli_line.specs.run.Instruction.{Ins, defines_file}
 use Rattle.gimli_line.specs.run.InstructionGrammar.{SpellsInstruction}
@@ -14,7 +16,7 @@ use Rattle.gimli_line.specs.run.Machine.{initial}
 use Rattle.gimli_line.specs.run.Unread.{Unread}
 use Rattle.gimli_line.specs.run.RunState.{RunState}
 use Rattle.gimli_line.specs.run.EventsWithFiles.{EventWithFiles, events_with_files_from}
-use Rattle.gimli_line.specs.run.Progress.{ready, Progress}
+use Rattle.gimli_line.specs.run.Progress.{ready, files_from, Progress}
 
 -- what is still to come where the registers were reset
 abbrev pub live_events : RunState → List EventWithFiles
@@ -23,6 +25,10 @@ live_events a = let c = decoded_at a.unread.notation a.fixed a.unread.bytes in e
 -- what is still to come: rows and faults, each with the files of the header at its place
 abbrev pub events_left : RunState → List EventWithFiles
 events_left a = live_events (ready a)
+
+-- the files behind the last instruction that is still to come
+abbrev pub files_at_end : RunState → List File
+files_at_end a = files_from a.appends a.files (decoded_at a.unread.notation a.fixed a.unread.bytes).0
 
 -- an event, and the files that the header has then
 abbrev pub event_of : Event → RunState → EventWithFiles
@@ -45,6 +51,15 @@ StepIs old new Done = (live_events old ≡ []) × (new.unread.bytes ≡ []) × P
 StepIs old new Made = (live_events old ≡ event_of (row new.row) new ∷ events_left new) × Progress old (ready new) (row new.row ∷ [])
 StepIs old new More = (live_events old ≡ live_events new) × (length new.unread.bytes < length old.unread.bytes) × Progress old new []
 
+-- a row was the next to come, and these are the files of its place; those at the end are still the same
+abbrev pub RowIs : RunState → RunState → LineRow → List File → Type 0
+RowIs old new r files =
+    (events_left old ≡ record { event = row r; files = files } ∷ events_left new) × (new.files ≡ files) × (files_at_end new ≡ files_at_end old)
+
+-- nothing was to come; no bytes are left, and the files are those at the end
+abbrev pub EndIs : RunState → RunState → Type 0
+EndIs old new = (events_left old ≡ []) × (events_left new ≡ []) × (new.unread.bytes ≡ []) × (new.files ≡ files_at_end old)
+
 -- memory was wanting for a file, whose definition comes behind instructions that give nothing; the files are those of
 -- its place, and nothing comes behind it
 pub record WantsMemory (old new : RunState) : Type 0 where
@@ -59,7 +74,14 @@ pub record WantsMemory (old new : RunState) : Type 0 where
   pub appends : new.appends ≡ true
   pub files : new.files ≡ place.files
   pub none : events_left new ≡ []
+  pub empty : new.unread.bytes ≡ []
 
--- a refusal: want of memory for a file; or a fault, which came first
+-- a fault was the next to come; the files at the end are still the same, and no bytes are left but where an address
+-- overflows
+abbrev pub FaultComes : RunState → RunState → Error → Type 0
+FaultComes old new e =
+    (live_events old ≡ event_of (fault e) new ∷ events_left new) × (files_at_end new ≡ files_at_end old) × (e ≢ AddressOverflow → new.unread.bytes ≡ [])
+
+-- a refusal: want of memory for a file, or a fault
 abbrev pub FaultIs : RunState → RunState → Error → Type 0
-FaultIs old new e = ((e ≡ OutOfMemory) × WantsMemory old new) ⊎ (live_events old ≡ event_of (fault e) new ∷ events_left new)
+FaultIs old new e = ((e ≡ OutOfMemory) × WantsMemory old new) ⊎ FaultComes old new e

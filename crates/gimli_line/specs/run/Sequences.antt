@@ -8,7 +8,7 @@ use Rattle.gimli_line.specs.declared.run.sequences.LineSequence.{LineSequence}
 use Rattle.gimli_line.specs.header.Header.{Header}
 use Rattle.gimli_line.specs.run.Instruction.{Ins}
 use Rattle.gimli_line.specs.run.InstructionGrammar.{Decodes}
-use Rattle.gimli_line.specs.run.Events.{Event, row, fault, program_events, defined_files, through_last_end}
+use Rattle.gimli_line.specs.run.Events.{Event, row, fault, program_events, defined_files, behind, through_last_end}
 use Rattle.gimli_line.specs.run.Unread.{Unread}
 use Rattle.gimli_line.specs.run.EventsWithFiles.{EventWithFiles}
 use Rattle.gimli_line.specs.run.Rows.{events_left, started}
@@ -44,11 +44,6 @@ pub record IsSequence (events : List Event) (start end : ℕ) : Type 0 where
   pub ended : last.end_sequence ≡ true
   pub start_is : start ≡ first_address rows
   pub end_is : end ≡ last.address
-
--- the instructions before the end of a program, the nearest first
-abbrev pub behind : List Ins → List Ins → List Ins
-behind past [] = past
-behind past (i ∷ list) = behind (i ∷ past) list
 
 -- the sequences of a program with the header h, over the complete header c: the program has no fault, c has its files,
 -- each sequence gives the rows of one, and all in order give those of the program through its last end

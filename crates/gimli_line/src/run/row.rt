@@ -46,7 +46,7 @@ impl LineRow {
     ghost use Rattle.gimli_line.specs.header.File.{file_seen};
     ghost use Rattle.gimli_line.specs.run.Machine.{initial, reset_row, rebased, IsAllowed, is_refused, stepped, with_register};
     ghost use Rattle.gimli_line.specs.run.OperationPointer.{exceeds};
-    ghost use Rattle.gimli_line.specs.run.Row.{IsColumn};
+    ghost use Rattle.gimli_line.specs.run.Row.{column_number};
     ghost use Rattle.gimli_line.specs.run.Registers.{advanced_line};
 
     /// The registers at the start of a sequence.
@@ -110,7 +110,7 @@ impl LineRow {
 
     /// The column.
     pub fn column(&self) -> ColumnType
-        ensures { IsColumn result self.now.column }
+        ensures { column_number result ≡ self.now.column }
     {
         match NonZeroU64::new(self.column) {
             Some(column) => ColumnType::Column(column),

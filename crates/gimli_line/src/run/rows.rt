@@ -62,13 +62,13 @@ impl<R: Reader, P: LineProgram<R>> Lent for LineRows<R, P> {
 }
 
 impl<R: Reader, P: LineProgram<R>> LineRows<R, P> {
-    ghost use Rattle.std.specs.Prelude.{◌≡◌, [], ◌∷◌, ⊤, IfErr, IfOk, MatchBool, MatchOption, MatchResult};
+    ghost use Rattle.std.specs.Prelude.{◌≡◌, [], ◌∷◌, ⊤, None, Ok, IfErr, IfOk, MatchBool, MatchOption, MatchResult};
     ghost use Rattle.std.specs.Borrow.{sem};
     ghost use Rattle.std.specs.Io.BufRead.{Rests};
     ghost use Rattle.gimli_line.specs.run.Events.{row as row_event};
     ghost use Rattle.gimli_line.specs.header.Header.{bare};
     ghost use Rattle.gimli_line.specs.run.Progress.{ready, Progress};
-    ghost use Rattle.gimli_line.specs.run.Rows.{events_left, event_of, started, KeepsHeader, StepIs, FaultIs};
+    ghost use Rattle.gimli_line.specs.run.Rows.{started, KeepsHeader, StepIs, RowIs, EndIs, FaultIs};
 
     /// The rows of these instructions of a program, from the start of a sequence on.
     pub(crate) fn start(program: P, instructions: LineInstructions<R>) -> Self
@@ -92,16 +92,15 @@ impl<R: Reader, P: LineProgram<R>> LineRows<R, P> {
         self.program.header()
     }
 
-    /// The next row that isn't hidden, with the header as it is there; None where the program has no more.
-    /// Refused as an instruction is, or by `OutOfMemory` where it defines a file: no rows come behind such a
-    /// refusal. Refused by `AddressOverflow` too, and then goes on behind it. A program whose files are complete
-    /// isn't refused for memory.
+    /// The next row that isn't hidden, with the header as it is there; None where the program has no more, and the
+    /// header has all files then. Refused as an instruction is, or by `OutOfMemory` where it defines a file: the
+    /// answer is None behind such a refusal, as it is behind the end. Refused by `AddressOverflow` too, and then goes
+    /// on behind it. A program whose files are complete isn't refused for memory.
     pub fn next_row(&mut self) -> Result<Option<(&LineProgramHeader<R>, &LineRow)>>
         ensures* after { sem 𝓛 (Rests ⟦<LineRows<R, P> as Lent>⟧.lent self.entry (λ new. KeepsHeader self.old new × MatchResult result
-            (λ found. MatchOption found
-            ((events_left self.old ≡ []) × (events_left new ≡ []))
-            (λ pair. events_left self.old ≡ record { event = row_event pair.1.now; files = pair.0.now.meaning.files } ∷ events_left new))
+            (λ found. MatchOption found (EndIs self.old new) (λ pair. RowIs self.old new pair.1.now pair.0.now.meaning.files))
             (FaultIs (ready self.old) new))) }
+        ensures ended { self.old.unread.bytes ≡ [] → result ≡ Ok None }
         ensures header { IfOk result (λ found. MatchOption found ⊤ (λ pair. (bare pair.0.now.meaning ≡ self.old.fixed)
             × (pair.0.now.notation ≡ self.old.notation) × (R.Offset.number pair.0.now.offset.0 ≡ self.old.offset))) }
     {
@@ -139,8 +138,8 @@ impl<R: Reader, P: LineProgram<R>> LineRows<R, P> {
     /// Executes instructions up to the next row that isn't hidden, and says whether there is one.
     pub(crate) fn advance(&mut self) -> Result<bool>
         ensures row { IfOk result (λ found. MatchBool found
-            (events_left self.old ≡ event_of (row_event self.new.row) self.new ∷ events_left self.new)
-            ((events_left self.old ≡ []) × (events_left self.new ≡ []))) }
+            (RowIs self.old self.new self.new.row self.new.files)
+            (EndIs self.old self.new)) }
         ensures err { IfErr result (FaultIs (ready self.old) self.new) }
         ensures fixed { self.new.fixed ≡ self.old.fixed }
         ensures appends { self.new.appends ≡ self.old.appends }
@@ -222,14 +221,31 @@ impl<'program, R: Reader> LineRows<R, &'program CompleteLineProgram<R>> {
     }
 }
 
+impl<R: Reader> LineRows<R, IncompleteLineProgram<R>> {
+    ghost use Rattle.std.specs.Prelude.{◌≡◌, IfErr, IfOk};
+
+    /// A copy with the same rows to come. Refused by `OutOfMemory` alone.
+    pub fn clone(&self) -> Result<Self>
+        ensures ok { IfOk result (λ copy. copy ≡ self.now) }
+        ensures err { IfErr result (λ e. e ≡ Error.OutOfMemory) }
+    {
+        Ok(LineRows {
+            program: self.program.clone()?,
+            row: self.row,
+            instructions: self.instructions.clone(),
+        })
+    }
+}
+
 impl<R: Reader> IncompleteLineProgram<R> {
     ghost use Rattle.std.specs.Prelude.{◌≡◌, true};
-    ghost use Rattle.gimli_line.specs.run.Rows.{events_left, started};
-    ghost use Rattle.gimli_line.specs.run.EventsWithFiles.{EventsWithFiles};
+    ghost use Rattle.gimli_line.specs.run.Rows.{events_left, files_at_end, started};
+    ghost use Rattle.gimli_line.specs.run.EventsWithFiles.{EventsWithFiles, FilesAtEnd};
 
     /// The rows of the program, from its start to its end.
     pub fn rows(self) -> OneShotLineRows<R>
         ensures events { EventsWithFiles self.notation true self.meaning self.meaning.program (events_left result) }
+        ensures files { FilesAtEnd self.notation true self.meaning self.meaning.program (files_at_end result) }
         ensures start { result ≡ started true self.meaning self.notation (R.Offset.number self.offset.0) (record { bytes = self.meaning.program; notation = self.notation }) }
     {
         let instructions = self.header.instructions();

@@ -126,14 +126,17 @@ impl<R: Reader> IncompleteLineProgram<R> {
 
 impl<R: Reader> CompleteLineProgram<R> {
     ghost use Rattle.std.specs.Prelude.{◌≡◌, false};
-    ghost use Rattle.gimli_line.specs.run.Rows.{started};
+    ghost use Rattle.gimli_line.specs.run.Rows.{events_left, files_at_end, started};
+    ghost use Rattle.gimli_line.specs.run.EventsWithFiles.{EventsWithFiles};
 
-    /// The rows of one of the program's sequences.
+    /// The rows of one of the program's sequences. The header has all files from the start.
     pub fn resume_from<'program>(
         &'program self,
         sequence: &LineSequence<R>,
     ) -> ResumedLineRows<'program, R>
-        ensures { result ≡ started false self.now.meaning self.now.notation (R.Offset.number self.now.offset.0) sequence.now.instructions }
+        ensures events { EventsWithFiles sequence.now.instructions.notation false self.now.meaning sequence.now.instructions.bytes (events_left result) }
+        ensures files { files_at_end result ≡ self.now.meaning.files }
+        ensures start { result ≡ started false self.now.meaning self.now.notation (R.Offset.number self.now.offset.0) sequence.now.instructions }
     {
         LineRows::start(self, sequence.instructions.clone())
     }

@@ -1,20 +1,16 @@
 use Rattle.std.proofs.Common.{true, ap, ◌∙◌}
-use Rattle.gimli_line.specs.header.Header.{bare}
 use Rattle.gimli_line.specs.run.Unread.{Unread}
-use Rattle.gimli_line.specs.run.InstructionReading.{decoded_at}
-use Rattle.gimli_line.proofs.InstructionLaws.{is_decoded}
-use Rattle.gimli_line.proofs.Runs.{bare_decoding}
-use Rattle.gimli_line.proofs.EventsWithFilesLaws.{events_with_files_start}
+use Rattle.gimli_line.proofs.EventsWithFilesLaws.{started_events, started_files}
 use Rattle.gimli_line.proofs.run.rows.IncompleteLineProgram+R.rows.Goals as goal
 
 pub returns-clause-events : goal.returns-clause-events
 returns-clause-events g c =
-    let n = c.args.self.notation in
-    let h = c.args.self.meaning in
-    let p = decoded_at n (bare h) h.program in
-    record {
-      list = p.0;
-      end = p.1;
-      decoding = bare_decoding n h h.program p.0 p.1 (is_decoded n (bare h) h.program);
-      given = rw (c.start.ensures, c.instructions-instructions.ensures ∙ ap (λ v. (let s : Unread = record { bytes = v.meaning.program; notation = v.notation } in s)) c.self.view_is) (events_with_files_start true h p.0 p.1);
-    }
+    let s : Unread = record { bytes = c.args.self.meaning.program; notation = c.args.self.notation } in
+    rw (c.start.ensures, c.instructions-instructions.ensures ∙ ap (λ v. (let s : Unread = record { bytes = v.meaning.program; notation = v.notation } in s)) c.self.view_is)
+    (started_events true c.args.self.meaning c.args.self.notation (g.R.Offset.ReaderOffset.number c.args.self.offset.0) s)
+
+pub returns-clause-files : goal.returns-clause-files
+returns-clause-files g c =
+    let s : Unread = record { bytes = c.args.self.meaning.program; notation = c.args.self.notation } in
+    rw (c.start.ensures, c.instructions-instructions.ensures ∙ ap (λ v. (let s : Unread = record { bytes = v.meaning.program; notation = v.notation } in s)) c.self.view_is)
+    (started_files true c.args.self.meaning c.args.self.notation (g.R.Offset.ReaderOffset.number c.args.self.offset.0) s)

@@ -1,10 +1,10 @@
-use Rattle.std.proofs.Common.{rules, [], ◌∷◌, ap, ◌∙◌}
+use Rattle.std.proofs.Common.{rules, [], ◌∷◌, refl, sym, ap, ◌∙◌}
 use Rattle.gimli_line.specs.declared.run.row.LineRow.{LineRow}
 use Rattle.gimli_line.specs.header.Header.{Header}
 use Rattle.gimli_line.specs.run.Events.{row}
 use Rattle.gimli_line.specs.run.Machine.{reset_row}
 use Rattle.gimli_line.specs.run.Progress.{ready}
-use Rattle.gimli_line.proofs.Runs.{state, none_to_come, passes_none, passes_both, refused_behind}
+use Rattle.gimli_line.proofs.Runs.{state, none_to_come, end_here, same_end, passes_none, passes_both, refused_behind}
 use Rattle.gimli_line.proofs.run.rows.LineRows.advance.Goals as goal
 
 pub instructions-init : goal.instructions-init
@@ -27,12 +27,25 @@ returns-in-Err-clause-err g c =
 pub returns-in-Ok-Done-clause-row : goal.returns-in-Ok-Done-clause-row
 returns-in-Ok-Done-clause-row g c =
     let d = rw c.in-Ok-Done.field-0-is at c.in-Ok-Done.ensures.ok in
-    (c.instructions.invariant.events ∙ d.0, none_to_come c.step.new.self d.1)
+    let passed = passes_both (ready c.args.self.now) c.instructions.self c.step.new.self [] [] c.instructions.invariant.passes d.2 in
+    (
+      c.instructions.invariant.events ∙ d.0,
+      none_to_come c.step.new.self d.1,
+      d.1,
+      sym (end_here c.step.new.self d.1) ∙ same_end (ready c.args.self.now) c.step.new.self [] passed,
+    )
 
 pub returns-in-Ok-Done-clause-passes : goal.returns-in-Ok-Done-clause-passes
 returns-in-Ok-Done-clause-passes g c =
     let d = rw c.in-Ok-Done.field-0-is at c.in-Ok-Done.ensures.ok in
     (d.1, passes_both (ready c.args.self.now) c.instructions.self c.step.new.self [] [] c.instructions.invariant.passes d.2)
+
+pub returns-in-Ok-Made-clause-row : goal.returns-in-Ok-Made-clause-row
+returns-in-Ok-Made-clause-row g c =
+    let m = rw c.in-Ok-Made.field-0-is at c.in-Ok-Made.ensures.ok in
+    let events = row c.step.new.self.row ∷ [] in
+    let passed = passes_both (ready c.args.self.now) c.instructions.self (ready c.step.new.self) [] events c.instructions.invariant.passes m.1 in
+    (c.instructions.invariant.events ∙ m.0, refl, same_end (ready c.args.self.now) (ready c.step.new.self) events passed)
 
 pub returns-in-Ok-Made-clause-passes : goal.returns-in-Ok-Made-clause-passes
 returns-in-Ok-Made-clause-passes g c =

@@ -1,5 +1,7 @@
-use Rattle.std.proofs.Common.{refl, ◌∙◌}
+use Rattle.std.proofs.Common.{refl, sym, ◌∙◌}
+use Rattle.gimli_line.specs.run.Progress.{ready}
 use Rattle.gimli_line.specs.run.Rows.{KeepsHeader}
+use Rattle.gimli_line.proofs.Runs.{none_to_come, never_refused}
 use Rattle.gimli_line.proofs.run.rows.LineRows.next_row.Goals as goal
 
 pub returns-in-Ok-true : goal.returns-in-Ok-true
@@ -19,5 +21,22 @@ returns-in-Ok-true g c =
           c.current.ensures.notation ∙ c.in-Ok-true.ensures.notation,
           c.current.ensures.offset ∙ c.in-Ok-true.ensures.offset,
         );
+        ended = λ empty. let none = sym (none_to_come c.args.self.now empty) ∙ r.0 in absurd cc;
+      },
+    )
+
+pub returns-in-Err : goal.returns-in-Err
+returns-in-Err g c =
+    let keeps : KeepsHeader c.args.self.now c.advance.new.self = record {
+      fixed = c.in-Err.ensures.fixed;
+      appends = c.in-Err.ensures.appends;
+      notation = c.in-Err.ensures.notation;
+      offset = c.in-Err.ensures.offset;
+    } in (
+      (refl, λ _. tt, (keeps, c.in-Err.ensures.err)),
+      record {
+        after = tt;
+        header = tt;
+        ended = λ empty. absurd (never_refused (ready c.args.self.now) c.advance.new.self c.in-Err.e empty c.in-Err.ensures.err);
       },
     )

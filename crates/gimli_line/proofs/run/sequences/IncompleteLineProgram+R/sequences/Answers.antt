@@ -32,7 +32,7 @@ returns-in_err-advance-clause-err g c =
     let b = c.rows.invariant.behind in
     rw (p.1, p.2) (λ other. elim c.in_err-advance.ensures.err [
       | inl m ↦ absurd (other m.0)
-      | inr f ↦ has_first_fault c.args.self.notation (g.R.Offset.ReaderOffset.number c.args.self.offset.0) c.args.self.meaning b.0 c.rows.rows c.advance.new.self _ b.2 f
+      | inr f ↦ has_first_fault c.args.self.notation (g.R.Offset.ReaderOffset.number c.args.self.offset.0) c.args.self.meaning b.0 c.rows.rows c.advance.new.self _ b.2 f.0
     ])
 
 pub row-requires-in-rows : goal.row-requires-in-rows
