@@ -16,3 +16,4 @@ pub mod Runs
 pub mod EventsWithFilesLaws
 pub mod SequenceLaws
 pub mod NonDecreasingLaws
+pub mod Order
