@@ -6,3 +6,7 @@ pub record Notation : Type 0 where
   pub big : Bool
   -- the first number that is too large for an offset of the reader
   pub limit : ℕ
+
+-- the notation of this order and this limit
+abbrev pub noted : Bool → ℕ → Notation
+noted big limit = record { big = big; limit = limit }

@@ -1,5 +1,5 @@
 -- The values of forms, with lists of bytes in the place of readers and numbers in the place of offsets.
-use Rattle.std.specs.Prelude.{ℕ, List, Option, Some, None, pos, negsuc}
+use Rattle.std.specs.Prelude.{◌≡◌, ℕ, Bool, List, Option, Some, None, pos, negsuc}
 use Rattle.gimli_core.specs.declared.attribute_value.AttributeValue.{AttributeValue}
 use Rattle.gimli_core.specs.declared.attribute_value.AttributeValue.TheVariants.{Block, Data1, Data2, Data4, Data8, Udata, Sdata, Flag, SecOffset, String, DebugStrRef, DebugStrRefSup, DebugLineStrRef, DebugStrOffsetsIndex}
 
@@ -23,6 +23,13 @@ module _ {R Offset Endian : Type 0} (bytes : R → List ℕ) (number : Offset �
   value_seen (DebugStrRefSup o) = DebugStrRefSup (record { 0 = number o.0 })
   value_seen (DebugLineStrRef o) = DebugLineStrRef (record { 0 = number o.0 })
   value_seen (DebugStrOffsetsIndex i) = DebugStrOffsetsIndex (record { 0 = number i.0 })
+
+-- the reader of a value, where it is a text or a block, has this order of bytes
+module _ {R Offset Endian : Type 0} (big : R → Bool) (order : Bool) where
+  abbrev pub ValueHasOrder : AttributeValue R Offset Endian → Type 0
+  ValueHasOrder (Block r) = big r ≡ order
+  ValueHasOrder (String r) = big r ≡ order
+  ValueHasOrder v = Unit {0}
 
 -- the number of a value that is an unsigned number, or a signed one that isn't negative
 abbrev pub udata_value : {R Offset Endian : Type 0} → AttributeValue R Offset Endian → Option ℕ

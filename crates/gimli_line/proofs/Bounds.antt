@@ -1,18 +1,24 @@
--- A table of version 5 has no more entries than bytes stand behind their count.
-use Rattle.std.proofs.Common.{◌≡◌, ◌≢◌, ℕ, zero, suc, ◌<◌, ◌≤◌, List, [], ◌∷◌, ◌++◌, length, Option, Some, None, refl, sym, ap, subst, ◌∙◌, arith, inl, inr, IsTrue}
+-- A table of version 5 has no more entries than bytes stand behind their count, and the tables of a header have no more
+-- than it has bytes.
+use Rattle.std.proofs.Common.{◌≡◌, ◌≢◌, ℕ, zero, suc, ◌+◌, ◌<◌, ◌≤◌, Bool, true, false, List, [], ◌∷◌, length, Option, Some, None, refl, sym, ap, subst, ◌∙◌, arith, inl, inr, IsTrue}
 use Rattle.std.specs.List.{AllByRecursion}
-use Rattle.std.specs.Prelude.{nat_eq, count_by}
+use Rattle.std.specs.Prelude.{nat_eq, nat_le, count_by}
 use Rattle.std.proofs.lemmas.Bool.Decides.{eqb_tells}
-use Rattle.std.proofs.lemmas.List.{length-append}
+use Rattle.std.proofs.lemmas.List.{length-append, length-map}
 use Rattle.gimli_core.specs.Notation.{Notation}
 use Rattle.gimli_core.specs.Numbers.{Groups, word_size}
 use Rattle.gimli_core.specs.declared.error.Error.TheVariants.{UnknownForm}
 use Rattle.gimli_core.specs.Values.{Value}
-use Rattle.gimli_core.specs.Production.{Production, times, refuse}
+use Rattle.gimli_core.specs.Production.{Production, Each, times, refuse, choose}
 use Rattle.gimli_core.specs.Form.{Shape, fixed, three_bytes, word_offset, leb, signed_leb, leb_offset, block, counted, leb_counted, string, shape_among, shapes, shape_production, form_production}
+use Rattle.gimli_core.specs.declared.attribute_value.AttributeValue.TheVariants.{String}
 use Rattle.gimli_core.specs.declared.common.Format.{Format}
 use Rattle.gimli_core.specs.declared.common.Format.TheVariants.{Dwarf32, Dwarf64}
-use Rattle.gimli_line.specs.header.HeaderGrammar.{Entry, is_content, formats_production, entry_production, entries_production}
+use Rattle.gimli_core.specs.declared.common.Encoding.{Encoding}
+use Rattle.gimli_line.specs.header.File.{File}
+use Rattle.gimli_line.specs.header.Header.{Header, UnitEntry}
+use Rattle.gimli_line.specs.header.Productions.{name}
+use Rattle.gimli_line.specs.header.HeaderGrammar.{Entry, is_content, path_of, file_of_entry, paths_production, files_production, formats_production, entry_production, entries_production, table_production, directory_table, file_table, opening_production, fields_production, Opening, SpellsUnit, HoldsCount}
 use Rattle.gimli_line.specs.declared.header.file_entry.FileEntryFormat.{FileEntryFormat}
 
 -- ---- a value in a form has bytes
@@ -53,6 +59,18 @@ times_bounded (suc n) l some bytes xs s =
     let others = times_bounded n l some r.1 r.0 r.4 in
     omega (arith, length-append s.1 s.2, ap length s.3, length-append r.1 r.2, ap length r.3, ap length r.5.1)
 
+-- so many values are that many
+times_counted : {A : Type 0} (n : ℕ) (l : Production A) (bytes : List ℕ) (xs : List A) → (times n l).Spells bytes xs → n ≡ length xs
+times_counted zero l bytes xs s = rw s.1 refl
+times_counted (suc n) l bytes xs s =
+    let r = s.5 in
+    rw r.5.1 (ap suc (times_counted n l r.1 r.0 r.4))
+
+-- values one after the other, each of which has bytes
+each_bounded : {A : Type 0} (Spells : List ℕ → A → Type 0) → ((bytes : List ℕ) (x : A) → Spells bytes x → 0 < length bytes) → (bytes : List ℕ) (xs : List A) → Each Spells bytes xs → length xs ≤ length bytes
+each_bounded Spells some bytes [] s = omega arith
+each_bounded Spells some bytes (x ∷ xs) s = omega (arith, length-append s.0 s.1, ap length s.2, some s.0 x s.3, each_bounded Spells some s.1 xs s.4)
+
 -- formats with a path are some
 pub formats_some : (bytes : List ℕ) (formats : List FileEntryFormat) → formats_production.Spells bytes formats → formats ≢ []
 formats_some bytes formats s none =
@@ -92,8 +110,90 @@ module _ (notation : Notation) (format : Format) where
   entry_some [] some bytes entry s = absurd (some refl)
   entry_some (f ∷ formats) some bytes entry s = omega (arith, length-append s.1 s.2, ap length s.3, form_some f.form.0 s.1 s.0 s.4)
 
-  -- a table's entries are no more than the bytes behind their count
-  pub entries_bounded : (formats : List FileEntryFormat) → formats ≢ [] → (bytes : List ℕ) (entries : List Entry) → (entries_production notation format formats).Spells bytes entries
-      → (count : List ℕ) × (behind : List ℕ) × (bytes ≡ count ++ behind) × (length entries ≤ length behind)
+  -- a table's entries are as many as their count says, and no more than the bytes behind it
+  pub entries_bounded : (formats : List FileEntryFormat) → formats ≢ [] → (bytes : List ℕ) (entries : List Entry) → (entries_production notation format formats).Spells bytes entries → HoldsCount bytes (length entries)
   entries_bounded formats some bytes entries s =
-      (s.1, s.2, s.3, times_bounded s.0 (entry_production notation format formats) (entry_some formats some) s.2 entries s.5)
+      let l = entry_production notation format formats in
+      let counted = times_counted s.0 l s.2 entries s.5 in
+      (s.1, s.2, s.3, rw (← counted) s.4, times_bounded s.0 l (entry_some formats some) s.2 entries s.5)
+
+  table_bounded : (bytes : List ℕ) (table : List FileEntryFormat × List Entry) → (table_production notation format).Spells bytes table → length table.1 ≤ length bytes
+  table_bounded bytes table s =
+      let e = s.5 in
+      let b = entries_bounded s.0 (formats_some s.1 s.0 s.4) e.1 e.0 e.4 in
+      omega (arith, length-append s.1 s.2, ap length s.3, length-append e.1 e.2, ap length e.3, length-append b.0 b.1, ap length b.2, b.4, ap (λ (t : List FileEntryFormat × List Entry). length t.1) e.5.1)
+
+-- ---- the tables of a header
+
+name_some : (bytes path : List ℕ) → name.Spells bytes path → 0 < length bytes
+name_some bytes path s = omega (arith, length-append path (0 ∷ []), ap length s.1.1)
+
+paths_bounded : (bytes : List ℕ) (paths : List (List ℕ)) → paths_production.Spells bytes paths → length paths ≤ length bytes
+paths_bounded bytes paths s = omega (arith, length-append s.0 (0 ∷ []), ap length s.1, each_bounded name.Spells name_some s.0 paths s.2)
+
+files_bounded : (bytes : List ℕ) (files : List File) → files_production.Spells bytes files → length files ≤ length bytes
+files_bounded bytes files s =
+    omega (arith, length-append s.0 (0 ∷ []), ap length s.1, each_bounded _ (λ part file f. omega (arith, length-append f.1 f.2, ap length f.3, name_some f.1 f.0 f.4)) s.0 files s.2)
+
+-- one production or the other
+chosen : {A : Type 0} {P : Type 0} (test : Bool) (l m : Production A) (bytes : List ℕ) (x : A) → (l.Spells bytes x → P) → (m.Spells bytes x → P) → (choose test l m).Spells bytes x → P
+chosen true l m bytes x one other s = one s
+chosen false l m bytes x one other s = other s
+
+module _ (notation : Notation) (encoding : Encoding) where
+  directories_bounded : (bytes : List ℕ) (table : List FileEntryFormat × List Value) → (directory_table notation encoding).Spells bytes table → length table.1 ≤ length bytes
+  directories_bounded bytes table =
+      chosen (nat_le encoding.version 4) _ _ bytes table
+      (λ s. omega (arith, length-append s.1 s.2, ap length s.3, paths_bounded s.1 s.0 s.4, length-map {B = Value} s.0 String, ap (λ (t : List FileEntryFormat × List Value). length t.1) s.5.1))
+      (λ s. omega (arith, length-append s.1 s.2, ap length s.3, table_bounded notation encoding.format s.1 s.0 s.4, length-map s.0.1 path_of, ap (λ (t : List FileEntryFormat × List Value). length t.1) s.5.1))
+
+  all_files_bounded : (bytes : List ℕ) (table : List FileEntryFormat × List File) → (file_table notation encoding).Spells bytes table → length table.1 ≤ length bytes
+  all_files_bounded bytes table =
+      chosen (nat_le encoding.version 4) _ _ bytes table
+      (λ s. omega (arith, length-append s.1 s.2, ap length s.3, files_bounded s.1 s.0 s.4, ap (λ (t : List FileEntryFormat × List File). length t.1) s.5.1))
+      (λ s. omega (arith, length-append s.1 s.2, ap length s.3, table_bounded notation encoding.format s.1 s.0 s.4, length-map s.0.1 file_of_entry, ap (λ (t : List FileEntryFormat × List File). length t.1) s.5.1))
+
+-- the bytes that the header length counts are that many, and stand in front of the program
+opening_counted : (notation : Notation) (handed : ℕ) (format : Format) (bytes : List ℕ) (o : Opening) → (opening_production notation handed format).Spells bytes o
+    → (length o.fields ≡ o.header_length) × (o.header_length ≤ length bytes)
+opening_counted notation handed format bytes o s =
+    let a = s.5 in
+    let l = a.5 in
+    let f = l.5 in
+    let same : length o.fields ≡ o.header_length = rw f.5.1 (ap length f.4.1 ∙ f.4.0) in
+    let long : o.header_length ≡ l.0 = ap (λ (o : Opening). o.header_length) f.5.1 in
+    (same, omega (arith, long, f.4.0, length-append s.1 s.2, ap length s.3, length-append a.1 a.2, ap length a.3, length-append l.1 l.2, ap length l.3, length-append f.1 f.2, ap length f.3))
+
+fields_bounded : (notation : Notation) (unit_entry : UnitEntry) (unit : ℕ) (o : Opening) (program bytes : List ℕ) (h : Header) → (fields_production notation unit_entry unit o program).Spells bytes h
+    → (length h.directories + length h.files ≤ length bytes) × (h.program ≡ program) × (h.header_length ≡ o.header_length) × (h.unit_length ≡ unit)
+fields_bounded notation unit_entry unit o program bytes h s =
+    let c = s.5 in
+    let d = c.5 in
+    let f = d.5 in
+    let is = f.5.1 in
+    let directories = directories_bounded notation o.encoding d.1 d.0 d.4 in
+    let files = all_files_bounded notation o.encoding f.1 f.0 f.4 in
+    let directories_are = ap (λ (h : Header). length h.directories) is in
+    let files_are = ap (λ (h : Header). length h.files) is in (
+      omega (arith, directories, files, directories_are, files_are, length-append s.1 s.2, ap length s.3, length-append c.1 c.2, ap length c.3, length-append d.1 d.2, ap length d.3, length-append f.1 f.2, ap length f.3),
+      ap (λ (h : Header). h.program) is,
+      ap (λ (h : Header). h.header_length) is,
+      ap (λ (h : Header). h.unit_length) is,
+    )
+
+pub unit_bounded : (notation : Notation) (unit_entry : UnitEntry) (bytes : List ℕ) (h : Header) → SpellsUnit notation unit_entry bytes h
+    → (length h.directories + length h.files ≤ h.header_length) × (h.header_length + length h.program ≤ h.unit_length) × (h.unit_length ≤ length bytes)
+unit_bounded notation unit_entry bytes h u =
+    let s = u.3 in
+    let i = s.5 in
+    let o = i.5 in
+    let f = o.5 in
+    let whole = length-append u.0 u.1 in
+    let opened = opening_counted notation unit_entry.address_size s.0.1 o.4.1.0 o.0.0 o.4.1.2 in
+    let fields = fields_bounded notation unit_entry s.0.0 o.0.0 o.0.1 f.4.1.0 f.0.0 f.4.1.2 in
+    let same : h ≡ f.0.0 = f.5.1 in
+    rw same (
+      omega (arith, fields.0, fields.2, opened.0, length-append f.4.1.0 f.0.1, ap length f.4.1.1),
+      omega (arith, fields.2, fields.3, ap length fields.1, opened.1, length-append o.4.1.0 o.0.1, ap length o.4.1.1, ap length i.4.1, i.4.0),
+      omega (arith, fields.3, i.4.0, whole, ap length u.2, length-append s.1 s.2, ap length s.3, length-append i.1 i.2, ap length i.3),
+    )

@@ -1,5 +1,6 @@
 -- Taking in the values of an entry one by one gives the entry's parts.
-use Rattle.std.proofs.Common.{◌≡◌, ℕ, if◌then◌else◌, List, [], ◌∷◌, Option, Some, None, Ok, Err, refl, sym, ap, ◌∙◌}
+use Rattle.std.proofs.Common.{◌≡◌, ℕ, ◌+◌, ◌<◌, Bool, if◌then◌else◌, List, [], ◌∷◌, length, get_or, drop, Option, Some, None, Ok, Err, refl, sym, ap, ◌∙◌}
+use Rattle.std.proofs.lemmas.List.{drop_more}
 use Rattle.std.specs.Prelude.{nat_eq}
 use Rattle.gimli_core.specs.Notation.{Notation}
 use Rattle.gimli_core.specs.Values.{Value, udata_value}
@@ -76,3 +77,16 @@ module _ (notation : Notation) (format : Format) where
   -- from a file of an empty path the file is that of the entry
   pub file_is : (formats : List FileEntryFormat) (bytes : List ℕ) → folded_at notation format file_with (plain_file [] 0 0 0) formats bytes ≡ viewed file_of_entry (entry_at notation format formats bytes)
   file_is formats bytes = folded_is notation format file_with (plain_file [] 0 0 0) formats bytes ∙ viewed_by (folded file_with (plain_file [] 0 0 0)) file_of_entry (file_folded (plain_file [] 0 0 0)) (entry_at notation format formats bytes)
+
+-- one more value of an entry that is taken from where its format stands, as a loop does
+module _ (format : Format) (now first : Bool) (limit : ℕ) where
+  pub file_goes_on : (formats : List FileEntryFormat) (i : ℕ) (d : FileEntryFormat) (file next : File) (value : Value) (bytes rest : List ℕ) (total : Read File) → i < length formats → now ≡ first
+      → (Ok value, rest) ≡ form_at (record { big = now; limit = limit }) format (get_or formats i d).form.0 bytes → next ≡ file_with file (get_or formats i d).content_type.0 value
+      → folded_at (record { big = first; limit = limit }) format file_with file (drop i formats) bytes ≡ total → folded_at (record { big = first; limit = limit }) format file_with next (drop (i + 1) formats) rest ≡ total
+  file_goes_on formats i d file next value bytes rest total lt same read is so_far =
+      let notation : Notation = record { big = first; limit = limit } in
+      let f = get_or formats i d in
+      let again : (Ok value, rest) ≡ form_at notation format f.form.0 bytes = read ∙ ap (λ (b : Bool). form_at (record { big = b; limit = limit }) format f.form.0 bytes) same in
+      let here = ap (λ (fs : List FileEntryFormat). folded_at notation format file_with file fs bytes) (drop_more formats i d lt) in
+      let one : folded_at notation format file_with file (f ∷ drop (i + 1) formats) bytes ≡ folded_at notation format file_with next (drop (i + 1) formats) rest = rw (← again, is) refl in
+      sym one ∙ sym here ∙ so_far

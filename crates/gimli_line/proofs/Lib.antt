@@ -17,3 +17,4 @@ pub mod Runs
 pub mod EventsWithFilesLaws
 pub mod SequenceLaws
 pub mod NonDecreasingLaws
+pub mod Order

@@ -5,17 +5,24 @@ use Rattle.std.specs.Option.{option_copied}
 use Rattle.std.proofs.Common.{Bor, sym}
 use Rattle.std.proofs.lemmas.Bool.{le-leb}
 use Rattle.std.proofs.lemmas.Option.{slice_get-map}
-use Rattle.gimli_line.specs.header.Header.{Header, from_one, directory_of, file_of}
+use Rattle.gimli_line.specs.header.Header.{Header, from_one, entry_of, directory_of, file_of}
 
 above : {A : Type 0} (first : Option A) (entries : List A) (i : ℕ) → 0 < i → from_one first entries i ≡ slice_get entries (i - 1)
 above first entries zero lt = absurd (omega arith)
 above first entries (suc i) lt = let less : i ≡ suc i - 1 = omega arith in ap (slice_get entries) less
 
+pub entry_above : {A : Type 0} (version : ℕ) (handed : Option A) (entries : List A) (i : ℕ) → version ≤ 4 → 0 < i → entry_of version handed entries i ≡ slice_get entries (i - 1)
+entry_above version handed entries i old lt = rw (le-leb version 4 old) (above handed entries i lt)
+
 pub directory_above : (h : Header) (i : ℕ) → h.parameters.encoding.version ≤ 4 → 0 < i → directory_of h i ≡ slice_get h.directories (i - 1)
-directory_above h i old lt = rw (le-leb h.parameters.encoding.version 4 old) (above _ h.directories i lt)
+directory_above h i old lt = entry_above h.parameters.encoding.version _ h.directories i old lt
 
 pub file_above : (h : Header) (i : ℕ) → h.parameters.encoding.version ≤ 4 → 0 < i → file_of h i ≡ slice_get h.files (i - 1)
-file_above h i old lt = rw (le-leb h.parameters.encoding.version 4 old) (above _ h.files i lt)
+file_above h i old lt = entry_above h.parameters.encoding.version _ h.files i old lt
+
+pub copied_own : {A : Type 0} (found : Option (Bor A)) → option_copied found ≡ option_map (λ b. b.now) found
+copied_own (Some b) = refl
+copied_own None = refl
 
 -- ---- an entry that was found, seen as a table's
 

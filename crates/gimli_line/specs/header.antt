@@ -9,3 +9,4 @@ pub mod FormReading
 pub mod Outcome
 pub mod HeaderReading
 pub mod EntryReading
+pub mod Opening

@@ -1,8 +1,11 @@
 //! The section `.debug_line`, from which line programs are read.
 
 ghost use Rattle.std.specs.Prelude.{◌≡◌, ◌≢◌, IfErr, IfOk, IsTrue, drop, option_map};
+ghost use Rattle.gimli_core.specs.Notation.{noted};
 ghost use Rattle.gimli_core.specs.Numbers.{is_address_size};
-ghost use Rattle.gimli_line.specs.header.HeaderGrammar.{HasHeaderFault, SpellsUnit};
+ghost use Rattle.gimli_core.specs.declared.attribute_value.AttributeValue.TheVariants.{String};
+ghost use Rattle.gimli_line.specs.header.Header.{HasOneOrder, unit_entry};
+ghost use Rattle.gimli_line.specs.header.HeaderGrammar.{HasHeaderFault, SpellsUnit, taken};
 
 use crate::header::program_header::LineProgramHeader;
 use crate::run::program::IncompleteLineProgram;
@@ -50,14 +53,18 @@ impl<R: Reader> DebugLine<R> {
         comp_name: Option<R>,
     ) -> Result<IncompleteLineProgram<R>>
         requires { IsTrue (is_address_size address_size) }
-        ensures unit { IfOk result (λ program. SpellsUnit (record { big = R.big self.now; limit = R.Offset.limit })
-            (record { address_size = address_size; directory = option_map R.bytes comp_dir; name = option_map R.bytes comp_name })
+        ensures unit { IfOk result (λ program. SpellsUnit (noted (R.big self.now) R.Offset.limit)
+            (unit_entry R.bytes address_size comp_dir comp_name)
             (drop (R.Offset.number offset.0) (R.bytes self.now)) program.meaning) }
-        ensures refusal { IfErr result (λ e. e ≢ Error.OutOfMemory → HasHeaderFault (record { big = R.big self.now; limit = R.Offset.limit })
-            (record { address_size = address_size; directory = option_map R.bytes comp_dir; name = option_map R.bytes comp_name })
+        ensures refusal { IfErr result (λ e. e ≢ Error.OutOfMemory → HasHeaderFault (noted (R.big self.now) R.Offset.limit)
+            (unit_entry R.bytes address_size comp_dir comp_name)
             (drop (R.Offset.number offset.0) (R.bytes self.now)) e) }
-        ensures notation { IfOk result (λ program. program.notation ≡ record { big = R.big self.now; limit = R.Offset.limit }) }
+        ensures notation { IfOk result (λ program. program.notation ≡ noted (R.big self.now) R.Offset.limit) }
         ensures offset { IfOk result (λ program. program.offset ≡ offset) }
+        ensures order { IfOk result (HasOneOrder R.big) }
+        ensures directory { IfOk result (λ program. program.comp_dir ≡ taken program.meaning.parameters.encoding comp_dir) }
+        ensures name { IfOk result (λ program. option_map (λ file. file.path_name) program.comp_file
+            ≡ taken program.meaning.parameters.encoding (option_map String comp_name)) }
     {
         let mut input = self.input_at(offset.0);
         let header = LineProgramHeader::parse(

@@ -1,13 +1,13 @@
 //! Laws of the two grammars: a unit has one header or one refusal, a program is decoded in one way. And laws of what
 //! a run gives.
 
-ghost use Rattle.std.specs.Prelude.{◌≡◌, ◌≢◌, ◌≤◌, ◌⊎◌, ◌++◌, ℕ, Bool, List, [], Option, Some, length};
+ghost use Rattle.std.specs.Prelude.{◌≡◌, ◌≢◌, ◌≤◌, ◌⊎◌, ◌+◌, ℕ, Bool, List, [], Option, Some, length};
 ghost use Rattle.std.specs.Ordering.{nat_cmp};
 ghost use Rattle.gimli_core.specs.Notation.{Notation};
 ghost use Rattle.gimli_core.specs.declared.common.Format.{Format};
 ghost use Rattle.gimli_core.specs.declared.error.Error.{Error};
 ghost use Rattle.gimli_line.specs.header.Header.{Header, UnitEntry};
-ghost use Rattle.gimli_line.specs.header.HeaderGrammar.{Entry, SpellsUnit, HasHeaderFault, SpellsEntries};
+ghost use Rattle.gimli_line.specs.header.HeaderGrammar.{Entry, SpellsUnit, HasHeaderFault, SpellsEntries, HoldsCount};
 ghost use Rattle.gimli_line.specs.run.Events.{events_behind};
 ghost use Rattle.gimli_line.specs.run.Instruction.{Ins};
 ghost use Rattle.gimli_line.specs.run.EventsWithFiles.{EventsWithFiles, FilesAtEnd, events_with_files_behind, events_with_files_from};
@@ -54,11 +54,23 @@ pub fn instructions_are_bounded()
         Decodes notation h bytes list end → length list ≤ length bytes }
 {}
 
-/// A table of version 5 has no more entries than bytes behind their count.
+/// The entries of a table of version 5 begin with their count, which says how many they are, and no fewer bytes than
+/// that stand behind it: each entry has a byte at least, since some format is there.
 pub fn entries_are_bounded()
     ensures { (notation : Notation) (format : Format) (formats : List FileEntryFormat) → formats ≢ [] →
         (bytes : List ℕ) (entries : List Entry) → SpellsEntries notation format formats bytes entries →
-        (count : List ℕ) × (behind : List ℕ) × (bytes ≡ count ++ behind) × (length entries ≤ length behind) }
+        HoldsCount bytes (length entries) }
+{}
+
+/// Both tables of a header together have no more entries than its length counts bytes, whatever they give as their
+/// counts. What that length counts and the program stand within the unit, and the unit within the input.
+pub fn tables_are_bounded()
+    ensures entries { (notation : Notation) (unit_entry : UnitEntry) (bytes : List ℕ) (h : Header) →
+        SpellsUnit notation unit_entry bytes h → length h.directories + length h.files ≤ h.header_length }
+    ensures header { (notation : Notation) (unit_entry : UnitEntry) (bytes : List ℕ) (h : Header) →
+        SpellsUnit notation unit_entry bytes h → h.header_length + length h.program ≤ h.unit_length }
+    ensures unit { (notation : Notation) (unit_entry : UnitEntry) (bytes : List ℕ) (h : Header) →
+        SpellsUnit notation unit_entry bytes h → h.unit_length ≤ length bytes }
 {}
 
 /// The machine, run from the registers at the start of a sequence, gives the rows and faults that looking back says,

@@ -1,15 +1,15 @@
 -- A header: what it says, and how contracts see it.
-use Rattle.std.specs.Prelude.{ℕ, zero, suc, Bool, List, [], ◌∷◌, ◌++◌, Option, None, option_map, replicate, nat_le, nat_eq, if◌then◌else◌, slice_get}
-use Rattle.std.specs.List.{list_any}
+use Rattle.std.specs.Prelude.{◌≡◌, ℕ, zero, suc, Bool, List, [], ◌∷◌, ◌++◌, Option, None, option_map, replicate, nat_le, nat_eq, if◌then◌else◌, slice_get}
+use Rattle.std.specs.List.{list_any, All}
 use Rattle.std.specs.declared.vec.Vec.{Vec}
 use Rattle.std.specs.declared.alloc.Global.{Global}
-use Rattle.gimli_core.specs.Values.{Value}
+use Rattle.gimli_core.specs.Values.{Value, ValueHasOrder}
 use Rattle.gimli_core.specs.declared.attribute_value.AttributeValue.{AttributeValue}
 use Rattle.gimli_core.specs.declared.attribute_value.AttributeValue.TheVariants.{String}
 use Rattle.gimli_core.specs.declared.common.DebugLineOffset.{DebugLineOffset}
 use Rattle.gimli_core.specs.Notation.{Notation}
 use Rattle.gimli_line.specs.header.Parameters.{Parameters}
-use Rattle.gimli_line.specs.header.File.{File}
+use Rattle.gimli_line.specs.header.File.{File, FileHasOrder}
 use Rattle.gimli_line.specs.declared.header.file_entry.FileEntry.{FileEntry}
 use Rattle.gimli_line.specs.declared.header.file_entry.FileEntryFormat.{FileEntryFormat}
 
@@ -35,6 +35,14 @@ pub record UnitEntry : Type 0 where
   pub directory : Option (List ℕ)
   pub name : Option (List ℕ)
 
+-- what stands in the readers that a caller hands in
+abbrev pub unit_entry : {R : Type 0} → (R → List ℕ) → ℕ → Option R → Option R → UnitEntry
+unit_entry bytes address_size directory name = record {
+  address_size = address_size;
+  directory = option_map bytes directory;
+  name = option_map bytes name;
+}
+
 -- a file of which the tables up to version 4 say nothing more
 abbrev pub plain_file : List ℕ → ℕ → ℕ → ℕ → File
 plain_file path directory time size = record {
@@ -53,24 +61,26 @@ abbrev pub from_one : {A : Type 0} → Option A → List A → ℕ → Option A
 from_one first entries zero = first
 from_one first entries (suc i) = slice_get entries i
 
--- up to version 4 the tables begin at 1, and the handed directory and file stand at 0; in version 5 they begin at 0
+-- the entry of an index in a table of this version: up to version 4 the table begins at 1, and what was handed in stands
+-- at 0; in version 5 it begins at 0
+abbrev pub entry_of : {A : Type 0} → ℕ → Option A → List A → ℕ → Option A
+entry_of version handed entries i = if nat_le version 4 then from_one handed entries i else slice_get entries i
+
 abbrev pub directory_of : Header → ℕ → Option Value
-directory_of h i =
-    if nat_le h.parameters.encoding.version 4
-    then from_one (option_map String h.comp_dir) h.directories i
-    else slice_get h.directories i
+directory_of h i = entry_of h.parameters.encoding.version (option_map String h.comp_dir) h.directories i
 
 abbrev pub file_of : Header → ℕ → Option File
-file_of h i =
-    if nat_le h.parameters.encoding.version 4
-    then from_one h.comp_file h.files i
-    else slice_get h.files i
+file_of h i = entry_of h.parameters.encoding.version h.comp_file h.files i
 
 -- a format of this content type is there
 abbrev pub has_content : ℕ → List FileEntryFormat → Bool
 has_content content formats = list_any (λ f. nat_eq f.content_type.0 content) formats
 
 -- ---- files that a program defines
+
+-- a header with one more file, behind the others
+abbrev pub with_file : File → Header → Header
+with_file f h = record h { files = h.files ++ f ∷ [] }
 
 -- a header apart from its files, which alone change in a run
 abbrev pub bare : Header → Header
@@ -98,3 +108,12 @@ pub record SeenHeader (R Offset Endian : Type 0) : Type 0 where
   pub program_buf : R
   pub comp_dir : Option R
   pub comp_file : Option (FileEntry R Offset Endian)
+
+-- ---- the order of bytes of a header's readers
+
+-- the readers that were taken from the section, in the operand counts and both tables, have the order of the program
+module _ {R Offset Endian : Type 0} (big : R → Bool) where
+  pub record HasOneOrder (h : SeenHeader R Offset Endian) : Type 0 where
+    pub operand_counts : big h.standard_opcode_lengths ≡ h.notation.big
+    pub directories : All (ValueHasOrder big h.notation.big) h.include_directories.items
+    pub files : All (FileHasOrder big h.notation.big) h.file_names.items

@@ -1,8 +1,8 @@
 -- How the header of a unit is spelled, production by production, and which refusal comes where a production isn't there
 -- (DWARF 5, section 6.2.4; DWARF 4, section 6.2.4).
-use Rattle.std.specs.Prelude.{◌≡◌, ℕ, ◌-◌, List, [], ◌∷◌, ◌++◌, length, map, replicate, min, count_by, Bool, not, ◌&&◌, nat_eq, nat_le, if◌then◌else◌, Option, Some, None, option_map}
+use Rattle.std.specs.Prelude.{◌≡◌, ℕ, ◌-◌, ◌≤◌, List, [], ◌∷◌, ◌++◌, length, map, replicate, min, count_by, Bool, not, ◌&&◌, nat_eq, nat_le, if◌then◌else◌, Option, Some, None, option_map}
 use Rattle.std.specs.Int.{w8, cast_signed}
-use Rattle.gimli_core.specs.Numbers.{is_address_size}
+use Rattle.gimli_core.specs.Numbers.{is_address_size, SpellsUleb128}
 use Rattle.gimli_core.specs.Values.{Value, udata_value}
 use Rattle.gimli_core.specs.Production.{Production, ◌>>=◌, done, check, choose, times, closed, within, byte, number, some_bytes, unsigned, unsigned_16, offset_word, unit_length}
 use Rattle.gimli_core.specs.Form.{form_production}
@@ -254,3 +254,7 @@ SpellsFormats = formats_production.Spells
 -- the entries of a table of version 5
 abbrev pub SpellsEntries : Notation → Format → List FileEntryFormat → List ℕ → List Entry → Type 0
 SpellsEntries notation format formats = (entries_production notation format formats).Spells
+
+-- the bytes begin with a count, which spells n, and at least n bytes stand behind it
+abbrev pub HoldsCount : List ℕ → ℕ → Type 0
+HoldsCount bytes n = (count : List ℕ) × (behind : List ℕ) × (bytes ≡ count ++ behind) × SpellsUleb128 64 count n × (n ≤ length behind)

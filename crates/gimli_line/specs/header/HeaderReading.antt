@@ -13,6 +13,7 @@ use Rattle.gimli_core.specs.declared.error.Error.TheVariants.{UnknownVersion, Un
 use Rattle.gimli_line.specs.header.Parameters.{Parameters}
 use Rattle.gimli_line.specs.header.File.{File}
 use Rattle.gimli_line.specs.header.Header.{Header, UnitEntry, plain_file}
+use Rattle.gimli_line.specs.header.Outcome.{viewed}
 use Rattle.gimli_line.specs.header.TableReading.{closed_at}
 use Rattle.gimli_line.specs.header.FormReading.{form_at}
 use Rattle.gimli_line.specs.header.HeaderGrammar.{Entry, is_content, path_of, file_of_entry, Opening, taken}
@@ -59,6 +60,19 @@ module _ (notation : Notation) (format : Format) where
 
   unfoldable pub entries_at : List FileEntryFormat → List ℕ → Read (List Entry)
   entries_at formats bytes = unsigned_at bytes >>= λ count rest. times_at count (entry_at formats) rest
+
+  -- an entry as a directory or as a file, and so all entries
+  abbrev pub directory_at : List FileEntryFormat → List ℕ → Read Value
+  directory_at formats bytes = viewed path_of (entry_at formats bytes)
+
+  abbrev pub file_at : List FileEntryFormat → List ℕ → Read File
+  file_at formats bytes = viewed file_of_entry (entry_at formats bytes)
+
+  abbrev pub directory_entries_at : List FileEntryFormat → List ℕ → Read (List Value)
+  directory_entries_at formats bytes = viewed (map path_of) (entries_at formats bytes)
+
+  abbrev pub file_entries_at : List FileEntryFormat → List ℕ → Read (List File)
+  file_entries_at formats bytes = viewed (map file_of_entry) (entries_at formats bytes)
 
   unfoldable pub table_at : List ℕ → Read (List FileEntryFormat × List Entry)
   table_at bytes = formats_at bytes >>= λ formats rest. entries_at formats rest >>= λ entries rest. (Ok (formats, entries), rest)

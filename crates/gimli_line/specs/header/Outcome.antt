@@ -1,5 +1,7 @@
 -- What a call answers of what is read.
-use Rattle.std.specs.Prelude.{◌≡◌, ◌≢◌, ℕ, List, Result, Ok, Err}
+use Rattle.std.specs.Prelude.{◌≡◌, ◌≢◌, ℕ, List, map, Result, Ok, Err}
+use Rattle.std.specs.declared.vec.Vec.{Vec}
+use Rattle.std.specs.declared.alloc.Global.{Global}
 use Rattle.gimli_core.specs.Reading.{Read, ◌>>=◌}
 use Rattle.gimli_core.specs.declared.error.Error.{Error}
 use Rattle.gimli_core.specs.declared.error.Error.TheVariants.{OutOfMemory}
@@ -9,6 +11,14 @@ use Rattle.gimli_core.specs.declared.error.Error.TheVariants.{OutOfMemory}
 abbrev pub IsOutcome : {X Y : Type 0} → (X → Y) → Result X Error → List ℕ → Read Y → Type 0
 IsOutcome view (Ok x) left read = read ≡ (Ok (view x), left)
 IsOutcome view (Err e) left read = e ≢ OutOfMemory → read.0 ≡ Err e
+
+-- the same of a list, each of whose items is seen by view
+abbrev pub IsListOutcome : {X Y : Type 0} → (X → Y) → Result (Vec X Global) Error → List ℕ → Read (List Y) → Type 0
+IsListOutcome view result left read = IsOutcome (λ list. map view list.items) result left read
+
+-- the same of a table, which is its formats and such a list
+abbrev pub IsTableOutcome : {F X Y : Type 0} → (X → Y) → Result (Vec F Global × Vec X Global) Error → List ℕ → Read (List F × List Y) → Type 0
+IsTableOutcome view result left read = IsOutcome (λ table. (table.0.items, map view table.1.items)) result left read
 
 -- the same of the answer alone
 abbrev pub IsAnswer : {X Y : Type 0} → (X → Y) → Result X Error → Result Y Error → Type 0

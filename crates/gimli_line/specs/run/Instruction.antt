@@ -1,6 +1,6 @@
 -- Instructions, with lists of bytes in the place of readers and numbers in the place of offsets.
-use Rattle.std.specs.Prelude.{ℕ, List, Bool, true, false}
-use Rattle.gimli_line.specs.header.File.{File, file_seen}
+use Rattle.std.specs.Prelude.{◌≡◌, ℕ, List, Bool, true, false}
+use Rattle.gimli_line.specs.header.File.{File, file_seen, FileHasOrder}
 use Rattle.gimli_line.specs.header.Header.{added}
 use Rattle.gimli_line.specs.declared.run.instruction.LineInstruction.{LineInstruction}
 use Rattle.gimli_line.specs.declared.run.instruction.LineInstruction.TheVariants.{Special, Copy, AdvancePc, AdvanceLine, SetFile, SetColumn, NegateStatement, SetBasicBlock, ConstAddPc, FixedAddPc, SetPrologueEnd, SetEpilogueBegin, SetIsa, UnknownStandard0, UnknownStandard1, UnknownStandardN, EndSequence, SetAddress, DefineFile, SetDiscriminator, UnknownExtended}
@@ -33,6 +33,14 @@ module _ {R Offset Endian : Type 0} (bytes : R → List ℕ) (number : Offset �
   ins_seen (DefineFile f) = DefineFile (file_seen bytes number f)
   ins_seen (SetDiscriminator n) = SetDiscriminator n
   ins_seen (UnknownExtended o r) = UnknownExtended o (bytes r)
+
+-- the readers of an instruction, in its operands or its file, have this order of bytes
+module _ {R Offset Endian : Type 0} (big : R → Bool) (order : Bool) where
+  abbrev pub InsHasOrder : LineInstruction R Offset Endian → Type 0
+  InsHasOrder (UnknownStandardN o r) = big r ≡ order
+  InsHasOrder (UnknownExtended o r) = big r ≡ order
+  InsHasOrder (DefineFile f) = FileHasOrder big order f
+  InsHasOrder i = Unit {0}
 
 -- ---- kinds of instructions
 

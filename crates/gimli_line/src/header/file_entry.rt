@@ -3,6 +3,7 @@
 ghost use Rattle.std.specs.Prelude.{◌≡◌};
 ghost use Rattle.gimli_core.specs.Reading.{seen};
 ghost use Rattle.gimli_core.specs.Values.{value_seen};
+ghost use Rattle.gimli_core.specs.declared.attribute_value.AttributeValue.TheVariants.{String};
 ghost use Rattle.gimli_line.specs.header.HeaderGrammar.{digest};
 
 use gimli_core::{AttributeValue, DwForm, DwLnct, Reader, ReaderOffset, Result, constants};
@@ -36,14 +37,18 @@ where
     R: Reader<Offset = Offset>,
     Offset: ReaderOffset,
 {
-    ghost use Rattle.gimli_line.specs.header.File.{file_seen};
+    ghost use Rattle.std.specs.Prelude.{Bool, IfOk};
+    ghost use Rattle.gimli_core.specs.Values.{ValueHasOrder};
+    ghost use Rattle.gimli_line.specs.header.File.{file_seen, FileHasOrder};
     ghost use Rattle.gimli_line.specs.header.Header.{plain_file};
     ghost use Rattle.gimli_line.specs.header.HeaderReading.{plain_file_at};
     ghost use Rattle.gimli_line.specs.header.EntryReading.{file_with};
 
     /// A file of which the path alone is known.
     pub(crate) fn of_path(path_name: R) -> Self
-        ensures { file_seen R.bytes Offset.number result ≡ plain_file (R.bytes path_name) 0 0 0 }
+        ensures file { file_seen R.bytes Offset.number result ≡ plain_file (R.bytes path_name) 0 0 0 }
+        ensures path { result.path_name ≡ String path_name }
+        ensures order { FileHasOrder R.big (R.big path_name) result }
     {
         FileEntry {
             path_name: AttributeValue::String(path_name),
@@ -58,8 +63,10 @@ where
     /// Takes what stands behind the path of a file up to version 4.
     #[tactic(auto, unfolding(crate::specs::header::HeaderReading::plain_file_at))]
     pub(crate) fn parse(input: &mut R, path_name: R) -> Result<Self>
-        ensures read { (seen (file_seen R.bytes Offset.number) result, R.bytes input.new) ≡ plain_file_at (R.bytes path_name) (R.bytes input.old) }
+        ensures read { (seen (file_seen R.bytes Offset.number) result, R.bytes input.new)
+            ≡ plain_file_at (R.bytes path_name) (R.bytes input.old) }
         ensures order { R.big input.new ≡ R.big input.old }
+        ensures file { IfOk result (FileHasOrder R.big (R.big path_name)) }
     {
         let directory_index = input.read_uleb128()?;
         let timestamp = input.read_uleb128()?;
@@ -77,8 +84,10 @@ where
     /// Takes in a value of an entry of version 5. A value that isn't of use for its content type changes
     /// nothing, and neither does an unknown content type.
     pub(crate) fn update(&mut self, content_type: DwLnct, value: AttributeValue<R, Offset>)
-        ensures { file_seen R.bytes Offset.number self.new
+        ensures file { file_seen R.bytes Offset.number self.new
             ≡ file_with (file_seen R.bytes Offset.number self.old) content_type.0 (value_seen R.bytes Offset.number value) }
+        ensures order { (order : Bool) → FileHasOrder R.big order self.old → ValueHasOrder R.big order value
+            → FileHasOrder R.big order self.new }
     {
         match content_type {
             constants::DW_LNCT_path => self.path_name = value,

@@ -1,8 +1,9 @@
 //! Values of the tables of version 5, by their forms.
 
-ghost use Rattle.std.specs.Prelude.{◌≡◌};
+ghost use Rattle.std.specs.Prelude.{◌≡◌, IfOk};
 ghost use Rattle.gimli_core.specs.Reading.{seen, unsigned_at};
-ghost use Rattle.gimli_core.specs.Values.{value_seen};
+ghost use Rattle.gimli_core.specs.Notation.{noted};
+ghost use Rattle.gimli_core.specs.Values.{value_seen, ValueHasOrder};
 ghost use Rattle.gimli_line.specs.header.FormReading.{form_at, number_form_at, word_form_at, index_form_at, block_at, offset_at};
 
 use gimli_core::{
@@ -18,8 +19,9 @@ pub(crate) fn parse_attribute<R: Reader>(
     form: DwForm,
 ) -> Result<AttributeValue<R>>
     ensures read { (seen (value_seen R.bytes R.Offset.number) result, R.bytes input.new)
-        ≡ form_at (record { big = R.big input.old; limit = R.Offset.limit }) format form.0 (R.bytes input.old) }
+        ≡ form_at (noted (R.big input.old) R.Offset.limit) format form.0 (R.bytes input.old) }
     ensures order { R.big input.new ≡ R.big input.old }
+    ensures part { IfOk result (ValueHasOrder R.big (R.big input.old)) }
 {
     match form {
         constants::DW_FORM_block1 => {
@@ -47,8 +49,9 @@ pub(crate) fn parse_attribute<R: Reader>(
 #[tactic(auto, unfolding(crate::specs::header::FormReading::number_form_at, crate::specs::header::FormReading::word_form_at))]
 fn parse_number<R: Reader>(input: &mut R, format: Format, form: DwForm) -> Result<AttributeValue<R>>
     ensures read { (seen (value_seen R.bytes R.Offset.number) result, R.bytes input.new)
-        ≡ number_form_at (record { big = R.big input.old; limit = R.Offset.limit }) format form.0 (R.bytes input.old) }
+        ≡ number_form_at (noted (R.big input.old) R.Offset.limit) format form.0 (R.bytes input.old) }
     ensures order { R.big input.new ≡ R.big input.old }
+    ensures part { IfOk result (ValueHasOrder R.big (R.big input.old)) }
 {
     match form {
         constants::DW_FORM_data1 => Ok(AttributeValue::Data1(input.read_u8()?)),
@@ -70,8 +73,9 @@ fn parse_word_or_text<R: Reader>(
     form: DwForm,
 ) -> Result<AttributeValue<R>>
     ensures read { (seen (value_seen R.bytes R.Offset.number) result, R.bytes input.new)
-        ≡ word_form_at (record { big = R.big input.old; limit = R.Offset.limit }) format form.0 (R.bytes input.old) }
+        ≡ word_form_at (noted (R.big input.old) R.Offset.limit) format form.0 (R.bytes input.old) }
     ensures order { R.big input.new ≡ R.big input.old }
+    ensures part { IfOk result (ValueHasOrder R.big (R.big input.old)) }
 {
     match form {
         constants::DW_FORM_sec_offset => Ok(AttributeValue::SecOffset(input.read_offset(format)?)),
@@ -99,8 +103,9 @@ fn parse_word_or_text<R: Reader>(
 #[tactic(auto, unfolding(crate::specs::header::FormReading::index_form_at))]
 fn parse_index<R: Reader>(input: &mut R, format: Format, form: DwForm) -> Result<AttributeValue<R>>
     ensures read { (seen (value_seen R.bytes R.Offset.number) result, R.bytes input.new)
-        ≡ index_form_at (record { big = R.big input.old; limit = R.Offset.limit }) format form.0 (R.bytes input.old) }
+        ≡ index_form_at (noted (R.big input.old) R.Offset.limit) format form.0 (R.bytes input.old) }
     ensures order { R.big input.new ≡ R.big input.old }
+    ensures part { IfOk result (ValueHasOrder R.big (R.big input.old)) }
 {
     let index = match form {
         constants::DW_FORM_strx | constants::DW_FORM_GNU_str_index => parse_offset(input)?,
@@ -115,8 +120,10 @@ fn parse_index<R: Reader>(input: &mut R, format: Format, form: DwForm) -> Result
 
 /// Takes so many bytes, as a block.
 fn parse_block<R: Reader>(input: &mut R, len: R::Offset) -> Result<AttributeValue<R>>
-    ensures read { (seen (value_seen R.bytes R.Offset.number) result, R.bytes input.new) ≡ block_at (R.Offset.number len) (R.bytes input.old) }
+    ensures read { (seen (value_seen R.bytes R.Offset.number) result, R.bytes input.new)
+        ≡ block_at (R.Offset.number len) (R.bytes input.old) }
     ensures order { R.big input.new ≡ R.big input.old }
+    ensures part { IfOk result (ValueHasOrder R.big (R.big input.old)) }
 {
     let block = input.split(len)?;
     Ok(AttributeValue::Block(block))
@@ -125,7 +132,8 @@ fn parse_block<R: Reader>(input: &mut R, len: R::Offset) -> Result<AttributeValu
 /// Takes an unsigned LEB128 number as an offset. Refused by `UnsupportedOffset` where the offset type is too
 /// narrow.
 pub(crate) fn parse_offset<R: Reader>(input: &mut R) -> Result<R::Offset>
-    ensures read { (seen R.Offset.number result, R.bytes input.new) ≡ offset_at R.Offset.limit unsigned_at (R.bytes input.old) }
+    ensures read { (seen R.Offset.number result, R.bytes input.new)
+        ≡ offset_at R.Offset.limit unsigned_at (R.bytes input.old) }
     ensures order { R.big input.new ≡ R.big input.old }
 {
     let number = input.read_uleb128()?;

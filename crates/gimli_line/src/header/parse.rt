@@ -1,9 +1,10 @@
 //! The header of a unit, part by part.
 
 ghost use Rattle.std.specs.Prelude.{◌≡◌, ◌<◌, IfOk, IsTrue, option_map};
+ghost use Rattle.gimli_core.specs.Notation.{noted};
 ghost use Rattle.gimli_core.specs.Numbers.{is_address_size};
 ghost use Rattle.gimli_core.specs.Reading.{seen};
-ghost use Rattle.gimli_line.specs.header.HeaderReading.{positive_at, version_at, own_address_size_at, size_at, opening_at, operations_at, line_encoding_at, parameters_at};
+ghost use Rattle.gimli_line.specs.header.HeaderReading.{positive_at, version_at, own_address_size_at, size_at, operations_at, line_encoding_at, parameters_at};
 ghost use Rattle.gimli_line.specs.header.Parameters.{IsLineEncoding};
 
 use crate::header::file_entry::FileEntry;
@@ -102,6 +103,7 @@ fn parse_parameters<R: Reader>(input: &mut R, encoding: Encoding) -> Result<Para
     ensures read { (result, R.bytes input.new) ≡ parameters_at encoding (R.bytes input.old) }
     ensures order { R.big input.new ≡ R.big input.old }
     ensures positive { IfOk result (λ parameters. 0 < parameters.opcode_base) }
+    ensures encoding { IfOk result (λ parameters. parameters.encoding ≡ encoding) }
 {
     let line_encoding = parse_line_encoding(input, encoding.version)?;
     let opcode_base = parse_positive(input, Error::OpcodeBaseZero)?;
@@ -121,29 +123,34 @@ struct Opening<R: Reader> {
     fields: R,
 }
 
-/// Takes a unit up to the end of its header; what is left is its program.
-#[tactic(auto, unfolding(crate::specs::header::HeaderReading::opening_at))]
-fn parse_opening<R: Reader>(input: &mut R, handed: u8, format: Format) -> Result<Opening<R>>
-    requires { IsTrue (is_address_size handed) }
-    ensures read { (seen (λ opening. record { encoding = opening.encoding; header_length = R.Offset.number opening.header_length; fields = R.bytes opening.fields }) result, R.bytes input.new)
-        ≡ opening_at (record { big = R.big input.old; limit = R.Offset.limit }) handed format (R.bytes input.old) }
-    ensures order { R.big input.new ≡ R.big input.old }
-    ensures fields { IfOk result (λ opening. R.big opening.fields ≡ R.big input.old) }
-    ensures size { IfOk result (λ opening. IsTrue (is_address_size opening.encoding.address_size)) }
-{
-    let version = parse_version(input)?;
-    let address_size = parse_address_size(input, version, handed)?;
-    let header_length = input.read_length(format)?;
-    let fields = input.split(header_length)?;
-    Ok(Opening {
-        encoding: Encoding {
-            address_size,
-            format,
-            version,
-        },
-        header_length,
-        fields,
-    })
+impl<R: Reader> Opening<R> {
+    ghost use Rattle.gimli_line.specs.header.HeaderReading.{opening_at};
+    ghost use Rattle.gimli_line.specs.header.Opening.{opening_seen};
+
+    /// Takes a unit up to the end of its header; what is left is its program.
+    #[tactic(auto, unfolding(crate::specs::header::HeaderReading::opening_at))]
+    fn parse(input: &mut R, handed: u8, format: Format) -> Result<Self>
+        requires { IsTrue (is_address_size handed) }
+        ensures read { (seen (opening_seen R.bytes R.Offset.number) result, R.bytes input.new)
+            ≡ opening_at (noted (R.big input.old) R.Offset.limit) handed format (R.bytes input.old) }
+        ensures order { R.big input.new ≡ R.big input.old }
+        ensures fields { IfOk result (λ opening. R.big opening.fields ≡ R.big input.old) }
+        ensures size { IfOk result (λ opening. IsTrue (is_address_size opening.encoding.address_size)) }
+    {
+        let version = parse_version(input)?;
+        let address_size = parse_address_size(input, version, handed)?;
+        let header_length = input.read_length(format)?;
+        let fields = input.split(header_length)?;
+        Ok(Opening {
+            encoding: Encoding {
+                address_size,
+                format,
+                version,
+            },
+            header_length,
+            fields,
+        })
+    }
 }
 
 impl<R, Offset> LineProgramHeader<R, Offset>
@@ -152,9 +159,11 @@ where
     Offset: ReaderOffset,
 {
     ghost use Rattle.gimli_line.specs.header.Outcome.{IsAnswer};
-    ghost use Rattle.gimli_line.specs.header.Header.{plain_file};
+    ghost use Rattle.gimli_core.specs.declared.attribute_value.AttributeValue.TheVariants.{String};
+    ghost use Rattle.gimli_line.specs.header.Header.{plain_file, unit_entry, HasOneOrder};
     ghost use Rattle.gimli_line.specs.header.HeaderGrammar.{taken};
     ghost use Rattle.gimli_line.specs.header.HeaderReading.{fields_at, header_at};
+    ghost use Rattle.gimli_line.specs.header.Opening.{opening_seen};
     ghost use Rattle.gimli_line.specs.header.File.{file_seen};
 
     /// Takes the header of a unit, and its program.
@@ -168,15 +177,18 @@ where
         comp_name: Option<R>,
     ) -> Result<Self>
         requires { IsTrue (is_address_size address_size) }
-        ensures read { IsAnswer (λ header. header.meaning) result
-            (header_at (record { big = R.big input.old; limit = Offset.limit })
-            (record { address_size = address_size; directory = option_map R.bytes comp_dir; name = option_map R.bytes comp_name }) (R.bytes input.old)).0 }
-        ensures notation { IfOk result (λ header. header.notation ≡ record { big = R.big input.old; limit = Offset.limit }) }
+        ensures read { IsAnswer (λ header. header.meaning) result (header_at (noted (R.big input.old) Offset.limit)
+            (unit_entry R.bytes address_size comp_dir comp_name) (R.bytes input.old)).0 }
+        ensures notation { IfOk result (λ header. header.notation ≡ noted (R.big input.old) Offset.limit) }
         ensures offset { IfOk result (λ header. header.offset ≡ offset) }
+        ensures order { IfOk result (HasOneOrder R.big) }
+        ensures directory { IfOk result (λ header. header.comp_dir ≡ taken header.meaning.parameters.encoding comp_dir) }
+        ensures name { IfOk result (λ header. option_map (λ file. file.path_name) header.comp_file
+            ≡ taken header.meaning.parameters.encoding (option_map String comp_name)) }
     {
         let (unit_length, format) = input.read_initial_length()?;
         let mut program_buf = input.split(unit_length)?;
-        let opening = parse_opening(&mut program_buf, address_size, format)?;
+        let opening = Opening::parse(&mut program_buf, address_size, format)?;
         Self::parse_fields(
             alloc,
             opening,
@@ -201,14 +213,15 @@ where
     ) -> Result<Self>
         requires size { IsTrue (is_address_size opening.encoding.address_size) }
         requires order { R.big opening.fields ≡ R.big program_buf }
-        ensures read { IsAnswer (λ header. header.meaning) result
-            (fields_at (record { big = R.big program_buf; limit = Offset.limit })
-            (record { address_size = opening.encoding.address_size; directory = option_map R.bytes comp_dir; name = option_map R.bytes comp_name })
-            (Offset.number unit_length)
-            (record { encoding = opening.encoding; header_length = Offset.number opening.header_length; fields = R.bytes opening.fields })
-            (R.bytes program_buf) (R.bytes opening.fields)).0 }
-        ensures notation { IfOk result (λ header. header.notation ≡ record { big = R.big program_buf; limit = Offset.limit }) }
+        ensures read { IsAnswer (λ header. header.meaning) result (fields_at (noted (R.big program_buf) Offset.limit)
+            (unit_entry R.bytes opening.encoding.address_size comp_dir comp_name) (Offset.number unit_length)
+            (opening_seen R.bytes Offset.number opening) (R.bytes program_buf) (R.bytes opening.fields)).0 }
+        ensures notation { IfOk result (λ header. header.notation ≡ noted (R.big program_buf) Offset.limit) }
         ensures offset { IfOk result (λ header. header.offset ≡ offset) }
+        ensures order { IfOk result (HasOneOrder R.big) }
+        ensures directory { IfOk result (λ header. header.comp_dir ≡ taken header.meaning.parameters.encoding comp_dir) }
+        ensures name { IfOk result (λ header. option_map (λ file. file.path_name) header.comp_file
+            ≡ taken header.meaning.parameters.encoding (option_map String comp_name)) }
     {
         let encoding = opening.encoding;
         let mut input = opening.fields;
@@ -236,7 +249,8 @@ where
 
     /// The handed directory, where the version takes it.
     fn comp_dir_of(encoding: Encoding, comp_dir: Option<R>) -> Option<R>
-        ensures { option_map R.bytes result ≡ taken encoding (option_map R.bytes comp_dir) }
+        ensures bytes { option_map R.bytes result ≡ taken encoding (option_map R.bytes comp_dir) }
+        ensures own { result ≡ taken encoding comp_dir }
     {
         if encoding.version <= 4 {
             comp_dir
@@ -247,8 +261,9 @@ where
 
     /// The file of the handed name, where the version takes it.
     fn comp_file_of(encoding: Encoding, comp_name: Option<R>) -> Option<FileEntry<R, Offset>>
-        ensures { option_map (file_seen R.bytes Offset.number) result
+        ensures file { option_map (file_seen R.bytes Offset.number) result
             ≡ taken encoding (option_map (λ path. plain_file path 0 0 0) (option_map R.bytes comp_name)) }
+        ensures path { option_map (λ file. file.path_name) result ≡ taken encoding (option_map String comp_name) }
     {
         match comp_name {
             Some(name) if encoding.version <= 4 => Some(FileEntry::of_path(name)),

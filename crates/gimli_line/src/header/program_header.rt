@@ -98,7 +98,8 @@ where
     R: Reader<Offset = Offset>,
     Offset: ReaderOffset,
 {
-    ghost use Rattle.gimli_line.specs.header.Header.{directory_of, file_of, has_content};
+    ghost use Rattle.gimli_core.specs.declared.attribute_value.AttributeValue.TheVariants.{String};
+    ghost use Rattle.gimli_line.specs.header.Header.{directory_of, entry_of, file_of, has_content, with_file};
     ghost use Rattle.gimli_line.specs.header.File.{file_seen};
 
     /// A copy, which says what the header says. Refused by `OutOfMemory` alone.
@@ -234,7 +235,8 @@ where
 
     /// How many LEB128 operands each standard opcode has, from opcode 1 on: a byte for each.
     pub fn standard_opcode_lengths(&self) -> &R
-        ensures { R.bytes result.now ≡ self.now.meaning.operand_counts }
+        ensures bytes { R.bytes result.now ≡ self.now.meaning.operand_counts }
+        ensures own { result.now ≡ self.now.standard_opcode_lengths }
     {
         &self.standard_opcode_lengths
     }
@@ -260,14 +262,18 @@ where
 
     /// The table of directories. Up to version 4 it begins with directory 1.
     pub fn include_directories(&self) -> &[AttributeValue<R, Offset>]
-        ensures { map (value_seen R.bytes Offset.number) result.now ≡ self.now.meaning.directories }
+        ensures directories { map (value_seen R.bytes Offset.number) result.now ≡ self.now.meaning.directories }
+        ensures own { result.now ≡ self.now.include_directories.items }
     {
         &self.include_directories
     }
 
     /// The directory of an index. Up to version 4 index 0 is the handed directory.
     pub fn directory(&self, directory: u64) -> Option<AttributeValue<R, Offset>>
-        ensures { option_map (value_seen R.bytes Offset.number) result ≡ directory_of self.now.meaning directory }
+        ensures directory { option_map (value_seen R.bytes Offset.number) result
+            ≡ directory_of self.now.meaning directory }
+        ensures own { result ≡ entry_of self.now.meaning.parameters.encoding.version
+            (option_map String self.now.comp_dir) self.now.include_directories.items directory }
     {
         if self.version() > 4 {
             return entry(&self.include_directories, directory).copied();
@@ -328,14 +334,19 @@ where
     /// The table of files, and behind them those that the program has defined so far. Up to version 4 it begins
     /// with file 1.
     pub fn file_names(&self) -> &[FileEntry<R, Offset>]
-        ensures { map (file_seen R.bytes Offset.number) result.now ≡ self.now.meaning.files }
+        ensures files { map (file_seen R.bytes Offset.number) result.now ≡ self.now.meaning.files }
+        ensures own { result.now ≡ self.now.file_names.items }
     {
         &self.file_names
     }
 
     /// The file of an index. Up to version 4 index 0 is a file of the handed name.
     pub fn file(&self, file: u64) -> Option<&FileEntry<R, Offset>>
-        ensures { option_map (λ found. file_seen R.bytes Offset.number found.now) result ≡ file_of self.now.meaning file }
+        ensures file { option_map (λ found. file_seen R.bytes Offset.number found.now) result
+            ≡ file_of self.now.meaning file }
+        ensures own { option_map (λ found. found.now) result
+            ≡ entry_of self.now.meaning.parameters.encoding.version
+            self.now.comp_file self.now.file_names.items file }
     {
         if self.version() > 4 {
             return entry(&self.file_names, file);
@@ -348,7 +359,7 @@ where
 
     /// Adds a file behind the others. Refused by `OutOfMemory` alone; nothing is changed then.
     pub(crate) fn add_file(&mut self, file: FileEntry<R, Offset>) -> Result<()>
-        ensures ok { OnOk result (self.new.meaning ≡ record self.old.meaning { files = self.old.meaning.files ++ file_seen R.bytes Offset.number file ∷ [] }) }
+        ensures ok { OnOk result (self.new.meaning ≡ with_file (file_seen R.bytes Offset.number file) self.old.meaning) }
         ensures err { OnErr result (self.new.meaning ≡ self.old.meaning) }
         ensures memory { IfErr result (λ e. e ≡ Error.OutOfMemory) }
         ensures notation { self.new.notation ≡ self.old.notation }
@@ -361,6 +372,7 @@ where
     pub fn raw_program_buf(&self) -> R
         ensures bytes { R.bytes result ≡ self.now.meaning.program }
         ensures order { R.big result ≡ self.now.notation.big }
+        ensures own { result ≡ self.now.program_buf }
     {
         self.program_buf
     }
@@ -371,14 +383,18 @@ where
     R: Reader<Offset = Offset>,
     Offset: ReaderOffset,
 {
-    ghost use Rattle.gimli_line.specs.header.Header.{directory_of};
+    ghost use Rattle.gimli_core.specs.declared.attribute_value.AttributeValue.TheVariants.{String};
+    ghost use Rattle.gimli_line.specs.header.Header.{directory_of, entry_of};
 
     /// The file's directory, as far as the header has it.
     pub fn directory(
         &self,
         header: &LineProgramHeader<R, Offset>,
     ) -> Option<AttributeValue<R, Offset>>
-        ensures { option_map (value_seen R.bytes Offset.number) result ≡ directory_of header.now.meaning self.now.directory_index }
+        ensures directory { option_map (value_seen R.bytes Offset.number) result
+            ≡ directory_of header.now.meaning self.now.directory_index }
+        ensures own { result ≡ entry_of header.now.meaning.parameters.encoding.version
+            (option_map String header.now.comp_dir) header.now.include_directories.items self.now.directory_index }
     {
         header.directory(self.directory_index)
     }

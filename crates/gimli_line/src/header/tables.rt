@@ -1,13 +1,14 @@
 //! The tables of directories and files.
 
-ghost use Rattle.std.specs.Prelude.{◌≡◌, [], ◌∷◌, ◌++◌, map, IfErr, OnErr, OnOk};
+ghost use Rattle.std.specs.Prelude.{◌≡◌, [], ◌∷◌, ◌++◌, map, IfErr, IfOk, OnErr, OnOk};
 ghost use Rattle.gimli_core.specs.Reading.{seen, times_at};
-ghost use Rattle.gimli_core.specs.Values.{value_seen};
+ghost use Rattle.std.specs.List.{All};
+ghost use Rattle.gimli_core.specs.Notation.{noted};
+ghost use Rattle.gimli_core.specs.Values.{value_seen, ValueHasOrder};
 ghost use Rattle.gimli_core.specs.declared.attribute_value.AttributeValue.TheVariants.{String};
-ghost use Rattle.gimli_line.specs.header.Outcome.{IsOutcome, viewed};
-ghost use Rattle.gimli_line.specs.header.HeaderGrammar.{path_of, file_of_entry};
-ghost use Rattle.gimli_line.specs.header.HeaderReading.{format_at, formats_at, paths_at, files_at, entry_at, entries_at, directories_at, file_names_at};
-ghost use Rattle.gimli_line.specs.header.File.{file_seen};
+ghost use Rattle.gimli_line.specs.header.Outcome.{IsOutcome, IsListOutcome, IsTableOutcome, viewed};
+ghost use Rattle.gimli_line.specs.header.HeaderReading.{format_at, formats_at, paths_at, files_at, directory_at, file_at, directory_entries_at, file_entries_at, directories_at, file_names_at};
+ghost use Rattle.gimli_line.specs.header.File.{file_seen, FileHasOrder};
 
 use crate::header::file_entry::{FileEntry, FileEntryFormat};
 use crate::header::forms::parse_attribute;
@@ -83,9 +84,10 @@ fn parse_format<R: Reader>(input: &mut R) -> Result<FileEntryFormat>
 
 /// Takes directories up to an empty one.
 fn parse_directories<R: Reader>(alloc: Global, input: &mut R) -> Result<Vec<AttributeValue<R>>>
-    ensures read { IsOutcome (λ directories. map (value_seen R.bytes R.Offset.number) directories.items) result (R.bytes input.new)
+    ensures read { IsListOutcome (value_seen R.bytes R.Offset.number) result (R.bytes input.new)
         (viewed (map String) (paths_at (R.bytes input.old))) }
     ensures order { R.big input.new ≡ R.big input.old }
+    ensures parts { IfOk result (λ directories. All (ValueHasOrder R.big (R.big input.old)) directories.items) }
 {
     let mut directories = Vec::new(alloc);
     loop {
@@ -99,9 +101,10 @@ fn parse_directories<R: Reader>(alloc: Global, input: &mut R) -> Result<Vec<Attr
 
 /// Takes files up to one with an empty path.
 fn parse_files<R: Reader>(alloc: Global, input: &mut R) -> Result<Vec<FileEntry<R>>>
-    ensures read { IsOutcome (λ files. map (file_seen R.bytes R.Offset.number) files.items) result (R.bytes input.new)
+    ensures read { IsListOutcome (file_seen R.bytes R.Offset.number) result (R.bytes input.new)
         (files_at (R.bytes input.old)) }
     ensures order { R.big input.new ≡ R.big input.old }
+    ensures parts { IfOk result (λ files. All (FileHasOrder R.big (R.big input.old)) files.items) }
 {
     let mut files = Vec::new(alloc);
     loop {
@@ -118,7 +121,8 @@ fn parse_files<R: Reader>(alloc: Global, input: &mut R) -> Result<Vec<FileEntry<
 
 /// A reader in the place of an empty text.
 fn nothing<R: Reader>(input: &R) -> R
-    ensures { R.bytes result ≡ [] }
+    ensures bytes { R.bytes result ≡ [] }
+    ensures order { R.big result ≡ R.big input.now }
 {
     let mut nothing = *input;
     nothing.empty();
@@ -132,8 +136,9 @@ fn parse_directory_v5<R: Reader>(
     formats: &[FileEntryFormat],
 ) -> Result<AttributeValue<R>>
     ensures read { (seen (value_seen R.bytes R.Offset.number) result, R.bytes input.new)
-        ≡ viewed path_of (entry_at (record { big = R.big input.old; limit = R.Offset.limit }) format formats.now (R.bytes input.old)) }
+        ≡ directory_at (noted (R.big input.old) R.Offset.limit) format formats.now (R.bytes input.old) }
     ensures order { R.big input.new ≡ R.big input.old }
+    ensures part { IfOk result (ValueHasOrder R.big (R.big input.old)) }
 {
     let mut path_name = AttributeValue::String(nothing(input));
     for entry_format in formats {
@@ -152,8 +157,9 @@ fn parse_file_v5<R: Reader>(
     formats: &[FileEntryFormat],
 ) -> Result<FileEntry<R>>
     ensures read { (seen (file_seen R.bytes R.Offset.number) result, R.bytes input.new)
-        ≡ viewed file_of_entry (entry_at (record { big = R.big input.old; limit = R.Offset.limit }) format formats.now (R.bytes input.old)) }
+        ≡ file_at (noted (R.big input.old) R.Offset.limit) format formats.now (R.bytes input.old) }
     ensures order { R.big input.new ≡ R.big input.old }
+    ensures part { IfOk result (FileHasOrder R.big (R.big input.old)) }
 {
     let mut file = FileEntry::of_path(nothing(input));
     for entry_format in formats {
@@ -171,9 +177,10 @@ fn parse_directories_v5<R: Reader>(
     format: Format,
     formats: &[FileEntryFormat],
 ) -> Result<Vec<AttributeValue<R>>>
-    ensures read { IsOutcome (λ directories. map (value_seen R.bytes R.Offset.number) directories.items) result (R.bytes input.new)
-        (viewed (map path_of) (entries_at (record { big = R.big input.old; limit = R.Offset.limit }) format formats.now (R.bytes input.old))) }
+    ensures read { IsListOutcome (value_seen R.bytes R.Offset.number) result (R.bytes input.new)
+        (directory_entries_at (noted (R.big input.old) R.Offset.limit) format formats.now (R.bytes input.old)) }
     ensures order { R.big input.new ≡ R.big input.old }
+    ensures parts { IfOk result (λ directories. All (ValueHasOrder R.big (R.big input.old)) directories.items) }
 {
     let count = input.read_uleb128()?;
     let mut directories = Vec::new(alloc);
@@ -192,9 +199,10 @@ fn parse_files_v5<R: Reader>(
     format: Format,
     formats: &[FileEntryFormat],
 ) -> Result<Vec<FileEntry<R>>>
-    ensures read { IsOutcome (λ files. map (file_seen R.bytes R.Offset.number) files.items) result (R.bytes input.new)
-        (viewed (map file_of_entry) (entries_at (record { big = R.big input.old; limit = R.Offset.limit }) format formats.now (R.bytes input.old))) }
+    ensures read { IsListOutcome (file_seen R.bytes R.Offset.number) result (R.bytes input.new)
+        (file_entries_at (noted (R.big input.old) R.Offset.limit) format formats.now (R.bytes input.old)) }
     ensures order { R.big input.new ≡ R.big input.old }
+    ensures parts { IfOk result (λ files. All (FileHasOrder R.big (R.big input.old)) files.items) }
 {
     let count = input.read_uleb128()?;
     let mut files = Vec::new(alloc);
@@ -214,9 +222,10 @@ pub(crate) fn parse_directory_table<R: Reader>(
     input: &mut R,
     encoding: Encoding,
 ) -> Result<(Vec<FileEntryFormat>, Vec<AttributeValue<R>>)>
-    ensures read { IsOutcome (λ table. (table.0.items, map (value_seen R.bytes R.Offset.number) table.1.items)) result (R.bytes input.new)
-        (directories_at (record { big = R.big input.old; limit = R.Offset.limit }) encoding (R.bytes input.old)) }
+    ensures read { IsTableOutcome (value_seen R.bytes R.Offset.number) result (R.bytes input.new)
+        (directories_at (noted (R.big input.old) R.Offset.limit) encoding (R.bytes input.old)) }
     ensures order { R.big input.new ≡ R.big input.old }
+    ensures parts { IfOk result (λ table. All (ValueHasOrder R.big (R.big input.old)) table.1.items) }
 {
     if encoding.version <= 4 {
         let directories = parse_directories(alloc, input)?;
@@ -234,9 +243,10 @@ pub(crate) fn parse_file_table<R: Reader>(
     input: &mut R,
     encoding: Encoding,
 ) -> Result<(Vec<FileEntryFormat>, Vec<FileEntry<R>>)>
-    ensures read { IsOutcome (λ table. (table.0.items, map (file_seen R.bytes R.Offset.number) table.1.items)) result (R.bytes input.new)
-        (file_names_at (record { big = R.big input.old; limit = R.Offset.limit }) encoding (R.bytes input.old)) }
+    ensures read { IsTableOutcome (file_seen R.bytes R.Offset.number) result (R.bytes input.new)
+        (file_names_at (noted (R.big input.old) R.Offset.limit) encoding (R.bytes input.old)) }
     ensures order { R.big input.new ≡ R.big input.old }
+    ensures parts { IfOk result (λ table. All (FileHasOrder R.big (R.big input.old)) table.1.items) }
 {
     if encoding.version <= 4 {
         let files = parse_files(alloc, input)?;

@@ -1,6 +1,6 @@
 //! The instructions of a line program, one by one.
 
-ghost use Rattle.std.specs.Prelude.{◌≡◌, ◌-◌, IfSome, slice_index};
+ghost use Rattle.std.specs.Prelude.{◌≡◌, ◌-◌, IfOk, IfSome, slice_index};
 ghost use Rattle.gimli_core.specs.Reading.{seen, times_at, unsigned_at};
 ghost use Rattle.gimli_line.specs.run.InstructionReading.{bytes_at, passed_over};
 
@@ -68,7 +68,7 @@ where
 {
     ghost use Rattle.std.specs.Prelude.{◌≡◌, ◌<◌, ℕ, List, IfOk};
     ghost use Rattle.gimli_core.specs.Reading.{seen};
-    ghost use Rattle.gimli_line.specs.run.Instruction.{ins_seen, makes_row};
+    ghost use Rattle.gimli_line.specs.run.Instruction.{ins_seen, makes_row, InsHasOrder};
     ghost use Rattle.gimli_line.specs.run.InstructionReading.{ins_at, extended_at, extended_operands_at, standard_at, unknown_at};
     ghost use Rattle.gimli_line.specs.run.Machine.{IsAllowed};
 
@@ -91,6 +91,7 @@ where
             ≡ ins_at (record { big = R.big input.old; limit = Offset.limit }) header.now.meaning (R.bytes input.old) }
         ensures order { R.big input.new ≡ R.big input.old }
         ensures allowed { IfOk result (λ i. IsAllowed header.now.meaning.parameters (ins_seen R.bytes Offset.number i)) }
+        ensures operands { IfOk result (InsHasOrder R.big (R.big input.old)) }
     {
         let opcode = input.read_u8()?;
         if opcode == 0 {
@@ -110,6 +111,7 @@ where
             ≡ extended_at (record { big = R.big input.old; limit = Offset.limit }) header.now.meaning (R.bytes input.old) }
         ensures order { R.big input.new ≡ R.big input.old }
         ensures allowed { IfOk result (λ i. IsAllowed header.now.meaning.parameters (ins_seen R.bytes Offset.number i)) }
+        ensures operands { IfOk result (InsHasOrder R.big (R.big input.old)) }
     {
         let length = parse_offset(input)?;
         let mut inside = input.split(length)?;
@@ -127,6 +129,7 @@ where
         ensures read { (behind : List ℕ) → (seen (ins_seen R.bytes Offset.number) result, behind)
             ≡ extended_operands_at (record { big = R.big operands; limit = Offset.limit }) header.now.meaning opcode.0 (R.bytes operands) behind }
         ensures allowed { IfOk result (λ i. IsAllowed header.now.meaning.parameters (ins_seen R.bytes Offset.number i)) }
+        ensures operands { IfOk result (InsHasOrder R.big (R.big operands)) }
     {
         let encoding = header.parameters.encoding;
         let mut input = operands;
@@ -161,6 +164,7 @@ where
             ≡ standard_at (record { big = R.big input.old; limit = Offset.limit }) header.now.meaning opcode.0 (R.bytes input.old) }
         ensures order { R.big input.new ≡ R.big input.old }
         ensures allowed { IfOk result (λ i. IsAllowed header.now.meaning.parameters (ins_seen R.bytes Offset.number i)) }
+        ensures operands { IfOk result (InsHasOrder R.big (R.big input.old)) }
     {
         match opcode {
             constants::DW_LNS_copy => Ok(LineInstruction::Copy),
@@ -195,6 +199,7 @@ where
             ≡ unknown_at (record { big = R.big input.old; limit = Offset.limit }) header.now.meaning opcode.0 (slice_index header.now.meaning.operand_counts (opcode.0 - 1)) (R.bytes input.old) }
         ensures order { R.big input.new ≡ R.big input.old }
         ensures allowed { IfOk result (λ i. IsAllowed header.now.meaning.parameters (ins_seen R.bytes Offset.number i)) }
+        ensures operands { IfOk result (InsHasOrder R.big (R.big input.old)) }
     {
         match header.operand_count(opcode) {
             0 => Ok(LineInstruction::UnknownStandard0(opcode)),
@@ -211,6 +216,7 @@ where
 fn parse_operands<R: Reader>(input: &mut R, count: u8) -> Result<R>
     ensures read { (seen R.bytes result, R.bytes input.new) ≡ bytes_at (times_at count unsigned_at) (R.bytes input.old) }
     ensures order { R.big input.new ≡ R.big input.old }
+    ensures part { IfOk result (λ part. R.big part ≡ R.big input.old) }
 {
     let mut operands = *input;
     skip_operands(input, count)?;
@@ -246,7 +252,7 @@ impl<R: Reader> Model for LineInstructions<R> {
 
 impl<R: Reader> LineInstructions<R> {
     ghost use Rattle.std.specs.Prelude.{◌≡◌, ◌≢◌, [], ◌++◌, List, ℕ, IfOk, IfErr, MatchOption};
-    ghost use Rattle.gimli_line.specs.run.Instruction.{ins_seen};
+    ghost use Rattle.gimli_line.specs.run.Instruction.{ins_seen, InsHasOrder};
     ghost use Rattle.std.specs.Prelude.{Ok};
     ghost use Rattle.gimli_line.specs.run.InstructionGrammar.{SpellsInstruction, instruction_production};
     ghost use Rattle.gimli_line.specs.run.Machine.{IsAllowed};
@@ -300,6 +306,7 @@ impl<R: Reader> LineInstructions<R> {
             × (instruction_production self.old.notation header.now.meaning).Fault self.old.bytes e) }
         ensures allowed { IfOk result (λ next. IfSome next (λ i. IsAllowed header.now.meaning.parameters (ins_seen R.bytes R.Offset.number i))) }
         ensures notation { self.new.notation ≡ self.old.notation }
+        ensures operands { IfOk result (λ next. IfSome next (InsHasOrder R.big self.old.notation.big)) }
     {
         if self.input.is_empty() {
             return Ok(None);

@@ -17,5 +17,5 @@ pub read_files-requires : goal.read_files-requires
 read_files-requires g c =
     let seen = file_seen g.R.Reader.bytes g.R.Offset.ReaderOffset.number in
     All-same (HasFileTexts c.args.sections.now) (map seen c.file_names.result.now) c.args.program.meaning.files
-    (c.file_names.ensures ∙ ap (λ h. h.meaning.files) c.header-2.ensures)
+    (c.file_names.ensures.files ∙ ap (λ h. h.meaning.files) c.header-2.ensures)
     c.requires.files

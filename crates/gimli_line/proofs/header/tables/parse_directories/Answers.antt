@@ -5,6 +5,7 @@ use Rattle.gimli_core.specs.Reading.{text_at}
 use Rattle.gimli_core.specs.declared.attribute_value.AttributeValue.TheVariants.{String}
 use Rattle.gimli_line.specs.header.Outcome.{viewed}
 use Rattle.gimli_line.specs.header.Productions.{name}
+use Rattle.gimli_line.proofs.Order.{values_pushed}
 use Rattle.gimli_line.proofs.Closed.{reads_name}
 use Rattle.gimli_line.proofs.Loops.{closed_goes_on, closed_ends, closed_done, text_closed, text_free, text_refused}
 use Rattle.gimli_line.proofs.header.tables.parse_directories.Goals as goal
@@ -22,4 +23,5 @@ pub loop-directories-preserved : goal.loop-directories-preserved
 loop-directories-preserved g c = record {
   so_far = rw (c.in_ok-push.ensures.ok, map_push) (closed_goes_on String name text_at reads_name _ (g.R.Reader.bytes c.loop-directories.input) _ _ _ (text_free (g.R.Reader.bytes c.loop-directories.input) _ _ c.if-is_empty.ensures c.in_ok-directory.ensures.read) (ap (viewed String) c.in_ok-directory.ensures.read) c.loop-directories.invariant.so_far);
   order = search rules;
+  parts = values_pushed g.R.Reader.big _ _ _ _ _ c.in_ok-push.ensures.ok c.loop-directories.invariant.order c.loop-directories.invariant.parts c.in_ok-directory.ensures.part;
 }

@@ -1,5 +1,6 @@
 use Rattle.std.proofs.Common.{◌≡◌, length, map}
-use Rattle.gimli_core.specs.Values.{value_seen}
+use Rattle.std.specs.List.{All}
+use Rattle.gimli_core.specs.Values.{value_seen, ValueHasOrder}
 use Rattle.gimli_core.specs.declared.attribute_value.AttributeValue.TheVariants.{String}
 use Rattle.gimli_line.specs.header.Outcome.{viewed}
 use Rattle.gimli_line.specs.header.HeaderReading.{paths_at}
@@ -10,6 +11,7 @@ abbrev pub invariant-loop-directories : goal.invariant-loop-directories
 invariant-loop-directories g l = record {
   so_far : collected (map (value_seen g.R.Reader.bytes g.R.Offset.ReaderOffset.number) l.directories.items) String (paths_at (g.R.Reader.bytes l.input)) ≡ viewed (map String) (paths_at (g.R.Reader.bytes l.initial.input));
   order : g.R.Reader.big l.input ≡ g.R.Reader.big l.initial.input;
+  parts : All (ValueHasOrder g.R.Reader.big (g.R.Reader.big l.initial.input)) l.directories.items;
 }
 
 abbrev pub decreases-loop-directories : goal.decreases-loop-directories

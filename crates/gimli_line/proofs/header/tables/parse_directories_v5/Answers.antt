@@ -2,6 +2,7 @@ use Rattle.std.proofs.Common.{rules}
 use Rattle.std.proofs.lemmas.List.{map_push}
 use Rattle.std.proofs.lemmas.Result.{err_from_is_err_and}
 use Rattle.gimli_line.specs.header.HeaderGrammar.{path_of}
+use Rattle.gimli_line.proofs.Order.{values_pushed}
 use Rattle.gimli_line.proofs.Loops.{times_goes_on, times_ends, times_done, entries_start, entry_kept}
 use Rattle.gimli_line.proofs.header.tables.parse_directories_v5.Goals as goal
 
@@ -9,6 +10,7 @@ pub loop-init : goal.loop-init
 loop-init g c = record {
   so_far = rw c.new-directories.ensures.items (entries_start _ _ path_of _ _ _ _ c.in_ok-count.ensures.read);
   order = search rules;
+  parts = search rules;
 }
 
 pub returns-in_err-directory-clause-read : goal.returns-in_err-directory-clause-read
@@ -21,6 +23,7 @@ pub loop-preserved : goal.loop-preserved
 loop-preserved g c = record {
   so_far = let is = entry_kept _ path_of _ _ _ _ _ _ c.loop.invariant.order c.in_ok-directory.ensures.read in rw (c.in_ok-push.ensures.ok, map_push) (times_goes_on path_of _ _ _ c.loop.counter _ _ _ _ c.loop-test.true is c.loop.invariant.so_far);
   order = search rules;
+  parts = values_pushed g.R.Reader.big _ _ _ _ _ c.in_ok-push.ensures.ok c.loop.invariant.order c.loop.invariant.parts c.in_ok-directory.ensures.part;
 }
 
 pub returns-clause-read : goal.returns-clause-read

@@ -1,7 +1,8 @@
+use Rattle.std.specs.List.{All}
 use Rattle.gimli_core.specs.Reading.{times_at}
 use Rattle.std.proofs.Common.{◌≡◌, ◌-◌, map}
 use Rattle.gimli_core.specs.Notation.{Notation}
-use Rattle.gimli_core.specs.Values.{value_seen}
+use Rattle.gimli_core.specs.Values.{value_seen, ValueHasOrder}
 use Rattle.gimli_line.specs.header.Outcome.{viewed}
 use Rattle.gimli_line.specs.header.HeaderGrammar.{path_of}
 use Rattle.gimli_line.specs.header.HeaderReading.{entry_at, entries_at}
@@ -15,4 +16,5 @@ invariant-loop g l =
       so_far : collected (map (value_seen g.R.Reader.bytes g.R.Offset.ReaderOffset.number) l.directories.items) path_of (times_at (l.count - l.counter) (entry_at notation l.format l.formats) (g.R.Reader.bytes l.input))
           ≡ viewed (map path_of) (entries_at notation l.format l.formats (g.R.Reader.bytes l.fn.input));
       order : g.R.Reader.big l.input ≡ g.R.Reader.big l.fn.input;
+      parts : All (ValueHasOrder g.R.Reader.big (g.R.Reader.big l.fn.input)) l.directories.items;
     }

@@ -1,6 +1,6 @@
 use Rattle.std.proofs.Common.{◌≡◌, drop}
 use Rattle.gimli_core.specs.Notation.{Notation}
-use Rattle.gimli_core.specs.Values.{value_seen}
+use Rattle.gimli_core.specs.Values.{value_seen, ValueHasOrder}
 use Rattle.gimli_line.specs.header.HeaderGrammar.{path_of}
 use Rattle.gimli_line.specs.header.HeaderReading.{entry_at}
 use Rattle.gimli_line.specs.header.Outcome.{viewed}
@@ -14,4 +14,5 @@ invariant-loop-entry_format g l =
       so_far : folded_at notation l.format path_with (value_seen g.R.Reader.bytes g.R.Offset.ReaderOffset.number l.path_name) (drop l.entry_format-index l.formats) (g.R.Reader.bytes l.input)
           ≡ viewed path_of (entry_at notation l.format l.formats (g.R.Reader.bytes l.initial.input));
       order : g.R.Reader.big l.input ≡ g.R.Reader.big l.initial.input;
+      part : ValueHasOrder g.R.Reader.big (g.R.Reader.big l.initial.input) l.path_name;
     }

@@ -1,6 +1,6 @@
 use Rattle.std.proofs.Common.{◌≡◌, drop}
 use Rattle.gimli_core.specs.Notation.{Notation}
-use Rattle.gimli_line.specs.header.File.{file_seen}
+use Rattle.gimli_line.specs.header.File.{file_seen, FileHasOrder}
 use Rattle.gimli_line.specs.header.HeaderGrammar.{file_of_entry}
 use Rattle.gimli_line.specs.header.HeaderReading.{entry_at}
 use Rattle.gimli_line.specs.header.Outcome.{viewed}
@@ -14,4 +14,5 @@ invariant-loop-entry_format g l =
       so_far : folded_at notation l.format file_with (file_seen g.R.Reader.bytes g.R.Offset.ReaderOffset.number l.file) (drop l.entry_format-index l.formats) (g.R.Reader.bytes l.input)
           ≡ viewed file_of_entry (entry_at notation l.format l.formats (g.R.Reader.bytes l.initial.input));
       order : g.R.Reader.big l.input ≡ g.R.Reader.big l.initial.input;
+      part : FileHasOrder g.R.Reader.big (g.R.Reader.big l.initial.input) l.file;
     }

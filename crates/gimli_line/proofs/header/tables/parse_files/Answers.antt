@@ -1,7 +1,8 @@
-use Rattle.std.proofs.Common.{rules}
+use Rattle.std.proofs.Common.{rules, ◌∙◌}
 use Rattle.std.proofs.lemmas.List.{map_push}
 use Rattle.std.proofs.lemmas.Result.{err_from_is_err_and}
 use Rattle.gimli_line.specs.header.HeaderReading.{named_file_at}
+use Rattle.gimli_line.proofs.Order.{files_pushed}
 use Rattle.gimli_line.proofs.HeaderLaws.{reads_named_file, named_file}
 use Rattle.gimli_line.proofs.Loops.{closed_goes_on, closed_ends, closed_done, closed_smaller, text_closed, text_free, text_refused, named_is, named_fault}
 use Rattle.gimli_line.proofs.header.tables.parse_files.Goals as goal
@@ -28,4 +29,5 @@ pub loop-files-preserved : goal.loop-files-preserved
 loop-files-preserved g c = record {
   so_far = rw (c.in_ok-push.ensures.ok, map_push) (closed_goes_on (λ x. x) named_file named_file_at reads_named_file _ (g.R.Reader.bytes c.loop-files.input) _ _ _ (text_free (g.R.Reader.bytes c.loop-files.input) _ _ c.if-is_empty.ensures c.in_ok-path_name.ensures.read) (named_is (g.R.Reader.bytes c.loop-files.input) _ _ _ c.in_ok-path_name.ensures.read c.in_ok-file.ensures.read) c.loop-files.invariant.so_far);
   order = search rules;
+  parts = files_pushed g.R.Reader.big _ _ _ _ _ c.in_ok-push.ensures.ok (c.in_ok-path_name.ensures.part ∙ c.loop-files.invariant.order) c.loop-files.invariant.parts c.in_ok-file.ensures.file;
 }

@@ -1,5 +1,6 @@
 use Rattle.std.proofs.Common.{◌≡◌, length, map}
-use Rattle.gimli_line.specs.header.File.{file_seen}
+use Rattle.std.specs.List.{All}
+use Rattle.gimli_line.specs.header.File.{file_seen, FileHasOrder}
 use Rattle.gimli_line.specs.header.HeaderReading.{files_at}
 use Rattle.gimli_line.proofs.Loops.{collected}
 use Rattle.gimli_line.proofs.header.tables.parse_files.Given as goal
@@ -8,6 +9,7 @@ abbrev pub invariant-loop-files : goal.invariant-loop-files
 invariant-loop-files g l = record {
   so_far : collected (map (file_seen g.R.Reader.bytes g.R.Offset.ReaderOffset.number) l.files.items) (λ x. x) (files_at (g.R.Reader.bytes l.input)) ≡ files_at (g.R.Reader.bytes l.initial.input);
   order : g.R.Reader.big l.input ≡ g.R.Reader.big l.initial.input;
+  parts : All (FileHasOrder g.R.Reader.big (g.R.Reader.big l.initial.input)) l.files.items;
 }
 
 abbrev pub decreases-loop-files : goal.decreases-loop-files

@@ -1,0 +1,33 @@
+-- The order of bytes of readers that are handed on, through loops and from one part of a table to the next.
+use Rattle.std.proofs.Common.{◌≡◌, Bool, List, [], ◌∷◌, ◌++◌, sym, subst}
+use Rattle.std.specs.List.{All}
+use Rattle.std.proofs.lemmas.List.Elements.{All-push}
+use Rattle.gimli_core.specs.Values.{ValueHasOrder}
+use Rattle.gimli_core.specs.declared.attribute_value.AttributeValue.{AttributeValue}
+use Rattle.gimli_line.specs.header.File.{FileHasOrder}
+use Rattle.gimli_line.specs.declared.header.file_entry.FileEntry.{FileEntry}
+
+-- a list that was made longer, all of whose items have the order that the new one has
+pushed : {X : Type 0} (Has : Bool → X → Type 0) (first now : Bool) (xs longer : List X) (x : X) → longer ≡ xs ++ x ∷ [] → now ≡ first → All (Has first) xs → Has now x → All (Has first) longer
+pushed Has first now xs longer x is same all one = subst (All (Has first)) (sym is) (All-push (Has first) xs x all (subst (λ order. Has order x) same one))
+
+module _ {R Offset Endian : Type 0} (big : R → Bool) where
+  pub values_pushed : (first now : Bool) (xs longer : List (AttributeValue R Offset Endian)) (x : AttributeValue R Offset Endian) → longer ≡ xs ++ x ∷ [] → now ≡ first
+      → All (ValueHasOrder big first) xs → ValueHasOrder big now x → All (ValueHasOrder big first) longer
+  values_pushed = pushed (ValueHasOrder big)
+
+  pub files_pushed : (first now : Bool) (xs longer : List (FileEntry R Offset Endian)) (x : FileEntry R Offset Endian) → longer ≡ xs ++ x ∷ [] → now ≡ first
+      → All (FileHasOrder big first) xs → FileHasOrder big now x → All (FileHasOrder big first) longer
+  files_pushed = pushed (FileHasOrder big)
+
+  pub value_kept : (first now : Bool) (x : AttributeValue R Offset Endian) → now ≡ first → ValueHasOrder big now x → ValueHasOrder big first x
+  value_kept first now x same = subst (λ order. ValueHasOrder big order x) same
+
+  pub file_kept : (first now : Bool) (x : FileEntry R Offset Endian) → now ≡ first → FileHasOrder big now x → FileHasOrder big first x
+  file_kept first now x same = subst (λ order. FileHasOrder big order x) same
+
+  pub values_kept : (first now : Bool) (xs : List (AttributeValue R Offset Endian)) → now ≡ first → All (ValueHasOrder big now) xs → All (ValueHasOrder big first) xs
+  values_kept first now xs same = subst (λ order. All (ValueHasOrder big order) xs) same
+
+  pub files_kept : (first now : Bool) (xs : List (FileEntry R Offset Endian)) → now ≡ first → All (FileHasOrder big now) xs → All (FileHasOrder big first) xs
+  files_kept first now xs same = subst (λ order. All (FileHasOrder big order) xs) same
