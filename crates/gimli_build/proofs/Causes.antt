@@ -1,7 +1,7 @@
 -- The first cause of a program is what its bytes are refused for.
 use Rattle.std.proofs.Common.{◌≡◌, ℕ, ◌+◌, Bool, true, false, not, List, [], ◌∷◌, ◌++◌, length, map, Ok, Err, refl, sym, ap, ◌∙◌, if◌then◌else◌, nat_le, nat_eq, ◌⊎◌, inl, inr}
 use Rattle.std.specs.Prelude.{IsTrue, Option, Some, None, Result, ◌&&◌, nat_lt}
-use Rattle.gimli_core.specs.Numbers.{number_bytes, word_size, is_address_size}
+use Rattle.gimli_core.specs.Numbers.{number_bytes, is_address_size}
 use Rattle.gimli_core.specs.Reading.{seen}
 use Rattle.gimli_core.specs.declared.common.Encoding.{Encoding}
 use Rattle.gimli_core.specs.declared.common.LineEncoding.{LineEncoding}
@@ -15,6 +15,7 @@ use Rattle.gimli_build.specs.declared.built.items.BuiltItem.{BuiltItem}
 use Rattle.gimli_build.specs.declared.built.items.BuiltItem.TheVariants.{SetAddress, Row, End}
 use Rattle.gimli_build.specs.Built.{Built}
 use Rattle.gimli_build.specs.Rows.{initial_row}
+use Rattle.gimli_build.specs.FormatWord.{format_word}
 use Rattle.gimli_build.specs.Joined.{joined, RefusesFor}
 use Rattle.gimli_build.specs.Items.{item_bytes, items_bytes, next_previous}
 use Rattle.gimli_build.specs.Version5Tables.{strings_behind, line_strings_behind}
@@ -131,7 +132,7 @@ module _ (big : Bool) (p : Built) (strings line_strings : List (List ℕ)) where
   header-refusal =
       let format = p.encoding.format in
       let cause = header_cause p strings line_strings in
-      behind-refusal (λ n. udata big n (word_size format)) (fields_bytes big p strings line_strings) cause
+      behind-refusal (λ n. format_word big format n) (fields_bytes big p strings line_strings) cause
       (λ bytes is. word-refusal big format (length bytes) ∙ ap (word_cause format) (fields_size big p strings line_strings bytes is))
       ∙ ap (λ (c : Option Error). or_first c cause) fields-refusal
 

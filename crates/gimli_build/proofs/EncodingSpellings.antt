@@ -15,14 +15,16 @@ use Rattle.gimli_core.specs.declared.common.Format.TheVariants.{Dwarf32, Dwarf64
 use Rattle.gimli_core.specs.declared.error.Error.{Error as ReadError}
 use Rattle.gimli_core.specs.declared.error.Error.TheVariants.{UnsupportedAddressSize, UnsupportedSegmentSize, MinimumInstructionLengthZero, MaximumOperationsPerInstructionZero, LineRangeZero}
 use Rattle.gimli_core.proofs.Written.{number_spelled}
-use Rattle.gimli_bytes.specs.Number.{udata, length_word}
+use Rattle.gimli_bytes.specs.Number.{length_word}
 use Rattle.gimli_bytes.specs.declared.error.Error.{Error}
 use Rattle.gimli_bytes.specs.declared.error.Error.TheVariants.{NeedVersion, UnsupportedVersion, ValueTooLarge, InitialLengthOverflow}
 use Rattle.gimli_line.specs.header.Productions.{positive}
 use Rattle.gimli_line.specs.header.HeaderGrammar.{version_production, address_size_production, line_encoding_production}
 use Rattle.gimli_build.specs.Advance.{CanEncode}
+use Rattle.gimli_build.specs.FormatWord.{format_word}
 use Rattle.gimli_build.specs.Joined.{joined}
 use Rattle.gimli_build.specs.Unit.{version_bytes, operations_bytes, flag_byte, base_byte, line_encoding_bytes, escape_bytes}
+use Rattle.gimli_build.proofs.PartSizes.{format_word_size}
 use Rattle.gimli_build.proofs.WrittenParts.{same_written, behind_written, before_written}
 
 -- ---- lines
@@ -176,27 +178,24 @@ address-spelled version handed size same known = by (nat_le version 4)
 
 -- ---- lengths
 
--- an offset of a reader holds what is below its limit
-held : (notation : Notation) (format : Format) (n : ℕ) → n < notation.limit → fits_offset notation format n ≡ true
+-- an offset of a reader holds any word of the 32-bit format, and one of the 64-bit format that is below its limit
+held : (notation : Notation) (format : Format) (n : ℕ) → (format ≡ Dwarf64 → n < notation.limit) → fits_offset notation format n ≡ true
 held notation Dwarf32 n lt = refl
-held notation Dwarf64 n lt = lt-ltb n notation.limit lt
+held notation Dwarf64 n lt = lt-ltb n notation.limit (lt refl)
 
-word_spelled : (big : Bool) (format : Format) (n : ℕ) (bytes : List ℕ) → udata big n (word_size format) ≡ Ok bytes → SpellsNumber big (word_size format) bytes n
-word_spelled big Dwarf32 n bytes is = by (nat_lt n (256 ^ 4)) refl is
+-- eight bytes hold any number of the 64-bit format, which is told by no test
+word_spelled : (big : Bool) (format : Format) (n : ℕ) (bytes : List ℕ) → n < 2 ^ 64 → format_word big format n ≡ Ok bytes → SpellsNumber big (word_size format) bytes n
+word_spelled big Dwarf32 n bytes small is = by (nat_lt n (2 ^ 32)) refl is
   where
-    by : (b : Bool) → nat_lt n (256 ^ 4) ≡ b → (let r : Result (List ℕ) Error = if b then Ok (number_bytes big 4 n) else Err ValueTooLarge in r) ≡ Ok bytes → SpellsNumber big 4 bytes n
-    by true t is = rw (same_written (number_bytes big 4 n) bytes is) (number_spelled big 4 n (ltb-true n (256 ^ 4) t))
+    by : (b : Bool) → nat_lt n (2 ^ 32) ≡ b → (let r : Result (List ℕ) Error = if b then Ok (number_bytes big 4 n) else Err ValueTooLarge in r) ≡ Ok bytes → SpellsNumber big 4 bytes n
+    by true t is = rw (same_written (number_bytes big 4 n) bytes is) (number_spelled big 4 n (ltb-true n (2 ^ 32) t))
     by false t is = absurd cc
-word_spelled big Dwarf64 n bytes is = by (nat_lt n (256 ^ 8)) refl is
-  where
-    by : (b : Bool) → nat_lt n (256 ^ 8) ≡ b → (let r : Result (List ℕ) Error = if b then Ok (number_bytes big 8 n) else Err ValueTooLarge in r) ≡ Ok bytes → SpellsNumber big 8 bytes n
-    by true t is = rw (same_written (number_bytes big 8 n) bytes is) (number_spelled big 8 n (ltb-true n (256 ^ 8) t))
-    by false t is = absurd cc
+word_spelled big Dwarf64 n bytes small is = rw (same_written (number_bytes big 8 n) bytes is) (number_spelled big 8 n (omega (arith, small)))
 
 -- a word has bytes
-pub word-long : (big : Bool) (format : Format) (n : ℕ) (bytes : List ℕ) → udata big n (word_size format) ≡ Ok bytes → 0 < length bytes
+pub word-long : (big : Bool) (format : Format) (n : ℕ) (bytes : List ℕ) → format_word big format n ≡ Ok bytes → 0 < length bytes
 word-long big format n bytes is =
-    let size = (word_spelled big format n bytes is).size_is in
+    let size = format_word_size big format n bytes is in
     let some = word_some format in
     omega (arith, size, some)
   where
@@ -204,9 +203,10 @@ word-long big format n bytes is =
     word_some Dwarf32 = lit< tt
     word_some Dwarf64 = lit< tt
 
-pub offset-spelled : (notation : Notation) (format : Format) (n : ℕ) (bytes : List ℕ) → n < notation.limit → udata notation.big n (word_size format) ≡ Ok bytes → (offset_word notation format).Spells bytes n
-offset-spelled notation format n bytes lt is =
-    (n, bytes, [], sym (append-nil bytes), word_spelled notation.big format n bytes is, (tt, [], [], refl, (refl, held notation format n lt), (refl, refl)))
+pub offset-spelled : (notation : Notation) (format : Format) (n : ℕ) (bytes : List ℕ) → (format ≡ Dwarf64 → n < notation.limit) → n < 2 ^ 64 → format_word notation.big format n ≡ Ok bytes
+    → (offset_word notation format).Spells bytes n
+offset-spelled notation format n bytes lt small is =
+    (n, bytes, [], sym (append-nil bytes), word_spelled notation.big format n bytes small is, (tt, [], [], refl, (refl, held notation format n lt), (refl, refl)))
 
 -- eight bytes hold any length of the 64-bit format, which is told by no test
 initial_spelled : (big : Bool) (format : Format) (n : ℕ) (word : List ℕ) → n < 2 ^ 64 → length_word big format n ≡ Ok word → SpellsInitialLength big (escape_bytes big format ++ word) format n
@@ -227,7 +227,7 @@ initial_spelled big Dwarf64 n word small is = (
   rw (same_written (number_bytes big 8 n) word is) (number_spelled big 8 n (omega (arith, small))),
 )
 
-pub length-spelled : (notation : Notation) (format : Format) (n : ℕ) (word : List ℕ) → n < notation.limit → n < 2 ^ 64 → length_word notation.big format n ≡ Ok word
+pub length-spelled : (notation : Notation) (format : Format) (n : ℕ) (word : List ℕ) → (format ≡ Dwarf64 → n < notation.limit) → n < 2 ^ 64 → length_word notation.big format n ≡ Ok word
     → (unit_length notation).Spells (escape_bytes notation.big format ++ word) (n, format)
 length-spelled notation format n word lt small is =
     let bytes = escape_bytes notation.big format ++ word in

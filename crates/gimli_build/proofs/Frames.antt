@@ -1,6 +1,6 @@
 -- A length that is written once what it counts is there.
-use Rattle.std.proofs.Common.{◌≡◌, ℕ, ◌+◌, ◌-◌, ◌^◌, Bool, true, false, List, [], ◌++◌, length, take, drop, refl, sym, ap, ◌∙◌, arith, append_assoc, length-append, nat_lt, if◌then◌else◌, Ok, Err, inl, inr}
-use Rattle.std.proofs.lemmas.Bool.{le-ltb}
+use Rattle.std.proofs.Common.{◌≡◌, ℕ, ◌+◌, ◌-◌, ◌<◌, ◌^◌, Bool, true, false, List, [], ◌++◌, length, take, drop, refl, sym, ap, ◌∙◌, arith, append_assoc, length-append, nat_lt, if◌then◌else◌, Ok, Err, inl, inr}
+use Rattle.std.proofs.lemmas.Bool.{le-ltb, lt-ltb}
 use Rattle.std.proofs.lemmas.List.{take_at, drop_at}
 use Rattle.std.specs.Prelude.{Result}
 use Rattle.gimli_core.specs.Numbers.{number_bytes, word_size}
@@ -10,6 +10,7 @@ use Rattle.gimli_bytes.specs.Written.{Appends, patched, patch}
 use Rattle.gimli_bytes.specs.Number.{udata, open_length, escape_size, length_word}
 use Rattle.gimli_bytes.specs.declared.error.Error.{Error}
 use Rattle.gimli_bytes.specs.declared.error.Error.TheVariants.{ValueTooLarge, InitialLengthOverflow}
+use Rattle.gimli_build.specs.FormatWord.{format_word}
 use Rattle.gimli_build.specs.Joined.{joined, behind_length, RefusesFor}
 use Rattle.gimli_build.specs.Unit.{escape_bytes}
 
@@ -112,9 +113,14 @@ length_word_long big Dwarf32 n word h =
     ap length (ok_if_if (nat_lt n 0xffff_fff0) (nat_lt n (2 ^ 32)) (number_bytes big 4 n) word InitialLengthOverflow ValueTooLarge h) ∙ size_4 big n ∙ sym (size_4 big 0)
 length_word_long big Dwarf64 n word h = ap length (sym (same_ok (number_bytes big 8 n) word h)) ∙ size_8 big n ∙ sym (size_8 big 0)
 
-pub header_word_long : (big : Bool) (format : Format) (n : ℕ) (word : List ℕ) → udata big n (word_size format) ≡ Ok word → length word ≡ length (open_word big format)
-header_word_long big Dwarf32 n word h = ap length (ok_if (nat_lt n (256 ^ 4)) (number_bytes big 4 n) word ValueTooLarge h) ∙ size_4 big n ∙ sym (size_4 big 0)
-header_word_long big Dwarf64 n word h = ap length (ok_if (nat_lt n (256 ^ 8)) (number_bytes big 8 n) word ValueTooLarge h) ∙ size_8 big n ∙ sym (size_8 big 0)
+pub header_word_long : (big : Bool) (format : Format) (n : ℕ) (word : List ℕ) → format_word big format n ≡ Ok word → length word ≡ length (open_word big format)
+header_word_long big Dwarf32 n word h = ap length (ok_if (nat_lt n (2 ^ 32)) (number_bytes big 4 n) word ValueTooLarge h) ∙ size_4 big n ∙ sym (size_4 big 0)
+header_word_long big Dwarf64 n word h = ap length (sym (same_ok (number_bytes big 8 n) word h)) ∙ size_8 big n ∙ sym (size_8 big 0)
+
+-- where 64 bits hold a number, it is written as a word of the format is
+pub word_is : (big : Bool) (format : Format) (n : ℕ) → n < 2 ^ 64 → udata big n (word_size format) ≡ format_word big format n
+word_is big Dwarf32 n small = refl
+word_is big Dwarf64 n small = rw (lt-ltb n (2 ^ 64) small) refl
 
 -- a word of 0 fits
 pub zero_word : (big : Bool) (format : Format) → udata big 0 (word_size format) ≡ Ok (open_word big format)

@@ -11,6 +11,7 @@ pub mod ItemRuns
 pub mod ItemsWritten
 pub mod ItemSpellings
 pub mod EventsBack
+pub mod NoFiles
 pub mod Refusals
 pub mod PartSizes
 pub mod TableSizes
@@ -20,6 +21,7 @@ pub mod TableRefusals
 pub mod Causes
 mod TableLemmas
 mod BuiltLemmas
+pub mod Equality
 mod SourceLemmas
 mod FormatLemmas
 pub mod EmptySource
@@ -30,6 +32,7 @@ mod TextForms
 mod FormatForms
 mod EntryForms
 mod ReadyTexts
+mod HeldOffsets
 mod Version5TableSpellings
 mod TablesBack
 mod UnitSpellings

@@ -3,11 +3,12 @@ use Rattle.std.proofs.Common.{◌≡◌, ℕ, ◌^◌, Bool, true, false, not, �
 use Rattle.std.specs.Prelude.{IsTrue, ◌||◌, nat_lt}
 use Rattle.std.proofs.lemmas.Bool.{ltb-true, ltb-false}
 use Rattle.std.proofs.lemmas.Bool.Decides.{nat_tests}
-use Rattle.gimli_core.specs.Numbers.{number_bytes, word_size, is_address_size}
+use Rattle.gimli_core.specs.Numbers.{number_bytes, is_address_size}
 use Rattle.gimli_core.specs.declared.common.Format.{Format}
 use Rattle.gimli_core.specs.declared.common.Format.TheVariants.{Dwarf32, Dwarf64}
 use Rattle.gimli_bytes.specs.Number.{udata, length_word}
 use Rattle.gimli_bytes.specs.declared.error.Error.TheVariants.{ValueTooLarge, UnsupportedWordSize, InitialLengthOverflow}
+use Rattle.gimli_build.specs.FormatWord.{format_word}
 use Rattle.gimli_build.specs.Cause.{cause_if, first_of, word_cause, unit_length_cause}
 use Rattle.gimli_build.proofs.Refusals.{refusal, tested-refusal}
 
@@ -20,12 +21,11 @@ not_below m n = by (nat_lt m n) (nat_le n m) refl refl
     by false true h k = refl
     by false false h k = grind (arith, nat_tests)
 
--- the word of a header length
-pub word-refusal : (big : Bool) (format : Format) (n : ℕ) → refusal (udata big n (word_size format)) ≡ word_cause format n
+-- the word of a header length or an offset
+pub word-refusal : (big : Bool) (format : Format) (n : ℕ) → refusal (format_word big format n) ≡ word_cause format n
 word-refusal big Dwarf32 n =
     tested-refusal (nat_lt n (2 ^ 32)) (number_bytes big 4 n) ValueTooLarge ∙ ap (λ (b : Bool). cause_if b ValueTooLarge) (not_below n (2 ^ 32))
-word-refusal big Dwarf64 n =
-    tested-refusal (nat_lt n (2 ^ 64)) (number_bytes big 8 n) ValueTooLarge ∙ ap (λ (b : Bool). cause_if b ValueTooLarge) (not_below n (2 ^ 64))
+word-refusal big Dwarf64 n = refl
 
 -- the word of a unit length
 pub length-refusal : (big : Bool) (format : Format) (n : ℕ) → refusal (length_word big format n) ≡ unit_length_cause format n

@@ -1,13 +1,15 @@
 -- How many bytes the parts of what is written are, where they are written.
-use Rattle.std.proofs.Common.{◌≡◌, ℕ, zero, suc, ◌+◌, Bool, true, false, List, [], ◌∷◌, ◌++◌, length, Ok, Err, refl, sym, ap, ◌∙◌, if◌then◌else◌, nat_eq}
-use Rattle.std.specs.Prelude.{Result, sum_by, ◌||◌, nat_lt, ◌^◌}
+use Rattle.std.proofs.Common.{◌≡◌, ℕ, zero, suc, ◌+◌, Bool, true, false, List, [], ◌∷◌, ◌++◌, length, Ok, Err, refl, sym, ap, ◌∙◌, if◌then◌else◌}
+use Rattle.std.specs.Prelude.{Result, sum_by, nat_lt, ◌^◌}
 use Rattle.std.specs.Int.{bytes_low_first, bytes_high_first}
 use Rattle.std.proofs.lemmas.List.{length-append}
 use Rattle.std.proofs.lemmas.List.Sums.{sum_by-cons}
-use Rattle.gimli_core.specs.Numbers.{number_bytes}
-use Rattle.gimli_bytes.specs.Number.{udata}
+use Rattle.gimli_core.specs.Numbers.{number_bytes, word_size}
+use Rattle.gimli_core.specs.declared.common.Format.{Format}
+use Rattle.gimli_core.specs.declared.common.Format.TheVariants.{Dwarf32, Dwarf64}
 use Rattle.gimli_bytes.specs.declared.error.Error.{Error}
-use Rattle.gimli_bytes.specs.declared.error.Error.TheVariants.{ValueTooLarge, UnsupportedWordSize}
+use Rattle.gimli_bytes.specs.declared.error.Error.TheVariants.{ValueTooLarge}
+use Rattle.gimli_build.specs.FormatWord.{format_word}
 use Rattle.gimli_build.specs.Joined.{joined, joined_parts, behind_length}
 
 -- these are so many bytes, where they are written
@@ -68,12 +70,8 @@ pub number_size : (big : Bool) (size n : ℕ) → length (number_bytes big size 
 number_size true size n = high_size size n
 number_size false size n = low_size size 0 n
 
--- a number of a size is so long, whatever tests it passes
-tested_number : (known fits : Bool) (own : List ℕ) (size : ℕ) → length own ≡ size
-    → HasSize (if known then (if fits then Ok own else Err ValueTooLarge) else Err (UnsupportedWordSize size)) size
-tested_number true fits own size same = size_as (if fits then Ok own else Err ValueTooLarge) (length own) size same (size_tested fits own ValueTooLarge)
-tested_number false fits own size same = size_of_none (UnsupportedWordSize size) size
-
-pub udata_size : (big : Bool) (n size : ℕ) → HasSize (udata big n size) size
-udata_size big n size =
-    tested_number (nat_eq size 1 || nat_eq size 2 || nat_eq size 3 || nat_eq size 4 || nat_eq size 8) (nat_lt n (256 ^ size)) (number_bytes big size n) size (number_size big size n)
+-- a word of a format
+pub format_word_size : (big : Bool) (format : Format) (n : ℕ) → HasSize (format_word big format n) (word_size format)
+format_word_size big Dwarf32 n =
+    size_as (format_word big Dwarf32 n) (length (number_bytes big 4 n)) 4 (number_size big 4 n) (size_tested (nat_lt n (2 ^ 32)) (number_bytes big 4 n) ValueTooLarge)
+format_word_size big Dwarf64 n = size_as (format_word big Dwarf64 n) (length (number_bytes big 8 n)) 8 (number_size big 8 n) (size_of_ok (number_bytes big 8 n))

@@ -1,45 +1,21 @@
 -- What is read of a written unit: its header, its decoding, and its rows together.
-use Rattle.std.proofs.Common.{◌≡◌, ℕ, ◌<◌, ◌≤◌, ◌^◌, Bool, List, ◌++◌, length, Ok, refl, ap, ◌∙◌, arith, length-append, if◌then◌else◌, [], ◌∷◌}
+use Rattle.std.proofs.Common.{◌≡◌, ℕ, ◌<◌, ◌≤◌, ◌^◌, Bool, List, [], ◌∷◌, length, Ok, if◌then◌else◌}
 use Rattle.std.specs.Prelude.{nat_le}
 use Rattle.gimli_core.specs.Notation.{Notation}
 use Rattle.gimli_core.specs.declared.common.Encoding.{Encoding}
-use Rattle.gimli_bytes.specs.Texts.{AreTexts}
+use Rattle.gimli_bytes.specs.Texts.{AreTexts, byte_count}
 use Rattle.gimli_line.specs.header.Header.{UnitEntry}
 use Rattle.gimli_build.specs.Built.{Built}
 use Rattle.gimli_build.specs.Conditions.{IsBuilt, CanWrite}
 use Rattle.gimli_build.specs.Texts.{Sections}
 use Rattle.gimli_build.specs.Version5Tables.{strings_behind, line_strings_behind}
 use Rattle.gimli_build.specs.ReadsBack.{ReadsBack, IsReadWell}
-use Rattle.gimli_build.specs.Joined.{joined}
-use Rattle.gimli_build.specs.Unit.{version_bytes, line_encoding_bytes, opcode_bytes, tables_bytes, fields_bytes, escape_bytes, whole_bytes, unit_bytes}
-use Rattle.gimli_build.proofs.WrittenParts.{both_written, behind_written, before_written}
+use Rattle.gimli_build.specs.Unit.{version_bytes, whole_bytes, unit_bytes}
+use Rattle.gimli_build.proofs.WrittenParts.{before_written}
 use Rattle.gimli_build.proofs.EncodingSpellings.{version-known}
 use Rattle.gimli_build.proofs.UnitSpellings.{unit_written}
 use Rattle.gimli_build.proofs.UnitHeader.{whole_written, header-back}
 use Rattle.gimli_build.proofs.EventsBack.{cut-back, rows-back}
-
--- the fields of a header are at least its opcode base and operand counts
-fields_long : (big : Bool) (p : Built) (strings line_strings : List (List ℕ)) (fields : List ℕ) → fields_bytes big p strings line_strings ≡ Ok fields → 13 ≤ length fields
-fields_long big p strings line_strings fields is =
-    let tables = tables_bytes big p strings line_strings in
-    let a = both_written (line_encoding_bytes p.encoding.version p.line_encoding) (joined (Ok opcode_bytes) tables) fields is in
-    let b = behind_written opcode_bytes tables a.rest a.rest_is in
-    let long = ap length a.whole ∙ length-append a.first a.rest in
-    let rest = ap length b.whole ∙ length-append opcode_bytes b.rest in
-    let thirteen : length opcode_bytes ≡ 13 = refl in
-    omega (arith, long, rest, thirteen)
-
--- a unit has more bytes than the longest instruction that is written
-unit_long : (big : Bool) (p : Built) (strings line_strings : List (List ℕ)) (unit : List ℕ) → whole_bytes big p strings line_strings ≡ Ok unit → 11 < length unit
-unit_long big p strings line_strings unit is =
-    let w = unit_written big p strings line_strings unit is in
-    let front = escape_bytes big p.encoding.format ++ w.length_bytes in
-    let whole = ap length w.whole ∙ length-append front w.inside in
-    let inside = ap length w.inside_is ∙ length-append w.opening ((w.size ++ w.fields) ++ w.program) in
-    let rest = length-append (w.size ++ w.fields) w.program in
-    let header = length-append w.size w.fields in
-    let fields = fields_long big p strings line_strings w.fields w.fields_are in
-    omega (arith, whole, inside, rest, header, fields)
 
 -- a unit that is written has a known version
 unit_known : (big : Bool) (p : Built) (strings line_strings : List (List ℕ)) (unit : List ℕ) → whole_bytes big p strings line_strings ≡ Ok unit → p.encoding.version ≤ 5
@@ -51,16 +27,16 @@ unit_known big p strings line_strings unit is =
 
 pub reads-back : (notation : Notation) (unit_entry : UnitEntry) (sections : Sections) (big : Bool) (unit_encoding : Encoding) (p : Built) (old_strings old_line_strings : List (List ℕ)) (unit : List ℕ)
     → length unit < 2 ^ 64 → IsBuilt p → CanWrite p old_strings old_line_strings → AreTexts (strings_behind p old_strings) → AreTexts (line_strings_behind p old_line_strings)
+    → byte_count (strings_behind p old_strings) < 2 ^ 64 → byte_count (line_strings_behind p old_line_strings) < 2 ^ 64
     → unit_bytes big unit_encoding p old_strings old_line_strings ≡ Ok unit → IsReadWell notation unit_entry sections big p (strings_behind p old_strings) (line_strings_behind p old_line_strings) unit
     → ReadsBack notation unit_entry sections p (strings_behind p old_strings) (line_strings_behind p old_line_strings) unit
-reads-back notation unit_entry sections big unit_encoding p old_strings old_line_strings unit small built can texts line_texts is well =
+reads-back notation unit_entry sections big unit_encoding p old_strings old_line_strings unit small built can texts line_texts short line_short is well =
     let strings = strings_behind p old_strings in
     let line_strings = line_strings_behind p old_line_strings in
-    let h = header-back notation unit_entry sections big unit_encoding p old_strings old_line_strings unit small built can texts line_texts is well in
+    let h = header-back notation unit_entry sections big unit_encoding p old_strings old_line_strings unit small built can texts line_texts short line_short is well in
     let whole = whole_written big unit_encoding p old_strings old_line_strings unit is in
-    let long = unit_long big p strings line_strings unit whole in
     let known = unit_known big p strings line_strings unit whole in
-    let wide : 11 < notation.limit = omega (arith, long, well.holds) in
+    let wide = well.instructions_held in
     record {
       header = h.header;
       is_unit = h.is_unit;

@@ -17,7 +17,7 @@ use Rattle.gimli_build.specs.Version4Tables.{name_bytes, directories_bytes, file
 use Rattle.gimli_build.specs.Version5Tables.{text_form, first_form, path_texts, sources, empty_text, directory_formats, file_formats, formats_bytes, detail_bytes, text_bytes, text_in_form, directory_table_bytes, source_bytes, file_entry_bytes, file_table_bytes}
 use Rattle.gimli_build.specs.Unit.{tables_bytes}
 use Rattle.gimli_build.specs.Cause.{text_size, file_size, entry_size, tables_size}
-use Rattle.gimli_build.proofs.PartSizes.{HasSize, size_of_ok, size_of_none, size_as, size_either, size_joined, size_parts, udata_size}
+use Rattle.gimli_build.proofs.PartSizes.{HasSize, size_of_ok, size_of_none, size_as, size_either, size_joined, size_parts, format_word_size}
 
 -- ---- up to version 4
 
@@ -58,8 +58,8 @@ nothing_first n = omega arith
 module _ (big : Bool) (format : Format) (strings line_strings : List (List ℕ)) where
   stored_size : (t : LineText) → HasSize (text_bytes big format strings line_strings t) (text_size format t)
   stored_size (Inline text) = name_size format (Inline text)
-  stored_size (InStrings i) = udata_size big (offset_of strings i) (word_size format)
-  stored_size (InLineStrings i) = udata_size big (offset_of line_strings i) (word_size format)
+  stored_size (InStrings i) = format_word_size big format (offset_of strings i)
+  stored_size (InLineStrings i) = format_word_size big format (offset_of line_strings i)
 
   tested_text : (same : Bool) (t : LineText)
       → HasSize (if same then text_bytes big format strings line_strings t else Err LineStringFormMismatch) (text_size format t)

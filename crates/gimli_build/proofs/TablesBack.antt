@@ -7,6 +7,7 @@ use Rattle.std.proofs.lemmas.List.{append-nil}
 use Rattle.std.proofs.lemmas.List.Elements.{All-drop}
 use Rattle.gimli_core.specs.Notation.{Notation}
 use Rattle.gimli_core.specs.Values.{Value}
+use Rattle.gimli_core.specs.declared.common.Format.TheVariants.{Dwarf64}
 use Rattle.gimli_core.specs.declared.attribute_value.AttributeValue.TheVariants.{String}
 use Rattle.gimli_bytes.specs.Texts.{AreTexts, table_bytes}
 use Rattle.gimli_bytes.specs.declared.error.Error.{Error}
@@ -30,6 +31,7 @@ use Rattle.gimli_build.proofs.TableSpellings.{read_file, directories-spelled, fi
 use Rattle.gimli_build.proofs.EncodingSpellings.{first-chosen, second-chosen}
 use Rattle.gimli_build.proofs.FormatForms.{read_format}
 use Rattle.gimli_build.proofs.ReadyTexts.{AreReady}
+use Rattle.gimli_build.proofs.HeldOffsets.{AreHeld}
 use Rattle.gimli_build.proofs.Version5TableSpellings.{directory_entry, file_entry, new-directories-spelled, new-files-spelled, new-directories-back, new-files-back}
 
 -- the directories from index 0 on: up to version 4 the one that was handed is the first
@@ -137,19 +139,20 @@ module _ (notation : Notation) (unit_entry : UnitEntry) (sections : Sections) (p
   -- ---- version 5
 
   module _ (new : nat_le p.encoding.version 4 ≡ false) (ready : AreReady p strings line_strings) (strings_are : sections.strings ≡ table_bytes strings) (line_strings_are : sections.line_strings ≡ table_bytes line_strings)
-      (texts : AreTexts strings) (line_texts : AreTexts line_strings) (strings_held : length (table_bytes strings) < notation.limit) (line_strings_held : length (table_bytes line_strings) < notation.limit) where
+      (texts : AreTexts strings) (line_texts : AreTexts line_strings) (strings_short : length (table_bytes strings) < 2 ^ 64) (line_strings_short : length (table_bytes line_strings) < 2 ^ 64)
+      (held : p.encoding.format ≡ Dwarf64 → AreHeld notation.limit p strings line_strings) where
     new_directories_spelled : (bytes : List ℕ) → directory_table_bytes notation.big p.encoding.format strings line_strings p ≡ Ok bytes → length bytes < 2 ^ 64
         → (directory_table notation p.encoding).Spells bytes (map read_format (directory_formats p), map path_of (map (directory_entry strings line_strings) p.directories))
     new_directories_spelled bytes is small =
         let entries = map (directory_entry strings line_strings) p.directories in
-        let spelled = new-directories-spelled notation p strings line_strings ready strings_held line_strings_held bytes is small in
+        let spelled = new-directories-spelled notation p strings line_strings ready strings_short line_strings_short held bytes is small in
         second-chosen (nat_le p.encoding.version 4) _ _ bytes _ new ((map read_format (directory_formats p), entries), bytes, [], sym (append-nil bytes), spelled, (refl, refl))
 
     new_files_spelled : (bytes : List ℕ) → file_table_bytes notation.big p.encoding.format strings line_strings p ≡ Ok bytes → length bytes < 2 ^ 64
         → (file_table notation p.encoding).Spells bytes (map read_format (file_formats p), map file_of_entry (map (file_entry p strings line_strings) p.files))
     new_files_spelled bytes is small =
         let entries = map (file_entry p strings line_strings) p.files in
-        let spelled = new-files-spelled notation p strings line_strings ready strings_held line_strings_held bytes is small in
+        let spelled = new-files-spelled notation p strings line_strings ready strings_short line_strings_short held bytes is small in
         second-chosen (nat_le p.encoding.version 4) _ _ bytes _ new ((map read_format (file_formats p), entries), bytes, [], sym (append-nil bytes), spelled, (refl, refl))
 
     new_back : OneByOne (IsDirectory sections strings line_strings) (from_zero p unit_entry (map path_of (map (directory_entry strings line_strings) p.directories))) p.directories
@@ -187,8 +190,9 @@ module _ (notation : Notation) (unit_entry : UnitEntry) (sections : Sections) (p
     pub line_strings_are : sections.line_strings ≡ table_bytes line_strings
     pub texts : AreTexts strings
     pub line_texts : AreTexts line_strings
-    pub strings_held : nat_le p.encoding.version 4 ≡ false → length (table_bytes strings) < notation.limit
-    pub line_strings_held : nat_le p.encoding.version 4 ≡ false → length (table_bytes line_strings) < notation.limit
+    pub strings_short : length (table_bytes strings) < 2 ^ 64
+    pub line_strings_short : length (table_bytes line_strings) < 2 ^ 64
+    pub held : nat_le p.encoding.version 4 ≡ false → p.encoding.format ≡ Dwarf64 → AreHeld notation.limit p strings line_strings
 
   pub tables-back : (bytes : List ℕ) → AreReadWell → length bytes < 2 ^ 64 → tables_bytes notation.big p strings line_strings ≡ Ok bytes → TablesBack notation unit_entry sections p strings line_strings bytes
   tables-back bytes well small is =
@@ -200,4 +204,4 @@ module _ (notation : Notation) (unit_entry : UnitEntry) (sections : Sections) (p
           → (if b then r else s) ≡ Ok bytes → TablesBack notation unit_entry sections p strings line_strings bytes
       by true old r s first second is = old_tables old bytes (well.directory old) (sym first ∙ is)
       by false new r s first second is =
-          new_tables new (well.ready new) well.strings_are well.line_strings_are well.texts well.line_texts (well.strings_held new) (well.line_strings_held new) bytes small (sym second ∙ is)
+          new_tables new (well.ready new) well.strings_are well.line_strings_are well.texts well.line_texts well.strings_short well.line_strings_short (well.held new) bytes small (sym second ∙ is)

@@ -1,5 +1,5 @@
 -- The texts of a table of version 5 as values: their bytes spell these, and these stand for the texts.
-use Rattle.std.proofs.Common.{◌≡◌, ◌≢◌, ℕ, ◌+◌, ◌<◌, Bool, true, false, List, [], ◌∷◌, ◌++◌, length, drop, get_or, Some, Ok, refl, sym, ap, ◌∙◌, subst, arith, if◌then◌else◌, length-append}
+use Rattle.std.proofs.Common.{◌≡◌, ◌≢◌, ℕ, ◌+◌, ◌<◌, ◌^◌, Bool, true, false, List, [], ◌∷◌, ◌++◌, length, drop, get_or, Some, Ok, refl, sym, ap, ◌∙◌, subst, arith, if◌then◌else◌, length-append}
 use Rattle.std.specs.Prelude.{Result, Err, nat_eq, slice_get, unwrap_or}
 use Rattle.std.proofs.lemmas.Bool.{eqb-true}
 use Rattle.std.proofs.lemmas.List.{append-nil, length-drop}
@@ -9,6 +9,7 @@ use Rattle.gimli_core.specs.Notation.{Notation}
 use Rattle.gimli_core.specs.Values.{Value}
 use Rattle.gimli_core.specs.Form.{form_production, SpellsForm}
 use Rattle.gimli_core.specs.declared.common.Format.{Format}
+use Rattle.gimli_core.specs.declared.common.Format.TheVariants.{Dwarf64}
 use Rattle.gimli_core.specs.declared.attribute_value.AttributeValue.TheVariants.{String, DebugStrRef, DebugLineStrRef}
 use Rattle.gimli_bytes.specs.Texts.{AreTexts, table_bytes, offset_of}
 use Rattle.gimli_bytes.specs.declared.error.Error.{Error}
@@ -17,6 +18,7 @@ use Rattle.gimli_bytes.proofs.TextLemmas.{table_bytes-at}
 use Rattle.gimli_build.specs.LineText.{LineText, Inline, InStrings, InLineStrings, IsWithin, HasNoZero, bytes_in}
 use Rattle.gimli_build.specs.Texts.{Sections, IsTextAt, IsText}
 use Rattle.gimli_build.specs.Version5Tables.{text_form, text_bytes, text_in_form}
+use Rattle.gimli_build.specs.ReadsBack.{IsOffsetHeld}
 use Rattle.gimli_build.proofs.WrittenParts.{same_written}
 use Rattle.gimli_build.proofs.EncodingSpellings.{offset-spelled, word-long}
 
@@ -56,29 +58,30 @@ pub record IsReady (strings line_strings : List (List ℕ)) (t : LineText) : Typ
   pub within : IsWithin strings line_strings t
 
 module _ (notation : Notation) (format : Format) (strings line_strings : List (List ℕ))
-    (strings_held : length (table_bytes strings) < notation.limit) (line_strings_held : length (table_bytes line_strings) < notation.limit) where
-  text_spelled : (t : LineText) (bytes : List ℕ) → HasNoZero t → IsWithin strings line_strings t → text_bytes notation.big format strings line_strings t ≡ Ok bytes
-      → (form_production notation format (text_form t)).Spells bytes (read_text strings line_strings t)
-  text_spelled (Inline text) bytes clean within is =
+    (strings_short : length (table_bytes strings) < 2 ^ 64) (line_strings_short : length (table_bytes line_strings) < 2 ^ 64) where
+  text_spelled : (t : LineText) (bytes : List ℕ) → HasNoZero t → IsWithin strings line_strings t → (format ≡ Dwarf64 → IsOffsetHeld notation.limit strings line_strings t)
+      → text_bytes notation.big format strings line_strings t ≡ Ok bytes → (form_production notation format (text_form t)).Spells bytes (read_text strings line_strings t)
+  text_spelled (Inline text) bytes clean within held is =
       (text, bytes, [], sym (append-nil bytes), (recursion_from_All (λ b. b ≢ 0) text clean, same_written (text ++ 0 ∷ []) bytes is), (refl, refl))
-  text_spelled (InStrings i) bytes clean within is =
+  text_spelled (InStrings i) bytes clean within held is =
       let short = offset_short strings i within in
-      (offset_of strings i, bytes, [], sym (append-nil bytes), offset-spelled notation format (offset_of strings i) bytes (omega (arith, short, strings_held)) is, (refl, refl))
-  text_spelled (InLineStrings i) bytes clean within is =
+      (offset_of strings i, bytes, [], sym (append-nil bytes), offset-spelled notation format (offset_of strings i) bytes held (omega (arith, short, strings_short)) is, (refl, refl))
+  text_spelled (InLineStrings i) bytes clean within held is =
       let short = offset_short line_strings i within in
-      (offset_of line_strings i, bytes, [], sym (append-nil bytes), offset-spelled notation format (offset_of line_strings i) bytes (omega (arith, short, line_strings_held)) is, (refl, refl))
+      (offset_of line_strings i, bytes, [], sym (append-nil bytes), offset-spelled notation format (offset_of line_strings i) bytes held (omega (arith, short, line_strings_short)) is, (refl, refl))
 
   -- a text that has the form of its table
-  pub text-spelled : (form : ℕ) (t : LineText) (bytes : List ℕ) → IsReady strings line_strings t → text_in_form notation.big format strings line_strings form t ≡ Ok bytes
+  pub text-spelled : (form : ℕ) (t : LineText) (bytes : List ℕ) → IsReady strings line_strings t → (format ≡ Dwarf64 → IsOffsetHeld notation.limit strings line_strings t)
+      → text_in_form notation.big format strings line_strings form t ≡ Ok bytes
       → SpellsForm notation format form bytes (read_text strings line_strings t)
-  text-spelled form t bytes ready is = by (nat_eq (text_form t) form) refl is
+  text-spelled form t bytes ready held is = by (nat_eq (text_form t) form) refl is
     where
       by : (b : Bool) → nat_eq (text_form t) form ≡ b
           → (let r : Result (List ℕ) Error = if b then text_bytes notation.big format strings line_strings t else Err LineStringFormMismatch in r) ≡ Ok bytes
           → SpellsForm notation format form bytes (read_text strings line_strings t)
       by true same is =
           subst (λ (n : ℕ). SpellsForm notation format n bytes (read_text strings line_strings t)) (eqb-true (text_form t) form same)
-          (text_spelled t bytes ready.clean ready.within is)
+          (text_spelled t bytes ready.clean ready.within held is)
       by false same is = absurd cc
 
 -- at least one byte is written of a text

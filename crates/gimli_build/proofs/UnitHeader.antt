@@ -1,10 +1,12 @@
 -- What is read of the header of a written unit.
-use Rattle.std.proofs.Common.{◌≡◌, ℕ, ◌<◌, ◌^◌, Bool, true, false, List, length, if◌then◌else◌, Ok, refl, ap, ◌∙◌, arith}
+use Rattle.std.proofs.Common.{◌≡◌, ℕ, ◌-◌, ◌<◌, ◌^◌, Bool, true, false, List, length, if◌then◌else◌, Ok, refl, ap, ◌∙◌, arith}
 use Rattle.std.specs.Prelude.{Result, Err, nat_le}
 use Rattle.std.proofs.lemmas.Bool.{leb-true, leb-false}
 use Rattle.gimli_core.specs.Notation.{Notation}
 use Rattle.gimli_core.specs.declared.common.Encoding.{Encoding}
-use Rattle.gimli_bytes.specs.Texts.{AreTexts}
+use Rattle.gimli_core.specs.declared.common.Format.TheVariants.{Dwarf64}
+use Rattle.gimli_bytes.specs.Texts.{AreTexts, byte_count}
+use Rattle.gimli_bytes.proofs.TextLemmas.{length-table_bytes}
 use Rattle.gimli_bytes.specs.declared.error.Error.{Error}
 use Rattle.gimli_bytes.specs.declared.error.Error.TheVariants.{IncompatibleLineProgramEncoding}
 use Rattle.gimli_line.specs.header.Header.{Header, UnitEntry}
@@ -16,6 +18,7 @@ use Rattle.gimli_build.specs.Version5Tables.{strings_behind, line_strings_behind
 use Rattle.gimli_build.specs.ReadsBack.{AreFormats, IsUnit, directories_from_zero, IsDirectory, IsFile, IsReadWell}
 use Rattle.gimli_build.specs.Unit.{operand_counts, program_bytes, whole_bytes, is_incompatible, unit_bytes}
 use Rattle.gimli_build.proofs.ReadyTexts.{tables-ready}
+use Rattle.gimli_build.proofs.HeldOffsets.{are-held}
 use Rattle.gimli_build.proofs.TablesBack.{AreReadWell, tables-back}
 use Rattle.gimli_build.proofs.UnitSpellings.{UnitWritten, unit_written, fields_written, inside-short, fields-short, tables-short, header_of, unit-is}
 
@@ -42,7 +45,7 @@ whole_written big unit_encoding p old_strings old_line_strings unit is =
 
 module _ (notation : Notation) (unit_entry : UnitEntry) (sections : Sections) (p : Built) (built : IsBuilt p) where
   whole_back : (strings line_strings : List (List ℕ)) (unit : List ℕ) → AreReadWell notation unit_entry sections p strings line_strings built → unit_entry.address_size ≡ p.encoding.address_size
-      → length unit < notation.limit → length unit < 2 ^ 64 → UnitWritten notation.big p strings line_strings unit → HeaderBack notation unit_entry sections p strings line_strings unit
+      → (p.encoding.format ≡ Dwarf64 → length unit - 12 < notation.limit) → length unit < 2 ^ 64 → UnitWritten notation.big p strings line_strings unit → HeaderBack notation unit_entry sections p strings line_strings unit
   whole_back strings line_strings unit well same holds small w =
       let v = fields_written notation.big p strings line_strings w.fields w.fields_are in
       let inside = inside-short notation.big p strings line_strings unit w in
@@ -62,28 +65,29 @@ module _ (notation : Notation) (unit_entry : UnitEntry) (sections : Sections) (p
 
   -- how the unit is read, the tables are
   read_well : (old_strings old_line_strings : List (List ℕ)) (unit : List ℕ) → CanWrite p old_strings old_line_strings → AreTexts (strings_behind p old_strings) → AreTexts (line_strings_behind p old_line_strings)
+      → byte_count (strings_behind p old_strings) < 2 ^ 64 → byte_count (line_strings_behind p old_line_strings) < 2 ^ 64
       → IsReadWell notation unit_entry sections notation.big p (strings_behind p old_strings) (line_strings_behind p old_line_strings) unit
       → AreReadWell notation unit_entry sections p (strings_behind p old_strings) (line_strings_behind p old_line_strings) built
-  read_well old_strings old_line_strings unit can texts line_texts well = record {
+  read_well old_strings old_line_strings unit can texts line_texts short line_short well = record {
     directory = λ old. well.directory (leb-true p.encoding.version 4 old);
     ready = λ new. tables-ready p old_strings old_line_strings new built can;
     strings_are = well.strings_are;
     line_strings_are = well.line_strings_are;
     texts = texts;
     line_texts = line_texts;
-    strings_held = λ new. rw (← ap length well.strings_are) ((held new).0);
-    line_strings_held = λ new. rw (← ap length well.line_strings_are) ((held new).1);
+    strings_short = rw (length-table_bytes (strings_behind p old_strings)) short;
+    line_strings_short = rw (length-table_bytes (line_strings_behind p old_line_strings)) line_short;
+    held = λ new wide. are-held notation.limit p (strings_behind p old_strings) (line_strings_behind p old_line_strings) new
+        (let above = leb-false p.encoding.version 4 new in well.texts_held (omega (arith, above)) wide);
   }
-    where
-      held : nat_le p.encoding.version 4 ≡ false → (length sections.strings < notation.limit) × (length sections.line_strings < notation.limit)
-      held new = let above = leb-false p.encoding.version 4 new in well.sections_held (omega (arith, above))
 
 -- a unit whose length 64 bits hold
 pub header-back : (notation : Notation) (unit_entry : UnitEntry) (sections : Sections) (big : Bool) (unit_encoding : Encoding) (p : Built) (old_strings old_line_strings : List (List ℕ)) (unit : List ℕ)
     → length unit < 2 ^ 64 → IsBuilt p → CanWrite p old_strings old_line_strings → AreTexts (strings_behind p old_strings) → AreTexts (line_strings_behind p old_line_strings)
+    → byte_count (strings_behind p old_strings) < 2 ^ 64 → byte_count (line_strings_behind p old_line_strings) < 2 ^ 64
     → unit_bytes big unit_encoding p old_strings old_line_strings ≡ Ok unit → IsReadWell notation unit_entry sections big p (strings_behind p old_strings) (line_strings_behind p old_line_strings) unit
     → HeaderBack notation unit_entry sections p (strings_behind p old_strings) (line_strings_behind p old_line_strings) unit
-header-back notation unit_entry sections big unit_encoding p old_strings old_line_strings unit small built can texts line_texts is well =
+header-back notation unit_entry sections big unit_encoding p old_strings old_line_strings unit small built can texts line_texts short line_short is well =
     let strings = strings_behind p old_strings in
     let line_strings = line_strings_behind p old_line_strings in
     let whole : whole_bytes notation.big p strings line_strings ≡ Ok unit =
@@ -94,8 +98,9 @@ header-back notation unit_entry sections big unit_encoding p old_strings old_lin
       directory = well.directory;
       strings_are = well.strings_are;
       line_strings_are = well.line_strings_are;
-      holds = well.holds;
-      sections_held = well.sections_held;
+      instructions_held = well.instructions_held;
+      length_held = well.length_held;
+      texts_held = well.texts_held;
     } in
-    whole_back notation unit_entry sections p built strings line_strings unit (read_well notation unit_entry sections p built old_strings old_line_strings unit can texts line_texts same)
-    same.address_size same.holds small (unit_written notation.big p strings line_strings unit whole)
+    whole_back notation unit_entry sections p built strings line_strings unit (read_well notation unit_entry sections p built old_strings old_line_strings unit can texts line_texts short line_short same)
+    same.address_size same.length_held small (unit_written notation.big p strings line_strings unit whole)

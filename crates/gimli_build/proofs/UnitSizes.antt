@@ -4,14 +4,14 @@ use Rattle.std.specs.Prelude.{Result, ◌&&◌}
 use Rattle.gimli_core.specs.Numbers.{number_bytes, word_size}
 use Rattle.gimli_core.specs.declared.common.Encoding.{Encoding}
 use Rattle.gimli_core.specs.declared.common.LineEncoding.{LineEncoding}
-use Rattle.gimli_bytes.specs.Number.{udata}
 use Rattle.gimli_bytes.specs.declared.error.Error.{Error}
 use Rattle.gimli_bytes.specs.declared.error.Error.TheVariants.{UnsupportedVersion, NeedVersion}
 use Rattle.gimli_build.specs.Built.{Built}
+use Rattle.gimli_build.specs.FormatWord.{format_word}
 use Rattle.gimli_build.specs.Joined.{joined}
 use Rattle.gimli_build.specs.Unit.{version_bytes, opening_bytes, operations_bytes, line_encoding_bytes, flag_byte, base_byte, opcode_bytes, tables_bytes, fields_bytes, header_bytes, program_bytes, inside_bytes}
 use Rattle.gimli_build.specs.Cause.{tables_size, header_length, size_of, unit_length}
-use Rattle.gimli_build.proofs.PartSizes.{HasSize, size_of_ok, size_of_none, size_as, size_tested, size_joined, size_behind, number_size, udata_size}
+use Rattle.gimli_build.proofs.PartSizes.{HasSize, size_of_ok, size_of_none, size_as, size_tested, size_joined, size_behind, number_size, format_word_size}
 use Rattle.gimli_build.proofs.TableSizes.{tables-size}
 
 -- ---- the version and what stands with it
@@ -78,8 +78,8 @@ module _ (big : Bool) (p : Built) (strings line_strings : List (List ℕ)) where
   header_size : HasSize (header_bytes big p strings line_strings) (word_size p.encoding.format + header_length p strings line_strings)
   header_size =
       let word = word_size p.encoding.format in
-      size_behind (λ n. udata big n word) (fields_bytes big p strings line_strings) word (header_length p strings line_strings)
-      (λ n. udata_size big n word) fields_size
+      size_behind (λ n. format_word big p.encoding.format n) (fields_bytes big p strings line_strings) word (header_length p strings line_strings)
+      (λ n. format_word_size big p.encoding.format n) fields_size
 
   -- what the unit length counts is as long as it says
   pub inside_size : HasSize (inside_bytes big p strings line_strings) (unit_length big p strings line_strings)

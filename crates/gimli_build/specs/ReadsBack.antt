@@ -1,8 +1,9 @@
 -- What is read of a unit that was built.
-use Rattle.std.specs.Prelude.{◌≡◌, ℕ, ◌<◌, ◌≤◌, List, [], ◌++◌, length, map, slice_get, Bool, false, None, option_map, nat_le, if◌then◌else◌}
+use Rattle.std.specs.Prelude.{◌≡◌, ℕ, ◌-◌, ◌<◌, ◌≤◌, All, List, [], ◌++◌, length, map, slice_get, Bool, false, None, option_map, nat_le, if◌then◌else◌}
 use Rattle.std.specs.Option.{option_to_list}
 use Rattle.gimli_core.specs.Notation.{Notation}
 use Rattle.gimli_core.specs.Values.{Value}
+use Rattle.gimli_core.specs.declared.common.Format.TheVariants.{Dwarf64}
 use Rattle.gimli_core.specs.declared.attribute_value.AttributeValue.TheVariants.{String}
 use Rattle.gimli_line.specs.declared.header.file_entry.FileEntryFormat.{FileEntryFormat}
 use Rattle.gimli_build.specs.Version5Tables.{directory_formats, file_formats}
@@ -12,8 +13,8 @@ use Rattle.gimli_line.specs.header.File.{File as ReadFile}
 use Rattle.gimli_line.specs.run.InstructionGrammar.{Decodes}
 use Rattle.gimli_line.specs.run.Events.{Events, row}
 use Rattle.gimli_line.specs.declared.run.row.LineRow.{LineRow as ReadRow}
-use Rattle.gimli_bytes.specs.Texts.{table_bytes}
-use Rattle.gimli_build.specs.LineText.{LineText, bytes_in}
+use Rattle.gimli_bytes.specs.Texts.{table_bytes, offset_of}
+use Rattle.gimli_build.specs.LineText.{LineText, Inline, InStrings, InLineStrings, bytes_in}
 use Rattle.gimli_build.specs.Tables.{File}
 use Rattle.gimli_build.specs.Texts.{Sections, IsText, IsOptionalText, OneByOne}
 use Rattle.gimli_build.specs.Stored.{stored}
@@ -22,6 +23,7 @@ use Rattle.gimli_build.specs.Items.{items_instructions, AddressesFit}
 use Rattle.gimli_build.specs.SameRow.{built_rules, RowsMatch}
 use Rattle.gimli_build.specs.Built.{Built}
 use Rattle.gimli_build.specs.Unit.{operand_counts}
+use Rattle.gimli_build.specs.Cause.{emitted_texts}
 
 -- the bytes are a unit with this header and nothing behind it, and between the tables and the program there is nothing
 pub record IsUnit (notation : Notation) (unit_entry : UnitEntry) (unit : List ℕ) (h : Header) : Type 0 where
@@ -76,14 +78,24 @@ pub record ReadsBack (notation : Notation) (unit_entry : UnitEntry) (sections : 
   pub rows : AddressesFit p.encoding.address_size 0 (0, 0) p.items
       → (rows : List ReadRow) × Events notation header header.program (map row rows) × RowsMatch p.encoding.version [] p.items rows
 
+-- an offset of a reader is below this limit, and holds the offset that stands for a text
+abbrev pub IsOffsetHeld : ℕ → List (List ℕ) → List (List ℕ) → LineText → Type 0
+IsOffsetHeld limit strings line_strings (Inline text) = Unit {0}
+IsOffsetHeld limit strings line_strings (InStrings i) = offset_of strings i < limit
+IsOffsetHeld limit strings line_strings (InLineStrings i) = offset_of line_strings i < limit
+
 -- how such a unit has to be read: in the order in which it was written, with its address size, up to version 4 with the
--- working directory, and beside the sections of its tables; by a reader whose offsets hold its length, and from version 5
--- on those of the sections
+-- working directory, and beside the sections of its tables; by a reader whose offsets hold the numbers of the unit
 pub record IsReadWell (notation : Notation) (unit_entry : UnitEntry) (sections : Sections) (big : Bool) (p : Built) (strings line_strings : List (List ℕ)) (unit : List ℕ) : Type 0 where
   pub order : notation.big ≡ big
   pub address_size : unit_entry.address_size ≡ p.encoding.address_size
   pub directory : p.encoding.version ≤ 4 → unit_entry.directory ≡ option_map (bytes_in strings line_strings) (slice_get p.directories 0)
   pub strings_are : sections.strings ≡ table_bytes strings
   pub line_strings_are : sections.line_strings ≡ table_bytes line_strings
-  pub holds : length unit < notation.limit
-  pub sections_held : 5 ≤ p.encoding.version → (length sections.strings < notation.limit) × (length sections.line_strings < notation.limit)
+  -- an extended instruction has at most 11 bytes behind its length
+  pub instructions_held : 11 < notation.limit
+  -- any offset holds a word of the 32-bit format; in the 64-bit format the unit length counts all but the first 12 bytes
+  pub length_held : p.encoding.format ≡ Dwarf64 → length unit - 12 < notation.limit
+  -- and from version 5 on, a text may be an offset
+  pub texts_held : 5 ≤ p.encoding.version → p.encoding.format ≡ Dwarf64
+      → All (λ t. IsOffsetHeld notation.limit strings line_strings t.1) (emitted_texts p strings line_strings)

@@ -1,14 +1,15 @@
 -- The bytes of a unit as it is written, or the first cause why it can't be (DWARF 5, section 6.2.4; DWARF 4, section 6.2.4).
 use Rattle.std.specs.Prelude.{ℕ, List, [], ◌∷◌, Bool, not, ◌&&◌, ◌||◌, nat_eq, nat_le, nat_lt, if◌then◌else◌, Result, Ok, Err, ℤ}
 use Rattle.std.specs.Int.{w8, cast_unsigned}
-use Rattle.gimli_core.specs.Numbers.{number_bytes, word_size}
+use Rattle.gimli_core.specs.Numbers.{number_bytes}
 use Rattle.gimli_core.specs.declared.common.Encoding.{Encoding}
 use Rattle.gimli_core.specs.declared.common.LineEncoding.{LineEncoding}
 use Rattle.gimli_core.specs.declared.common.Format.{Format}
 use Rattle.gimli_core.specs.declared.common.Format.TheVariants.{Dwarf32, Dwarf64}
-use Rattle.gimli_bytes.specs.Number.{udata, length_word}
+use Rattle.gimli_bytes.specs.Number.{length_word}
 use Rattle.gimli_bytes.specs.declared.error.Error.{Error}
 use Rattle.gimli_bytes.specs.declared.error.Error.TheVariants.{IncompatibleLineProgramEncoding, UnsupportedVersion, NeedVersion}
+use Rattle.gimli_build.specs.FormatWord.{format_word}
 use Rattle.gimli_build.specs.Joined.{joined, behind_length}
 use Rattle.gimli_build.specs.Version4Tables.{directories_bytes, files_bytes}
 use Rattle.gimli_build.specs.Version5Tables.{strings_behind, line_strings_behind, directory_table_bytes, file_table_bytes}
@@ -69,7 +70,7 @@ fields_bytes big p strings line_strings =
 
 -- the header length, and what it counts
 abbrev pub header_bytes : Bool → Built → List (List ℕ) → List (List ℕ) → Result (List ℕ) Error
-header_bytes big p strings line_strings = behind_length (λ n. udata big n (word_size p.encoding.format)) (fields_bytes big p strings line_strings)
+header_bytes big p strings line_strings = behind_length (λ n. format_word big p.encoding.format n) (fields_bytes big p strings line_strings)
 
 -- the instructions
 abbrev pub program_bytes : Bool → Built → Result (List ℕ) Error

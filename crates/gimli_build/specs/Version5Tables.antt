@@ -2,14 +2,14 @@
 use Rattle.std.specs.Prelude.{ℕ, ◌++◌, List, [], ◌∷◌, length, map, Bool, ◌&&◌, nat_eq, nat_le, if◌then◌else◌, Some, None, unwrap_or, Result, Ok, Err}
 use Rattle.std.specs.Option.{is_none}
 use Rattle.std.specs.List.{flat_map, list_any}
-use Rattle.gimli_core.specs.Numbers.{word_size}
 use Rattle.gimli_core.specs.declared.common.Format.{Format}
-use Rattle.gimli_bytes.specs.Number.{udata, uleb}
+use Rattle.gimli_bytes.specs.Number.{uleb}
 use Rattle.gimli_bytes.specs.Texts.{with_text, place_of_text, offset_of}
 use Rattle.gimli_bytes.specs.declared.error.Error.{Error}
 use Rattle.gimli_bytes.specs.declared.error.Error.TheVariants.{LineStringFormMismatch}
 use Rattle.gimli_build.specs.LineText.{LineText, Inline, InStrings, InLineStrings}
 use Rattle.gimli_build.specs.Tables.{File}
+use Rattle.gimli_build.specs.FormatWord.{format_word}
 use Rattle.gimli_build.specs.Joined.{joined, joined_parts}
 use Rattle.gimli_build.specs.Built.{Built}
 
@@ -91,8 +91,8 @@ module _ (big : Bool) (format : Format) (strings line_strings : List (List ℕ))
   -- a text: its bytes and a zero byte, or its offset in the section of its table
   abbrev pub text_bytes : LineText → Result (List ℕ) Error
   text_bytes (Inline text) = Ok (text ++ 0 ∷ [])
-  text_bytes (InStrings i) = udata big (offset_of strings i) (word_size format)
-  text_bytes (InLineStrings i) = udata big (offset_of line_strings i) (word_size format)
+  text_bytes (InStrings i) = format_word big format (offset_of strings i)
+  text_bytes (InLineStrings i) = format_word big format (offset_of line_strings i)
 
   -- a text of a table whose texts have this form
   abbrev pub text_in_form : ℕ → LineText → Result (List ℕ) Error

@@ -1,9 +1,11 @@
-//! A byte, and a text with the zero byte that ends it, as they are written.
+//! A byte, a text with the zero byte that ends it, and an offset, as they are written.
 
 ghost use Rattle.std.specs.Prelude.{[], ◌∷◌, ◌++◌, Ok};
+ghost use Rattle.gimli_build.specs.FormatWord.{format_word};
 ghost use Rattle.gimli_build.specs.Writes.{Writes};
 
 use gimli_bytes::{Result, Writer};
+use gimli_core::{Format, SectionId};
 
 /// Appends a byte, which is the same in either order.
 pub(crate) fn write_byte<W: Writer>(w: &mut W, byte: u8) -> Result<()>
@@ -18,4 +20,16 @@ pub(crate) fn write_text<W: Writer>(w: &mut W, text: &[u8]) -> Result<()>
 {
     w.write(text)?;
     write_byte(w, 0)
+}
+
+/// Appends an offset into a section, as a word of the format.
+pub(crate) fn write_section_offset<W: Writer>(
+    w: &mut W,
+    format: Format,
+    offset: usize,
+    section: SectionId,
+) -> Result<()>
+    ensures { Writes W.Writer w.old w.new result (format_word (W.big w.old) format offset) }
+{
+    w.write_offset(offset, section, format.word_size())
 }

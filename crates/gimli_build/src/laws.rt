@@ -1,17 +1,23 @@
 //! Laws of what is written: the instructions of rows and ends, run by the machine of the reading half, give what was
-//! built; their bytes spell them; and they are few.
+//! built; their bytes spell them; they are few; and they define no file. And laws of equality.
 
-ghost use Rattle.std.specs.Prelude.{◌≡◌, ℕ, ◌+◌, ◌-◌, ◌*◌, ◌<◌, ◌≤◌, ◌^◌, List, ◌∷◌, ◌++◌, length, map, IsTrue, Ok, Some, pos, ◌-ℤ◌};
+ghost use Rattle.std.specs.Prelude.{◌≡◌, ℕ, Bool, false, All, ◌+◌, ◌-◌, ◌*◌, ◌<◌, ◌≤◌, ◌^◌, List, ◌∷◌, ◌++◌, length, map, IsTrue, Ok, Some, pos, ◌-ℤ◌};
+ghost use Rattle.std.specs.Bool.{Decides};
 ghost use Rattle.gimli_core.specs.Numbers.{is_address_size};
 ghost use Rattle.gimli_core.specs.Notation.{Notation};
 ghost use Rattle.gimli_core.specs.Production.{Each};
+ghost use Rattle.gimli_core.specs.declared.error.Error.{Error};
+ghost use Rattle.gimli_core.specs.declared.error.Error.TheVariants.{AddressOverflow};
 ghost use Rattle.gimli_core.specs.declared.common.Encoding.{Encoding};
 ghost use Rattle.gimli_core.specs.declared.common.LineEncoding.{LineEncoding};
 ghost use Rattle.gimli_bytes.specs.declared.address.Address.TheVariants.{Constant};
-ghost use Rattle.gimli_line.specs.header.Header.{Header};
-ghost use Rattle.gimli_line.specs.run.Instruction.{Ins};
+ghost use Rattle.gimli_line.specs.header.Header.{Header, UnitEntry};
+ghost use Rattle.gimli_line.specs.run.Instruction.{Ins, defines_file};
 ghost use Rattle.gimli_line.specs.run.InstructionGrammar.{SpellsInstruction};
-ghost use Rattle.gimli_line.specs.run.Events.{row};
+ghost use Rattle.gimli_line.specs.run.Events.{Event, row};
+ghost use Rattle.gimli_line.specs.run.RunState.{RunState};
+ghost use Rattle.gimli_line.specs.run.Progress.{ready, Progress};
+ghost use Rattle.gimli_line.specs.run.Rows.{started, FaultIs};
 ghost use Rattle.gimli_line.specs.run.Machine.{run, initial};
 ghost use Rattle.gimli_line.specs.run.OperationPointer.{operation_advance};
 ghost use Rattle.gimli_line.specs.declared.run.instruction.LineInstruction.TheVariants.{SetAddress, ConstAddPc};
@@ -25,10 +31,24 @@ ghost use Rattle.gimli_build.specs.Items.{items_instructions, items_rows, items_
 ghost use Rattle.gimli_build.specs.Rows.{initial_row};
 ghost use Rattle.gimli_build.specs.SameRow.{built_rules, read_row, behind_row, read_end};
 ghost use Rattle.gimli_build.specs.Sizes.{HasSpecial, OnlyMoves};
+ghost use Rattle.gimli_build.specs.Built.{Built};
+ghost use Rattle.gimli_build.specs.Texts.{Sections};
+ghost use Rattle.gimli_build.specs.ReadsBack.{ReadsBack};
+ghost use Rattle.gimli_build.specs.NoFiles.{DefinesNoFile};
+ghost use Rattle.gimli_build.specs.declared.built.files.FileInfo.{FileInfo};
+ghost use Rattle.gimli_build.specs.declared.built.line_string.LineString.{LineString};
+ghost use Rattle.gimli_build.specs.LineText.{line_text};
+ghost use Rattle.gimli_build.specs.TablesInside.{details};
 
+use crate::built::files::{DirectoryId, FileId, FileInfo};
+use crate::built::items::BuiltItem;
+use crate::built::line_string::LineString;
+use crate::built::row::LineRow;
 pub use gimli_bytes::laws::{
-    sleb_is_shortest, table_bytes_length, text_at_offset, uleb_is_shortest, with_text_are_texts,
+    equal_addresses_and_ids, sleb_is_shortest, table_bytes_length, text_at_offset,
+    uleb_is_shortest, with_text_are_texts,
 };
+use std::hash::Hash;
 
 /// The instructions of a row, run from the registers behind the row before it, make one row, which is the
 /// built one, and leave the registers behind it; whatever instructions follow.
@@ -145,4 +165,41 @@ pub fn items_are_spelled()
         AreBuilt e (previous.address_offset, previous.op_index) items → AreFit h.parameters.encoding.version items →
         items_bytes notation.big h.parameters.encoding e previous items ≡ Ok bytes →
         Each (SpellsInstruction notation h) bytes (items_instructions h.parameters.encoding.version e previous items) }
+{}
+
+/// No instruction of built items defines a file.
+pub fn items_define_no_file()
+    ensures { (version : ℕ) (e : LineEncoding) (previous : LineRow) (items : List BuiltItem) →
+        All (λ i. defines_file i ≡ false) (items_instructions version e previous items) }
+{}
+
+/// So the rows of a written unit take no memory: at its start nothing of its program defines a file; nor does what is
+/// left once the run has gone on; and `next_row` is refused by `AddressOverflow` alone then, never for want of memory.
+pub fn written_rows_take_no_memory()
+    ensures start { (notation : Notation) (unit_entry : UnitEntry) (sections : Sections) (p : Built) (strings line_strings : List (List ℕ)) (unit : List ℕ)
+        (back : ReadsBack notation unit_entry sections p strings line_strings unit) (appends : Bool) (offset : ℕ) →
+        DefinesNoFile (started appends back.header notation offset (record { bytes = back.header.program; notation = notation })) }
+    ensures goes { (old new : RunState) (events : List Event) → DefinesNoFile old → Progress old new events → DefinesNoFile new }
+    ensures refused { (old new : RunState) (e : Error) → DefinesNoFile old → FaultIs (ready old) new e → e ≡ AddressOverflow }
+{}
+
+/// `==` holds of two texts, and of two ids, exactly where they are the same text and the same index; and of what is
+/// known of two files where they have the same timestamp, size and digest, and the same text or none as source.
+pub fn equal_texts_and_files()
+    ensures text { (s t : LineString) → Decides (⟦<LineString as PartialEq>⟧.eq s t) (line_text s ≡ line_text t) }
+    ensures info { (a b : FileInfo) → Decides (⟦<FileInfo as PartialEq>⟧.eq a b) (details a ≡ details b) }
+    ensures directory { (i j : ℕ) → Decides (⟦<DirectoryId as PartialEq>⟧.eq i j) (i ≡ j) }
+    ensures file { (i j : ℕ) → Decides (⟦<FileId as PartialEq>⟧.eq i j) (i ≡ j) }
+{}
+
+/// `==` holds of two rows, and of two items, exactly where all their parts agree.
+pub fn equal_rows_and_items()
+    ensures row { (a b : LineRow) → Decides (⟦<LineRow as PartialEq>⟧.eq a b) (a ≡ b) }
+    ensures item { (a b : BuiltItem) → Decides (⟦<BuiltItem as PartialEq>⟧.eq a b) (a ≡ b) }
+{}
+
+/// The same text hashes alike, wherever it lies in memory.
+pub fn equal_texts_hash_alike()
+    ensures { (s t : LineString) → line_text s ≡ line_text t →
+        ⟦<LineString as Hash>⟧.hash_input s ≡ ⟦<LineString as Hash>⟧.hash_input t }
 {}

@@ -1,10 +1,24 @@
-//! Laws of what is written.
+//! Laws of what is written, and of equality.
 
 ghost use Rattle.std.specs.Prelude.{◌≡◌, ◌≢◌, ℕ, ◌+◌, ◌<◌, ◌≤◌, ◌^◌, ℤ, List, ◌∷◌, ◌++◌, length, drop, Some, All, slice_get, FitsSigned};
+ghost use Rattle.std.specs.Bool.{Decides};
 ghost use Rattle.std.specs.Int.{w64};
 ghost use Rattle.gimli_core.specs.Numbers.{SpellsUleb128, SpellsSleb128, IsShortest};
 ghost use Rattle.gimli_bytes.specs.Number.{uleb, sleb};
+ghost use Rattle.gimli_bytes.specs.declared.address.Address.{Address};
+ghost use Rattle.gimli_bytes.specs.declared.str.StringId.{StringId};
+ghost use Rattle.gimli_bytes.specs.declared.str.LineStringId.{LineStringId};
 ghost use Rattle.gimli_bytes.specs.Texts.{AreTexts, with_text, table_bytes, byte_count, offset_of};
+
+use crate::address::Address;
+use crate::str::{LineStringId, StringId};
+
+/// `==` holds of two addresses, and of two ids, exactly where all their parts agree.
+pub fn equal_addresses_and_ids()
+    ensures address { (a b : Address) → Decides (⟦<Address as PartialEq>⟧.eq a b) (a ≡ b) }
+    ensures string { (a b : StringId) → Decides (⟦<StringId as PartialEq>⟧.eq a b) (a ≡ b) }
+    ensures line_string { (a b : LineStringId) → Decides (⟦<LineStringId as PartialEq>⟧.eq a b) (a ≡ b) }
+{}
 
 /// What `write_uleb128` appends is a spelling of the number, and no other is shorter.
 pub fn uleb_is_shortest()

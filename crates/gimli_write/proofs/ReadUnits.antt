@@ -1,8 +1,9 @@
 -- A unit that is read: it has one header, and no fault.
-use Rattle.std.proofs.Common.{◌≡◌, ◌≢◌, ℕ, ◌<◌, ◌^◌, Bool, List, [], ◌∷◌, length, drop, refl, sym, ap, ◌∙◌, subst, inl, inr, arith}
+use Rattle.std.proofs.Common.{◌≡◌, ◌≢◌, ℕ, ◌<◌, ◌^◌, Bool, List, [], ◌∷◌, length, drop, get_or, ◌+◌, refl, sym, ap, ◌∙◌, subst, inl, inr, arith}
 use Rattle.std.specs.Prelude.{All, Result, Option, Some, None, IfOk, IfErr}
 use Rattle.std.proofs.lemmas.List.{length-drop, append-nil}
 use Rattle.std.proofs.lemmas.List.Elements.{All-nil, All-cons}
+use Rattle.std.proofs.lemmas.List.Sums.{sum_by-take-le}
 use Rattle.std.proofs.lemmas.Result.{IfOk-weaker, MatchResult-weaker}
 use Rattle.gimli_core.specs.Notation.{Notation}
 use Rattle.gimli_core.specs.Values.{Value}
@@ -12,14 +13,15 @@ use Rattle.gimli_line.specs.header.Header.{Header, UnitEntry}
 use Rattle.gimli_line.specs.header.HeaderGrammar.{SpellsUnit, HasHeaderFault}
 use Rattle.gimli_line.specs.header.File.{File as ReadFile}
 use Rattle.gimli_line.proofs.HeaderLaws.{one_header, no_fault}
-use Rattle.gimli_bytes.specs.Texts.{byte_count}
-use Rattle.gimli_bytes.proofs.TextLemmas.{length-table_bytes}
+use Rattle.gimli_bytes.specs.Texts.{byte_count, offset_of}
 use Rattle.gimli_build.specs.Texts.{Sections, IsOptionalText, OneByOne}
 use Rattle.gimli_write.specs.TextReading.{HasText, HasOptionalText, HasFileTexts}
+use Rattle.gimli_build.specs.LineText.{LineText, Inline, InStrings, InLineStrings}
 use Rattle.gimli_build.specs.Tables.{File}
+use Rattle.gimli_build.specs.Cause.{emitted_texts}
 use Rattle.gimli_build.specs.Built.{Built}
 use Rattle.gimli_build.specs.Stored.{stored}
-use Rattle.gimli_build.specs.ReadsBack.{IsDirectory, IsFile, ReadsBack, IsReadWell, directories_from_zero}
+use Rattle.gimli_build.specs.ReadsBack.{IsDirectory, IsFile, IsOffsetHeld, ReadsBack, IsReadWell, directories_from_zero}
 use Rattle.gimli_write.specs.declared.convert_error.ConvertError.{ConvertError}
 use Rattle.gimli_write.specs.declared.convert_error.ConvertError.TheVariants.{OutOfMemory as NoMemory}
 use Rattle.gimli_write.specs.declared.read_back.RoundTrip.{RoundTrip}
@@ -125,9 +127,21 @@ module _ (big : Bool) (p : Built) (strings line_strings : List (List ℕ)) (sect
     directory = λ _. refl;
     strings_are = refl;
     line_strings_are = refl;
-    sections_held = λ _. (rw (length-table_bytes strings) held.0, rw (length-table_bytes line_strings) held.1);
-    holds = omega (arith, length-drop n section);
+    instructions_held = omega arith;
+    length_held = λ wide. (let rest = length-drop n section in omega (arith, rest));
+    texts_held = λ new wide. all_held (emitted_texts p strings line_strings);
   }
+    where
+      offset_held : (texts : List (List ℕ)) (i : ℕ) → byte_count texts < 2 ^ 64 → offset_of texts i < 2 ^ 64
+      offset_held texts i short = let le = sum_by-take-le (λ (t : List ℕ). length t + 1) texts i in omega (arith, le, short)
+
+      text_held : (t : LineText) → IsOffsetHeld (2 ^ 64) strings line_strings t
+      text_held (Inline text) = tt
+      text_held (InStrings i) = offset_held strings i held.0
+      text_held (InLineStrings i) = offset_held line_strings i held.1
+
+      all_held : (ts : List (ℕ × LineText)) → All (λ t. IsOffsetHeld (2 ^ 64) strings line_strings t.1) ts
+      all_held ts = λ i d lt. text_held (get_or ts i d).1
 
   pub read_back : ReadsBack (slice_notation big) (unit_entry_of p strings line_strings) (sections_of strings line_strings) p strings line_strings (drop n section)
   read_back = whole _ _ _ read_well

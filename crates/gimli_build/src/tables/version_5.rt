@@ -1,10 +1,10 @@
 //! The tables of a unit of version 5: each stands behind the formats of its entries and their number.
 
-ghost use Rattle.std.specs.Prelude.{◌≡◌, ◌≤◌, true, [], ◌∷◌, ◌++◌, length, map, if◌then◌else◌, nat_eq, IfOk, IfErr, IfSome, OnOk, OnErr, Ok, Err, Some, None, All, unwrap_or};
+ghost use Rattle.std.specs.Prelude.{◌≡◌, ◌<◌, ◌≤◌, ◌^◌, true, [], ◌∷◌, ◌++◌, length, map, if◌then◌else◌, nat_eq, IfOk, IfErr, IfSome, OnOk, OnErr, Ok, Err, Some, None, All, unwrap_or};
 ghost use Rattle.std.specs.Option.{is_none};
 ghost use Rattle.std.specs.List.{list_any};
 ghost use Rattle.gimli_bytes.specs.Number.{uleb};
-ghost use Rattle.gimli_bytes.specs.Texts.{AreTexts, with_text};
+ghost use Rattle.gimli_bytes.specs.Texts.{AreTexts, byte_count, with_text};
 ghost use Rattle.gimli_bytes.specs.declared.error.Error.TheVariants.{OutOfMemory};
 ghost use Rattle.gimli_build.specs.LineText.{Inline, line_text, IsWithin};
 ghost use Rattle.gimli_build.specs.Tables.{FitsFile};
@@ -18,7 +18,7 @@ ghost use Rattle.gimli_build.specs.Writes.{Writes};
 use crate::built::files::{DirectoryId, FileInfo, FileTable};
 use crate::built::line_program::LineProgram;
 use crate::built::line_string::LineString;
-use crate::bytes::{write_byte, write_text};
+use crate::bytes::{write_byte, write_section_offset, write_text};
 use gimli_bytes::{Error, LineStringTable, Result, StringTable, Writer};
 use gimli_core::{DwForm, DwLnct, Format, SectionId, constants};
 
@@ -37,6 +37,8 @@ pub(crate) fn add_empty_source(
         StandsForNone program.now strings.new line_strings.new (line_text empty)) }
     ensures texts { OnOk result (AreTexts strings.new) }
     ensures line_texts { OnOk result (AreTexts line_strings.new) }
+    ensures short { OnOk result (byte_count strings.new < 2 ^ 64) }
+    ensures line_short { OnOk result (byte_count line_strings.new < 2 ^ 64) }
     ensures strings_kept { OnErr result (strings.new ≡ strings.old) }
     ensures line_strings_kept { OnErr result (line_strings.new ≡ line_strings.old) }
     ensures memory { IfErr result (λ e. e ≡ OutOfMemory) }
@@ -239,16 +241,15 @@ fn write_line_string<W: Writer>(
     if text.form() != form {
         return Err(Error::LineStringFormMismatch);
     }
-    let size = format.word_size();
     match text {
         LineString::String(text) => write_text(w, text.as_slice()),
-        LineString::StringRef(id) => w.write_offset(
-            strings.offset(*id).0,
-            SectionId::DebugStr,
-            size,
-        ),
+        LineString::StringRef(id) => {
+            let offset = strings.offset(*id);
+            write_section_offset(w, format, offset.0, SectionId::DebugStr)
+        }
         LineString::LineStringRef(id) => {
-            w.write_offset(line_strings.offset(*id).0, SectionId::DebugLineStr, size)
+            let offset = line_strings.offset(*id);
+            write_section_offset(w, format, offset.0, SectionId::DebugLineStr)
         }
     }
 }

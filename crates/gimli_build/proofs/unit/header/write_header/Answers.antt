@@ -1,13 +1,12 @@
-use Rattle.std.proofs.Common.{◌≡◌, ℕ, List, [], IsTrue, ◌+◌, ◌-◌, ◌≤◌, ◌++◌, length, sym, ap, ◌∙◌, arith, inr}
+use Rattle.std.proofs.Common.{◌≡◌, ℕ, List, [], IsTrue, ◌+◌, ◌-◌, ◌<◌, ◌≤◌, ◌^◌, ◌++◌, length, sym, ap, ◌∙◌, arith, inr}
 use Rattle.std.specs.Prelude.{Result}
 use Rattle.std.proofs.lemmas.List.{append-nil}
-use Rattle.gimli_core.specs.Numbers.{word_size}
-use Rattle.gimli_bytes.specs.Number.{udata}
 use Rattle.gimli_bytes.specs.Written.{Appends}
 use Rattle.gimli_bytes.specs.declared.error.Error.{Error}
+use Rattle.gimli_build.specs.FormatWord.{format_word}
 use Rattle.gimli_build.specs.Unit.{fields_bytes}
 use Rattle.gimli_build.proofs.Joined.{on_ok, if_err, begins_then, begins_before}
-use Rattle.gimli_build.proofs.Frames.{framed, frame_refused, open_word, zero_word, no_escape, header_word_long}
+use Rattle.gimli_build.proofs.Frames.{framed, frame_refused, open_word, word_is, zero_word, no_escape, header_word_long}
 use Rattle.gimli_build.proofs.unit.header.write_header.Goals as goal
 
 pub returns-clause-writes : goal.returns-clause-writes
@@ -22,7 +21,7 @@ returns-clause-writes g c =
     let start = c.len-length.result in
     let fields = c.in_ok-write_fields.ensures.writes in
     let n = c.len.result - c.len-start.result in
-    let word : ℕ → Result (List ℕ) Error = λ k. udata big k (word_size format) in
+    let word : ℕ → Result (List ℕ) Error = λ k. format_word big format k in
     let bytes = fields_bytes big c.args.program.now c.args.strings.now c.args.line_strings.now in
     let ordered = fields.ordered ∙ c.in_ok-write_udata.ensures.ordered in
     let opened : IsTrue g.W.Writer.keeps_bytes → c1 ≡ (old ++ []) ++ open_word big format = λ keeps_bytes.
@@ -31,13 +30,15 @@ returns-clause-writes g c =
     let le : length old ≤ start = omega (arith, c.len-length.ensures) in
     let written : IsTrue g.W.Writer.keeps_bytes → Appends bytes c1 c2 = λ keeps_bytes. rw c.in_ok-write_udata.ensures.ordered at (fields.ok keeps_bytes) in
     let counted : n ≡ length c2 - length c1 = omega (arith, c.len.ensures, c.len-start.ensures) in
+    let small : n < 2 ^ 64 = omega arith in
+    let known = word_is big format n small in
     record {
       keeps = begins_before old c2 c3 start (begins_then old c1 c2 c.in_ok-write_udata.ensures.keeps fields.keeps) le c.write_udata_at.ensures.before;
       ordered = c.write_udata_at.ensures.ordered ∙ ordered;
       ok = λ keeps_bytes. on_ok c.write_udata_at.result
           (framed word word [] (open_word big format) old c1 c2 c3 start n bytes (λ k. no_escape (word k)) (opened keeps_bytes) at (written keeps_bytes) counted (λ w is. header_word_long big format n w is))
-          (rw (ordered, c.word_size-size.ensures, c.format.ensures) at (c.write_udata_at.ensures.ok keeps_bytes));
+          (rw (ordered, c.word_size-size.ensures, c.format.ensures, known) at (c.write_udata_at.ensures.ok keeps_bytes));
       err = λ keeps_bytes fails_for_memory_alone. if_err c.write_udata_at.result
           (λ e refused. inr (frame_refused word word [] (open_word big format) old c1 c2 c3 start n bytes (λ k. no_escape (word k)) (opened keeps_bytes) at (written keeps_bytes) counted (λ w is. header_word_long big format n w is) e refused))
-          (rw (ordered, c.word_size-size.ensures, c.format.ensures) at (c.write_udata_at.ensures.err fails_for_memory_alone));
+          (rw (ordered, c.word_size-size.ensures, c.format.ensures, known) at (c.write_udata_at.ensures.err fails_for_memory_alone));
     }

@@ -1,7 +1,7 @@
 use Rattle.std.proofs.Common.{rules, ◌≡◌, ◌<◌, ◌^◌, false, length, Ok, ap, ◌∙◌, arith, length-append}
 use Rattle.std.proofs.lemmas.Result.{err_from_is_err_and}
 use Rattle.gimli_bytes.specs.Written.{Appends}
-use Rattle.gimli_bytes.specs.Texts.{AreTexts}
+use Rattle.gimli_bytes.specs.Texts.{AreTexts, byte_count}
 use Rattle.gimli_build.specs.Joined.{RefusesFor}
 use Rattle.gimli_build.specs.Version5Tables.{strings_behind, line_strings_behind}
 use Rattle.gimli_build.specs.Unit.{whole_bytes, unit_bytes, is_incompatible}
@@ -26,6 +26,8 @@ returns-clause-reads_back g c = λ keeps_bytes.
     let line_same = c.in_ok-empty.ensures.line_strings in
     let texts : AreTexts (strings_behind p strings) = rw same at c.in_ok-empty.ensures.texts in
     let line_texts : AreTexts (line_strings_behind p line_strings) = rw line_same at c.in_ok-empty.ensures.line_texts in
+    let held : byte_count (strings_behind p strings) < 2 ^ 64 = rw same at c.in_ok-empty.ensures.short in
+    let line_held : byte_count (line_strings_behind p line_strings) < 2 ^ 64 = rw line_same at c.in_ok-empty.ensures.line_short in
     let written = rw (same, line_same) at (c.in_ok-write_whole.ensures.writes.ok keeps_bytes) in
     let a = appended_bytes (whole_bytes big p (strings_behind p strings) (line_strings_behind p line_strings)) (contents c.args.w.now.0) (contents c.write_whole.new.w) written in
     let compatible : is_incompatible c.args.encoding p.encoding ≡ false = search rules in
@@ -36,7 +38,7 @@ returns-clause-reads_back g c = λ keeps_bytes.
       a.0,
       a.2,
       λ notation unit_entry sections well.
-          reads-back notation unit_entry sections big c.args.encoding p strings line_strings a.0 short c.in_ok-write_whole.ensures.built c.requires texts line_texts is well,
+          reads-back notation unit_entry sections big c.args.encoding p strings line_strings a.0 short c.in_ok-write_whole.ensures.built c.requires texts line_texts held line_held is well,
     )
 
 pub returns-clause-no_cause : goal.returns-clause-no_cause

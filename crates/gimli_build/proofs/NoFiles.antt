@@ -1,0 +1,202 @@
+-- The instructions of items define no file; and what a run is refused for that defines none.
+use Rattle.std.proofs.Common.{◌≡◌, ℕ, Bool, true, false, not, ◌&&◌, List, [], ◌∷◌, ◌++◌, map, refl, sym, ap, ◌∙◌, append_assoc, if◌then◌else◌, nat_eq, nat_le, inl, inr, true≢false}
+use Rattle.std.specs.Prelude.{All, Option, None, ℤ, pos, ◌-ℤ◌, ◌*◌, ◌+◌, ◌-◌}
+use Rattle.std.proofs.lemmas.List.{append-nil}
+use Rattle.std.proofs.lemmas.List.Elements.{All-nil, All-cons, All-head, All-tail, All-append}
+use Rattle.gimli_core.specs.Notation.{Notation}
+use Rattle.gimli_core.specs.Production.{Each}
+use Rattle.gimli_core.specs.declared.common.LineEncoding.{LineEncoding}
+use Rattle.gimli_core.specs.declared.error.Error.{Error}
+use Rattle.gimli_core.specs.declared.error.Error.TheVariants.{AddressOverflow}
+use Rattle.gimli_line.specs.header.File.{File}
+use Rattle.gimli_line.specs.header.Header.{Header, bare}
+use Rattle.gimli_line.specs.header.Parameters.{Parameters}
+use Rattle.gimli_line.specs.declared.run.row.LineRow.{LineRow as ReadRow}
+use Rattle.gimli_line.specs.declared.run.instruction.LineInstruction.TheVariants.{Special, Copy, AdvancePc, AdvanceLine, SetFile, SetColumn, NegateStatement, SetBasicBlock, ConstAddPc, SetPrologueEnd, SetEpilogueBegin, SetIsa, EndSequence, SetDiscriminator, SetAddress as ReadAddress}
+use Rattle.gimli_line.specs.run.Instruction.{Ins, defines_file, makes_row}
+use Rattle.gimli_line.specs.run.InstructionGrammar.{SpellsInstruction, Decodes}
+use Rattle.gimli_line.specs.run.InstructionReading.{decoded_at}
+use Rattle.gimli_line.specs.run.Events.{Event, row, fault}
+use Rattle.gimli_line.specs.run.EventsWithFiles.{EventWithFiles, events_with_files_from, next_registers}
+use Rattle.gimli_line.specs.run.Instruction.{files_behind}
+use Rattle.gimli_line.specs.run.Sequences.{events_of}
+use Rattle.gimli_line.specs.run.Machine.{is_refused, stepped}
+use Rattle.gimli_line.specs.run.RunState.{RunState}
+use Rattle.gimli_line.specs.run.Progress.{ready, Progress}
+use Rattle.gimli_line.specs.run.Rows.{events_left, started, WantsMemory, FaultIs}
+use Rattle.gimli_line.proofs.InstructionLaws.{is_decoded, one_decoding}
+use Rattle.gimli_build.specs.declared.built.row.LineRow.{LineRow}
+use Rattle.gimli_build.specs.declared.built.items.BuiltItem.{BuiltItem}
+use Rattle.gimli_build.specs.declared.built.items.BuiltItem.TheVariants.{SetAddress, Row, End}
+use Rattle.gimli_build.specs.Advance.{operations}
+use Rattle.gimli_build.specs.Built.{address_value}
+use Rattle.gimli_build.specs.FileNumber.{file_number}
+use Rattle.gimli_build.specs.Encode.{when, differ, marks, changes, is_special_advance, line_opcode, line_part, still_opcode, constant_advance, row_maker, operation_part, row_instructions, end_instructions}
+use Rattle.gimli_build.specs.Items.{next_previous, item_instructions, items_instructions}
+use Rattle.gimli_build.specs.NoFiles.{DefinesNoFile}
+
+-- ---- the instructions of items
+
+abbrev NoFile : Ins → Type 0
+NoFile i = defines_file i ≡ false
+
+none_when : (due : Bool) (i : Ins) → NoFile i → All NoFile (when due i)
+none_when true i none = All-cons NoFile i [] none (All-nil NoFile)
+none_when false i none = All-nil NoFile
+
+four_when : (a b c d : Bool) (i j k l : Ins) → NoFile i → NoFile j → NoFile k → NoFile l → All NoFile (when a i ++ when b j ++ when c k ++ when d l)
+four_when a b c d i j k l p q r s =
+    All-append NoFile (when a i ++ when b j ++ when c k) (when d l)
+    (All-append NoFile (when a i ++ when b j) (when c k)
+    (All-append NoFile (when a i) (when b j) (none_when a i p) (none_when b j q)) (none_when c k r)) (none_when d l s)
+
+marks_none : (r : LineRow) → All NoFile (marks r)
+marks_none r =
+    four_when (not (nat_eq r.discriminator 0)) r.basic_block r.prologue_end r.epilogue_begin
+    (SetDiscriminator r.discriminator) SetBasicBlock SetPrologueEnd SetEpilogueBegin refl refl refl refl
+
+changes_none : (version : ℕ) (previous r : LineRow) → All NoFile (changes version previous r)
+changes_none version previous r =
+    four_when (differ r.is_statement previous.is_statement) (not (nat_eq r.file previous.file)) (not (nat_eq r.column previous.column)) (not (nat_eq r.isa previous.isa))
+    NegateStatement (SetFile (file_number version r.file)) (SetColumn r.column) (SetIsa r.isa) refl refl refl refl
+
+line_none : (e : LineEncoding) (d : ℤ) → All NoFile (line_part e d)
+line_none e d = by (is_special_advance e d)
+  where
+    by : (b : Bool) → All NoFile (if b then [] else AdvanceLine d ∷ [])
+    by true = All-nil NoFile
+    by false = All-cons NoFile (AdvanceLine d) [] refl (All-nil NoFile)
+
+maker_none : (e : LineEncoding) (s : ℕ) → NoFile (row_maker e s)
+maker_none e s = by (nat_eq s (still_opcode e))
+  where
+    by : (b : Bool) → NoFile (if b then Copy else Special s)
+    by true = refl
+    by false = refl
+
+operation_none : (e : LineEncoding) (s n : ℕ) → All NoFile (operation_part e s n)
+operation_none e s n =
+    by (nat_le (s + n * e.line_range) 255) (nat_le (s + (n - constant_advance e) * e.line_range) 255)
+    (row_maker e (s + n * e.line_range)) (row_maker e (s + (n - constant_advance e) * e.line_range)) (row_maker e s)
+    (maker_none e (s + n * e.line_range)) (maker_none e (s + (n - constant_advance e) * e.line_range)) (maker_none e s)
+  where
+    by : (b c : Bool) (i j k : Ins) → NoFile i → NoFile j → NoFile k
+        → All NoFile (if b then i ∷ [] else (if c then ConstAddPc ∷ j ∷ [] else AdvancePc n ∷ k ∷ []))
+    by true c i j k p q r = All-cons NoFile i [] p (All-nil NoFile)
+    by false true i j k p q r = All-cons NoFile ConstAddPc (j ∷ []) refl (All-cons NoFile j [] q (All-nil NoFile))
+    by false false i j k p q r = All-cons NoFile (AdvancePc n) (k ∷ []) refl (All-cons NoFile k [] r (All-nil NoFile))
+
+row_none : (version : ℕ) (e : LineEncoding) (previous r : LineRow) → All NoFile (row_instructions version e previous r)
+row_none version e previous r =
+    let d = pos r.line -ℤ pos previous.line in
+    let n = operations e previous.address_offset previous.op_index r.address_offset r.op_index in
+    let s = line_opcode e d in
+    All-append NoFile (marks r ++ changes version previous r ++ line_part e d) (operation_part e s n)
+    (All-append NoFile (marks r ++ changes version previous r) (line_part e d)
+    (All-append NoFile (marks r) (changes version previous r) (marks_none r) (changes_none version previous r)) (line_none e d)) (operation_none e s n)
+
+end_none : (e : LineEncoding) (previous : LineRow) (offset op_index : ℕ) → All NoFile (end_instructions e previous offset op_index)
+end_none e previous offset op_index =
+    let n = operations e previous.address_offset previous.op_index offset op_index in
+    All-append NoFile (when (not (nat_eq n 0)) (AdvancePc n)) (EndSequence ∷ [])
+    (none_when (not (nat_eq n 0)) (AdvancePc n) refl) (All-cons NoFile EndSequence [] refl (All-nil NoFile))
+
+item_none : (version : ℕ) (e : LineEncoding) (previous : LineRow) (item : BuiltItem) → All NoFile (item_instructions version e previous item)
+item_none version e previous (SetAddress a) = All-cons NoFile (ReadAddress (address_value a)) [] refl (All-nil NoFile)
+item_none version e previous (Row r) = row_none version e previous r
+item_none version e previous (End offset op_index) = end_none e previous offset op_index
+
+pub items-none : (version : ℕ) (e : LineEncoding) (previous : LineRow) (items : List BuiltItem) → All (λ i. defines_file i ≡ false) (items_instructions version e previous items)
+items-none version e previous [] = All-nil NoFile
+items-none version e previous (item ∷ items) =
+    let next = next_previous version e.default_is_stmt previous item in
+    All-append NoFile (item_instructions version e previous item) (items_instructions version e next items)
+    (item_none version e previous item) (items-none version e next items)
+
+-- ---- what is left of a program
+
+module _ (notation : Notation) (h : Header) where
+  abbrev Spelled : List ℕ → List Ins → Type 0
+  Spelled bytes list = Each (SpellsInstruction notation h) bytes list
+
+  each_joined : (front behind : List ℕ) (list more : List Ins) → Spelled front list → Spelled behind more → Spelled (front ++ behind) (list ++ more)
+  each_joined front behind [] more s t = rw s t
+  each_joined front behind (i ∷ list) more s t =
+      (s.0, s.1 ++ behind, ap (λ (xs : List ℕ). xs ++ behind) s.2 ∙ append_assoc s.0 s.1 behind, s.3, each_joined s.1 behind list more s.4 t)
+
+  -- what stands behind whole instructions of a program is the rest of it
+  pub rest_decoded : (bytes front rest : List ℕ) (list passed : List Ins) → Decodes notation h bytes list None → bytes ≡ front ++ rest → Spelled front passed
+      → (more : List Ins) × (list ≡ passed ++ more) × Decodes notation h rest more None
+  rest_decoded bytes front rest list passed all parts spelled =
+      let more = (decoded_at notation h rest).0 in
+      let end = (decoded_at notation h rest).1 in
+      let own = is_decoded notation h rest in
+      let joined : Decodes notation h bytes (passed ++ more) end = record {
+        front = front ++ own.front;
+        rest = own.rest;
+        parts = parts ∙ ap (λ (xs : List ℕ). front ++ xs) own.parts ∙ sym (append_assoc front own.front own.rest);
+        spelled = each_joined front own.front passed more spelled own.spelled;
+        ended = own.ended;
+      } in
+      let same : (list, None) ≡ (passed ++ more, end) = one_decoding notation h bytes list None all ∙ sym (one_decoding notation h bytes (passed ++ more) end joined) in
+      let ended : end ≡ None = sym (ap (λ (p : List Ins × Option Error). p.1) same) in
+      (more, ap (λ (p : List Ins × Option Error). p.0) same, rw ended at own)
+
+last_none : (passed more : List Ins) → All NoFile (passed ++ more) → All NoFile more
+last_none [] more all = all
+last_none (i ∷ passed) more all = last_none passed more (All-tail NoFile i (passed ++ more) all)
+
+-- a run that has gone on still defines no file
+pub goes-none : (a b : RunState) (events : List Event) → DefinesNoFile a → Progress a b events → DefinesNoFile b
+goes-none a b events none p =
+    let rest = rest_decoded a.unread.notation a.fixed a.unread.bytes p.front b.unread.bytes none.list p.list none.decoding p.parts p.spelled in
+    let all : All NoFile (p.list ++ rest.0) = rw rest.1 at none.none in
+    record { list = rest.0; decoding = rw (p.notation, p.fixed) rest.2; none = last_none p.list rest.0 all }
+
+-- ---- refusals
+
+no_memory : (a b : RunState) → DefinesNoFile a → WantsMemory a b → ⊥
+no_memory a b none wants =
+    let place = goes-none a wants.place [] none wants.passed in
+    let rest = rest_decoded wants.place.unread.notation wants.place.fixed wants.place.unread.bytes wants.front wants.rest place.list (wants.definition ∷ []) place.decoding wants.parts
+    (wants.front, [], sym (append-nil wants.front), wants.spelled, refl) in
+    let all : All NoFile (wants.definition ∷ rest.0) = rw rest.1 at place.none in
+    true≢false (sym wants.defines ∙ All-head NoFile wants.definition rest.0 all)
+
+-- the only fault of whole instructions
+only_overflow : (appends : Bool) (parameters : Parameters) (r : ReadRow) (files seen : List File) (list : List Ins) (rest : List EventWithFiles) (e : Error)
+    → events_with_files_from appends parameters r files list None ≡ record { event = fault e; files = seen } ∷ rest → e ≡ AddressOverflow
+only_overflow appends parameters r files seen [] rest e is = absurd cc
+only_overflow appends parameters r files seen (i ∷ list) rest e is =
+    by (is_refused parameters i r) (makes_row i && not r.hidden) (events_with_files_from appends parameters (next_registers parameters i r) (files_behind appends i files) list None)
+    (only_overflow appends parameters (next_registers parameters i r) (files_behind appends i files) seen list rest e) is
+  where
+    by : (refused made : Bool) (behind : List EventWithFiles) → (behind ≡ record { event = fault e; files = seen } ∷ rest → e ≡ AddressOverflow)
+        → map (λ e. let t : EventWithFiles = record { event = e; files = files } in t)
+        (if refused then fault AddressOverflow ∷ [] else (if made then row (stepped parameters i r) ∷ [] else [])) ++ behind ≡ record { event = fault e; files = seen } ∷ rest
+        → e ≡ AddressOverflow
+    by true made behind next is = let first = ap events_of is in cc
+    by false true behind next is = let first = ap events_of is in absurd cc
+    by false false behind next is = next is
+
+pub refused-none : (a b : RunState) (e : Error) → DefinesNoFile a → FaultIs (ready a) b e → e ≡ AddressOverflow
+refused-none a b e none (inl memory) = absurd (no_memory (ready a) b (record { list = none.list; decoding = none.decoding; none = none.none }) memory.1)
+refused-none a b e none (inr next) =
+    let same = one_decoding a.unread.notation a.fixed a.unread.bytes none.list None none.decoding in
+    let whole = ap (λ (p : List Ins × Option Error). events_with_files_from a.appends a.fixed.parameters (ready a).row a.files p.0 p.1) same in
+    only_overflow a.appends a.fixed.parameters (ready a).row a.files b.files none.list (events_left b) e (whole ∙ next)
+
+-- ---- a program from its start
+
+-- files have no part in how instructions are spelled
+bare_each : (notation : Notation) (h : Header) (front : List ℕ) (list : List Ins) → Each (SpellsInstruction notation h) front list → Each (SpellsInstruction notation (bare h)) front list
+bare_each notation h front [] s = s
+bare_each notation h front (i ∷ list) s = (s.0, s.1, s.2, s.3, bare_each notation h s.1 list s.4)
+
+pub starts-none : (notation : Notation) (h : Header) (appends : Bool) (offset : ℕ) (list : List Ins) → Decodes notation h h.program list None → All (λ i. defines_file i ≡ false) list
+    → DefinesNoFile (started appends h notation offset (record { bytes = h.program; notation = notation }))
+starts-none notation h appends offset list d none = record {
+  list = list;
+  decoding = record { front = d.front; rest = d.rest; parts = d.parts; spelled = bare_each notation h d.front list d.spelled; ended = d.ended };
+  none = none;
+}

@@ -1,0 +1,5 @@
+use Rattle.gimli_build.proofs.Equality.{row-Decides, item-Decides}
+use Rattle.gimli_build.proofs.laws.equal_rows_and_items.Goals as goal
+
+pub returns : goal.returns
+returns c = record { row = row-Decides; item = item-Decides }

@@ -1,0 +1,5 @@
+use Rattle.gimli_build.proofs.NoFiles.{items-none}
+use Rattle.gimli_build.proofs.laws.items_define_no_file.Goals as goal
+
+pub returns : goal.returns
+returns c = items-none
