@@ -184,7 +184,7 @@ refused-none a b e none (inl memory) = absurd (no_memory (ready a) b (record { l
 refused-none a b e none (inr next) =
     let same = one_decoding a.unread.notation a.fixed a.unread.bytes none.list None none.decoding in
     let whole = ap (λ (p : List Ins × Option Error). events_with_files_from a.appends a.fixed.parameters (ready a).row a.files p.0 p.1) same in
-    only_overflow a.appends a.fixed.parameters (ready a).row a.files b.files none.list (events_left b) e (whole ∙ next)
+    only_overflow a.appends a.fixed.parameters (ready a).row a.files b.files none.list (events_left b) e (whole ∙ next.0)
 
 -- ---- a program from its start
 
