@@ -6,6 +6,7 @@ use Rattle.gimli_core.specs.declared.endianity.RunTimeEndian.TheVariants.{Little
 use Rattle.line_commands.specs.declared.words.AddressSize.{AddressSize}
 use Rattle.line_commands.specs.declared.words.AddressSize.TheVariants.{One, Two, Four, Eight}
 use Rattle.line_commands.specs.declared.words.Place.{Place}
+use Rattle.line_commands.specs.declared.words.Numbers.{Numbers}
 use Rattle.line_commands.specs.declared.words.Command.{Command}
 use Rattle.line_commands.specs.declared.words.Command.TheVariants.{Demo, Rows, Sequences, Units}
 
@@ -36,6 +37,11 @@ pub record NamesPlace (order size offset : List ℕ) (place : Place) : Type 0 wh
   pub offset_named : place.offset ≡ digits_value 10 offset
   pub offset_fits : place.offset < 2 ^ 64
 
+-- these two words say how numbers are read: an order and a size
+pub record NamesNumbers (order size : List ℕ) (numbers : Numbers) : Type 0 where
+  pub order_named : order ≡ order_word numbers.order
+  pub size_named : size ≡ size_word numbers.address_size
+
 -- these words are a command
 abbrev pub IsCommand : List (List ℕ) → Command → Type 0
 IsCommand words Demo = words ≡ codes "demo" ∷ []
@@ -43,8 +49,8 @@ IsCommand words (Rows place) = (file order size offset : List ℕ)
     × (words ≡ codes "rows" ∷ file ∷ order ∷ size ∷ offset ∷ []) × NamesPlace order size offset place
 IsCommand words (Sequences place) = (file order size offset : List ℕ)
     × (words ≡ codes "sequences" ∷ file ∷ order ∷ size ∷ offset ∷ []) × NamesPlace order size offset place
-IsCommand words (Units order size) = (file : List ℕ)
-    × (words ≡ codes "units" ∷ file ∷ order_word order ∷ size_word size ∷ [])
+IsCommand words (Units numbers) = (file order size : List ℕ)
+    × (words ≡ codes "units" ∷ file ∷ order ∷ size ∷ []) × NamesNumbers order size numbers
 
 -- a command that prints what stands in a file
 abbrev pub ReadsFile : Command → Type 0

@@ -55,9 +55,9 @@ fn perform<F: Read + Drop, O: Write>(
             let section = read_section(alloc, file)?;
             print_sequences(alloc, &section, place, out)
         }
-        Command::Units(order, address_size) => {
+        Command::Units(numbers) => {
             let section = read_section(alloc, file)?;
-            print_units(alloc, &section, order, address_size, out)
+            print_units(alloc, &section, numbers, out)
         }
     }
 }

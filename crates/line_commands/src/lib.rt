@@ -12,4 +12,4 @@ mod words;
 pub use commands::run;
 pub use print::{RowLine, SequenceLine};
 pub use refusal::Refusal;
-pub use words::{AddressSize, Command, Place};
+pub use words::{AddressSize, Command, Numbers, Place};

@@ -6,8 +6,8 @@ ghost use Rattle.line_commands.specs.Units.{offset_behind};
 use crate::print::{finished, print_line};
 use crate::refusal::Refusal;
 use crate::section::program_at;
-use crate::words::{AddressSize, Place};
-use gimli_core::{Format, Reader, RunTimeEndian};
+use crate::words::{Numbers, Place};
+use gimli_core::{Format, Reader};
 use gimli_line::{LineProgram, LineRows};
 use std::alloc::Global;
 use std::fmt;
@@ -35,13 +35,12 @@ impl fmt::Display for UnitLine {
 pub(crate) fn print_units<O: Write>(
     alloc: Global,
     section: &[u8],
-    order: RunTimeEndian,
-    address_size: AddressSize,
+    numbers: Numbers,
     out: &mut O,
 ) -> Result<(), Refusal>
     ensures refusal { IfErr result (λ r. r ≢ Refusal.Usage) }
 {
-    let outcome = print_each(alloc, section, order, address_size, out);
+    let outcome = print_each(alloc, section, numbers, out);
     finished(outcome, out)
 }
 
@@ -49,8 +48,7 @@ pub(crate) fn print_units<O: Write>(
 fn print_each<O: Write>(
     alloc: Global,
     section: &[u8],
-    order: RunTimeEndian,
-    address_size: AddressSize,
+    numbers: Numbers,
     out: &mut O,
 ) -> Result<(), Refusal>
     ensures refusal { IfErr result (λ r. r ≢ Refusal.Usage) }
@@ -58,8 +56,8 @@ fn print_each<O: Write>(
     let mut offset = 0;
     'units: while offset < section.len() {
         let place = Place {
-            order,
-            address_size,
+            order: numbers.order,
+            address_size: numbers.address_size,
             offset,
         };
         let program = program_at(alloc, section, place)?;

@@ -16,7 +16,7 @@ pub enum Command {
     /// Prints the sequences of a unit, each with its rows.
     Sequences(Place),
     /// Prints a line for each unit of a section.
-    Units(RunTimeEndian, AddressSize),
+    Units(Numbers),
 }
 
 /// Where a unit stands in a section, and how its numbers are read.
@@ -28,6 +28,15 @@ pub struct Place {
     pub address_size: AddressSize,
     /// The offset of the unit in the section.
     pub offset: usize,
+}
+
+/// How the numbers of a section are read.
+#[derive(Clone, Copy, Debug, PartialEq, Eq)]
+pub struct Numbers {
+    /// The order of bytes.
+    pub order: RunTimeEndian,
+    /// How wide an address is.
+    pub address_size: AddressSize,
 }
 
 /// How wide an address is.
@@ -74,7 +83,7 @@ impl Command {
                 Some(Command::Sequences(Place::parse(order, size, offset)?))
             }
             ["units", _file, order, size] => {
-                Some(Command::Units(parse_order(order)?, parse_size(size)?))
+                Some(Command::Units(Numbers::parse(order, size)?))
             }
             _ => None,
         }
@@ -96,6 +105,23 @@ impl Place {
             order,
             address_size,
             offset,
+        })
+    }
+}
+
+impl Numbers {
+    ghost use Rattle.line_commands.specs.Words.{NamesNumbers};
+
+    /// What two words say of the numbers of a section.
+    fn parse(order: &str, size: &str) -> Option<Numbers>
+        ensures named { IfSome result (NamesNumbers order.now size.now) }
+        ensures only { (numbers : Numbers) → NamesNumbers order.now size.now numbers → result ≡ Some numbers }
+    {
+        let order = parse_order(order)?;
+        let address_size = parse_size(size)?;
+        Some(Numbers {
+            order,
+            address_size,
         })
     }
 }

@@ -37,3 +37,11 @@ returns-in_ok-parse-in-sequences-clause-command c =
     let is_sequences = c.in-sequences.is-sequences in
     let whole = five words d c.in-sequences.len_at_least c.in-sequences.len_below in
     ((get_or words 1 d).now, (get_or words 2 d).now, (get_or words 3 d).now, (get_or words 4 d).now, cc, c.in_ok-parse-in-sequences.ensures.named)
+
+pub returns-in_ok-parse-in-units-clause-command : goal.returns-in_ok-parse-in-units-clause-command
+returns-in_ok-parse-in-units-clause-command c =
+    let words = c.args.words.now in
+    let d : Bor (List ℕ) = record { ref_ptr = (0, 0); now = [] } in
+    let is_units = c.in-units.is-units in
+    let whole = four words d c.in-units.len_at_least c.in-units.len_below in
+    ((get_or words 1 d).now, (get_or words 2 d).now, (get_or words 3 d).now, cc, c.in_ok-parse-in-units.ensures.named)
