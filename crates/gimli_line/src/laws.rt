@@ -2,6 +2,7 @@
 //! a run gives.
 
 ghost use Rattle.std.specs.Prelude.{◌≡◌, ◌≢◌, ◌≤◌, ◌⊎◌, ◌+◌, ℕ, List, [], Option, length};
+ghost use Rattle.gimli_core.specs.Equality.{IsExact};
 ghost use Rattle.gimli_core.specs.Notation.{Notation};
 ghost use Rattle.gimli_core.specs.declared.common.Format.{Format};
 ghost use Rattle.gimli_core.specs.declared.error.Error.{Error};
@@ -14,6 +15,12 @@ ghost use Rattle.gimli_line.specs.run.Machine.{run, initial};
 ghost use Rattle.gimli_line.specs.run.NonDecreasing.{AreOneSequence, NeverBelow};
 ghost use Rattle.gimli_line.specs.header.Parameters.{Parameters};
 ghost use Rattle.gimli_line.specs.declared.header.file_entry.FileEntryFormat.{FileEntryFormat};
+
+use crate::header::file_entry::{FileEntry, FileEntryFormat};
+use crate::run::instruction::LineInstruction;
+use crate::run::row::LineRow;
+use gimli_core::laws::equal_values_are_same;
+use gimli_core::{AttributeValue, Reader};
 
 /// Bytes begin with a unit, or they have a refusal.
 pub fn unit_or_refusal()
@@ -74,3 +81,38 @@ pub fn machine_gives_events()
 pub fn addresses_never_go_down()
     ensures { (parameters : Parameters) (past list : List Ins) → AreOneSequence list → NeverBelow 0 (events_behind parameters past list) }
 {}
+
+/// `==` of the formats of tables, and of rows, holds exactly where all parts of the two agree.
+pub fn equal_parts_are_same()
+    ensures formats { IsExact ⟦<FileEntryFormat as PartialEq>⟧.eq }
+    ensures rows { IsExact ⟦<LineRow as PartialEq>⟧.eq }
+{}
+
+/// `==` of files holds exactly where all their parts agree, if this is so of readers and of offsets.
+pub fn equal_files_are_same<R: Reader + PartialEq>()
+    ensures { IsExact R.eq → IsExact R.Offset.eq → IsExact ⟦<FileEntry<R> as PartialEq>⟧.eq }
+{
+    equal_values_are_same::<R>();
+    equal_sources_are_same::<R>();
+    equal_digests_are_same();
+}
+
+/// The same of the source texts of files.
+fn equal_sources_are_same<R: Reader + PartialEq>()
+    ensures { IsExact R.eq → IsExact R.Offset.eq → IsExact ⟦<Option<AttributeValue<R>> as PartialEq>⟧.eq }
+{
+    equal_values_are_same::<R>();
+}
+
+/// The same of digests.
+fn equal_digests_are_same()
+    ensures { IsExact ⟦<[u8; 16] as PartialEq>⟧.eq }
+{}
+
+/// `==` of instructions holds exactly where they are of one kind and agree in their operands, if this is so of readers
+/// and of offsets.
+pub fn equal_instructions_are_same<R: Reader + PartialEq>()
+    ensures { IsExact R.eq → IsExact R.Offset.eq → IsExact ⟦<LineInstruction<R> as PartialEq>⟧.eq }
+{
+    equal_files_are_same::<R>();
+}
