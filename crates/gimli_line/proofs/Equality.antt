@@ -1,5 +1,5 @@
 -- Two of a type are equal exactly where all their parts are.
-use Rattle.std.proofs.Common.{◌≡◌, Bool, true, false, refl}
+use Rattle.std.proofs.Common.{Bool, true, false, refl}
 use Rattle.std.specs.Prelude.{◌&&◌, Decides}
 
 -- a test, and another one
