@@ -5,3 +5,4 @@ pub mod Values
 pub mod Reading
 pub mod Production
 pub mod Form
+pub mod Equality

@@ -3,10 +3,14 @@
 
 ghost use Rattle.std.specs.Prelude.{ℕ, Bool, ◌<◌, ◌^◌};
 ghost use Rattle.gimli_core.specs.Numbers.{SpellsNumber, number_bytes};
+ghost use Rattle.gimli_core.specs.Equality.{IsExact};
 ghost use Rattle.gimli_core.specs.Notation.{Notation};
 ghost use Rattle.gimli_core.specs.declared.common.Format.{Format};
 ghost use Rattle.gimli_core.specs.Production.{Reads, byte, some_bytes, number, text, unsigned, unsigned_16, signed, offset_word, unit_length};
 ghost use Rattle.gimli_core.specs.Reading.{split_at, byte_at, number_at, text_at, unsigned_at, unsigned_16_at, signed_at, word_at, initial_length_at};
+
+use crate::attribute_value::AttributeValue;
+use crate::reader::Reader;
 
 /// `read_uleb128` takes a spelling of its number, and each that is there, whatever follows.
 pub fn unsigned_numbers()
@@ -59,4 +63,10 @@ pub fn unit_lengths()
 /// What `Endianity::write_u16` to `write_u128` put into a slice spells the number.
 pub fn written_numbers()
     ensures { (big : Bool) (size n : ℕ) → n < 256 ^ size → SpellsNumber big size (number_bytes big size n) n }
+{}
+
+/// `==` of values holds exactly where they are of one form and agree in what they hold, if this is so of readers and of
+/// offsets.
+pub fn equal_values_are_same<R: Reader + PartialEq>()
+    ensures { IsExact R.eq → IsExact R.Offset.eq → IsExact ⟦<AttributeValue<R> as PartialEq>⟧.eq }
 {}

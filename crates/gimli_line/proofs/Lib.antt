@@ -18,3 +18,4 @@ pub mod EventsWithFilesLaws
 pub mod SequenceLaws
 pub mod NonDecreasingLaws
 pub mod Order
+pub mod Equality

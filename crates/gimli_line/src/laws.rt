@@ -3,6 +3,7 @@
 
 ghost use Rattle.std.specs.Prelude.{◌≡◌, ◌≢◌, ◌≤◌, ◌⊎◌, ◌+◌, ℕ, Bool, List, [], Option, Some, length};
 ghost use Rattle.std.specs.Ordering.{nat_cmp};
+ghost use Rattle.gimli_core.specs.Equality.{IsExact};
 ghost use Rattle.gimli_core.specs.Notation.{Notation};
 ghost use Rattle.gimli_core.specs.declared.common.Format.{Format};
 ghost use Rattle.gimli_core.specs.declared.error.Error.{Error};
@@ -23,6 +24,12 @@ ghost use Rattle.gimli_line.specs.declared.header.file_entry.FileEntryFormat.{Fi
 ghost use Rattle.gimli_line.specs.declared.run.row.ColumnType.{ColumnType as Column};
 
 use crate::run::row::ColumnType;
+
+use crate::header::file_entry::{FileEntry, FileEntryFormat};
+use crate::run::instruction::LineInstruction;
+use crate::run::row::LineRow;
+use gimli_core::laws::equal_values_are_same;
+use gimli_core::{AttributeValue, Reader};
 
 /// Bytes begin with a unit, or they have a refusal.
 pub fn unit_or_refusal()
@@ -110,3 +117,38 @@ pub fn one_pointer_list()
     ensures one { (parameters : Parameters) (past : List Ins) (list : List OperationPointer) →
         IsPointerList parameters past list → list ≡ pointers parameters past }
 {}
+
+/// `==` of the formats of tables, and of rows, holds exactly where all parts of the two agree.
+pub fn equal_parts_are_same()
+    ensures formats { IsExact ⟦<FileEntryFormat as PartialEq>⟧.eq }
+    ensures rows { IsExact ⟦<LineRow as PartialEq>⟧.eq }
+{}
+
+/// `==` of files holds exactly where all their parts agree, if this is so of readers and of offsets.
+pub fn equal_files_are_same<R: Reader + PartialEq>()
+    ensures { IsExact R.eq → IsExact R.Offset.eq → IsExact ⟦<FileEntry<R> as PartialEq>⟧.eq }
+{
+    equal_values_are_same::<R>();
+    equal_sources_are_same::<R>();
+    equal_digests_are_same();
+}
+
+/// The same of the source texts of files.
+fn equal_sources_are_same<R: Reader + PartialEq>()
+    ensures { IsExact R.eq → IsExact R.Offset.eq → IsExact ⟦<Option<AttributeValue<R>> as PartialEq>⟧.eq }
+{
+    equal_values_are_same::<R>();
+}
+
+/// The same of digests.
+fn equal_digests_are_same()
+    ensures { IsExact ⟦<[u8; 16] as PartialEq>⟧.eq }
+{}
+
+/// `==` of instructions holds exactly where they are of one kind and agree in their operands, if this is so of readers
+/// and of offsets.
+pub fn equal_instructions_are_same<R: Reader + PartialEq>()
+    ensures { IsExact R.eq → IsExact R.Offset.eq → IsExact ⟦<LineInstruction<R> as PartialEq>⟧.eq }
+{
+    equal_files_are_same::<R>();
+}
