@@ -1,5 +1,5 @@
 -- Rows that are kept: they are what the sequences give, and no more than the program has instructions.
-use Rattle.std.proofs.Common.{◌≡◌, ◌≢◌, ◌⊎◌, ℕ, zero, suc, ◌+◌, ◌<◌, ◌≤◌, ◌^◌, Bool, true, false, not, ◌&&◌, if◌then◌else◌, List, [], ◌∷◌, ◌++◌, length, map, take, refl, sym, ap, subst, ◌∙◌, inl, inr, arith}
+use Rattle.std.proofs.Common.{◌≡◌, ℕ, zero, suc, ◌+◌, ◌<◌, ◌≤◌, ◌^◌, Bool, true, false, not, ◌&&◌, if◌then◌else◌, List, [], ◌∷◌, ◌++◌, length, map, take, refl, sym, ap, subst, ◌∙◌, inl, inr, arith}
 use Rattle.std.specs.Prelude.{Option, None, slice_index_or, sum_by, flat_map}
 use Rattle.std.specs.List.{AllByRecursion, list_any, fold}
 use Rattle.std.proofs.lemmas.Bool.{true≢false}
@@ -94,8 +94,12 @@ at_most_one parameters past i = at_test (overflows parameters past i) (makes_row
 few_events : (parameters : Parameters) (past list : List Ins) → length (events_behind parameters past list) ≤ length list
 few_events parameters past [] = omega arith
 few_events parameters past (i ∷ list) =
-    omega (arith, length-append (events_at parameters past i) (events_behind parameters (i ∷ past) list), at_most_one parameters past i,
-    few_events parameters (i ∷ past) list)
+    omega (
+      arith,
+      length-append (events_at parameters past i) (events_behind parameters (i ∷ past) list),
+      at_most_one parameters past i,
+      few_events parameters (i ∷ past) list,
+    )
 
 few_through : (events : List Event) → length (through_last_end events) ≤ length events
 few_through [] = omega arith

@@ -1,5 +1,5 @@
 -- How many addresses of rows a lookup reads.
-use Rattle.std.specs.Prelude.{ℕ, zero, suc, ◌+◌, ◌/◌, Bool, true, not, ◌&&◌, nat_lt, if◌then◌else◌, List, [], ◌∷◌, length, sum_by}
+use Rattle.std.specs.Prelude.{ℕ, zero, suc, ◌+◌, ◌/◌, Bool, true, not, ◌&&◌, nat_lt, if◌then◌else◌, List, [], ◌∷◌, length}
 use Rattle.gimli_line.specs.declared.run.row.LineRow.{LineRow}
 
 -- no row has an address below the one before it, nor the first below `lowest`

@@ -1,8 +1,8 @@
 //! The rows of a sequence, which count each reading of an address.
 
-ghost use Rattle.std.specs.Prelude.{◌≡◌, ◌≤◌, ◌<◌, ◌+◌, ◌-◌, ◌^◌, length, slice_get, slice_index_or, Some, vec_items};
+ghost use Rattle.std.specs.Prelude.{◌≡◌, ◌<◌, ◌+◌, ◌-◌, ◌^◌, length, slice_get, slice_index_or, Some};
 ghost use Rattle.gimli_line.specs.declared.run.row.LineRow.{LineRow};
-ghost use Rattle.gimli_lookup.specs.Probes.{never_go_below, never_go_down};
+ghost use Rattle.gimli_lookup.specs.Probes.{never_go_down};
 
 use gimli_line::LineRow;
 use std::marker::Model;
@@ -46,10 +46,7 @@ impl KeptRows {
         ensures { result ≡ rows.items }
     {
         let is_in_order = addresses_never_go_down(rows.as_slice());
-        KeptRows {
-            rows,
-            is_in_order,
-        }
+        KeptRows { rows, is_in_order }
     }
 
     /// Whether no row has an address below the one before it.

@@ -1,10 +1,8 @@
 //! The rows of a program, kept so that those that cover an address are found.
 
-ghost use Rattle.std.specs.Prelude.{◌≡◌, ◌≢◌, ◌≤◌, ◌<◌, ◌^◌, List, Option, length, map, sum_by, All, Any, IfErr, IfOk, IfSome, OnOk, MatchOption};
+ghost use Rattle.std.specs.Prelude.{◌≡◌, ◌≢◌, ◌≤◌, ◌<◌, ◌^◌, List, Option, length, map, sum_by, All, Any, IfErr, IfOk, MatchOption};
 ghost use Rattle.std.specs.List.{AllByRecursion};
-ghost use Rattle.gimli_core.specs.Notation.{Notation};
 ghost use Rattle.gimli_core.specs.declared.error.Error.{Error};
-ghost use Rattle.gimli_line.specs.declared.run.row.LineRow.{LineRow};
 ghost use Rattle.gimli_line.specs.run.Events.{row};
 ghost use Rattle.gimli_line.specs.run.Instruction.{Ins};
 ghost use Rattle.gimli_line.specs.run.InstructionGrammar.{Decodes};
@@ -25,7 +23,8 @@ use std::marker::Model;
 /// A program has fewer instructions than a `u64` counts, since it has no more than bytes.
 fn instructions_fit<R: Reader>(program: &IncompleteLineProgram<R>)
     ensures { (list : List Ins) (end : Option Error)
-        → Decodes program.now.notation program.now.meaning program.now.meaning.program list end → length list < 2 ^ 64 }
+        → Decodes program.now.notation program.now.meaning program.now.meaning.program list end
+        → length list < 2 ^ 64 }
 {
     laws::instructions_are_bounded();
     let _bytes = program.header().raw_program_buf().len().into_u64();
@@ -37,7 +36,8 @@ fn rows_of<R: Reader>(
     program: &CompleteLineProgram<R>,
     sequence: &LineSequence<R>,
 ) -> Result<KeptRows>
-    requires { IsSequence (resumed program.now.meaning (part_of sequence.now)) sequence.now.start sequence.now.end }
+    requires { IsSequence (resumed program.now.meaning (part_of sequence.now))
+        sequence.now.start sequence.now.end }
     ensures ok { IfOk result (λ rows. map row rows ≡ resumed program.now.meaning (part_of sequence.now)) }
     ensures err { IfErr result (λ e. e ≡ Error.OutOfMemory) }
 {
@@ -61,7 +61,8 @@ fn rows_of_each<R: Reader>(
     program: &CompleteLineProgram<R>,
     sequences: &[LineSequence<R>],
 ) -> Result<Vec<KeptRows>>
-    requires { AllByRecursion (λ s. IsSequence (resumed program.now.meaning s) s.start s.end) (map part_of sequences.now) }
+    requires { AllByRecursion (λ s. IsSequence (resumed program.now.meaning s) s.start s.end)
+        (map part_of sequences.now) }
     ensures ok { IfOk result (λ rows.
         map (map row) rows.items ≡ map (resumed program.now.meaning) (map part_of sequences.now)) }
     ensures err { IfErr result (λ e. e ≡ Error.OutOfMemory) }

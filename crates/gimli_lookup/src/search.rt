@@ -15,7 +15,8 @@ fn first_above(rows: &KeptRows, a: u64, probes: &mut u64) -> usize
     requires count { probes.old + length rows.now < 2 ^ 64 }
     ensures place { result ≤ length rows.now }
     ensures before { (k : ℕ) (d : LineRow) → k < result → (slice_index_or rows.now k d).address ≤ a }
-    ensures behind { (k : ℕ) (d : LineRow) → result ≤ k → k < length rows.now → a < (slice_index_or rows.now k d).address }
+    ensures behind { (k : ℕ) (d : LineRow) → result ≤ k → k < length rows.now
+        → a < (slice_index_or rows.now k d).address }
     ensures grows { probes.old ≤ probes.new }
     ensures at_least { 0 < length rows.now → probes.old < probes.new }
     ensures at_most { probes.new ≤ probes.old + binary_digits (length rows.now) }
@@ -37,7 +38,8 @@ fn first_above(rows: &KeptRows, a: u64, probes: &mut u64) -> usize
 fn find_by_halves(rows: &KeptRows, a: u64, probes: &mut u64) -> Option<(LineRow, LineRow)>
     requires order { never_go_down rows.now ≡ true }
     requires count { probes.old + length rows.now < 2 ^ 64 }
-    ensures pair { MatchOption result (HasNoPair a rows.now) (λ pair. IsFirstPairOf a rows.now pair.0 pair.1) }
+    ensures pair { MatchOption result (HasNoPair a rows.now)
+        (λ pair. IsFirstPairOf a rows.now pair.0 pair.1) }
     ensures grows { probes.old ≤ probes.new }
     ensures at_least { 0 < length rows.now → probes.old < probes.new }
     ensures at_most { probes.new ≤ probes.old + binary_digits (length rows.now) }
@@ -52,7 +54,8 @@ fn find_by_halves(rows: &KeptRows, a: u64, probes: &mut u64) -> Option<(LineRow,
 /// The first rows that cover `a`, found row by row.
 fn find_by_scan(rows: &KeptRows, a: u64, probes: &mut u64) -> Option<(LineRow, LineRow)>
     requires count { probes.old + length rows.now < 2 ^ 64 }
-    ensures pair { MatchOption result (HasNoPair a rows.now) (λ pair. IsFirstPairOf a rows.now pair.0 pair.1) }
+    ensures pair { MatchOption result (HasNoPair a rows.now)
+        (λ pair. IsFirstPairOf a rows.now pair.0 pair.1) }
     ensures grows { probes.old ≤ probes.new }
     ensures at_least { 0 < length rows.now → probes.old < probes.new }
     ensures at_most { probes.new ≤ probes.old + length rows.now }
@@ -71,7 +74,8 @@ fn find_by_scan(rows: &KeptRows, a: u64, probes: &mut u64) -> Option<(LineRow, L
 /// The first rows of a sequence that cover `a`; None where there are none. Counts its probes.
 pub(crate) fn find(rows: &KeptRows, a: u64, probes: &mut u64) -> Option<(LineRow, LineRow)>
     requires count { probes.old + length rows.now < 2 ^ 64 }
-    ensures pair { MatchOption result (HasNoPair a rows.now) (λ pair. IsFirstPairOf a rows.now pair.0 pair.1) }
+    ensures pair { MatchOption result (HasNoPair a rows.now)
+        (λ pair. IsFirstPairOf a rows.now pair.0 pair.1) }
     ensures grows { probes.old ≤ probes.new }
     ensures at_least { 0 < length rows.now → probes.old < probes.new }
     ensures at_most { probes.new ≤ probes.old + most_probes rows.now }

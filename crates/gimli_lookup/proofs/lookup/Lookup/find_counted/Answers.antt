@@ -18,8 +18,13 @@ find-requires g c =
     let lt : i < length items = omega arith in
     let total : sum_by length items < 2 ^ 64 = subst (λ (xs : List (List LineRow)). sum_by length xs < 2 ^ 64) (sym c.deref-rows-items.ensures.value) c.self.invariant in
     record {
-      count = omega (arith, c.loop-rows.invariant.at_most, sum_by_more_le_part most_probes length items i c.rows-item.result lt probes_few,
-          ap (λ (r : List LineRow). length r) c.rows-item.is, total);
+      count = omega (
+        arith,
+        c.loop-rows.invariant.at_most,
+        sum_by_more_le_part most_probes length items i c.rows-item.result lt probes_few,
+        ap (λ (r : List LineRow). length r) c.rows-item.is,
+        total,
+      );
     }
 
 pub returns-in-Some-clause-pair : goal.returns-in-Some-clause-pair
