@@ -4,6 +4,7 @@
 #![tactic(auto)]
 
 mod kept_rows;
+pub mod laws;
 mod lookup;
 mod search;
 
