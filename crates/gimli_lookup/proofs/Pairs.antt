@@ -1,0 +1,128 @@
+-- Pairs of rows that cover an address.
+use Rattle.std.proofs.Common.{◌≡◌, ◌⊎◌, ℕ, zero, suc, ◌+◌, ◌-◌, ◌<◌, ◌≤◌, true, not, List, [], ◌∷◌, ◌++◌, length, take, drop, Some, sym, ap, subst, ◌∙◌, inl, inr, arith}
+use Rattle.std.specs.Prelude.{slice_get, slice_index_or, nat_lt, All}
+use Rattle.std.proofs.lemmas.Bool.{and_parts, not-true, ltb-false, cases_order}
+use Rattle.std.proofs.lemmas.List.{take-append-drop, drop_more}
+use Rattle.std.proofs.lemmas.Option.{get_or_from_slice_get, slice_get_within}
+use Rattle.gimli_line.specs.declared.run.row.LineRow.{LineRow}
+use Rattle.gimli_lookup.specs.FirstPair.{IsPairAt, HasNoPair, IsFirstPairOf, IsFirstPair}
+use Rattle.gimli_lookup.specs.Probes.{never_go_below, never_go_down}
+
+-- ---- addresses that never go down
+
+not_below : (lowest : ℕ) (rows : List LineRow) (j : ℕ) (d : LineRow) → never_go_below lowest rows ≡ true → j < length rows
+    → lowest ≤ (slice_index_or rows j d).address
+not_below lowest [] j d order lt = absurd (omega arith)
+not_below lowest (r ∷ rows) zero d order lt =
+    ltb-false r.address lowest (not-true (nat_lt r.address lowest) (and_parts (not (nat_lt r.address lowest)) (never_go_below r.address rows) order).0)
+not_below lowest (r ∷ rows) (suc j) d order lt =
+    let p = and_parts (not (nat_lt r.address lowest)) (never_go_below r.address rows) order in
+    let first : lowest ≤ r.address = ltb-false r.address lowest (not-true (nat_lt r.address lowest) p.0) in
+    omega (arith, first, not_below r.address rows j d p.1 (omega arith))
+
+in_order : (lowest : ℕ) (rows : List LineRow) (i j : ℕ) (d : LineRow) → never_go_below lowest rows ≡ true → i ≤ j → j < length rows
+    → (slice_index_or rows i d).address ≤ (slice_index_or rows j d).address
+in_order lowest [] i j d order le lt = absurd (omega arith)
+in_order lowest (r ∷ rows) zero zero d order le lt = omega arith
+in_order lowest (r ∷ rows) zero (suc j) d order le lt =
+    not_below r.address rows j d (and_parts (not (nat_lt r.address lowest)) (never_go_below r.address rows) order).1 (omega arith)
+in_order lowest (r ∷ rows) (suc i) zero d order le lt = absurd (omega arith)
+in_order lowest (r ∷ rows) (suc i) (suc j) d order le lt =
+    in_order r.address rows i j d (and_parts (not (nat_lt r.address lowest)) (never_go_below r.address rows) order).1 (omega arith) (omega arith)
+
+pub rises : (rows : List LineRow) (i j : ℕ) (d : LineRow) → never_go_down rows ≡ true → i ≤ j → j < length rows
+    → (slice_index_or rows i d).address ≤ (slice_index_or rows j d).address
+rises rows i j d order le lt = in_order 0 rows i j d order le lt
+
+-- ---- round the first address that is above
+
+module _ (a : ℕ) (rows : List LineRow) (place : ℕ) (before : (k : ℕ) (d : LineRow) → k < place → (slice_index_or rows k d).address ≤ a)
+    (behind : (k : ℕ) (d : LineRow) → place ≤ k → k < length rows → a < (slice_index_or rows k d).address) where
+  only_there : (k : ℕ) (x y : LineRow) → IsPairAt a rows k x y → k + 1 ≡ place
+  only_there k x y p =
+      let there = slice_get_within rows k x p.first in
+      let first : (slice_index_or rows k x).address ≡ x.address = ap (λ (r : LineRow). r.address) (get_or_from_slice_get rows k x x p.first) in
+      let second : (slice_index_or rows (k + 1) x).address ≡ y.address = ap (λ (r : LineRow). r.address) (get_or_from_slice_get rows (k + 1) y x p.second) in
+      let low : k + 1 < place → ⊥ = λ lt. absurd (omega (arith, before (k + 1) x lt, second, p.before)) in
+      let high : place ≤ k → ⊥ = λ le. absurd (omega (arith, behind k x le there, first, p.from)) in
+      by_order low high
+    where
+      by_order : (k + 1 < place → ⊥) → (place ≤ k → ⊥) → k + 1 ≡ place
+      by_order low high = elim (cases_order (k + 1) place) [
+        | inl same ↦ same
+        | inr (inl lt) ↦ absurd (low lt)
+        | inr (inr gt) ↦ absurd (high (omega arith))
+      ]
+
+  pub none_at_edge : (place ≡ 0) ⊎ (place ≡ length rows) → HasNoPair a rows
+  none_at_edge (inl zero_is) k x y p = absurd (omega (arith, only_there k x y p))
+  none_at_edge (inr all) k x y p = absurd (omega (arith, only_there k x y p, slice_get_within rows (k + 1) y p.second))
+
+  pub first_there : (x y : LineRow) → 0 < place → place < length rows → slice_get rows (place - 1) ≡ Some x → slice_get rows place ≡ Some y → IsFirstPairOf a rows x y
+  first_there x y some within first second =
+      let same : place - 1 + 1 ≡ place = omega arith in
+      record {
+        place = place - 1;
+        is_pair = record {
+          first = first;
+          second = ap (slice_get rows) same ∙ second;
+          from = subst (λ (r : LineRow). r.address ≤ a) (get_or_from_slice_get rows (place - 1) x x first) (before (place - 1) x (omega arith));
+          before = subst (λ (r : LineRow). a < r.address) (get_or_from_slice_get rows place y x second) (behind place x (omega arith) within);
+        };
+        none_before = λ k z w lt p. absurd (omega (arith, only_there k z w p));
+      }
+
+-- ---- row by row
+
+pub first_scanned : (a : ℕ) (rows : List LineRow) (place : ℕ) (x y : LineRow) → 0 < place
+    → ((k : ℕ) (d : LineRow) → k + 1 ≡ place → (slice_index_or rows k d).address ≤ a) → a < (slice_index_or rows place y).address
+    → slice_get rows (place - 1) ≡ Some x → slice_get rows place ≡ Some y → ((k : ℕ) (z w : LineRow) → k + 1 < place → IsPairAt a rows k z w → ⊥)
+    → IsFirstPairOf a rows x y
+first_scanned a rows place x y some from above first second none =
+    let same : place - 1 + 1 ≡ place = omega arith in
+    record {
+      place = place - 1;
+      is_pair = record {
+        first = first;
+        second = ap (slice_get rows) same ∙ second;
+        from = subst (λ (r : LineRow). r.address ≤ a) (get_or_from_slice_get rows (place - 1) x x first) (from (place - 1) x same);
+        before = subst (λ (r : LineRow). a < r.address) (get_or_from_slice_get rows place y y second) above;
+      };
+      none_before = λ k z w lt p. none k z w (omega arith) p;
+    }
+
+pub none_more : (a : ℕ) (rows : List LineRow) (place : ℕ) → ((k : ℕ) (x y : LineRow) → k + 1 < place → IsPairAt a rows k x y → ⊥)
+    → ((k : ℕ) (d : LineRow) → k + 1 ≡ place → a < (slice_index_or rows k d).address) ⊎ ((d : LineRow) → (slice_index_or rows place d).address ≤ a)
+    → (k : ℕ) (x y : LineRow) → k + 1 < place + 1 → IsPairAt a rows k x y → ⊥
+none_more a rows place none apart k x y lt p = elim (cases_order (k + 1) place) [
+  | inl same ↦ at_place same apart
+  | inr (inl less) ↦ none k x y less p
+  | inr (inr more) ↦ absurd (omega arith)
+]
+  where
+    at_place : k + 1 ≡ place → ((k : ℕ) (d : LineRow) → k + 1 ≡ place → a < (slice_index_or rows k d).address) ⊎ ((d : LineRow) → (slice_index_or rows place d).address ≤ a) → ⊥
+    at_place same (inl above) =
+        let first : (slice_index_or rows k x).address ≡ x.address = ap (λ (r : LineRow). r.address) (get_or_from_slice_get rows k x x p.first) in
+        absurd (omega (arith, above k x same, first, p.from))
+    at_place same (inr from) =
+        let second : (slice_index_or rows place y).address ≡ y.address =
+        ap (λ (r : LineRow). r.address) (get_or_from_slice_get rows place y y (ap (slice_get rows) (sym same) ∙ p.second)) in
+        absurd (omega (arith, from y, second, p.before))
+
+-- ---- one sequence after the other
+
+pub first_found : (a : ℕ) (sequences : List (List LineRow)) (i : ℕ) (rows : List LineRow) (x y : LineRow) → i < length sequences
+    → rows ≡ slice_index_or sequences i rows → All (HasNoPair a) (take i sequences) → IsFirstPairOf a rows x y → IsFirstPair a sequences x y
+first_found a sequences i rows x y lt item none first = record {
+  earlier = take i sequences;
+  rows = rows;
+  later = drop (i + 1) sequences;
+  parts = sym (take-append-drop i sequences) ∙ ap (λ (s : List (List LineRow)). take i sequences ++ s)
+      (drop_more sequences i rows lt ∙ ap (λ (r : List LineRow). r ∷ drop (i + 1) sequences) (sym item));
+  none_earlier = none;
+  is_first = first;
+}
+
+-- a sequence with a pair has rows
+pub has_rows : (a : ℕ) (rows : List LineRow) (x y : LineRow) → IsFirstPairOf a rows x y → 0 < length rows
+has_rows a rows x y first = omega (arith, slice_get_within rows first.place x first.is_pair.first)

@@ -1,0 +1,3 @@
+pub mod FirstPair
+pub mod Probes
+pub mod Kept

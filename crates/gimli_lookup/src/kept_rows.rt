@@ -1,0 +1,86 @@
+//! The rows of a sequence, which count each reading of an address.
+
+ghost use Rattle.std.specs.Prelude.{◌≡◌, ◌<◌, ◌+◌, ◌-◌, ◌^◌, length, slice_get, slice_index_or, Some};
+ghost use Rattle.gimli_line.specs.declared.run.row.LineRow.{LineRow};
+ghost use Rattle.gimli_lookup.specs.Probes.{never_go_down};
+
+use gimli_line::LineRow;
+use std::marker::Model;
+
+/// Whether no row has an address below the one before it.
+fn addresses_never_go_down(rows: &[LineRow]) -> bool
+    ensures { result ≡ never_go_down rows.now }
+{
+    let mut lowest = 0;
+    for row in rows {
+        if row.address() < lowest {
+            return false;
+        }
+        lowest = row.address();
+    }
+    true
+}
+
+/// The rows of one sequence, in order. Of its calls, one alone tells an address, and that one counts it as a probe.
+#[derive(Drop)]
+pub(crate) struct KeptRows {
+    rows: Vec<LineRow>,
+    is_in_order: bool,
+}
+
+impl Model for KeptRows {
+    ghost use Rattle.std.specs.Prelude.{◌≡◌, List};
+    ghost use Rattle.gimli_line.specs.declared.run.row.LineRow.{LineRow};
+    ghost use Rattle.gimli_lookup.specs.Probes.{never_go_down};
+
+    ghost Value = { List LineRow };
+
+    ghost view = { λ a. a.rows.items };
+
+    ghost invariant = { λ a. a.is_in_order ≡ never_go_down a.rows.items };
+}
+
+impl KeptRows {
+    /// These rows.
+    pub(crate) fn new(rows: Vec<LineRow>) -> Self
+        ensures { result ≡ rows.items }
+    {
+        let is_in_order = addresses_never_go_down(rows.as_slice());
+        KeptRows { rows, is_in_order }
+    }
+
+    /// Whether no row has an address below the one before it.
+    pub(crate) fn never_go_down(&self) -> bool
+        ensures { result ≡ never_go_down self.now }
+    {
+        self.is_in_order
+    }
+
+    /// How many rows there are.
+    pub(crate) fn len(&self) -> usize
+        ensures { result ≡ length self.now }
+    {
+        self.rows.len()
+    }
+
+    /// The address of the row at a place, which is a probe. Asks a place of a row, and that the count can grow.
+    pub(crate) fn address(&self, place: usize, probes: &mut u64) -> u64
+        requires place { place < length self.now }
+        requires count { probes.old + 1 < 2 ^ 64 }
+        ensures address { (d : LineRow) → result ≡ (slice_index_or self.now place d).address }
+        ensures counted { probes.new ≡ probes.old + 1 }
+    {
+        *probes += 1;
+        self.rows[place].address()
+    }
+
+    /// The row before a place, and the one at it. Asks a place of a row that isn't the first.
+    pub(crate) fn pair(&self, place: usize) -> (LineRow, LineRow)
+        requires first { 0 < place }
+        requires place { place < length self.now }
+        ensures first { slice_get self.now (place - 1) ≡ Some result.0 }
+        ensures second { slice_get self.now place ≡ Some result.1 }
+    {
+        (self.rows[place - 1], self.rows[place])
+    }
+}
