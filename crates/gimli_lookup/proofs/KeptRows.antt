@@ -43,7 +43,7 @@ pub memory_alone : (rows kept : List LineRow) (events : List Event) (old new : R
 memory_alone rows kept events old new e rows_are so_far (inl memory) = memory.0
 memory_alone rows kept events old new e rows_are so_far (inr next) =
     absurd (true≢false (sym (fault_behind kept e (events_of (events_left new)))
-    ∙ ap has_fault (sym (so_far ∙ ap (λ events. map row kept ++ events_of events) next) ∙ rows_are) ∙ rows_have_none rows))
+    ∙ ap has_fault (sym (so_far ∙ ap (λ events. map row kept ++ events_of events) next.0) ∙ rows_are) ∙ rows_have_none rows))
 
 -- ---- each sequence
 

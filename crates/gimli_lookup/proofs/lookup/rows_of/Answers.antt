@@ -11,7 +11,7 @@ pub returns-in-Err-clause-err : goal.returns-in-Err-clause-err
 returns-in-Err-clause-err g c =
     let fault = rw c.in-Err.is at c.next_row.follows.holds-at-none.1 in
     let r = c.requires in
-    let start = ap (λ (s : RunState). events_of (events_left s)) c.resume_from-rows.ensures in
+    let start = ap (λ (s : RunState). events_of (events_left s)) c.resume_from-rows.ensures.start in
     memory_alone (r.rows ++ r.last ∷ []) c.rows.kept.items (resumed c.args.program.now.meaning (part_of c.args.sequence.now))
     c.rows.rows c.next_row.follows.lender-at-none c.in-Err.e
     (r.given ∙ sym (map-append row r.rows (r.last ∷ []))) (sym start ∙ c.rows.invariant) fault
