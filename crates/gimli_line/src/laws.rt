@@ -83,7 +83,8 @@ pub fn tables_are_bounded()
 /// The machine, run from the registers at the start of a sequence, gives the rows and faults that looking back says,
 /// with the files of the header at each. So do rows at the start of a sequence, by the bytes that are to come.
 pub fn machine_gives_events()
-    ensures without_files { (parameters : Parameters) (list : List Ins) → run parameters (initial parameters) list ≡ events_behind parameters [] list }
+    ensures without_files { (parameters : Parameters) (list : List Ins) →
+        run parameters (initial parameters) list ≡ events_behind parameters [] list }
     ensures machine { (appends : Bool) (h : Header) (list : List Ins) (end : Option Error) →
         events_with_files_from appends h.parameters (initial h.parameters) h.files list end ≡ events_with_files_behind appends h [] list end }
     ensures started { (appends : Bool) (h : Header) (notation : Notation) (offset : ℕ) (unread : Unread) →
@@ -100,8 +101,10 @@ pub fn addresses_never_go_down()
 
 /// Columns are ordered by their numbers; the left edge, which stands for 0, is below them all.
 pub fn columns_are_ordered()
-    ensures total { (a b : Column) → ⟦<ColumnType as Ord>⟧.cmp a b ≡ nat_cmp (column_number a) (column_number b) }
-    ensures partial { (a b : Column) → ⟦<ColumnType as PartialOrd>⟧.partial_cmp a b ≡ Some (nat_cmp (column_number a) (column_number b)) }
+    ensures total { (a b : Column) →
+        ⟦<ColumnType as Ord>⟧.cmp a b ≡ nat_cmp (column_number a) (column_number b) }
+    ensures partial { (a b : Column) →
+        ⟦<ColumnType as PartialOrd>⟧.partial_cmp a b ≡ Some (nat_cmp (column_number a) (column_number b)) }
 {}
 
 /// A refused instruction is `UnexpectedEof`, `BadUnsignedLeb128` or `BadSignedLeb128`, or it is `UnsupportedOffset`, for
@@ -113,7 +116,8 @@ pub fn instruction_refusals()
 
 /// The pointers that are found by looking back are a pointer list, and there is no other.
 pub fn one_pointer_list()
-    ensures some { (parameters : Parameters) (past : List Ins) → IsPointerList parameters past (pointers parameters past) }
+    ensures some { (parameters : Parameters) (past : List Ins) →
+        IsPointerList parameters past (pointers parameters past) }
     ensures one { (parameters : Parameters) (past : List Ins) (list : List OperationPointer) →
         IsPointerList parameters past list → list ≡ pointers parameters past }
 {}

@@ -134,7 +134,8 @@ impl<R: Reader> CompleteLineProgram<R> {
         &'program self,
         sequence: &LineSequence<R>,
     ) -> ResumedLineRows<'program, R>
-        ensures events { EventsWithFiles sequence.now.instructions.notation false self.now.meaning sequence.now.instructions.bytes (events_left result) }
+        ensures events { EventsWithFiles sequence.now.instructions.notation false self.now.meaning
+            sequence.now.instructions.bytes (events_left result) }
         ensures files { files_at_end result ≡ self.now.meaning.files }
         ensures start { result ≡ started false self.now.meaning self.now.notation (R.Offset.number self.now.offset.0) sequence.now.instructions }
     {

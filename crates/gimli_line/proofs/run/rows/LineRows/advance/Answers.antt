@@ -27,8 +27,7 @@ returns-in-Err-clause-err g c =
 pub returns-in-Ok-Done-clause-row : goal.returns-in-Ok-Done-clause-row
 returns-in-Ok-Done-clause-row g c =
     let d = rw c.in-Ok-Done.field-0-is at c.in-Ok-Done.ensures.ok in
-    let passed = passes_both (ready c.args.self.now) c.instructions.self c.step.new.self [] [] c.instructions.invariant.passes d.2 in
-    (
+    let passed = passes_both (ready c.args.self.now) c.instructions.self c.step.new.self [] [] c.instructions.invariant.passes d.2 in (
       c.instructions.invariant.events ∙ d.0,
       none_to_come c.step.new.self d.1,
       d.1,
