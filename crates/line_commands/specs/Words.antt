@@ -1,5 +1,6 @@
 -- What the words after the program's name ask for.
-use Rattle.std.specs.Prelude.{◌≡◌, ◌<◌, ◌^◌, ◌∷◌, ℕ, List, [], codes}
+use Rattle.std.specs.Prelude.{◌≡◌, ◌<◌, ◌≤◌, ◌^◌, ◌∷◌, ℕ, Bool, false, ◌&&◌, nat_le, List, [], length, codes}
+use Rattle.std.specs.List.{list_any}
 use Rattle.std.specs.Str.Parse.{IsNumeral, digits_value}
 use Rattle.gimli_core.specs.declared.endianity.RunTimeEndian.{RunTimeEndian}
 use Rattle.gimli_core.specs.declared.endianity.RunTimeEndian.TheVariants.{Little, Big}
@@ -7,8 +8,9 @@ use Rattle.line_commands.specs.declared.words.AddressSize.{AddressSize}
 use Rattle.line_commands.specs.declared.words.AddressSize.TheVariants.{One, Two, Four, Eight}
 use Rattle.line_commands.specs.declared.words.Place.{Place}
 use Rattle.line_commands.specs.declared.words.Numbers.{Numbers}
+use Rattle.line_commands.specs.declared.words.Query.{Query}
 use Rattle.line_commands.specs.declared.words.Command.{Command}
-use Rattle.line_commands.specs.declared.words.Command.TheVariants.{Demo, Rows, Sequences, Units}
+use Rattle.line_commands.specs.declared.words.Command.TheVariants.{Demo, Rows, Sequences, Units, Find}
 
 -- the word of an order
 abbrev pub order_word : RunTimeEndian → List ℕ
@@ -42,6 +44,23 @@ pub record NamesNumbers (order size : List ℕ) (numbers : Numbers) : Type 0 whe
   pub order_named : order ≡ order_word numbers.order
   pub size_named : size ≡ size_word numbers.address_size
 
+-- a capital letter
+abbrev pub is_capital : ℕ → Bool
+is_capital letter = nat_le 65 letter && nat_le letter 90
+
+-- the word names an address: one to sixteen hexadecimal digits, of which none is a capital letter
+pub record NamesAddress (word : List ℕ) (address : ℕ) : Type 0 where
+  pub is_numeral : IsNumeral 16 word
+  pub is_lower : list_any is_capital word ≡ false
+  pub is_short : length word ≤ 16
+  pub address_named : address ≡ digits_value 16 word
+  pub address_fits : address < 2 ^ 64
+
+-- these four words name a place and an address
+pub record NamesQuery (order size offset address : List ℕ) (query : Query) : Type 0 where
+  pub place_named : NamesPlace order size offset query.place
+  pub address_named : NamesAddress address query.address
+
 -- these words are a command
 abbrev pub IsCommand : List (List ℕ) → Command → Type 0
 IsCommand words Demo = words ≡ codes "demo" ∷ []
@@ -49,6 +68,8 @@ IsCommand words (Rows place) = (file order size offset : List ℕ)
     × (words ≡ codes "rows" ∷ file ∷ order ∷ size ∷ offset ∷ []) × NamesPlace order size offset place
 IsCommand words (Sequences place) = (file order size offset : List ℕ)
     × (words ≡ codes "sequences" ∷ file ∷ order ∷ size ∷ offset ∷ []) × NamesPlace order size offset place
+IsCommand words (Find query) = (file order size offset address : List ℕ)
+    × (words ≡ codes "find" ∷ file ∷ order ∷ size ∷ offset ∷ address ∷ []) × NamesQuery order size offset address query
 IsCommand words (Units numbers) = (file order size : List ℕ)
     × (words ≡ codes "units" ∷ file ∷ order ∷ size ∷ []) × NamesNumbers order size numbers
 

@@ -5,6 +5,7 @@ ghost use Rattle.std.specs.Prelude.{◌≡◌, ◌≢◌, ◌≤◌, Err, IfErr,
 ghost use Rattle.line_commands.specs.Words.{IsCommand, ReadsFile};
 
 use crate::demo::print_demo;
+use crate::find::print_pair;
 use crate::print::{SequenceLine, finished, print_line, print_row};
 use crate::refusal::Refusal;
 use crate::section::{program_at, read_section};
@@ -58,6 +59,10 @@ fn perform<F: Read + Drop, O: Write>(
         Command::Units(numbers) => {
             let section = read_section(alloc, file)?;
             print_units(alloc, &section, numbers, out)
+        }
+        Command::Find(query) => {
+            let section = read_section(alloc, file)?;
+            print_pair(alloc, &section, query, out)
         }
     }
 }

@@ -3,6 +3,7 @@
 
 mod commands;
 mod demo;
+mod find;
 mod print;
 mod refusal;
 mod section;
@@ -12,4 +13,4 @@ mod words;
 pub use commands::run;
 pub use print::{RowLine, SequenceLine};
 pub use refusal::Refusal;
-pub use words::{AddressSize, Command, Numbers, Place};
+pub use words::{AddressSize, Command, Numbers, Place, Query};

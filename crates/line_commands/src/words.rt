@@ -1,8 +1,10 @@
 //! The words after the program's name, and what they ask for.
 
-ghost use Rattle.std.specs.Prelude.{◌≡◌, ◌<◌, ◌^◌, ◌↔◌, IfSome, IsSome, IsTrue, Some, codes};
+ghost use Rattle.std.specs.Prelude.{◌≡◌, ◌<◌, ◌^◌, ◌↔◌, ℕ, IfSome, IsSome, IsTrue, Some, codes};
 ghost use Rattle.std.specs.Str.Parse.{IsNumeral, digits_value};
+ghost use Rattle.std.specs.List.{list_any};
 ghost use Rattle.gimli_core.specs.Numbers.{is_address_size};
+ghost use Rattle.line_commands.specs.Words.{is_capital, NamesAddress};
 
 use gimli_core::RunTimeEndian;
 
@@ -17,6 +19,8 @@ pub enum Command {
     Sequences(Place),
     /// Prints a line for each unit of a section.
     Units(Numbers),
+    /// Prints the two rows of a unit that cover an address.
+    Find(Query),
 }
 
 /// Where a unit stands in a section, and how its numbers are read.
@@ -28,6 +32,15 @@ pub struct Place {
     pub address_size: AddressSize,
     /// The offset of the unit in the section.
     pub offset: usize,
+}
+
+/// An address that is looked up in a unit.
+#[derive(Clone, Copy, Debug, PartialEq, Eq)]
+pub struct Query {
+    /// Where the unit stands.
+    pub place: Place,
+    /// The address.
+    pub address: u64,
 }
 
 /// How the numbers of a section are read.
@@ -85,6 +98,9 @@ impl Command {
             ["units", _file, order, size] => {
                 Some(Command::Units(Numbers::parse(order, size)?))
             }
+            ["find", _file, order, size, offset, address] => {
+                Some(Command::Find(Query::parse(order, size, offset, address)?))
+            }
             _ => None,
         }
     }
@@ -126,6 +142,20 @@ impl Numbers {
     }
 }
 
+impl Query {
+    ghost use Rattle.line_commands.specs.Words.{NamesQuery};
+
+    /// The query that four words name.
+    fn parse(order: &str, size: &str, offset: &str, address: &str) -> Option<Query>
+        ensures named { IfSome result (NamesQuery order.now size.now offset.now address.now) }
+        ensures only { (query : Query) → NamesQuery order.now size.now offset.now address.now query → result ≡ Some query }
+    {
+        let place = Place::parse(order, size, offset)?;
+        let address = parse_address(address)?;
+        Some(Query { place, address })
+    }
+}
+
 /// An order of bytes.
 fn parse_order(word: &str) -> Option<RunTimeEndian>
     ensures little { (result ≡ Some RunTimeEndian.Little) ↔ (word.now ≡ codes "little") }
@@ -163,4 +193,24 @@ fn parse_offset(word: &str) -> Option<usize>
         return None;
     }
     word.parse::<usize>().ok()
+}
+
+/// An address in one to sixteen lower-case hexadecimal digits.
+fn parse_address(word: &str) -> Option<u64>
+    ensures named { IfSome result (NamesAddress word.now) }
+    ensures only { (address : ℕ) → NamesAddress word.now address → result ≡ Some address }
+{
+    if word.starts_with('+') || word.len() > 16 || has_capital(word) {
+        return None;
+    }
+    u64::from_str_radix(word, 16).ok()
+}
+
+/// Whether a word has a capital letter.
+fn has_capital(word: &str) -> bool
+    ensures { result ≡ list_any is_capital word.now }
+{
+    word.as_bytes()
+        .iter()
+        .any(|letter| (b'A'..=b'Z').contains(letter))
 }

@@ -12,6 +12,18 @@ five (a ∷ b ∷ c ∷ e ∷ []) d l m = grind arith
 five (a ∷ b ∷ c ∷ e ∷ f ∷ []) d l m = refl
 five (a ∷ b ∷ c ∷ e ∷ f ∷ g ∷ rest) d l m = grind arith
 
+-- the texts of six words
+six : (words : List (Bor (List ℕ))) (d : Bor (List ℕ)) → 6 ≤ length words → length words < 7
+    → map (λ word. word.now) words ≡ (get_or words 0 d).now ∷ (get_or words 1 d).now ∷ (get_or words 2 d).now ∷ (get_or words 3 d).now ∷ (get_or words 4 d).now ∷ (get_or words 5 d).now ∷ []
+six [] d l m = grind arith
+six (a ∷ []) d l m = grind arith
+six (a ∷ b ∷ []) d l m = grind arith
+six (a ∷ b ∷ c ∷ []) d l m = grind arith
+six (a ∷ b ∷ c ∷ e ∷ []) d l m = grind arith
+six (a ∷ b ∷ c ∷ e ∷ f ∷ []) d l m = grind arith
+six (a ∷ b ∷ c ∷ e ∷ f ∷ g ∷ []) d l m = refl
+six (a ∷ b ∷ c ∷ e ∷ f ∷ g ∷ h ∷ rest) d l m = grind arith
+
 -- the texts of four words
 four : (words : List (Bor (List ℕ))) (d : Bor (List ℕ)) → 4 ≤ length words → length words < 5
     → map (λ word. word.now) words ≡ (get_or words 0 d).now ∷ (get_or words 1 d).now ∷ (get_or words 2 d).now ∷ (get_or words 3 d).now ∷ []
@@ -45,3 +57,11 @@ returns-in_ok-parse-in-units-clause-command c =
     let is_units = c.in-units.is-units in
     let whole = four words d c.in-units.len_at_least c.in-units.len_below in
     ((get_or words 1 d).now, (get_or words 2 d).now, (get_or words 3 d).now, cc, c.in_ok-parse-in-units.ensures.named)
+
+pub returns-in_ok-parse-in-find-clause-command : goal.returns-in_ok-parse-in-find-clause-command
+returns-in_ok-parse-in-find-clause-command c =
+    let words = c.args.words.now in
+    let d : Bor (List ℕ) = record { ref_ptr = (0, 0); now = [] } in
+    let is_find = c.in-find.is-find in
+    let whole = six words d c.in-find.len_at_least c.in-find.len_below in
+    ((get_or words 1 d).now, (get_or words 2 d).now, (get_or words 3 d).now, (get_or words 4 d).now, (get_or words 5 d).now, cc, c.in_ok-parse-in-find.ensures.named)

@@ -1,0 +1,39 @@
+//! The rows that cover an address.
+
+ghost use Rattle.std.specs.Prelude.{◌≢◌, IfErr};
+
+use crate::print::{finished, print_line, print_row};
+use crate::refusal::Refusal;
+use crate::section::program_at;
+use crate::words::Query;
+use gimli_line::LineRow;
+use gimli_lookup::Lookup;
+use std::alloc::Global;
+use std::io::Write;
+
+/// Prints the two rows that cover an address of a unit, or that none do. Nothing is printed where the unit can't be cut
+/// into sequences.
+pub(crate) fn print_pair<O: Write>(
+    alloc: Global,
+    section: &[u8],
+    query: Query,
+    out: &mut O,
+) -> Result<(), Refusal>
+    ensures refusal { IfErr result (λ r. r ≢ Refusal.Usage) }
+{
+    let program = program_at(alloc, section, query.place)?;
+    let lookup = Lookup::new(program).map_err(|e| Refusal::of_unit(e, Refusal::Rows))?;
+    let outcome = match lookup.find(query.address) {
+        Some((first, second)) => print_both(first, second, out),
+        None => print_line("none", out),
+    };
+    finished(outcome, out)
+}
+
+/// Prints two rows.
+fn print_both<O: Write>(first: LineRow, second: LineRow, out: &mut O) -> Result<(), Refusal>
+    ensures refusal { IfErr result (λ r. r ≢ Refusal.Usage) }
+{
+    print_row(first, out)?;
+    print_row(second, out)
+}
