@@ -2,3 +2,4 @@ pub mod LebLemmas
 pub mod ShortestUleb
 pub mod ShortestSleb
 pub mod TextLemmas
+pub mod PieceLemmas
