@@ -136,6 +136,25 @@ impl<E: Endianity, const N: usize> PieceVec<E, N> {
         }
     }
 
+    /// Appends bytes, as the writer's call does. Refused for want of memory alone, and then nothing is changed; a length past the
+    /// greatest `usize` counts as a refused growth.
+    pub fn write(&mut self, bytes: &[u8]) -> Result<()>
+        ensures ok { OnOk result (self.new ≡ record self.old { bytes = self.old.bytes ++ bytes.now }) }
+        ensures err { OnErr result (self.new ≡ self.old) }
+        ensures memory { IfErr result (λ e. e ≡ Error.OutOfMemory) }
+    {
+        if bytes.len() > usize::MAX - self.len {
+            return Err(Error::OutOfMemory);
+        }
+        let len = self.len + bytes.len();
+        let alloc = *self.pieces.allocator();
+        let mut added = new_pieces(alloc, len.div_ceil(N) - self.pieces.len(), N)?;
+        self.pieces.append(&mut added)?;
+        put(&mut self.pieces, N, self.len, bytes);
+        self.len = len;
+        Ok(())
+    }
+
     /// The bytes of all pieces, joined. Refused for want of memory alone.
     pub fn into_vec(self) -> Result<Vec<u8>>
         ensures ok { IfOk result (λ vec. vec.items ≡ self.bytes) }
@@ -170,21 +189,8 @@ impl<E: Endianity, const N: usize> Writer for PieceVec<E, N> {
         self.len
     }
 
-    fn write(&mut self, bytes: &[u8]) -> Result<()>
-        ensures ok { OnOk result (self.new ≡ record self.old { bytes = self.old.bytes ++ bytes.now }) }
-        ensures err { OnErr result (self.new ≡ self.old) }
-        ensures memory { IfErr result (λ e. e ≡ Error.OutOfMemory) }
-    {
-        if bytes.len() > usize::MAX - self.len {
-            return Err(Error::OutOfMemory);
-        }
-        let len = self.len + bytes.len();
-        let alloc = *self.pieces.allocator();
-        let mut added = new_pieces(alloc, len.div_ceil(N) - self.pieces.len(), N)?;
-        self.pieces.append(&mut added)?;
-        put(&mut self.pieces, N, self.len, bytes);
-        self.len = len;
-        Ok(())
+    fn write(&mut self, bytes: &[u8]) -> Result<()> {
+        PieceVec::write(self, bytes)
     }
 
     fn write_at(&mut self, offset: usize, bytes: &[u8]) -> Result<()> {

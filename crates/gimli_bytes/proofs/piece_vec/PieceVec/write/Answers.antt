@@ -1,6 +1,6 @@
-use Rattle.std.proofs.Common.{rules, arith, ◌≡◌, ◌+◌, ◌++◌, length, refl}
+use Rattle.std.proofs.Common.{rules, ◌≡◌, ◌++◌, length, refl}
 use Rattle.gimli_bytes.proofs.PieceLemmas.{count-below, HoldPieces-grown, HoldPieces-same, bytes-within, bytes-more}
-use Rattle.gimli_bytes.proofs.piece_vec.PieceVecWriter.write.Goals as goal
+use Rattle.gimli_bytes.proofs.piece_vec.PieceVec.write.Goals as goal
 
 pub overflow_sub-div_ceil : goal.overflow_sub-div_ceil
 overflow_sub-div_ceil g c =
