@@ -1,12 +1,12 @@
 -- Lemmas on pieces.
-use Rattle.std.proofs.Common.{rules, arith, ◌≡◌, ℕ, zero, suc, ◌+◌, ◌-◌, ◌*◌, ◌/◌, ◌%◌, ◌<◌, ◌≤◌, List, [], ◌∷◌, ◌++◌, length, take, drop, set, get_or, refl, ap, sym, ◌∙◌, append_assoc, length-append, length-take, length-drop}
+use Rattle.std.proofs.Common.{arith, ◌≡◌, ℕ, zero, suc, ◌+◌, ◌-◌, ◌*◌, ◌/◌, ◌%◌, ◌<◌, ◌≤◌, List, [], ◌∷◌, ◌++◌, length, take, drop, set, get_or, refl, ap, sym, ◌∙◌, append_assoc, length-append, length-take}
 use Rattle.std.specs.Prelude.{All, true, false, nat_lt, Ok, Err}
 use Rattle.std.specs.List.{concat}
 use Rattle.std.specs.Int.{div_ceil}
 use Rattle.std.proofs.Math.Seq.{take-append-add, drop-append-add}
 use Rattle.std.proofs.lemmas.Grind.{common_steps, div_ceil_times}
-use Rattle.std.proofs.lemmas.List.{append-nil, take_at, drop_at, drop-drop, take-append-le, take-append-drop, take_min}
-use Rattle.std.proofs.lemmas.List.Elements.{All-head, All-tail, All-cons, All-append, All-set}
+use Rattle.std.proofs.lemmas.List.{take_at, drop_at, drop-drop, take-append-le, take-append-drop}
+use Rattle.std.proofs.lemmas.List.Elements.{All-head, All-tail, All-append}
 use Rattle.std.proofs.lemmas.List.Folds.{concat-append}
 use Rattle.std.proofs.lemmas.Bool.{lt-ltb, le-ltb}
 use Rattle.std.proofs.lemmas.Nat.{div-add-mod', div_below}
