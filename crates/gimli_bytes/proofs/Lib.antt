@@ -3,3 +3,4 @@ pub mod ShortestUleb
 pub mod ShortestSleb
 pub mod TextLemmas
 pub mod Equality
+pub mod PieceLemmas

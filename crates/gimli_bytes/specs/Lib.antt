@@ -1,5 +1,6 @@
 pub mod Written
 pub mod Number
 pub mod Section
+pub mod Pieces
 pub mod Texts
 pub mod TextsInside

@@ -1,0 +1,234 @@
+-- Lemmas on pieces.
+use Rattle.std.proofs.Common.{arith, ◌≡◌, ℕ, zero, suc, ◌+◌, ◌-◌, ◌*◌, ◌/◌, ◌%◌, ◌<◌, ◌≤◌, List, [], ◌∷◌, ◌++◌, length, take, drop, set, get_or, refl, ap, sym, ◌∙◌, append_assoc, length-append, length-take}
+use Rattle.std.specs.Prelude.{All, true, false, nat_lt, Ok, Err}
+use Rattle.std.specs.List.{concat}
+use Rattle.std.specs.Int.{div_ceil}
+use Rattle.std.proofs.Math.Seq.{take-append-add, drop-append-add}
+use Rattle.std.proofs.lemmas.Grind.{common_steps, div_ceil_times}
+use Rattle.std.proofs.lemmas.List.{take_at, drop_at, drop-drop, take-append-le, take-append-drop}
+use Rattle.std.proofs.lemmas.List.Elements.{All-head, All-tail, All-append}
+use Rattle.std.proofs.lemmas.List.Folds.{concat-append}
+use Rattle.std.proofs.lemmas.Bool.{lt-ltb, le-ltb}
+use Rattle.std.proofs.lemmas.Nat.{div-add-mod', div_below}
+use native.Mathlib.Nat.{lt_of_mul-lt-mul_right}
+use Rattle.gimli_bytes.specs.Written.{patched}
+use Rattle.gimli_bytes.specs.declared.error.Error.TheVariants.{LengthOutOfBounds}
+use Rattle.gimli_bytes.specs.Pieces.{HaveSizes, ArePieces, put_over, in_use, HoldPieces}
+
+abbrev pub Sized : ℕ → List (List ℕ) → Type 0
+Sized n pieces = All (λ piece. length piece ≡ n) pieces
+
+-- ---- pieces of one size
+
+pub length-concat : (n : ℕ) (ps : List (List ℕ)) → Sized n ps → length (concat ps) ≡ length ps * n
+length-concat n [] s = omega arith
+length-concat n (p ∷ ps) s =
+    omega (arith, length-append p (concat ps), length-concat n ps (All-tail (λ q. length q ≡ n) p ps s), All-head (λ q. length q ≡ n) p ps s)
+
+-- ---- bytes put over others
+
+pub length-put_over : (old : List ℕ) (at : ℕ) (bytes : List ℕ) → at + length bytes ≤ length old → length (put_over old at bytes) ≡ length old
+length-put_over old at bytes h = grind (arith, common_steps)
+
+pub put_over-nothing : (old : List ℕ) (at : ℕ) → put_over old at [] ≡ old
+put_over-nothing old at = grind (arith, common_steps)
+
+-- in front of other bytes
+pub put_over-front : (p c : List ℕ) (at : ℕ) (bytes : List ℕ) → at + length bytes ≤ length p → put_over p at bytes ++ c ≡ put_over (p ++ c) at bytes
+put_over-front p c at bytes h = grind (arith, common_steps)
+
+-- behind other bytes
+pub put_over-behind : (p c : List ℕ) (at : ℕ) (bytes : List ℕ) → put_over (p ++ c) (length p + at) bytes ≡ p ++ put_over c at bytes
+put_over-behind p c at bytes =
+    let place : length p + at + length bytes ≡ length p + (at + length bytes) = omega arith in
+    let back : drop (length p + at + length bytes) (p ++ c) ≡ drop (at + length bytes) c = rw place (drop-append-add p c (at + length bytes)) in
+    rw (take-append-add p c at, back) (simp append_assoc)
+
+-- two parts, one behind the other
+pub put_over-twice : (old : List ℕ) (at : ℕ) (a b : List ℕ) → at + length a ≤ length old → put_over (put_over old at a) (at + length a) b ≡ put_over old at (a ++ b)
+put_over-twice old at a b h =
+    let front : length (take at old ++ a) ≡ at + length a = omega (arith, length-append (take at old) a, length-take at old) in
+    let taken : take (at + length a) (put_over old at a) ≡ take at old ++ a = take_at (take at old ++ a) (drop (at + length a) old) (at + length a) front in
+    let dropped : drop (at + length a) (put_over old at a) ≡ drop (at + length a) old = drop_at (take at old ++ a) (drop (at + length a) old) (at + length a) front in
+    let far : at + length (a ++ b) ≡ at + length a + length b = omega (arith, length-append a b) in
+    let back : drop (at + length a + length b) (put_over old at a) ≡ drop (at + length (a ++ b)) old =
+    sym (drop-drop (length b) (at + length a) (put_over old at a)) ∙ ap (drop (length b)) dropped ∙ drop-drop (length b) (at + length a) old ∙ ap (λ k. drop k old) (sym far) in
+    rw (taken, back) (simp append_assoc)
+
+-- what ends with them
+pub take-put_over : (old : List ℕ) (at : ℕ) (bytes : List ℕ) → at ≤ length old → take (at + length bytes) (put_over old at bytes) ≡ take at old ++ bytes
+take-put_over old at bytes h =
+    take_at (take at old ++ bytes) (drop (at + length bytes) old) (at + length bytes) (omega (arith, length-append (take at old) bytes, length-take at old))
+
+-- what ends behind them
+pub put_over-take : (old : List ℕ) (len at : ℕ) (bytes : List ℕ) → at + length bytes ≤ len → len ≤ length old → take len (put_over old at bytes) ≡ put_over (take len old) at bytes
+put_over-take old len at bytes h k =
+    let parts = put_over-front (take len old) (drop len old) at bytes (omega (arith, length-take len old)) in
+    let whole : put_over (take len old) at bytes ++ drop len old ≡ put_over old at bytes = rw (take-append-drop len old) at parts in
+    let size : length (put_over (take len old) at bytes) ≡ len = omega (arith, length-put_over (take len old) at bytes (omega (arith, length-take len old)), length-take len old) in
+    rw (← whole) (take_at (put_over (take len old) at bytes) (drop len old) len size)
+
+-- ---- bytes put into a piece
+
+pub put_over-piece : (n : ℕ) (ps : List (List ℕ)) (i start : ℕ) (d bytes : List ℕ) → Sized n ps → i < length ps → start + length bytes ≤ n
+    → concat (set ps i (put_over (get_or ps i d) start bytes)) ≡ put_over (concat ps) (i * n + start) bytes
+put_over-piece n [] i start d bytes s inside fits = absurd (omega arith)
+put_over-piece n (q ∷ ps) zero start d bytes s inside fits =
+    let size : length q ≡ n = All-head (λ q. length q ≡ n) q ps s in
+    let place : zero * n + start ≡ start = omega arith in
+    rw place (put_over-front q (concat ps) start bytes (omega arith))
+put_over-piece n (q ∷ ps) (suc i) start d bytes s inside fits =
+    let size : length q ≡ n = All-head (λ q. length q ≡ n) q ps s in
+    let place : suc i * n + start ≡ length q + (i * n + start) = omega arith in
+    let behind = put_over-piece n ps i start d bytes (All-tail (λ q. length q ≡ n) q ps s) (omega arith) fits in
+    rw (place, behind) (sym (put_over-behind q (concat ps) (i * n + start) bytes))
+
+-- a place within the bytes is within a piece
+pub piece-inside : (n at : ℕ) (ps : List (List ℕ)) → 1 ≤ n → Sized n ps → at < length (concat ps) → at / n < length ps
+piece-inside n at ps one s h =
+    let size = length-concat n ps s in
+    div_below at n (length ps) one (omega arith)
+
+-- what is left to put, after the part that goes into one piece
+pub put-step : (n at : ℕ) (ps : List (List ℕ)) (d now later rest new : List ℕ) → Sized n ps → at / n < length ps → now ++ later ≡ rest
+    → at + length rest ≤ length (concat ps) → at % n + length now ≤ n → new ≡ put_over (get_or ps (at / n) d) (at % n) now
+    → put_over (concat (set ps (at / n) new)) (at + length now) later ≡ put_over (concat ps) at rest
+put-step n at ps d now later rest new s inside parts within fits is =
+    let place : at / n * n + at % n ≡ at = div-add-mod' at n in
+    let whole : concat (set ps (at / n) new) ≡ put_over (concat ps) at now =
+    ap (λ (q : List ℕ). concat (set ps (at / n) q)) is
+    ∙ put_over-piece n ps (at / n) (at % n) d now s inside fits
+    ∙ ap (λ k. put_over (concat ps) k now) place in
+    let size = ap (λ (l : List ℕ). length l) parts in
+    let both = length-append now later in
+    ap (λ (l : List ℕ). put_over l (at + length now) later) whole
+    ∙ put_over-twice (concat ps) at now later (omega arith)
+    ∙ ap (λ (l : List ℕ). put_over (concat ps) at l) parts
+
+-- ---- pieces in use
+
+take_joined : (n : ℕ) (xs ys : List ℕ) → take n (xs ++ ys) ≡ take n xs ++ take (n - length xs) ys
+take_joined zero xs ys = let z : 0 - length xs ≡ 0 = omega arith in rw z refl
+take_joined (suc n) [] ys = let z : suc n - 0 ≡ suc n = omega arith in rw z refl
+take_joined (suc n) (x ∷ xs) ys = let z : suc n - suc (length xs) ≡ n - length xs = omega arith in rw z (ap (λ (l : List ℕ). x ∷ l) (take_joined n xs ys))
+
+pub concat-in_use : (len : ℕ) (ps : List (List ℕ)) → concat (in_use len ps) ≡ take len (concat ps)
+concat-in_use len [] = grind (arith, common_steps)
+concat-in_use len (p ∷ ps) = ap (λ (l : List ℕ). take len p ++ l) (concat-in_use (len - length p) ps) ∙ sym (take_joined len p (concat ps))
+
+pub in_use-HaveSizes : (n len : ℕ) (ps : List (List ℕ)) → 1 ≤ n → Sized n ps → length ps * n < len + n → HaveSizes n (in_use len ps)
+in_use-HaveSizes n len [] one s h = tt
+in_use-HaveSizes n len (p ∷ []) one s h =
+    let size : length p ≡ n = All-head (λ q. length q ≡ n) p [] s in
+    (omega (arith, length-take len p), omega (arith, length-take len p))
+in_use-HaveSizes n len (p ∷ q ∷ ps) one s h =
+    let size : length p ≡ n = All-head (λ q. length q ≡ n) p (q ∷ ps) s in
+    (omega (arith, length-take len p), in_use-HaveSizes n (len - length p) (q ∷ ps) one (All-tail (λ q. length q ≡ n) p (q ∷ ps) s) (omega arith))
+
+-- ---- how many pieces there are
+
+at_most : (n a b : ℕ) → a * n < b * n + n → a ≤ b
+at_most n a b h =
+    let more : a * n < (b + 1) * n = omega arith in
+    let less = lt_of_mul-lt-mul_right n more in
+    omega arith
+
+count_same : (n len k d : ℕ) → len ≤ k * n → k * n < len + n → len ≤ d * n → d * n < len + n → k ≡ d
+count_same n len k d a b e f =
+    let low : k ≤ d = at_most n k d (omega arith) in
+    let high : d ≤ k = at_most n d k (omega arith) in
+    omega arith
+
+pub count_is : (n len k : ℕ) → 1 ≤ n → len ≤ k * n → k * n < len + n → k ≡ div_ceil len n
+count_is n len k one enough needed =
+    let bounds = div_ceil_times len n one in
+    count_same n len k (div_ceil len n) enough needed bounds.0 bounds.1
+
+below_more : (n len more k d : ℕ) → k * n < len + n → len + more ≤ d * n → k ≤ d
+below_more n len more k d h e = at_most n k d (omega arith)
+
+pub count-below : (n len more k : ℕ) → 1 ≤ n → k * n < len + n → k ≤ div_ceil (len + more) n
+count-below n len more k one needed = below_more n len more k (div_ceil (len + more) n) needed (div_ceil_times (len + more) n one).0
+
+-- ---- the memory of a section
+
+pub HoldPieces-more : (n len more : ℕ) (ps qs : List (List ℕ)) → HoldPieces n len ps → Sized n qs → length qs ≡ div_ceil (len + more) n - length ps
+    → HoldPieces n (len + more) (ps ++ qs)
+HoldPieces-more n len more ps qs h s count =
+    let bounds = div_ceil_times (len + more) n h.positive in
+    let below = count-below n len more (length ps) h.positive h.needed in
+    let all : length (ps ++ qs) ≡ div_ceil (len + more) n = omega (arith, length-append ps qs) in
+    record {
+      positive = h.positive;
+      sizes = All-append (λ p. length p ≡ n) ps qs h.sizes s;
+      enough = rw all bounds.0;
+      needed = rw all bounds.1;
+    }
+
+pub HoldPieces-same : (n len : ℕ) (ps qs : List (List ℕ)) → HoldPieces n len ps → Sized n qs → length qs ≡ length ps → HoldPieces n len qs
+HoldPieces-same n len ps qs h s count = record {
+  positive = h.positive;
+  sizes = s;
+  enough = rw count h.enough;
+  needed = rw count h.needed;
+}
+
+pub bytes-within : (n len : ℕ) (ps : List (List ℕ)) → HoldPieces n len ps → len ≤ length (concat ps)
+bytes-within n len ps h = omega (arith, length-concat n ps h.sizes, h.enough)
+
+pub bytes-length : (n len : ℕ) (ps : List (List ℕ)) → HoldPieces n len ps → length (take len (concat ps)) ≡ len
+bytes-length n len ps h = omega (arith, length-take len (concat ps), bytes-within n len ps h)
+
+pub pieces-in_use : (n len : ℕ) (ps : List (List ℕ)) → HoldPieces n len ps → ArePieces n (take len (concat ps)) (in_use len ps)
+pieces-in_use n len ps h = record {
+  joined = concat-in_use len ps;
+  sizes = in_use-HaveSizes n len ps h.positive h.sizes h.needed;
+}
+
+-- the memory after new pieces
+pub HoldPieces-grown : (n len more d k : ℕ) (ps qs all : List (List ℕ)) → HoldPieces n len ps → all ≡ ps ++ qs → Sized n qs → length qs ≡ d - k
+    → d ≡ div_ceil (len + more) n → k ≡ length ps → HoldPieces n (len + more) all
+HoldPieces-grown n len more d k ps qs all h is s count ceil size =
+    let counted : length qs ≡ div_ceil (len + more) n - length ps = count ∙ ap (λ i. i - k) ceil ∙ ap (λ i. div_ceil (len + more) n - i) size in
+    rw is (HoldPieces-more n len more ps qs h s counted)
+
+-- bytes put behind those in use
+pub bytes-more : (n len : ℕ) (ps qs all rs : List (List ℕ)) (bytes : List ℕ) → HoldPieces n len ps → all ≡ ps ++ qs → concat rs ≡ put_over (concat all) len bytes
+    → take (len + length bytes) (concat rs) ≡ take len (concat ps) ++ bytes
+bytes-more n len ps qs all rs bytes h is e =
+    let inside = bytes-within n len ps h in
+    let joined : concat all ≡ concat ps ++ concat qs = ap (λ (l : List (List ℕ)). concat l) is ∙ concat-append ps qs in
+    let size = ap (λ (l : List ℕ). length l) joined ∙ length-append (concat ps) (concat qs) in
+    let room : len ≤ length (concat all) = omega arith in
+    ap (λ (l : List ℕ). take (len + length bytes) l) e ∙ take-put_over (concat all) len bytes room
+    ∙ ap (λ (l : List ℕ). l ++ bytes) (ap (λ (l : List ℕ). take len l) joined ∙ take-append-le len (concat ps) (concat qs) inside)
+
+-- bytes put over some of those in use
+pub bytes-over : (n len at : ℕ) (ps rs : List (List ℕ)) (bytes : List ℕ) → HoldPieces n len ps → at + length bytes ≤ len → concat rs ≡ put_over (concat ps) at bytes
+    → take len (concat rs) ≡ put_over (take len (concat ps)) at bytes
+bytes-over n len at ps rs bytes h fits e =
+    ap (λ (l : List ℕ). take len l) e ∙ put_over-take (concat ps) len at bytes fits (bytes-within n len ps h)
+
+pub take-before : (old : List ℕ) (at : ℕ) (bytes : List ℕ) → at ≤ length old → take at (put_over old at bytes) ≡ take at old
+take-before old at bytes h =
+    ap (λ (l : List ℕ). take at l) (append_assoc (take at old) bytes (drop (at + length bytes) old))
+    ∙ take_at (take at old) (bytes ++ drop (at + length bytes) old) at (omega (arith, length-take at old))
+
+-- ---- the refusals of a place
+
+pub patched-inside : (old : List ℕ) (at : ℕ) (bytes new : List ℕ) → at + length bytes ≤ length old → new ≡ put_over old at bytes → patched old at bytes ≡ Ok new
+patched-inside old at bytes new h is =
+    let first : nat_lt (length old) at ≡ false = le-ltb (length old) at (omega arith) in
+    let second : nat_lt (length old) (at + length bytes) ≡ false = le-ltb (length old) (at + length bytes) h in
+    rw (first, second, is) refl
+
+pub patched-past : (old : List ℕ) (at : ℕ) (bytes : List ℕ) → at ≤ length old → length old < at + length bytes → patched old at bytes ≡ Err LengthOutOfBounds
+patched-past old at bytes h past =
+    let first : nat_lt (length old) at ≡ false = le-ltb (length old) at h in
+    let second : nat_lt (length old) (at + length bytes) ≡ true = lt-ltb (length old) (at + length bytes) past in
+    rw (first, second) refl
+
+-- so many pieces
+pub piece-count : (n len : ℕ) (ps : List (List ℕ)) → HoldPieces n len ps → length ps ≡ div_ceil (length (take len (concat ps))) n
+piece-count n len ps h =
+    count_is n len (length ps) h.positive h.enough h.needed ∙ ap (λ k. div_ceil k n) (sym (bytes-length n len ps h))

@@ -1,0 +1,6 @@
+use Rattle.std.proofs.Common.{sym}
+use Rattle.gimli_bytes.proofs.PieceLemmas.{bytes-length}
+use Rattle.gimli_bytes.proofs.piece_vec.PieceVecWriter.len.Goals as goal
+
+pub returns : goal.returns
+returns g c = rw (← c.self.view_is) (sym (bytes-length _ _ _ c.self.invariant))

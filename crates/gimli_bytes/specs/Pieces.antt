@@ -1,0 +1,30 @@
+-- Bytes in pieces of one size.
+use Rattle.std.specs.Prelude.{◌≡◌, ℕ, ◌+◌, ◌-◌, ◌*◌, ◌<◌, ◌≤◌, List, [], ◌∷◌, ◌++◌, All, length, take, drop}
+use Rattle.std.specs.List.{concat}
+
+-- each piece has from 1 to n bytes, and one with another behind it has n
+abbrev pub HaveSizes : ℕ → List (List ℕ) → Type 0
+HaveSizes n [] = Unit {0}
+HaveSizes n (piece ∷ []) = (1 ≤ length piece) × (length piece ≤ n)
+HaveSizes n (piece ∷ next ∷ others) = (length piece ≡ n) × HaveSizes n (next ∷ others)
+
+-- these pieces hold the bytes, one after the other, and all are full but the last
+pub record ArePieces (n : ℕ) (bytes : List ℕ) (pieces : List (List ℕ)) : Type 0 where
+  pub joined : concat pieces ≡ bytes
+  pub sizes : HaveSizes n pieces
+
+-- bytes put over others from a place on
+abbrev pub put_over : List ℕ → ℕ → List ℕ → List ℕ
+put_over old at bytes = take at old ++ bytes ++ drop (at + length bytes) old
+
+-- what is in use of the memory of pieces, where it holds so many bytes
+abbrev pub in_use : ℕ → List (List ℕ) → List (List ℕ)
+in_use len [] = []
+in_use len (piece ∷ others) = take len piece ∷ in_use (len - length piece) others
+
+-- the memory of pieces that hold so many bytes: each has n, they are enough, and none is too many
+pub record HoldPieces (n len : ℕ) (pieces : List (List ℕ)) : Type 0 where
+  pub positive : 1 ≤ n
+  pub sizes : All (λ piece. length piece ≡ n) pieces
+  pub enough : len ≤ length pieces * n
+  pub needed : length pieces * n < len + n
