@@ -2,7 +2,7 @@
 
 use crate::calls::{Call, Details, Flags, Form, Registers, Start, Text};
 use crate::fault::Fault;
-use crate::script::Target;
+use crate::script::{PieceSize, Target};
 use gimli_core::{Encoding, Format, LineEncoding, RunTimeEndian};
 use gimli_write::Address;
 use row_text::{parse_bytes, parse_number, parse_signed, parse_text};
@@ -27,6 +27,9 @@ pub(crate) fn parse_order(word: &str) -> Result<RunTimeEndian, Fault> {
 pub(crate) fn parse_target(words: &[&str]) -> Result<Target, Fault> {
     match words {
         ["vec"] => Ok(Target::Vector),
+        ["pieces", "1"] => Ok(Target::Pieces(PieceSize::One)),
+        ["pieces", "4"] => Ok(Target::Pieces(PieceSize::Four)),
+        ["pieces", "16"] => Ok(Target::Pieces(PieceSize::Sixteen)),
         ["array", count] => parse_array(count),
         _ => Err(Fault::Script),
     }

@@ -12,8 +12,18 @@ use std::mem;
 pub(crate) enum Target {
     /// A vector.
     Vector,
+    /// Pieces of this size.
+    Pieces(PieceSize),
     /// An array of this many bytes.
     Array(usize),
+}
+
+/// How many bytes a piece has.
+#[derive(Clone, Copy, Debug, PartialEq, Eq)]
+pub(crate) enum PieceSize {
+    One,
+    Four,
+    Sixteen,
 }
 
 /// A call, and the number of its line.

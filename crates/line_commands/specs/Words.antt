@@ -7,7 +7,7 @@ use Rattle.line_commands.specs.declared.words.AddressSize.{AddressSize}
 use Rattle.line_commands.specs.declared.words.AddressSize.TheVariants.{One, Two, Four, Eight}
 use Rattle.line_commands.specs.declared.words.Place.{Place}
 use Rattle.line_commands.specs.declared.words.Command.{Command}
-use Rattle.line_commands.specs.declared.words.Command.TheVariants.{Demo, Rows, Sequences}
+use Rattle.line_commands.specs.declared.words.Command.TheVariants.{Demo, DemoPieces, Rows, Sequences}
 
 -- the word of an order
 abbrev pub order_word : RunTimeEndian → List ℕ
@@ -39,6 +39,7 @@ pub record NamesPlace (order size offset : List ℕ) (place : Place) : Type 0 wh
 -- these words are a command
 abbrev pub IsCommand : List (List ℕ) → Command → Type 0
 IsCommand words Demo = words ≡ codes "demo" ∷ []
+IsCommand words DemoPieces = words ≡ codes "demo" ∷ codes "pieces" ∷ []
 IsCommand words (Rows place) = (file order size offset : List ℕ)
     × (words ≡ codes "rows" ∷ file ∷ order ∷ size ∷ offset ∷ []) × NamesPlace order size offset place
 IsCommand words (Sequences place) = (file order size offset : List ℕ)
@@ -47,4 +48,5 @@ IsCommand words (Sequences place) = (file order size offset : List ℕ)
 -- a command that prints what stands in a file
 abbrev pub ReadsFile : Command → Type 0
 ReadsFile Demo = ⊥
+ReadsFile DemoPieces = ⊥
 ReadsFile command = Unit {0}

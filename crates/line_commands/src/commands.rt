@@ -4,7 +4,7 @@
 ghost use Rattle.std.specs.Prelude.{◌≡◌, ◌≢◌, ◌≤◌, Err, IfErr, IsNone, map};
 ghost use Rattle.line_commands.specs.Words.{IsCommand, ReadsFile};
 
-use crate::demo::print_demo;
+use crate::demo::{print_demo, print_demo_pieces};
 use crate::print::{RowLine, SequenceLine};
 use crate::refusal::Refusal;
 use crate::words::{Command, Place};
@@ -48,6 +48,7 @@ fn perform<F: Read + Drop, O: Write>(
 {
     match Command::parse(words).ok_or(Refusal::Usage)? {
         Command::Demo => print_demo(alloc, out),
+        Command::DemoPieces => print_demo_pieces(alloc, out),
         Command::Rows(place) => {
             let section = read_section(alloc, file)?;
             print_unit(alloc, &section, place, out)
@@ -156,7 +157,7 @@ fn print_line<O: Write>(line: SequenceLine, out: &mut O) -> Result<(), Refusal>
 }
 
 /// Prints the rows that are still to come. The first fault stops it, after the rows before it.
-fn print_rows<R: Reader, P: LineProgram<R> + Drop, O: Write>(
+pub(crate) fn print_rows<R: Reader, P: LineProgram<R> + Drop, O: Write>(
     rows: LineRows<R, P>,
     out: &mut O,
 ) -> Result<(), Refusal>
@@ -185,7 +186,7 @@ pub(crate) fn print_row<O: Write>(row: LineRow, out: &mut O) -> Result<(), Refus
 }
 
 /// The program of a unit, without a directory or a name from outside.
-fn program_at<'i>(
+pub(crate) fn program_at<'i>(
     alloc: Global,
     section: &'i [u8],
     place: Place,
