@@ -8,8 +8,18 @@ use gimli_write::Address;
 pub(crate) enum Target {
     /// A vector.
     Vector,
+    /// Pieces of this size.
+    Pieces(PieceSize),
     /// An array of this many bytes.
     Array(usize),
+}
+
+/// How many bytes a piece has.
+#[derive(Clone, Copy, Debug, PartialEq, Eq)]
+pub(crate) enum PieceSize {
+    One,
+    Four,
+    Sixteen,
 }
 
 /// Where a text is put.

@@ -1,6 +1,8 @@
 //! The words of a script's line.
 
-use crate::calls::{Call, Details, Flags, Form, Registers, Start, Target, Text};
+use crate::calls::{
+    Call, Details, Flags, Form, PieceSize, Registers, Start, Target, Text,
+};
 use crate::fault::Fault;
 use gimli_core::{Encoding, Format, LineEncoding, RunTimeEndian};
 use gimli_write::Address;
@@ -26,6 +28,9 @@ pub(crate) fn parse_order(word: &str) -> Result<RunTimeEndian, Fault> {
 pub(crate) fn parse_target(words: &[&str]) -> Result<Target, Fault> {
     match words {
         ["vec"] => Ok(Target::Vector),
+        ["pieces", "1"] => Ok(Target::Pieces(PieceSize::One)),
+        ["pieces", "4"] => Ok(Target::Pieces(PieceSize::Four)),
+        ["pieces", "16"] => Ok(Target::Pieces(PieceSize::Sixteen)),
         ["array", count] => parse_array(count),
         _ => Err(Fault::Script),
     }

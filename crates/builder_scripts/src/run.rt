@@ -2,12 +2,14 @@
 
 use crate::array_section::ArraySection;
 use crate::builder::Builder;
-use crate::calls::Target;
+use crate::calls::{PieceSize, Target};
 use crate::fault::{Fault, Stop};
 use crate::output::{print_answer, print_refusal, print_section, print_table};
 use crate::script::{Line, Script, parse_scripts};
-use gimli_core::Encoding;
-use gimli_write::{ConvertError, ConvertResult, DebugLine, EndianVec, Error, RoundTrip, Writer};
+use gimli_core::{Encoding, RunTimeEndian};
+use gimli_write::{
+    ConvertError, ConvertResult, DebugLine, EndianVec, Error, PieceVec, RoundTrip, Writer,
+};
 use row_text::Attempts;
 use std::alloc::{AllocError, Global};
 use std::fmt::Write;
@@ -218,7 +220,7 @@ fn write_section(
         return Ok((bytes, end));
     }
     let stands = begins(bytes.as_slice(), script.prefix.as_slice()) && builder.tables_stand(marks);
-    if !stands || script.target != Target::Vector {
+    if !stands || matches!(script.target, Target::Array(_)) {
         let number = script.end;
         writeln!(text, "state {number}")?;
     }
@@ -243,12 +245,51 @@ fn write_once(
             let answer = write_behind(builder, script, encoding, &mut section);
             Ok((section.0.into_vec(), End::of(answer, script.end)?))
         }
+        Target::Pieces(PieceSize::One) => {
+            write_pieces(
+                builder,
+                script,
+                encoding,
+                PieceVec::<_, 1>::new(alloc, script.order),
+            )
+        }
+        Target::Pieces(PieceSize::Four) => {
+            write_pieces(
+                builder,
+                script,
+                encoding,
+                PieceVec::<_, 4>::new(alloc, script.order),
+            )
+        }
+        Target::Pieces(PieceSize::Sixteen) => {
+            write_pieces(
+                builder,
+                script,
+                encoding,
+                PieceVec::<_, 16>::new(alloc, script.order),
+            )
+        }
         Target::Array(count) => {
             let array = ArraySection::new(alloc, count, script.order)?;
             let mut section = DebugLine::from(array);
             let answer = write_behind(builder, script, encoding, &mut section);
             Ok((section.0.into_vec(), End::of(answer, script.end)?))
         }
+    }
+}
+
+/// Writes a built program to a section in pieces.
+fn write_pieces<const N: usize>(
+    builder: &mut Builder,
+    script: &Script,
+    encoding: Encoding,
+    section: PieceVec<RunTimeEndian, N>,
+) -> Result<(Vec<u8>, End), AllocError> {
+    let mut section = DebugLine::from(section);
+    let answer = write_behind(builder, script, encoding, &mut section);
+    match section.0.into_vec() {
+        Ok(bytes) => Ok((bytes, End::of(answer, script.end)?)),
+        Err(_) => Err(AllocError),
     }
 }
 

@@ -1,4 +1,4 @@
-//! Scripts of calls: the commands `read` and `bytes` of `vectors`, each with the word `little` or `big`.
+//! Scripts of calls: the commands `read`, `bytes` and `pieces` of `vectors`, each with the word `little` or `big`.
 //!
 //! A script has a call a line, by the call's own name and its arguments. A `#` begins a comment, and a line without words
 //! says nothing. Numbers are decimal or hexadecimal behind `0x`, formats are `32` and `64`, a pointer encoding is its
@@ -22,6 +22,12 @@
 //! | `endian`, `len`, `slice`, `take`, `offset debug_line` | the call of the vector or of a section over it | `usize 5`, `bytes 01 02`, .. |
 //! | `str add TEXT`, `str count`, `str get ID`, `str offset ID`, `str write`, the same with `line_str` | the call of the table; `write` appends it to the section | `id 0`, `count 1`, `text a`, `offset 0`, .. |
 //! | `next` | makes the section and the tables anew | `--` |
+//!
+//! | Line of `pieces` | Does | Prints |
+//! |---|---|---|
+//! | the calls of a writer, `endian`, `len`, `slice` and `next`, as in `bytes` | the call of a section in pieces of four bytes; `slice` joins a copy | as in `bytes` |
+//! | `pieces` | `piece_count` and `pieces` | `pieces 2`, then each piece as `bytes 01 02 03 08` |
+//! | `into_vec` | the call, on a section that is empty then | `bytes 01 02` |
 #![tactic(auto)]
 
 mod answer;
@@ -29,11 +35,13 @@ mod arguments;
 mod numbers;
 mod order_calls;
 mod outcome;
+mod pieces;
 mod reader_calls;
 mod readers;
 mod sections;
 mod tables;
 mod writers;
 
+pub use pieces::pieces;
 pub use readers::read;
 pub use sections::bytes;

@@ -223,7 +223,7 @@ impl Script for Sections {
 
 /// The line of bytes.
 #[derive(Clone, Copy)]
-struct AllBytes<'a>(&'a [u8]);
+pub struct AllBytes<'a>(pub &'a [u8]);
 
 impl fmt::Display for AllBytes<'_> {
     fn fmt<W: fmt::Write>(&self, f: &mut fmt::Formatter<W>) -> fmt::Result {
@@ -233,10 +233,10 @@ impl fmt::Display for AllBytes<'_> {
 
 /// What a call answers that writes, and the bytes of before and after it.
 #[derive(Clone, Copy)]
-struct Written<'a> {
-    answer: writers::Answer,
-    before: &'a [u8],
-    now: &'a [u8],
+pub struct Written<'a> {
+    pub answer: writers::Answer,
+    pub before: &'a [u8],
+    pub now: &'a [u8],
 }
 
 impl fmt::Display for Written<'_> {

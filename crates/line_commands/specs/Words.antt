@@ -10,7 +10,7 @@ use Rattle.line_commands.specs.declared.words.Place.{Place}
 use Rattle.line_commands.specs.declared.words.Numbers.{Numbers}
 use Rattle.line_commands.specs.declared.words.Query.{Query}
 use Rattle.line_commands.specs.declared.words.Command.{Command}
-use Rattle.line_commands.specs.declared.words.Command.TheVariants.{Demo, Rows, Sequences, Units, Find}
+use Rattle.line_commands.specs.declared.words.Command.TheVariants.{Demo, DemoPieces, Rows, Sequences, Units, Find}
 
 -- the word of an order
 abbrev pub order_word : RunTimeEndian → List ℕ
@@ -64,6 +64,7 @@ pub record NamesQuery (order size offset address : List ℕ) (query : Query) : T
 -- these words are a command
 abbrev pub IsCommand : List (List ℕ) → Command → Type 0
 IsCommand words Demo = words ≡ codes "demo" ∷ []
+IsCommand words DemoPieces = words ≡ codes "demo" ∷ codes "pieces" ∷ []
 IsCommand words (Rows place) = (file order size offset : List ℕ)
     × (words ≡ codes "rows" ∷ file ∷ order ∷ size ∷ offset ∷ []) × NamesPlace order size offset place
 IsCommand words (Sequences place) = (file order size offset : List ℕ)
@@ -76,4 +77,5 @@ IsCommand words (Units numbers) = (file order size : List ℕ)
 -- a command that prints what stands in a file
 abbrev pub ReadsFile : Command → Type 0
 ReadsFile Demo = ⊥
+ReadsFile DemoPieces = ⊥
 ReadsFile command = Unit {0}

@@ -4,15 +4,15 @@
 ghost use Rattle.std.specs.Prelude.{◌≡◌, ◌≢◌, ◌≤◌, Err, IfErr, IsNone, map};
 ghost use Rattle.line_commands.specs.Words.{IsCommand, ReadsFile};
 
-use crate::demo::print_demo;
+use crate::demo::{print_demo, print_demo_pieces};
 use crate::find::print_pair;
-use crate::print::{SequenceLine, finished, print_line, print_row};
+use crate::print::{SequenceLine, finished, print_line, print_rows};
 use crate::refusal::Refusal;
 use crate::section::{program_at, read_section};
 use crate::units::print_units;
 use crate::words::{Command, Place};
 use gimli_core::Reader;
-use gimli_line::{CompleteLineProgram, LineProgram, LineRows, LineSequence, ResumedLineRows};
+use gimli_line::{CompleteLineProgram, LineSequence, ResumedLineRows};
 use std::alloc::Global;
 use std::io::{Read, Write};
 
@@ -48,6 +48,7 @@ fn perform<F: Read + Drop, O: Write>(
 {
     match Command::parse(words).ok_or(Refusal::Usage)? {
         Command::Demo => print_demo(alloc, out),
+        Command::DemoPieces => print_demo_pieces(alloc, out),
         Command::Rows(place) => {
             let section = read_section(alloc, file)?;
             print_unit(alloc, &section, place, out)
@@ -128,22 +129,4 @@ fn count_of_rows<R: Reader>(rows: ResumedLineRows<'_, R>) -> u64 {
         }
     }
     u64::MAX
-}
-
-/// Prints the rows that are still to come. The first fault stops it, after the rows before it.
-fn print_rows<R: Reader, P: LineProgram<R> + Drop, O: Write>(
-    rows: LineRows<R, P>,
-    out: &mut O,
-) -> Result<(), Refusal>
-    ensures refusal { IfErr result (λ r. r ≢ Refusal.Usage) }
-{
-    let mut rows = rows;
-    'rows: loop {
-        let row = match rows.next_row() {
-            Ok(Some((_, row))) => *row,
-            Ok(None) => return Ok(()),
-            Err(e) => return Err(Refusal::of_unit(e, Refusal::Rows)),
-        };
-        print_row(row, out)?;
-    }
 }

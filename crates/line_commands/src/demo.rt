@@ -4,12 +4,14 @@ ghost use Rattle.std.specs.Prelude.{◌≡◌, ◌≢◌, [], OnOk, IfErr, IfOk}
 ghost use Rattle.gimli_write.specs.Conditions.{CanWrite};
 ghost use Rattle.line_commands.specs.Demo.{IsAtStart};
 
-use crate::print::{finished, print_row};
+use crate::print::{finished, print_row, print_rows};
 use crate::refusal::Refusal;
-use gimli_core::{Encoding, Format, LineEncoding, LittleEndian};
+use crate::section::program_at;
+use crate::words::{AddressSize, Place};
+use gimli_core::{Encoding, Format, LineEncoding, LittleEndian, RunTimeEndian};
 use gimli_write::{
     Address, ConvertError, DebugLine, EndianVec, Error, LineProgram, LineString, LineStringTable,
-    RoundTrip, StringTable, round_trip,
+    PieceVec, RoundTrip, StringTable, round_trip,
 };
 use row_text::print_bytes;
 use std::alloc::Global;
@@ -47,6 +49,58 @@ fn write_demo(
         Ok(answer) => Ok(answer),
         Err(e) => Err(Refusal::of_conversion(e)),
     }
+}
+
+/// Prints the pieces of the unit, sixteen bytes each but the last, and what is read of their bytes.
+pub fn print_demo_pieces<O: Write>(alloc: Global, out: &mut O) -> Result<(), Refusal>
+    ensures refusal { IfErr result (λ r. r ≢ Refusal.Usage) }
+{
+    let section = write_demo_pieces(alloc)?;
+    let outcome = print_pieces(alloc, section, out);
+    finished(outcome, out)
+}
+
+/// Writes the unit in pieces.
+fn write_demo_pieces(alloc: Global) -> Result<PieceVec<LittleEndian, 16>, Refusal>
+    ensures refusal { IfErr result (λ r. r ≢ Refusal.Usage) }
+{
+    let Ok(program) = demo_program(alloc) else {
+        return Err(Refusal::Memory);
+    };
+    let mut section = DebugLine::from(PieceVec::<_, 16>::new(alloc, LittleEndian));
+    let mut strings = StringTable::default(alloc);
+    let mut line_strings = LineStringTable::default(alloc);
+    let encoding = program.encoding();
+    match program.write(&mut section, encoding, &mut line_strings, &mut strings) {
+        Ok(_) => Ok(section.0),
+        Err(Error::OutOfMemory) => Err(Refusal::Memory),
+        Err(_) => Err(Refusal::Header),
+    }
+}
+
+/// Prints pieces, and the rows of the unit that their bytes are together.
+fn print_pieces<O: Write>(
+    alloc: Global,
+    section: PieceVec<LittleEndian, 16>,
+    out: &mut O,
+) -> Result<(), Refusal>
+    ensures refusal { IfErr result (λ r. r ≢ Refusal.Usage) }
+{
+    for piece in section.pieces() {
+        if print_bytes(piece, out).is_err() {
+            return Err(Refusal::Output);
+        }
+    }
+    let Ok(bytes) = section.into_vec() else {
+        return Err(Refusal::Memory);
+    };
+    let place = Place {
+        order: RunTimeEndian::Little,
+        address_size: AddressSize::Four,
+        offset: 0,
+    };
+    let program = program_at(alloc, bytes.as_slice(), place)?;
+    print_rows(program.rows(), out)
 }
 
 /// The program of the unit: a file, and a sequence of two rows. Refused by `OutOfMemory` alone.

@@ -3,7 +3,8 @@
 ghost use Rattle.std.specs.Prelude.{◌≡◌, ◌≢◌, IfErr};
 
 use crate::refusal::Refusal;
-use gimli_line::{ColumnType, LineRow};
+use gimli_core::Reader;
+use gimli_line::{ColumnType, LineProgram, LineRow, LineRows};
 use std::fmt;
 use std::io::Write;
 
@@ -88,6 +89,24 @@ impl fmt::Display for Flags {
             }
         }
         Ok(())
+    }
+}
+
+/// Prints the rows that are still to come. The first fault stops it, after the rows before it.
+pub(crate) fn print_rows<R: Reader, P: LineProgram<R> + Drop, O: Write>(
+    rows: LineRows<R, P>,
+    out: &mut O,
+) -> Result<(), Refusal>
+    ensures refusal { IfErr result (λ r. r ≢ Refusal.Usage) }
+{
+    let mut rows = rows;
+    'rows: loop {
+        let row = match rows.next_row() {
+            Ok(Some((_, row))) => *row,
+            Ok(None) => return Ok(()),
+            Err(e) => return Err(Refusal::of_unit(e, Refusal::Rows)),
+        };
+        print_row(row, out)?;
     }
 }
 

@@ -13,6 +13,8 @@ use gimli_core::RunTimeEndian;
 pub enum Command {
     /// Prints a unit that is built, and its rows.
     Demo,
+    /// Prints the pieces of that unit, and its rows.
+    DemoPieces,
     /// Prints the rows of a unit.
     Rows(Place),
     /// Prints the sequences of a unit, each with its rows.
@@ -89,6 +91,7 @@ impl Command {
     {
         match words {
             ["demo"] => Some(Command::Demo),
+            ["demo", "pieces"] => Some(Command::DemoPieces),
             ["rows", _file, order, size, offset] => {
                 Some(Command::Rows(Place::parse(order, size, offset)?))
             }

@@ -218,7 +218,7 @@ fn push_line(text: &mut String, line: &str) -> Result<bool, AllocError> {
 /// Whether the command with these words takes a script.
 fn takes_script(words: &str) -> bool {
     match words.split_whitespace().next() {
-        Some(word) => matches!(word, "write" | "read" | "bytes"),
+        Some(word) => matches!(word, "write" | "read" | "bytes" | "pieces"),
         None => false,
     }
 }

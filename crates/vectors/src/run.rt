@@ -34,6 +34,7 @@ fn run_script(
         ["write", rest @ ..] => builder_scripts::write(alloc, rest, script, attempts, out),
         ["read", rest @ ..] => call_scripts::read(alloc, rest, script, attempts, out),
         ["bytes", rest @ ..] => call_scripts::bytes(alloc, rest, script, attempts, out),
+        ["pieces", rest @ ..] => call_scripts::pieces(alloc, rest, script, attempts, out),
         _ => Ok(2),
     }
 }
