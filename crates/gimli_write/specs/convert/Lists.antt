@@ -60,10 +60,11 @@ pub record FileParts : Type 0 where
   pub directory : ℕ
   pub source : Option (List ℕ)
 
-abbrev pub file_parts : Sections → Lists → File → Result FileParts ConvertError
-file_parts sections lists f =
-    source_path (version_of lists) sections f.path_name >>= λ path.
-    ok_or (slice_get lists.directory_ids f.directory_index) InvalidDirectoryIndex >>= λ directory.
+-- in a program of this version, with these ids of directories
+abbrev pub file_parts : ℕ → Sections → List ℕ → File → Result FileParts ConvertError
+file_parts version sections directory_ids f =
+    source_path version sections f.path_name >>= λ path.
+    ok_or (slice_get directory_ids f.directory_index) InvalidDirectoryIndex >>= λ directory.
     if_there (source_text sections) f.source >>= λ source.
     Ok (record { path = path; directory = directory; source = source })
 
@@ -84,7 +85,8 @@ with_parts lists f parts =
     }
 
 abbrev pub file_added : Sections → Lists → File → Result Lists ConvertError
-file_added sections lists f = file_parts sections lists f >>= λ parts. Ok (with_parts lists f parts)
+file_added sections lists f =
+    file_parts (version_of lists) sections lists.directory_ids f >>= λ parts. Ok (with_parts lists f parts)
 
 -- ---- many
 

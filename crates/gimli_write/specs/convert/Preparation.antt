@@ -1,5 +1,5 @@
 -- What is made of the header of a source, before its program is read.
-use Rattle.std.specs.Prelude.{ℕ, ◌||◌, List, [], ◌∷◌, Bool, Option, Some, None, option_map, ok_or, Result, Ok, Err, nat_eq, nat_le, nat_lt, pos, ◌+ℤ◌, int_lt, int_le, if◌then◌else◌}
+use Rattle.std.specs.Prelude.{ℕ, ◌||◌, List, [], ◌∷◌, Bool, Option, Some, None, option_map, ok_or, unwrap_or, Result, Ok, Err, nat_eq, nat_le, nat_lt, pos, ◌+ℤ◌, int_lt, int_le, if◌then◌else◌}
 use Rattle.std.specs.Option.{option_map_or}
 use Rattle.gimli_core.specs.Values.{Value}
 use Rattle.gimli_core.specs.declared.common.Encoding.{Encoding}
@@ -122,19 +122,26 @@ started_lists encoding line_encoding h texts = record {
 
 -- ---- all of it
 
--- what is handed in, and the line strings before it
+-- what is handed in: the encodings of the program that is built, and the name of the source file
 pub record Handed : Type 0 where
-  -- of the program that is built
-  pub encoding : Encoding
+  pub encoding : Option Encoding
   pub line_encoding : Option LineEncoding
   pub name : Option (List ℕ)
-  pub line_strings : List (List ℕ)
 
-abbrev pub prepared : Sections → Header → Handed → Result Lists ConvertError
-prepared sections h handed =
-    working_directory handed.encoding.version sections h >>= λ directory.
-    source_file handed.encoding.version sections h handed.name >>= λ file.
-    line_encoding_of h.parameters.line_encoding handed.line_encoding >>= λ line_encoding.
+abbrev pub handed : Option Encoding → Option LineEncoding → Option (List ℕ) → Handed
+handed encoding line_encoding name = record { encoding = encoding; line_encoding = line_encoding; name = name }
+
+-- the one that is handed in, else the source's
+abbrev pub encoding_of : Header → Handed → Encoding
+encoding_of h given = unwrap_or given.encoding h.parameters.encoding
+
+-- the lists behind all directories and files of a header, from the line strings before it
+abbrev pub prepared : Sections → Header → Handed → List (List ℕ) → Result Lists ConvertError
+prepared sections h given line_strings =
+    let encoding = encoding_of h given in
+    working_directory encoding.version sections h >>= λ directory.
+    source_file encoding.version sections h given.name >>= λ file.
+    line_encoding_of h.parameters.line_encoding given.line_encoding >>= λ line_encoding.
     all_added (directory_added sections) h.directories
-        (started_lists handed.encoding line_encoding h (first_texts handed.encoding.version handed.line_strings directory file)) >>= λ lists.
+        (started_lists encoding line_encoding h (first_texts encoding.version line_strings directory file)) >>= λ lists.
     all_added (file_added sections) h.files lists

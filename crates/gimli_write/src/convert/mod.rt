@@ -1,0 +1,5 @@
+//! A program of a source, built again.
+
+mod header;
+mod lists;
+mod texts;
