@@ -1,6 +1,7 @@
 -- The steps that a header is prepared by, one after the other.
 use Rattle.std.proofs.Common.{◌≡◌, ℕ, List, refl, sym, ap, ◌∙◌}
-use Rattle.std.specs.Prelude.{Result, Ok, Err}
+use Rattle.std.specs.Prelude.{Result, Ok, Err, Option, Some, None, unwrap_or, IfSome, IsTrue}
+use Rattle.gimli_core.specs.Numbers.{is_address_size}
 use Rattle.gimli_core.specs.declared.common.Encoding.{Encoding}
 use Rattle.gimli_core.specs.declared.common.LineEncoding.{LineEncoding}
 use Rattle.gimli_line.specs.header.Header.{Header}
@@ -10,6 +11,12 @@ use Rattle.gimli_write.specs.convert.Texts.{◌>>=◌, IsRefusedBy}
 use Rattle.gimli_write.specs.convert.Lists.{Converted, Lists, lists_with, directory_added, file_added, all_added}
 use Rattle.gimli_write.specs.convert.Preparation.{working_directory, SourceFile, source_file, line_encoding_of, first_texts, started_program, first_ids, started_lists, Handed, encoding_of, prepared}
 use Rattle.gimli_write.proofs.ConvertSteps.{done_first, refused_first, refused_same}
+
+-- the encoding that is handed in, else the source's, has a known size of addresses
+pub size_is_known : (given : Option Encoding) (own encoding : Encoding) → encoding ≡ unwrap_or given own
+    → IfSome given (λ e. IsTrue (is_address_size e.address_size)) → IsTrue (is_address_size own.address_size) → IsTrue (is_address_size encoding.address_size)
+size_is_known (Some e) own encoding is handed known = rw is handed
+size_is_known None own encoding is handed known = rw is known
 
 -- lists whose parts are these
 pub lists_are : (c : Converted) (line_strings : List (List ℕ)) (want : Lists) → c.program ≡ want.program → c.directory_ids ≡ want.directory_ids
