@@ -1,7 +1,6 @@
 -- The steps that a header is prepared by, one after the other.
 use Rattle.std.proofs.Common.{◌≡◌, ℕ, List, refl, sym, ap, ◌∙◌}
-use Rattle.std.specs.Prelude.{Result, Ok, Err, Option, Some, None, unwrap_or, IfSome, IsTrue}
-use Rattle.gimli_core.specs.Numbers.{is_address_size}
+use Rattle.std.specs.Prelude.{Result, Ok}
 use Rattle.gimli_core.specs.declared.common.Encoding.{Encoding}
 use Rattle.gimli_core.specs.declared.common.LineEncoding.{LineEncoding}
 use Rattle.gimli_line.specs.header.Header.{Header}
@@ -9,14 +8,8 @@ use Rattle.gimli_build.specs.Texts.{Sections}
 use Rattle.gimli_write.specs.declared.convert_error.ConvertError.{ConvertError}
 use Rattle.gimli_write.specs.convert.Texts.{◌>>=◌, IsRefusedBy}
 use Rattle.gimli_write.specs.convert.Lists.{Converted, Lists, lists_with, directory_added, file_added, all_added}
-use Rattle.gimli_write.specs.convert.Preparation.{working_directory, SourceFile, source_file, line_encoding_of, first_texts, started_program, first_ids, started_lists, Handed, encoding_of, prepared}
+use Rattle.gimli_write.specs.convert.Preparation.{working_directory, SourceFile, source_file, line_encoding_of, first_texts, started_lists, Handed, encoding_of, prepared}
 use Rattle.gimli_write.proofs.ConvertSteps.{done_first, refused_first, refused_same}
-
--- the encoding that is handed in, else the source's, has a known size of addresses
-pub size_is_known : (given : Option Encoding) (own encoding : Encoding) → encoding ≡ unwrap_or given own
-    → IfSome given (λ e. IsTrue (is_address_size e.address_size)) → IsTrue (is_address_size own.address_size) → IsTrue (is_address_size encoding.address_size)
-size_is_known (Some e) own encoding is handed known = rw is handed
-size_is_known None own encoding is handed known = rw is known
 
 -- lists whose parts are these
 pub lists_are : (c : Converted) (line_strings : List (List ℕ)) (want : Lists) → c.program ≡ want.program → c.directory_ids ≡ want.directory_ids
@@ -46,28 +39,13 @@ module _ (s : Sections) (h : Header) (given : Handed) (line_strings : List (List
       all_added (directory_added s) h.directories (started_lists encoding e h (first_texts encoding.version line_strings directory file))
       >>= λ lists. all_added (file_added s) h.files lists) target
 
-  pub refused_at_directory : (e : ConvertError) → IsRefusedBy (working_directory encoding.version s h) e → IsRefusedBy (prepared s h given line_strings) e
-  refused_at_directory e refused =
-      refused_same all_steps (prepared s h given line_strings) e whole
-      (refused_first (working_directory encoding.version s h) (λ directory. behind_directory directory) e refused)
-
   module _ (directory : List ℕ) (first : working_directory encoding.version s h ≡ Ok directory) where
     at_file : behind_directory directory ≡ prepared s h given line_strings
     at_file = sym (done_first (working_directory encoding.version s h) (λ directory. behind_directory directory) directory first) ∙ whole
 
-    pub refused_at_file : (e : ConvertError) → IsRefusedBy (source_file encoding.version s h given.name) e → IsRefusedBy (prepared s h given line_strings) e
-    refused_at_file e refused =
-        refused_same (behind_directory directory) (prepared s h given line_strings) e at_file
-        (refused_first (source_file encoding.version s h given.name) (λ file. behind_file directory file) e refused)
-
     module _ (file : SourceFile) (second : source_file encoding.version s h given.name ≡ Ok file) where
       at_lines : behind_file directory file ≡ prepared s h given line_strings
       at_lines = sym (done_first (source_file encoding.version s h given.name) (λ file. behind_file directory file) file second) ∙ at_file
-
-      pub refused_at_lines : (e : ConvertError) → IsRefusedBy (line_encoding_of h.parameters.line_encoding given.line_encoding) e → IsRefusedBy (prepared s h given line_strings) e
-      refused_at_lines e refused =
-          refused_same (behind_file directory file) (prepared s h given line_strings) e at_lines
-          (refused_first (line_encoding_of h.parameters.line_encoding given.line_encoding) (λ e. behind_lines directory file e) e refused)
 
       module _ (lines : LineEncoding) (third : line_encoding_of h.parameters.line_encoding given.line_encoding ≡ Ok lines)
           (c : Converted) (texts : List (List ℕ)) (start : lists_with texts c ≡ started_lists encoding lines h (first_texts encoding.version line_strings directory file)) where

@@ -1,6 +1,6 @@
 -- Steps of a conversion, one after the other.
-use Rattle.std.proofs.Common.{◌≡◌, ◌⊎◌, ℕ, ◌+◌, ◌<◌, List, [], ◌∷◌, ◌++◌, length, map, drop, get_or, refl, sym, ap, ◌∙◌, inl, inr}
-use Rattle.std.specs.Prelude.{Result, Ok, Err, Option, Some, option_map, slice_get}
+use Rattle.std.proofs.Common.{◌≡◌, ℕ, ◌+◌, ◌<◌, List, [], ◌∷◌, ◌++◌, length, map, drop, get_or, refl, sym, ap, ◌∙◌, inl, inr}
+use Rattle.std.specs.Prelude.{Result, Ok, Option, Some, option_map}
 use Rattle.std.specs.Option.{option_map_or}
 use Rattle.std.proofs.lemmas.List.{at_drop_more}
 use Rattle.std.proofs.lemmas.Option.{slice_get_within, slice_get-get_or}
@@ -20,16 +20,11 @@ use Rattle.gimli_write.specs.convert.Lists.{Lists, version_of, with_path, direct
 pub done_first : {A B : Type 0} (r : Result A ConvertError) (f : A → Result B ConvertError) (x : A) → r ≡ Ok x → (r >>= f) ≡ f x
 done_first r f x is = ap (λ r. r >>= f) is
 
--- a call is refused by its first step, or by those behind it
+-- a call is refused where its first step is
 pub refused_first : {A B : Type 0} (r : Result A ConvertError) (f : A → Result B ConvertError) (e : ConvertError)
     → IsRefusedBy r e → IsRefusedBy (r >>= f) e
 refused_first r f e (inl memory) = inl memory
 refused_first r f e (inr is) = inr (ap (λ r. r >>= f) is)
-
-pub refused_behind : {A B : Type 0} (r : Result A ConvertError) (f : A → Result B ConvertError) (x : A) (e : ConvertError)
-    → r ≡ Ok x → IsRefusedBy (f x) e → IsRefusedBy (r >>= f) e
-refused_behind r f x e is (inl memory) = inl memory
-refused_behind r f x e is (inr next) = inr (done_first r f x is ∙ next)
 
 -- the same refusal by another name
 pub refused_same : {A : Type 0} (r s : Result A ConvertError) (e : ConvertError) → r ≡ s → IsRefusedBy r e → IsRefusedBy s e

@@ -1,9 +1,9 @@
 -- The directories and files of a source, as they are added to the program that is built of it.
-use Rattle.std.specs.Prelude.{ℕ, List, [], ◌∷◌, ◌++◌, Option, Some, option_map, ok_or, slice_get, Result, Ok, Err}
+use Rattle.std.specs.Prelude.{ℕ, List, [], ◌∷◌, ◌++◌, Option, Some, option_map, ok_or, slice_get, Result, Ok}
 use Rattle.std.specs.Option.{option_map_or}
 use Rattle.gimli_core.specs.Values.{Value}
 use Rattle.gimli_line.specs.header.File.{File}
-use Rattle.gimli_build.specs.LineText.{LineText, made_text, made_table}
+use Rattle.gimli_build.specs.LineText.{made_text, made_table}
 use Rattle.gimli_build.specs.Tables.{FileKey, with_directory, place_of_directory, with_file, place_of_file}
 use Rattle.gimli_build.specs.Built.{Built}
 use Rattle.gimli_build.specs.Texts.{Sections}

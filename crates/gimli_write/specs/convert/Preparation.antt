@@ -1,7 +1,6 @@
 -- What is made of the header of a source, before its program is read.
 use Rattle.std.specs.Prelude.{ℕ, ◌||◌, List, [], ◌∷◌, Bool, false, Option, Some, None, option_map, ok_or, unwrap_or, Result, Ok, Err, nat_eq, nat_le, nat_lt, pos, ◌+ℤ◌, int_lt, int_le, if◌then◌else◌}
 use Rattle.std.specs.Option.{option_map_or}
-use Rattle.gimli_core.specs.Values.{Value}
 use Rattle.gimli_core.specs.declared.common.Encoding.{Encoding}
 use Rattle.gimli_core.specs.declared.common.LineEncoding.{LineEncoding}
 use Rattle.gimli_line.specs.header.File.{File}
@@ -12,7 +11,7 @@ use Rattle.gimli_build.specs.FirstTables.{first_directories, first_files}
 use Rattle.gimli_build.specs.Texts.{Sections}
 use Rattle.gimli_write.specs.declared.convert_error.ConvertError.{ConvertError}
 use Rattle.gimli_write.specs.declared.convert_error.ConvertError.TheVariants.{MissingCompilationDirectory, MissingCompilationName, InvalidDirectoryIndex, InvalidLineBase}
-use Rattle.gimli_write.specs.convert.Texts.{◌>>=◌, if_there, without_zero, source_text}
+use Rattle.gimli_write.specs.convert.Texts.{◌>>=◌, without_zero, source_text}
 use Rattle.gimli_write.specs.convert.Lists.{Lists, directory_added, file_added, all_added}
 
 -- what a program of version 5 asks, and one up to version 4 can do without

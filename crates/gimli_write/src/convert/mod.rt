@@ -1,5 +1,5 @@
-//! A program of a source, built again.
+//! Line programs that are read and built again.
 
-mod header;
-mod lists;
-mod texts;
+pub(crate) mod header;
+pub(crate) mod lists;
+pub(crate) mod texts;

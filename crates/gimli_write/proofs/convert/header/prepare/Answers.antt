@@ -1,8 +1,8 @@
-use Rattle.std.proofs.Common.{◌≡◌, List, ℕ, sym, ap, ◌∙◌}
-use Rattle.std.specs.Prelude.{Ok, option_map, unwrap_or}
+use Rattle.std.proofs.Common.{◌≡◌, sym, ap, ◌∙◌}
+use Rattle.std.specs.Prelude.{option_map, unwrap_or}
 use Rattle.std.proofs.lemmas.Result.{err_from_is_err_and}
 use Rattle.gimli_core.specs.declared.common.LineEncoding.{LineEncoding}
-use Rattle.gimli_write.specs.convert.Lists.{Lists, lists_with}
+use Rattle.gimli_write.specs.convert.Lists.{lists_with}
 use Rattle.gimli_write.specs.convert.Preparation.{line_encoding_of, first_texts, first_ids, started_program, started_lists, handed}
 use Rattle.gimli_write.proofs.ConvertSteps.{kept_then}
 use Rattle.gimli_write.proofs.ConvertHeader.{lists_are, refused_at_directories, refused_at_files, at_files}

@@ -1,4 +1,4 @@
-use Rattle.std.proofs.Common.{◌<◌, ◌+◌, ℕ, List, [], length, map, drop, arith, refl, sym, ◌∙◌}
+use Rattle.std.proofs.Common.{◌<◌, ◌+◌, length, map, drop, arith, refl, sym, ◌∙◌}
 use Rattle.std.proofs.lemmas.Result.{err_from_is_err_and}
 use Rattle.gimli_core.specs.Values.{value_seen}
 use Rattle.gimli_write.specs.convert.Texts.{◌>>=◌}
@@ -11,11 +11,11 @@ loop-directory-init g c = record { left = refl; stays = kept_self c.args.line_st
 
 pub loop-directory-preserved : goal.loop-directory-preserved
 loop-directory-preserved g c =
+    let lt : c.loop-directory.directory-index < length c.args.directories.now = omega arith in
     let seen = value_seen g.R.Reader.bytes g.R.Offset.ReaderOffset.number in
     let xs = c.args.directories.now in
     let i = c.loop-directory.directory-index in
     let x = c.directory-item.result in
-    let lt : i < length xs = omega arith in
     let add = directory_added c.args.sections.now in
     let here = lists_with c.loop-directory.line_strings c.loop-directory.self in
     let next = lists_with c.add_directory.new.line_strings c.add_directory.new.self in
@@ -29,11 +29,11 @@ loop-directory-preserved g c =
 
 pub returns-in_err-add_directory-clause-err : goal.returns-in_err-add_directory-clause-err
 returns-in_err-add_directory-clause-err g c =
+    let lt : c.loop-directory.directory-index < length c.args.directories.now = omega arith in
     let seen = value_seen g.R.Reader.bytes g.R.Offset.ReaderOffset.number in
     let xs = c.args.directories.now in
     let i = c.loop-directory.directory-index in
     let x = c.directory-item.result in
-    let lt : i < length xs = omega arith in
     let add = directory_added c.args.sections.now in
     let here = lists_with c.loop-directory.line_strings c.loop-directory.self in
     let e = c.in_err-add_directory.field-0.0 in

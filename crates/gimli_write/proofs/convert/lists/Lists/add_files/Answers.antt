@@ -1,4 +1,4 @@
-use Rattle.std.proofs.Common.{◌<◌, ◌+◌, ℕ, List, [], length, map, drop, arith, refl, sym, ◌∙◌}
+use Rattle.std.proofs.Common.{◌<◌, ◌+◌, length, map, drop, arith, refl, sym, ◌∙◌}
 use Rattle.std.proofs.lemmas.Result.{err_from_is_err_and}
 use Rattle.gimli_line.specs.header.File.{file_seen}
 use Rattle.gimli_write.specs.convert.Texts.{◌>>=◌}
@@ -11,11 +11,11 @@ loop-file-init g c = record { left = refl; stays = kept_self c.args.line_strings
 
 pub loop-file-preserved : goal.loop-file-preserved
 loop-file-preserved g c =
+    let lt : c.loop-file.file-index < length c.args.files.now = omega arith in
     let seen = file_seen g.R.Reader.bytes g.R.Offset.ReaderOffset.number in
     let xs = c.args.files.now in
     let i = c.loop-file.file-index in
     let x = c.file-item.result in
-    let lt : i < length xs = omega arith in
     let add = file_added c.args.sections.now in
     let here = lists_with c.loop-file.line_strings c.loop-file.self in
     let next = lists_with c.add_file.new.line_strings c.add_file.new.self in
@@ -29,11 +29,11 @@ loop-file-preserved g c =
 
 pub returns-in_err-add_file-clause-err : goal.returns-in_err-add_file-clause-err
 returns-in_err-add_file-clause-err g c =
+    let lt : c.loop-file.file-index < length c.args.files.now = omega arith in
     let seen = file_seen g.R.Reader.bytes g.R.Offset.ReaderOffset.number in
     let xs = c.args.files.now in
     let i = c.loop-file.file-index in
     let x = c.file-item.result in
-    let lt : i < length xs = omega arith in
     let add = file_added c.args.sections.now in
     let here = lists_with c.loop-file.line_strings c.loop-file.self in
     let e = c.in_err-add_file.field-0.0 in
