@@ -38,10 +38,10 @@ pub directory_is_added : (s : Sections) (lists : Lists) (v : Value) (path : List
     → source_path (version_of lists) s v ≡ Ok path
     → text ≡ made_text (version_of lists) lists.line_strings path → line_strings ≡ made_table (version_of lists) lists.line_strings path
     → directory_added s lists v ≡ Ok (record lists {
-        program = record lists.program { directories = with_directory lists.program.directories text };
-        directory_ids = lists.directory_ids ++ place_of_directory lists.program.directories text ∷ [];
-        line_strings = line_strings;
-      })
+      program = record lists.program { directories = with_directory lists.program.directories text };
+      directory_ids = lists.directory_ids ++ place_of_directory lists.program.directories text ∷ [];
+      line_strings = line_strings;
+    })
 directory_is_added s lists v path text line_strings is made after =
     rw (made, after) (done_first (source_path (version_of lists) s v) (λ (p : List ℕ). Ok (with_path lists p)) path is)
 
@@ -52,13 +52,13 @@ pub file_is_added : (s : Sections) (lists : Lists) (f : File) (parts : FileParts
     → source ≡ option_map (made_text (version_of lists) paths) parts.source
     → line_strings ≡ option_map_or (made_table (version_of lists) paths) parts.source paths
     → file_added s lists f ≡ Ok (record lists {
-        program = record lists.program {
-          files = with_file lists.program.files (path, parts.directory)
-              (Some (record { timestamp = f.timestamp; size = f.size; md5 = f.md5; source = source }));
-        };
-        file_ids = lists.file_ids ++ place_of_file lists.program.files (path, parts.directory) ∷ [];
-        line_strings = line_strings;
-      })
+      program = record lists.program {
+        files = with_file lists.program.files (path, parts.directory)
+            (Some (record { timestamp = f.timestamp; size = f.size; md5 = f.md5; source = source }));
+      };
+      file_ids = lists.file_ids ++ place_of_file lists.program.files (path, parts.directory) ∷ [];
+      line_strings = line_strings;
+    })
 file_is_added s lists f parts path source paths line_strings is made after source_made source_after =
     rw (source_after, source_made, after, made)
     (done_first (file_parts (version_of lists) s lists.directory_ids f) (λ (p : FileParts). Ok (with_parts lists f p)) parts is)

@@ -161,10 +161,7 @@ fn is_out_of_range(line_encoding: LineEncoding) -> bool
 
 /// What lines are encoded by: as handed in, else as in the source. Refused as `InvalidLineBase` where the source's line
 /// base is above 0, and where the source's encoding is taken and lines can't be written by it.
-fn line_encoding_of(
-    own: LineEncoding,
-    handed: Option<LineEncoding>,
-) -> ConvertResult<LineEncoding>
+fn line_encoding_of(own: LineEncoding, handed: Option<LineEncoding>) -> ConvertResult<LineEncoding>
     requires own { IsLineEncoding own }
     requires handed { IfSome handed CanEncode }
     ensures encoding { result ≡ line_encoding_of own handed }

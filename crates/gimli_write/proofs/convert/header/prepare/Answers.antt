@@ -24,8 +24,8 @@ returns-in_err-add_directories-clause-err g c =
     let program : c.in_ok-program.program ≡ started_program encoding lines h made = rw c.as_slice.ensures.value at c.in_ok-program.ensures.ok in
     let after : c.first_program.new.line_strings ≡ made.line_strings = rw c.as_slice.ensures.value at c.in_ok-program.ensures.table in
     let start =
-        lists_are c.in_ok-lists.lists c.first_program.new.line_strings (started_lists encoding lines h made) (c.in_ok-lists.ensures.program ∙ program)
-        (c.in_ok-lists.ensures.directories ∙ ap first_ids c.version.ensures) (c.in_ok-lists.ensures.files ∙ ap first_ids c.version.ensures) after in
+    lists_are c.in_ok-lists.lists c.first_program.new.line_strings (started_lists encoding lines h made) (c.in_ok-lists.ensures.program ∙ program)
+    (c.in_ok-lists.ensures.directories ∙ ap first_ids c.version.ensures) (c.in_ok-lists.ensures.files ∙ ap first_ids c.version.ensures) after in
     let refused = rw c.include_directories.ensures at c.in_err-add_directories.ensures.err in
     let p = err_from_is_err_and c.from_residual-in_err-add_directories.result c.from_residual-in_err-add_directories.ensures.1 in
     rw (p.1, p.2)
@@ -53,8 +53,8 @@ returns-in_err-add_files-clause-err g c =
     let program : c.in_ok-program.program ≡ started_program encoding lines h made = rw c.as_slice.ensures.value at c.in_ok-program.ensures.ok in
     let after : c.first_program.new.line_strings ≡ made.line_strings = rw c.as_slice.ensures.value at c.in_ok-program.ensures.table in
     let start =
-        lists_are c.in_ok-lists.lists c.first_program.new.line_strings (started_lists encoding lines h made) (c.in_ok-lists.ensures.program ∙ program)
-        (c.in_ok-lists.ensures.directories ∙ ap first_ids c.version.ensures) (c.in_ok-lists.ensures.files ∙ ap first_ids c.version.ensures) after in
+    lists_are c.in_ok-lists.lists c.first_program.new.line_strings (started_lists encoding lines h made) (c.in_ok-lists.ensures.program ∙ program)
+    (c.in_ok-lists.ensures.directories ∙ ap first_ids c.version.ensures) (c.in_ok-lists.ensures.files ∙ ap first_ids c.version.ensures) after in
     let lists = lists_with c.add_directories.new.line_strings c.add_directories.new.self in
     let fourth = rw c.include_directories.ensures at c.in_ok-add_directories.ensures.ok in
     let refused = rw c.file_names.ensures at c.in_err-add_files.ensures.err in
@@ -86,8 +86,8 @@ returns-clause-ok g c =
     let program : c.in_ok-program.program ≡ started_program encoding lines h made = rw c.as_slice.ensures.value at c.in_ok-program.ensures.ok in
     let after : c.first_program.new.line_strings ≡ made.line_strings = rw c.as_slice.ensures.value at c.in_ok-program.ensures.table in
     let start =
-        lists_are c.in_ok-lists.lists c.first_program.new.line_strings (started_lists encoding lines h made) (c.in_ok-lists.ensures.program ∙ program)
-        (c.in_ok-lists.ensures.directories ∙ ap first_ids c.version.ensures) (c.in_ok-lists.ensures.files ∙ ap first_ids c.version.ensures) after in
+    lists_are c.in_ok-lists.lists c.first_program.new.line_strings (started_lists encoding lines h made) (c.in_ok-lists.ensures.program ∙ program)
+    (c.in_ok-lists.ensures.directories ∙ ap first_ids c.version.ensures) (c.in_ok-lists.ensures.files ∙ ap first_ids c.version.ensures) after in
     let lists = lists_with c.add_directories.new.line_strings c.add_directories.new.self in
     let fourth = rw c.include_directories.ensures at c.in_ok-add_directories.ensures.ok in
     let last = rw c.file_names.ensures at c.in_ok-add_files.ensures.ok in
