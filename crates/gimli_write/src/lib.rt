@@ -4,6 +4,7 @@
 //! the round trip.
 #![tactic(auto)]
 
+mod convert;
 mod convert_error;
 mod read_back;
 mod text;

@@ -70,7 +70,7 @@ fn text_from<R: Reader>(section: R, offset: R::Offset) -> gimli_core::Result<R>
 }
 
 /// The bytes of a text. Refused by `OutOfMemory` alone.
-fn copied<R: Reader>(alloc: Global, text: R) -> ConvertResult<Vec<u8>>
+pub(crate) fn copied<R: Reader>(alloc: Global, text: R) -> ConvertResult<Vec<u8>>
     ensures ok { IfOk result (λ copy. copy.items ≡ R.bytes text) }
     ensures err { IfErr result (λ e. e ≡ ConvertError.OutOfMemory) }
 {

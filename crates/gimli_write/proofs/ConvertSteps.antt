@@ -1,0 +1,88 @@
+-- Steps of a conversion, one after the other.
+use Rattle.std.proofs.Common.{◌≡◌, ℕ, ◌+◌, ◌<◌, List, [], ◌∷◌, ◌++◌, length, map, drop, get_or, refl, sym, ap, ◌∙◌, inl, inr}
+use Rattle.std.specs.Prelude.{Result, Ok, Option, Some, option_map}
+use Rattle.std.specs.Option.{option_map_or}
+use Rattle.std.proofs.lemmas.List.{at_drop_more}
+use Rattle.std.proofs.lemmas.Option.{slice_get_within, slice_get-get_or}
+use Rattle.gimli_core.specs.Values.{Value}
+use Rattle.gimli_line.specs.header.File.{File}
+use Rattle.gimli_bytes.specs.Texts.{KeepsTexts}
+use Rattle.gimli_build.specs.LineText.{LineText, made_text, made_table}
+use Rattle.gimli_build.specs.Tables.{with_directory, place_of_directory, with_file, place_of_file}
+use Rattle.gimli_build.specs.Texts.{Sections}
+use Rattle.gimli_write.specs.declared.convert_error.ConvertError.{ConvertError}
+use Rattle.gimli_write.specs.convert.Texts.{◌>>=◌, IsRefusedBy, source_path}
+use Rattle.gimli_write.specs.convert.Lists.{Lists, version_of, with_path, directory_added, FileParts, file_parts, with_parts, file_added, all_added}
+
+-- ---- one step and the next
+
+-- behind a step that is done the next one follows
+pub done_first : {A B : Type 0} (r : Result A ConvertError) (f : A → Result B ConvertError) (x : A) → r ≡ Ok x → (r >>= f) ≡ f x
+done_first r f x is = ap (λ r. r >>= f) is
+
+-- a call is refused where its first step is
+pub refused_first : {A B : Type 0} (r : Result A ConvertError) (f : A → Result B ConvertError) (e : ConvertError)
+    → IsRefusedBy r e → IsRefusedBy (r >>= f) e
+refused_first r f e (inl memory) = inl memory
+refused_first r f e (inr is) = inr (ap (λ r. r >>= f) is)
+
+-- the same refusal by another name
+pub refused_same : {A : Type 0} (r s : Result A ConvertError) (e : ConvertError) → r ≡ s → IsRefusedBy r e → IsRefusedBy s e
+refused_same r s e is (inl memory) = inl memory
+refused_same r s e is (inr refused) = inr (sym is ∙ refused)
+
+-- ---- one directory, and one file
+
+-- the lists behind a directory, by the text that was made of its path
+pub directory_is_added : (s : Sections) (lists : Lists) (v : Value) (path : List ℕ) (text : LineText) (line_strings : List (List ℕ))
+    → source_path (version_of lists) s v ≡ Ok path
+    → text ≡ made_text (version_of lists) lists.line_strings path → line_strings ≡ made_table (version_of lists) lists.line_strings path
+    → directory_added s lists v ≡ Ok (record lists {
+      program = record lists.program { directories = with_directory lists.program.directories text };
+      directory_ids = lists.directory_ids ++ place_of_directory lists.program.directories text ∷ [];
+      line_strings = line_strings;
+    })
+directory_is_added s lists v path text line_strings is made after =
+    rw (made, after) (done_first (source_path (version_of lists) s v) (λ (p : List ℕ). Ok (with_path lists p)) path is)
+
+-- the lists behind a file, by the texts that were made of its path and its source
+pub file_is_added : (s : Sections) (lists : Lists) (f : File) (parts : FileParts) (path : LineText) (source : Option LineText) (paths line_strings : List (List ℕ))
+    → file_parts (version_of lists) s lists.directory_ids f ≡ Ok parts
+    → path ≡ made_text (version_of lists) lists.line_strings parts.path → paths ≡ made_table (version_of lists) lists.line_strings parts.path
+    → source ≡ option_map (made_text (version_of lists) paths) parts.source
+    → line_strings ≡ option_map_or (made_table (version_of lists) paths) parts.source paths
+    → file_added s lists f ≡ Ok (record lists {
+      program = record lists.program {
+        files = with_file lists.program.files (path, parts.directory)
+            (Some (record { timestamp = f.timestamp; size = f.size; md5 = f.md5; source = source }));
+      };
+      file_ids = lists.file_ids ++ place_of_file lists.program.files (path, parts.directory) ∷ [];
+      line_strings = line_strings;
+    })
+file_is_added s lists f parts path source paths line_strings is made after source_made source_after =
+    rw (source_after, source_made, after, made)
+    (done_first (file_parts (version_of lists) s lists.directory_ids f) (λ (p : FileParts). Ok (with_parts lists f p)) parts is)
+
+-- ---- many
+
+-- what is left to be added begins with the next element
+pub next_added : {A B : Type 0} (add : Lists → B → Result Lists ConvertError) (seen : A → B) (xs : List A) (i : ℕ) (x : A) (lists : Lists)
+    → i < length xs → x ≡ get_or xs i x
+    → all_added add (map seen (drop i xs)) lists ≡ (add lists (seen x) >>= λ next. all_added add (map seen (drop (i + 1) xs)) next)
+next_added {A = A} add seen xs i x lists lt is =
+    at_drop_more (λ (l : List A). all_added add (map seen l) lists) xs i x lt
+    ∙ ap (λ (y : A). add lists (seen y) >>= λ next. all_added add (map seen (drop (i + 1) xs)) next) (sym is)
+
+-- ---- the line strings
+
+pub kept_self : (texts : List (List ℕ)) → KeepsTexts texts texts
+kept_self texts = record { text = λ i lt. refl; offset = λ i lt. refl }
+
+still_there : (old new : List (List ℕ)) (i : ℕ) → KeepsTexts old new → i < length old → i < length new
+still_there old new i kept lt = slice_get_within new i (get_or old i []) (kept.text i lt ∙ slice_get-get_or old i [] lt)
+
+pub kept_then : (old between new : List (List ℕ)) → KeepsTexts old between → KeepsTexts between new → KeepsTexts old new
+kept_then old between new first second = record {
+  text = λ i lt. second.text i (still_there old between i first lt) ∙ first.text i lt;
+  offset = λ i lt. second.offset i (still_there old between i first lt) ∙ first.offset i lt;
+}

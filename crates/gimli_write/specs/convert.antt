@@ -1,0 +1,4 @@
+-- Programs of a source that are converted.
+pub mod Texts
+pub mod Lists
+pub mod Preparation

@@ -1,0 +1,302 @@
+//! What is made of the header of a source, before its program is read.
+
+ghost use Rattle.std.specs.Prelude.{◌≡◌, ◌≢◌, ◌≤◌, ℕ, List, [], ◌∷◌, All, IfOk, IfErr, IfSome, IsTrue, OnOk, Ok, None, Some, false, option_map};
+ghost use Rattle.gimli_core.specs.Numbers.{is_address_size};
+ghost use Rattle.gimli_core.specs.Values.{value_seen};
+ghost use Rattle.gimli_line.specs.header.File.{file_seen};
+ghost use Rattle.gimli_line.specs.header.Parameters.{IsLineEncoding};
+ghost use Rattle.gimli_line.specs.header.Header.{has_content};
+ghost use Rattle.gimli_bytes.specs.Texts.{KeepsTexts};
+ghost use Rattle.gimli_build.specs.Advance.{CanEncode};
+ghost use Rattle.gimli_build.specs.Conditions.{Accepts};
+ghost use Rattle.gimli_build.specs.LineText.{line_text, HasNoZero};
+ghost use Rattle.gimli_write.specs.convert.Texts.{IsRefusedBy};
+ghost use Rattle.gimli_write.specs.convert.Lists.{lists_with};
+ghost use Rattle.gimli_write.specs.convert.Preparation.{working_directory, file_directory, own_source_file, named_source_file, source_file, is_out_of_range, line_encoding_of, first_texts, started_program, started_lists, first_ids, has_before_5, handed, prepared};
+
+use crate::convert::lists::{Lists, made, optional_made};
+use crate::convert::texts::{source_text, without_zero};
+use crate::convert_error::{ConvertError, ConvertResult, from_write};
+use crate::text::{TextSections, copied};
+use gimli_build::{DirectoryId, FileId, LineProgram};
+use gimli_bytes::LineStringTable;
+use gimli_core::{Encoding, LineEncoding, Reader, ReaderOffset};
+use gimli_line::{FileEntry, LineProgramHeader};
+use std::alloc::Global;
+use std::marker::Model;
+
+/// The working directory of the program, which is the source's directory 0. Where there is none it is empty up to
+/// version 4, and from version 5 on this is refused as `MissingCompilationDirectory`.
+fn working_directory<R: Reader>(
+    alloc: Global,
+    version: u16,
+    header: &LineProgramHeader<R>,
+    sections: &TextSections<R>,
+) -> ConvertResult<Vec<u8>>
+    ensures ok { IfOk result (λ text. working_directory version sections.now header.now.meaning ≡ Ok text.items) }
+    ensures err { IfErr result (IsRefusedBy (working_directory version sections.now header.now.meaning)) }
+    ensures no_zero { IfOk result (λ text. All (λ b. b ≢ 0) text.items) }
+{
+    match header.directory(0) {
+        Some(directory) => source_text(alloc, directory, sections),
+        None if version <= 4 => Ok(Vec::new(alloc)),
+        None => Err(ConvertError::MissingCompilationDirectory),
+    }
+}
+
+/// The source file of the program: its path, and its directory unless that is the working directory.
+#[derive(Drop)]
+struct SourceFile {
+    directory: Option<Vec<u8>>,
+    path: Vec<u8>,
+}
+
+impl Model for SourceFile {
+    ghost use Rattle.std.specs.Prelude.{option_map};
+    ghost use Rattle.gimli_write.specs.convert.Preparation.{SourceFile};
+
+    ghost Value = { SourceFile };
+
+    ghost view = { λ a. record {
+      directory = option_map (λ text. text.items) a.directory;
+      path = a.path.items;
+    } };
+}
+
+/// The directory of a source file, which the working directory is at index 0. Refused as `InvalidDirectoryIndex` where
+/// the source has no directory of its index.
+fn file_directory<R: Reader>(
+    alloc: Global,
+    header: &LineProgramHeader<R>,
+    index: u64,
+    sections: &TextSections<R>,
+) -> ConvertResult<Option<Vec<u8>>>
+    ensures ok { IfOk result (λ text. file_directory sections.now header.now.meaning index
+        ≡ Ok (option_map (λ text. text.items) text)) }
+    ensures err { IfErr result (IsRefusedBy (file_directory sections.now header.now.meaning index)) }
+    ensures no_zero { IfOk result (λ text. IfSome text (λ text. All (λ b. b ≢ 0) text.items)) }
+{
+    if index == 0 {
+        return Ok(None);
+    }
+    match header.directory(index) {
+        Some(directory) => Ok(Some(source_text(alloc, directory, sections)?)),
+        None => Err(ConvertError::InvalidDirectoryIndex),
+    }
+}
+
+/// The source file, of a file of the source.
+fn own_source_file<R: Reader>(
+    alloc: Global,
+    header: &LineProgramHeader<R>,
+    file: &FileEntry<R>,
+    sections: &TextSections<R>,
+) -> ConvertResult<SourceFile>
+    ensures ok { IfOk result (λ found. own_source_file sections.now header.now.meaning
+        (file_seen R.bytes R.Offset.number file.now) ≡ Ok found) }
+    ensures err { IfErr result (IsRefusedBy (own_source_file sections.now header.now.meaning
+        (file_seen R.bytes R.Offset.number file.now))) }
+    ensures directory_no_zero { IfOk result (λ found. IfSome found.directory (λ text. All (λ b. b ≢ 0) text)) }
+    ensures path_no_zero { IfOk result (λ found. All (λ b. b ≢ 0) found.path) }
+{
+    let directory = file_directory(alloc, header, file.directory_index(), sections)?;
+    let path = source_text(alloc, file.path_name(), sections)?;
+    Ok(SourceFile { directory, path })
+}
+
+/// The source file, of the name that is handed in.
+fn named_source_file<R: Reader>(alloc: Global, name: R) -> ConvertResult<SourceFile>
+    ensures ok { IfOk result (λ found. named_source_file (R.bytes name) ≡ Ok found) }
+    ensures err { IfErr result (IsRefusedBy (named_source_file (R.bytes name))) }
+    ensures directory { IfOk result (λ found. found.directory ≡ None) }
+    ensures path_no_zero { IfOk result (λ found. All (λ b. b ≢ 0) found.path) }
+{
+    let path = without_zero(copied(alloc, name)?)?;
+    Ok(SourceFile {
+        directory: None,
+        path,
+    })
+}
+
+/// The source file of the program: the one of the name that is handed in, where the source is of version 4 or less,
+/// else the source's file 0. Where there is none it is empty up to version 4, and from version 5 on this is refused as
+/// `MissingCompilationName`.
+fn source_file<R: Reader>(
+    alloc: Global,
+    version: u16,
+    header: &LineProgramHeader<R>,
+    from_comp_name: Option<R>,
+    sections: &TextSections<R>,
+) -> ConvertResult<SourceFile>
+    ensures ok { IfOk result (λ found.
+        source_file version sections.now header.now.meaning (option_map R.bytes from_comp_name) ≡ Ok found) }
+    ensures err { IfErr result (IsRefusedBy
+        (source_file version sections.now header.now.meaning (option_map R.bytes from_comp_name))) }
+    ensures directory_no_zero { IfOk result (λ found. IfSome found.directory (λ text. All (λ b. b ≢ 0) text)) }
+    ensures path_no_zero { IfOk result (λ found. All (λ b. b ≢ 0) found.path) }
+{
+    if header.version() <= 4 {
+        if let Some(name) = from_comp_name {
+            return named_source_file(alloc, name);
+        }
+    }
+    match header.file(0) {
+        Some(file) => own_source_file(alloc, header, file, sections),
+        None if version <= 4 => Ok(SourceFile {
+            directory: None,
+            path: Vec::new(alloc),
+        }),
+        None => Err(ConvertError::MissingCompilationName),
+    }
+}
+
+/// Whether lines can't be written by the encoding of a source: no special opcode is sure to advance no line, or no byte
+/// holds the one that does.
+fn is_out_of_range(line_encoding: LineEncoding) -> bool
+    ensures { result ≡ is_out_of_range line_encoding }
+{
+    i16::from(line_encoding.line_base) + i16::from(line_encoding.line_range) <= 0
+        || line_encoding.line_range > 127
+}
+
+/// What lines are encoded by: as handed in, else as in the source. Refused as `InvalidLineBase` where the source's line
+/// base is above 0, and where the source's encoding is taken and lines can't be written by it.
+fn line_encoding_of(own: LineEncoding, handed: Option<LineEncoding>) -> ConvertResult<LineEncoding>
+    requires own { IsLineEncoding own }
+    requires handed { IfSome handed CanEncode }
+    ensures encoding { result ≡ line_encoding_of own handed }
+    ensures can { IfOk result CanEncode }
+{
+    if own.line_base > 0 {
+        return Err(ConvertError::InvalidLineBase);
+    }
+    match handed {
+        Some(line_encoding) => Ok(line_encoding),
+        None if is_out_of_range(own) => Err(ConvertError::InvalidLineBase),
+        None => Ok(own),
+    }
+}
+
+/// The program, with its first directory and file. Asks texts without zero bytes. Refused by `OutOfMemory` alone. The
+/// line strings keep their texts.
+fn first_program<R: Reader>(
+    encoding: Encoding,
+    line_encoding: LineEncoding,
+    header: &LineProgramHeader<R>,
+    directory: &[u8],
+    file: &SourceFile,
+    line_strings: &mut LineStringTable,
+) -> ConvertResult<LineProgram>
+    requires accepts { Accepts encoding line_encoding }
+    requires working { All (λ b. b ≢ 0) directory.now }
+    requires directory { IfSome file.now.directory (λ text. All (λ b. b ≢ 0) text) }
+    requires path { All (λ b. b ≢ 0) file.now.path }
+    ensures ok { IfOk result (λ program. program ≡ started_program encoding line_encoding header.now.meaning
+        (first_texts encoding.version line_strings.old directory.now file.now)) }
+    ensures table { OnOk result (line_strings.new
+        ≡ (first_texts encoding.version line_strings.old directory.now file.now).line_strings) }
+    ensures stays { KeepsTexts line_strings.old line_strings.new }
+    ensures memory { IfErr result (λ e. e ≡ ConvertError.OutOfMemory) }
+{
+    let alloc = *line_strings.allocator();
+    let working_dir = made(directory, encoding, line_strings)?;
+    let source_dir = optional_made(&file.directory, encoding, line_strings)?;
+    let source_file = made(file.path.as_slice(), encoding, line_strings)?;
+    match LineProgram::new(
+        alloc,
+        encoding,
+        line_encoding,
+        working_dir,
+        source_dir,
+        source_file,
+        None,
+    ) {
+        Ok(program) => Ok(with_flags(program, header)),
+        Err(e) => Err(from_write(e)),
+    }
+}
+
+/// The program, which writes of its files what the header has of them.
+fn with_flags<R: Reader>(mut program: LineProgram, header: &LineProgramHeader<R>) -> LineProgram
+    ensures { result ≡ record program {
+      file_has_timestamp = has_before_5 0x0003 header.now.meaning;
+      file_has_size = has_before_5 0x0004 header.now.meaning;
+      file_has_md5 = has_content 0x0005 header.now.meaning.file_formats;
+      file_has_source = has_content 0x2001 header.now.meaning.file_formats;
+    } }
+{
+    program.file_has_timestamp = header.file_has_timestamp();
+    program.file_has_size = header.file_has_size();
+    program.file_has_md5 = header.file_has_md5();
+    program.file_has_source = header.file_has_source();
+    program
+}
+
+/// The file that stands at number 0 up to version 4, where no row names it.
+fn unused_file(alloc: Global) -> FileId
+    ensures { result ≡ 0 }
+{
+    let mut program = LineProgram::none(alloc);
+    program.row().file
+}
+
+/// The program, and no directory or file of its source but those at 0 up to version 4. Refused by `OutOfMemory` alone.
+fn first_lists(alloc: Global, program: LineProgram, source_version: u16) -> ConvertResult<Lists>
+    requires { program.is_none ≡ false }
+    ensures program { IfOk result (λ lists. lists.program ≡ program) }
+    ensures directories { IfOk result (λ lists. lists.directory_ids ≡ first_ids source_version) }
+    ensures files { IfOk result (λ lists. lists.file_ids ≡ first_ids source_version) }
+    ensures memory { IfErr result (λ e. e ≡ ConvertError.OutOfMemory) }
+{
+    let mut directories = Vec::new(alloc);
+    let mut files = Vec::new(alloc);
+    if source_version <= 4 {
+        directories.push(program.default_directory())?;
+        files.push(unused_file(alloc))?;
+    }
+    Ok(Lists {
+        program,
+        directories,
+        files,
+    })
+}
+
+/// The program of a header with its directories and files, and where it has those of the source. Asks encodings that a
+/// program may have, where they are handed in. Refused by the first of these that is refused: the working directory, the
+/// source file, the encoding of lines, the directories, the files; or by `OutOfMemory`. The line strings keep their
+/// texts.
+pub(crate) fn prepare<R: Reader>(
+    sections: &TextSections<R>,
+    header: &LineProgramHeader<R>,
+    from_comp_name: Option<R>,
+    encoding: Option<Encoding>,
+    line_encoding: Option<LineEncoding>,
+    line_strings: &mut LineStringTable,
+) -> ConvertResult<Lists>
+    requires address_size { IfSome encoding (λ e. IsTrue (is_address_size e.address_size)) }
+    requires lines { IfSome line_encoding CanEncode }
+    ensures ok { IfOk result (λ lists. prepared sections.now header.now.meaning
+        (handed encoding line_encoding (option_map R.bytes from_comp_name)) line_strings.old
+        ≡ Ok (lists_with line_strings.new lists)) }
+    ensures err { IfErr result (IsRefusedBy (prepared sections.now header.now.meaning
+        (handed encoding line_encoding (option_map R.bytes from_comp_name)) line_strings.old)) }
+    ensures stays { KeepsTexts line_strings.old line_strings.new }
+{
+    let alloc = *line_strings.allocator();
+    let encoding = encoding.unwrap_or(header.encoding());
+    let directory = working_directory(alloc, encoding.version, header, sections)?;
+    let file = source_file(alloc, encoding.version, header, from_comp_name, sections)?;
+    let line_encoding = line_encoding_of(header.line_encoding(), line_encoding)?;
+    let program = first_program(
+        encoding,
+        line_encoding,
+        header,
+        directory.as_slice(),
+        &file,
+        line_strings,
+    )?;
+    let mut lists = first_lists(alloc, program, header.version())?;
+    lists.add_directories(header.include_directories(), sections, line_strings)?;
+    lists.add_files(header.file_names(), sections, line_strings)?;
+    Ok(lists)
+}

@@ -1,0 +1,247 @@
+//! The directories and files of a source, as they are added to the program that is built of it.
+
+ghost use Rattle.std.specs.Prelude.{◌≡◌, ◌≢◌, ◌≤◌, [], All, IfOk, IfErr, IfSome, OnOk, Ok, length, option_map, map, slice_get, ◌<◌};
+ghost use Rattle.std.specs.Option.{option_map_or};
+ghost use Rattle.gimli_core.specs.Values.{value_seen};
+ghost use Rattle.gimli_line.specs.header.File.{file_seen};
+ghost use Rattle.gimli_bytes.specs.Texts.{KeepsTexts};
+ghost use Rattle.gimli_build.specs.LineText.{LineText, line_text, made_text, made_table, HasNoZero, IsNotEmpty};
+ghost use Rattle.gimli_write.specs.convert.Texts.{IsRefusedBy};
+ghost use Rattle.gimli_write.specs.convert.Lists.{lists_with, directory_added, file_added, file_parts, all_added};
+ghost use Rattle.gimli_write.specs.declared.convert_error.ConvertError.TheVariants.{OutOfMemory};
+
+use crate::convert::texts::{optional_text, source_path};
+use crate::convert_error::{ConvertError, ConvertResult, from_write};
+use crate::text::TextSections;
+use gimli_build::{DirectoryId, FileId, FileInfo, LineProgram, LineString};
+use gimli_bytes::LineStringTable;
+use gimli_core::{AttributeValue, Encoding, Reader, ReaderOffset};
+use gimli_line::FileEntry;
+use std::alloc::Global;
+use std::marker::Model;
+
+/// The program that is built, and where it has the directories and files of its source. It isn't none.
+#[derive(Debug, Drop)]
+pub(crate) struct Lists {
+    pub(crate) program: LineProgram,
+    /// For each directory of the source, by its index there, its id in the program.
+    pub(crate) directories: Vec<DirectoryId>,
+    /// For each file, by its number in the source, its id; up to version 4 of the source none has number 0.
+    pub(crate) files: Vec<FileId>,
+}
+
+impl Model for Lists {
+    ghost use Rattle.std.specs.Prelude.{◌≡◌, ◌<◌, false, length, All};
+    ghost use Rattle.gimli_write.specs.convert.Lists.{Converted};
+
+    ghost Value = { Converted };
+
+    ghost view = { λ a. record {
+      program = a.program;
+      directory_ids = a.directories.items;
+      file_ids = a.files.items;
+    } };
+
+    ghost invariant = { λ a. (a.program.is_none ≡ false)
+        × All (λ id. id < length a.program.directories) a.directories.items };
+}
+
+/// What a file of the source has, with texts of the program.
+#[derive(Drop)]
+struct FileParts {
+    path: Vec<u8>,
+    directory: DirectoryId,
+    source: Option<Vec<u8>>,
+}
+
+impl Model for FileParts {
+    ghost use Rattle.std.specs.Prelude.{option_map};
+    ghost use Rattle.gimli_write.specs.convert.Lists.{FileParts};
+
+    ghost Value = { FileParts };
+
+    ghost view = { λ a. record {
+      path = a.path.items;
+      directory = a.directory;
+      source = option_map (λ text. text.items) a.source;
+    } };
+}
+
+/// A text of a program of this encoding. Asks bytes without a zero byte. Refused by `OutOfMemory` alone; then the line
+/// strings are as before.
+pub(crate) fn made(
+    text: &[u8],
+    encoding: Encoding,
+    line_strings: &mut LineStringTable,
+) -> ConvertResult<LineString>
+    requires { All (λ b. b ≢ 0) text.now }
+    ensures ok { IfOk result (λ made. line_text made ≡ made_text encoding.version line_strings.old text.now) }
+    ensures table { OnOk result (line_strings.new ≡ made_table encoding.version line_strings.old text.now) }
+    ensures no_zero { IfOk result (λ made. HasNoZero (line_text made)) }
+    ensures not_empty { encoding.version ≤ 4 → text.now ≢ [] → IfOk result (λ made. IsNotEmpty (line_text made)) }
+    ensures stays { KeepsTexts line_strings.old line_strings.new }
+    ensures memory { IfErr result (λ e. e ≡ ConvertError.OutOfMemory) }
+{
+    match LineString::new(text, encoding, line_strings) {
+        Ok(made) => Ok(made),
+        Err(e) => Err(from_write(e)),
+    }
+}
+
+/// The same, where there are bytes.
+pub(crate) fn optional_made(
+    text: &Option<Vec<u8>>,
+    encoding: Encoding,
+    line_strings: &mut LineStringTable,
+) -> ConvertResult<Option<LineString>>
+    requires { IfSome text.now (λ text. All (λ b. b ≢ 0) text.items) }
+    ensures ok { IfOk result (λ made. option_map line_text made
+        ≡ option_map (made_text encoding.version line_strings.old) (option_map (λ text. text.items) text.now)) }
+    ensures table { OnOk result (line_strings.new ≡ option_map_or (made_table encoding.version line_strings.old)
+        (option_map (λ text. text.items) text.now) line_strings.old) }
+    ensures no_zero { IfOk result (λ made. IfSome made (λ made. HasNoZero (line_text made))) }
+    ensures stays { KeepsTexts line_strings.old line_strings.new }
+    ensures memory { IfErr result (λ e. e ≡ ConvertError.OutOfMemory) }
+{
+    match text {
+        Some(text) => Ok(Some(made(text.as_slice(), encoding, line_strings)?)),
+        None => Ok(None),
+    }
+}
+
+impl Lists {
+    /// Adds a directory behind the others. Refused as its path is; the program and the ids are then as before, unless
+    /// memory is wanting. The line strings keep their texts.
+    pub(crate) fn add_directory<R: Reader>(
+        &mut self,
+        directory: AttributeValue<R>,
+        sections: &TextSections<R>,
+        line_strings: &mut LineStringTable,
+    ) -> ConvertResult<()>
+        ensures ok { OnOk result (directory_added sections.now (lists_with line_strings.old self.old)
+            (value_seen R.bytes R.Offset.number directory) ≡ Ok (lists_with line_strings.new self.new)) }
+        ensures err { IfErr result (IsRefusedBy (directory_added sections.now (lists_with line_strings.old self.old)
+            (value_seen R.bytes R.Offset.number directory))) }
+        ensures kept { IfErr result (λ e. e ≢ ConvertError.OutOfMemory → self.new ≡ self.old) }
+        ensures stays { KeepsTexts line_strings.old line_strings.new }
+    {
+        let alloc = *line_strings.allocator();
+        let encoding = self.program.encoding();
+        let path = source_path(alloc, encoding.version, directory, sections)?;
+        let text = made(path.as_slice(), encoding, line_strings)?;
+        match self.program.add_directory(text) {
+            Ok(id) => Ok(self.directories.push(id)?),
+            Err(e) => Err(from_write(e)),
+        }
+    }
+
+    /// What a file of the source has, with texts of the program. Refused as its path and its source are, and as
+    /// `InvalidDirectoryIndex` where the source has no directory of its index.
+    fn file_parts<R: Reader>(
+        &self,
+        alloc: Global,
+        file: &FileEntry<R>,
+        sections: &TextSections<R>,
+    ) -> ConvertResult<FileParts>
+        ensures ok { IfOk result (λ parts. file_parts self.now.program.encoding.version sections.now
+            self.now.directory_ids (file_seen R.bytes R.Offset.number file.now) ≡ Ok parts) }
+        ensures err { IfErr result (IsRefusedBy (file_parts self.now.program.encoding.version sections.now
+            self.now.directory_ids (file_seen R.bytes R.Offset.number file.now))) }
+        ensures no_zero { IfOk result (λ parts. All (λ b. b ≢ 0) parts.path) }
+        ensures not_empty { IfOk result (λ parts. self.now.program.encoding.version ≤ 4 → parts.path ≢ []) }
+        ensures source_no_zero { IfOk result (λ parts. IfSome parts.source (λ text. All (λ b. b ≢ 0) text)) }
+        ensures within { IfOk result (λ parts. parts.directory < length self.now.program.directories) }
+    {
+        let path = source_path(alloc, self.program.version(), file.path_name(), sections)?;
+        let directory = match directory_id(self.directories.as_slice(), file.directory_index()) {
+            Some(directory) => directory,
+            None => return Err(ConvertError::InvalidDirectoryIndex),
+        };
+        let source = optional_text(alloc, file.source(), sections)?;
+        Ok(FileParts {
+            path,
+            directory,
+            source,
+        })
+    }
+
+    /// Adds a file behind the others. Refused as `file_parts` is; the program and the ids are then as before, unless
+    /// memory is wanting. The line strings keep their texts.
+    pub(crate) fn add_file<R: Reader>(
+        &mut self,
+        file: &FileEntry<R>,
+        sections: &TextSections<R>,
+        line_strings: &mut LineStringTable,
+    ) -> ConvertResult<()>
+        ensures ok { OnOk result (file_added sections.now (lists_with line_strings.old self.old)
+            (file_seen R.bytes R.Offset.number file.now) ≡ Ok (lists_with line_strings.new self.new)) }
+        ensures err { IfErr result (IsRefusedBy (file_added sections.now (lists_with line_strings.old self.old)
+            (file_seen R.bytes R.Offset.number file.now))) }
+        ensures kept { IfErr result (λ e. e ≢ ConvertError.OutOfMemory → self.new ≡ self.old) }
+        ensures stays { KeepsTexts line_strings.old line_strings.new }
+    {
+        let alloc = *line_strings.allocator();
+        let encoding = self.program.encoding();
+        let parts = self.file_parts(alloc, file, sections)?;
+        let path = made(parts.path.as_slice(), encoding, line_strings)?;
+        let source = optional_made(&parts.source, encoding, line_strings)?;
+        let info = FileInfo {
+            timestamp: file.timestamp(),
+            size: file.size(),
+            md5: *file.md5(),
+            source,
+        };
+        match self.program.add_file(path, parts.directory, Some(info)) {
+            Ok(id) => Ok(self.files.push(id)?),
+            Err(e) => Err(from_write(e)),
+        }
+    }
+
+    /// Adds directories in order. Refused as the first is that is refused. The line strings keep their texts.
+    pub(crate) fn add_directories<R: Reader>(
+        &mut self,
+        directories: &[AttributeValue<R>],
+        sections: &TextSections<R>,
+        line_strings: &mut LineStringTable,
+    ) -> ConvertResult<()>
+        ensures ok { OnOk result (all_added (directory_added sections.now)
+            (map (value_seen R.bytes R.Offset.number) directories.now) (lists_with line_strings.old self.old)
+            ≡ Ok (lists_with line_strings.new self.new)) }
+        ensures err { IfErr result (IsRefusedBy (all_added (directory_added sections.now)
+            (map (value_seen R.bytes R.Offset.number) directories.now) (lists_with line_strings.old self.old))) }
+        ensures stays { KeepsTexts line_strings.old line_strings.new }
+    {
+        for directory in directories {
+            self.add_directory(*directory, sections, line_strings)?;
+        }
+        Ok(())
+    }
+
+    /// Adds files in order. Refused as the first is that is refused. The line strings keep their texts.
+    pub(crate) fn add_files<R: Reader>(
+        &mut self,
+        files: &[FileEntry<R>],
+        sections: &TextSections<R>,
+        line_strings: &mut LineStringTable,
+    ) -> ConvertResult<()>
+        ensures ok { OnOk result (all_added (file_added sections.now)
+            (map (file_seen R.bytes R.Offset.number) files.now) (lists_with line_strings.old self.old)
+            ≡ Ok (lists_with line_strings.new self.new)) }
+        ensures err { IfErr result (IsRefusedBy (all_added (file_added sections.now)
+            (map (file_seen R.bytes R.Offset.number) files.now) (lists_with line_strings.old self.old))) }
+        ensures stays { KeepsTexts line_strings.old line_strings.new }
+    {
+        for file in files {
+            self.add_file(file, sections, line_strings)?;
+        }
+        Ok(())
+    }
+}
+
+/// The id of the directory with an index in the source. No index wraps.
+fn directory_id(ids: &[DirectoryId], index: u64) -> Option<DirectoryId>
+    ensures { result ≡ slice_get ids.now index }
+{
+    let index = usize::try_from(index).ok()?;
+    ids.get(index).copied()
+}

@@ -1,0 +1,5 @@
+//! Line programs that are read and built again.
+
+pub(crate) mod header;
+pub(crate) mod lists;
+pub(crate) mod texts;
