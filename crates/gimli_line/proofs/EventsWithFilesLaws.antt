@@ -11,7 +11,7 @@ use Rattle.gimli_line.specs.declared.run.instruction.LineInstruction.TheVariants
 use Rattle.gimli_line.specs.run.OperationPointer.{is_hidden, overflows}
 use Rattle.gimli_line.specs.run.Events.{row, row_at, events_at}
 use Rattle.gimli_line.specs.run.Machine.{initial, reset_row, stepped, is_refused}
-use Rattle.gimli_line.specs.run.EventsWithFiles.{EventWithFiles, with_files, files_at, events_with_files_behind, step_events, next_registers, events_with_files_from}
+use Rattle.gimli_line.specs.run.EventsWithFiles.{EventWithFiles, with_files, files_at, events_with_files_behind, step_events, next_registers, registers_after, events_with_files_from}
 use Rattle.gimli_line.proofs.Backwards.{registers, goes_on, starts_anew, goes_past, row_is}
 
 -- what an instruction gives
@@ -51,3 +51,19 @@ events_with_files_are a h past (i ∷ list) end =
 pub events_with_files_start : (a : Bool) (h : Header) (list : List Ins) (end : Option Error) → events_with_files_from a h.parameters (reset_row h.parameters (initial h.parameters)) h.files list end ≡ events_with_files_behind a h [] list end
 events_with_files_start true h list end = events_with_files_are true h [] list end
 events_with_files_start false h list end = events_with_files_are false h [] list end
+
+-- ---- the registers behind a past
+
+-- they are those that are found by looking back
+looked_back : (h : Parameters) (past : List Ins) → registers_after h past ≡ registers h past
+looked_back h [] = refl
+looked_back h (i ∷ past) = ap (next_registers h i) (looked_back h past) ∙ goes h past i (overflows h past i) (makes_row i) refl refl
+
+pub refused_behind : (h : Parameters) (past : List Ins) (i : Ins) → is_refused h i (registers_after h past) ≡ overflows h past i
+refused_behind h past i = ap (is_refused h i) (looked_back h past)
+
+pub hidden_behind : (h : Parameters) (past : List Ins) → (registers_after h past).hidden ≡ is_hidden h past
+hidden_behind h past = ap (λ (r : LineRow). r.hidden) (looked_back h past)
+
+pub row_behind : (h : Parameters) (past : List Ins) (i : Ins) → makes_row i ≡ true → is_hidden h past ≡ false → stepped h i (registers_after h past) ≡ row_at h past i
+row_behind h past i loud seen = ap (stepped h i) (looked_back h past) ∙ row_is h past i loud seen

@@ -1,17 +1,20 @@
 //! Laws of the two grammars: a unit has one header or one refusal, a program is decoded in one way. And laws of what
 //! a run gives.
 
-ghost use Rattle.std.specs.Prelude.{◌≡◌, ◌≢◌, ◌≤◌, ◌⊎◌, ◌++◌, ℕ, List, [], Option, length};
+ghost use Rattle.std.specs.Prelude.{◌≡◌, ◌≢◌, ◌≤◌, ◌⊎◌, ◌++◌, ℕ, List, [], Option, length, true, false};
 ghost use Rattle.gimli_core.specs.Notation.{Notation};
 ghost use Rattle.gimli_core.specs.declared.common.Format.{Format};
 ghost use Rattle.gimli_core.specs.declared.error.Error.{Error};
 ghost use Rattle.gimli_line.specs.header.Header.{Header, UnitEntry};
 ghost use Rattle.gimli_line.specs.header.HeaderGrammar.{Entry, SpellsUnit, HasHeaderFault, SpellsEntries};
-ghost use Rattle.gimli_line.specs.run.Events.{events_behind};
-ghost use Rattle.gimli_line.specs.run.Instruction.{Ins};
+ghost use Rattle.gimli_line.specs.run.Events.{events_behind, row_at};
+ghost use Rattle.gimli_line.specs.run.EventsWithFiles.{registers_after};
+ghost use Rattle.gimli_line.specs.run.Instruction.{Ins, makes_row};
 ghost use Rattle.gimli_line.specs.run.InstructionGrammar.{Decodes};
-ghost use Rattle.gimli_line.specs.run.Machine.{run, initial};
+ghost use Rattle.gimli_line.specs.run.InstructionReading.{decoded_at};
+ghost use Rattle.gimli_line.specs.run.Machine.{run, initial, is_refused, stepped};
 ghost use Rattle.gimli_line.specs.run.NonDecreasing.{AreOneSequence, NeverBelow};
+ghost use Rattle.gimli_line.specs.run.OperationPointer.{is_hidden, overflows};
 ghost use Rattle.gimli_line.specs.header.Parameters.{Parameters};
 ghost use Rattle.gimli_line.specs.declared.header.file_entry.FileEntryFormat.{FileEntryFormat};
 
@@ -61,4 +64,21 @@ pub fn machine_gives_events()
 /// of rows never go down.
 pub fn addresses_never_go_down()
     ensures { (parameters : Parameters) (past list : List Ins) → AreOneSequence list → NeverBelow 0 (events_behind parameters past list) }
+{}
+
+/// The instructions and the end that are taken of a program one by one are those that it is decoded into.
+pub fn instructions_are_taken()
+    ensures { (notation : Notation) (h : Header) (bytes : List ℕ) →
+        Decodes notation h bytes (decoded_at notation h bytes).0 (decoded_at notation h bytes).1 }
+{}
+
+/// The registers that the machine has behind a past are what looking back says: which instruction is refused, what is
+/// hidden, and which row a place makes that isn't hidden.
+pub fn registers_look_back()
+    ensures refused { (parameters : Parameters) (past : List Ins) (i : Ins) →
+        is_refused parameters i (registers_after parameters past) ≡ overflows parameters past i }
+    ensures hidden { (parameters : Parameters) (past : List Ins) →
+        (registers_after parameters past).hidden ≡ is_hidden parameters past }
+    ensures row { (parameters : Parameters) (past : List Ins) (i : Ins) → makes_row i ≡ true → is_hidden parameters past ≡ false →
+        stepped parameters i (registers_after parameters past) ≡ row_at parameters past i }
 {}
