@@ -3,3 +3,5 @@ pub mod ReadRuns
 pub mod ReadUnits
 pub mod RoundTrips
 mod BuiltAnswers
+pub mod SourceReadings
+pub mod SourceSteps

@@ -1,3 +1,4 @@
+pub mod convert
 pub mod TextReading
 pub mod RoundTrip
 pub use Rattle.gimli_bytes.specs.Written

@@ -1,7 +1,9 @@
 //! The header of a line program, and its tables by index.
 
-ghost use Rattle.std.specs.Prelude.{◌≡◌, ◌-◌, ◌<◌, ◌||◌, ◌++◌, ◌∷◌, [], IfErr, IfOk, OnErr, OnOk, map, nat_le, option_map, slice_get, slice_index};
+ghost use Rattle.std.specs.Prelude.{◌≡◌, ◌-◌, ◌<◌, ◌||◌, ◌++◌, ◌∷◌, [], IfErr, IfOk, IsTrue, OnErr, OnOk, map, nat_le, option_map, slice_get, slice_index};
+ghost use Rattle.gimli_core.specs.Numbers.{is_address_size};
 ghost use Rattle.gimli_core.specs.Values.{value_seen};
+ghost use Rattle.gimli_line.specs.header.Parameters.{IsLineEncoding};
 
 use crate::header::file_entry::{FileEntry, FileEntryFormat};
 use crate::header::parameters::Parameters;
@@ -146,9 +148,10 @@ where
         self.unit_length
     }
 
-    /// What the numbers of the unit are encoded by.
+    /// What the numbers of the unit are encoded by; addresses have 1, 2, 4 or 8 bytes.
     pub fn encoding(&self) -> Encoding
-        ensures { result ≡ self.now.meaning.parameters.encoding }
+        ensures encoding { result ≡ self.now.meaning.parameters.encoding }
+        ensures address_size { IsTrue (is_address_size result.address_size) }
     {
         self.parameters.encoding
     }
@@ -181,9 +184,10 @@ where
         self.parameters.encoding.format
     }
 
-    /// What rows are encoded by.
+    /// What rows are encoded by: no number that is divided by is 0.
     pub fn line_encoding(&self) -> LineEncoding
-        ensures { result ≡ self.now.meaning.parameters.line_encoding }
+        ensures line_encoding { result ≡ self.now.meaning.parameters.line_encoding }
+        ensures allowed { IsLineEncoding result }
     {
         self.parameters.line_encoding
     }

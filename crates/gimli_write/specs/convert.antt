@@ -1,0 +1,6 @@
+-- Programs of a source that are converted.
+pub mod Texts
+pub mod Lists
+pub mod Preparation
+pub mod Offers
+pub mod SourceState

@@ -1,0 +1,94 @@
+-- The directories and files of a source, as they are added to the program that is built of it.
+use Rattle.std.specs.Prelude.{ℕ, List, [], ◌∷◌, ◌++◌, Option, Some, option_map, ok_or, slice_get, Result, Ok, Err}
+use Rattle.std.specs.Option.{option_map_or}
+use Rattle.gimli_core.specs.Values.{Value}
+use Rattle.gimli_line.specs.header.File.{File}
+use Rattle.gimli_build.specs.LineText.{LineText, made_text, made_table}
+use Rattle.gimli_build.specs.Tables.{FileKey, with_directory, place_of_directory, with_file, place_of_file}
+use Rattle.gimli_build.specs.Built.{Built}
+use Rattle.gimli_build.specs.Texts.{Sections}
+use Rattle.gimli_write.specs.declared.convert_error.ConvertError.{ConvertError}
+use Rattle.gimli_write.specs.declared.convert_error.ConvertError.TheVariants.{InvalidDirectoryIndex}
+use Rattle.gimli_write.specs.convert.Texts.{◌>>=◌, if_there, source_text, source_path}
+
+-- the program that is built, and where it has the directories and files of its source
+pub record Converted : Type 0 where
+  pub program : Built
+  -- for each directory of the source, by its index there, its id in the program
+  pub directory_ids : List ℕ
+  -- for each file, by its number in the source, its id; up to version 4 of the source none has number 0
+  pub file_ids : List ℕ
+
+-- the same, with the texts of the table of line strings
+pub record Lists : Type 0 where
+  pub program : Built
+  pub directory_ids : List ℕ
+  pub file_ids : List ℕ
+  pub line_strings : List (List ℕ)
+
+abbrev pub lists_with : List (List ℕ) → Converted → Lists
+lists_with line_strings c = record {
+  program = c.program;
+  directory_ids = c.directory_ids;
+  file_ids = c.file_ids;
+  line_strings = line_strings;
+}
+
+abbrev pub version_of : Lists → ℕ
+version_of lists = lists.program.encoding.version
+
+-- ---- directories
+
+-- the lists behind a directory of this path
+abbrev pub with_path : Lists → List ℕ → Lists
+with_path lists path =
+    let text = made_text (version_of lists) lists.line_strings path in
+    record lists {
+      program = record lists.program { directories = with_directory lists.program.directories text };
+      directory_ids = lists.directory_ids ++ place_of_directory lists.program.directories text ∷ [];
+      line_strings = made_table (version_of lists) lists.line_strings path;
+    }
+
+abbrev pub directory_added : Sections → Lists → Value → Result Lists ConvertError
+directory_added sections lists v = source_path (version_of lists) sections v >>= λ path. Ok (with_path lists path)
+
+-- ---- files
+
+-- what a file of the source has, with texts of this program: its path, the id of its directory, and its source
+pub record FileParts : Type 0 where
+  pub path : List ℕ
+  pub directory : ℕ
+  pub source : Option (List ℕ)
+
+abbrev pub file_parts : Sections → Lists → File → Result FileParts ConvertError
+file_parts sections lists f =
+    source_path (version_of lists) sections f.path_name >>= λ path.
+    ok_or (slice_get lists.directory_ids f.directory_index) InvalidDirectoryIndex >>= λ directory.
+    if_there (source_text sections) f.source >>= λ source.
+    Ok (record { path = path; directory = directory; source = source })
+
+-- the lists behind a file of these parts, whose path is added to the line strings before its source is
+abbrev pub with_parts : Lists → File → FileParts → Lists
+with_parts lists f parts =
+    let made = made_text (version_of lists) in
+    let after = made_table (version_of lists) in
+    let paths = after lists.line_strings parts.path in
+    let key : FileKey = (made lists.line_strings parts.path, parts.directory) in
+    record lists {
+      program = record lists.program {
+        files = with_file lists.program.files key
+            (Some (record { timestamp = f.timestamp; size = f.size; md5 = f.md5; source = option_map (made paths) parts.source }));
+      };
+      file_ids = lists.file_ids ++ place_of_file lists.program.files key ∷ [];
+      line_strings = option_map_or (after paths) parts.source paths;
+    }
+
+abbrev pub file_added : Sections → Lists → File → Result Lists ConvertError
+file_added sections lists f = file_parts sections lists f >>= λ parts. Ok (with_parts lists f parts)
+
+-- ---- many
+
+-- in order, to the first that is refused
+abbrev pub all_added : {A : Type 0} → (Lists → A → Result Lists ConvertError) → List A → Lists → Result Lists ConvertError
+all_added add [] lists = Ok lists
+all_added add (x ∷ xs) lists = add lists x >>= λ next. all_added add xs next

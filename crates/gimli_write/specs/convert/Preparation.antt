@@ -1,0 +1,140 @@
+-- What is made of the header of a source, before its program is read.
+use Rattle.std.specs.Prelude.{ℕ, ◌||◌, List, [], ◌∷◌, Bool, Option, Some, None, option_map, ok_or, Result, Ok, Err, nat_eq, nat_le, nat_lt, pos, ◌+ℤ◌, int_lt, int_le, if◌then◌else◌}
+use Rattle.std.specs.Option.{option_map_or}
+use Rattle.gimli_core.specs.Values.{Value}
+use Rattle.gimli_core.specs.declared.common.Encoding.{Encoding}
+use Rattle.gimli_core.specs.declared.common.LineEncoding.{LineEncoding}
+use Rattle.gimli_line.specs.header.File.{File}
+use Rattle.gimli_line.specs.header.Header.{Header, directory_of, file_of, has_content}
+use Rattle.gimli_build.specs.LineText.{LineText, made_text, made_table}
+use Rattle.gimli_build.specs.Built.{Built, started}
+use Rattle.gimli_build.specs.FirstTables.{first_directories, first_files}
+use Rattle.gimli_build.specs.Texts.{Sections}
+use Rattle.gimli_write.specs.declared.convert_error.ConvertError.{ConvertError}
+use Rattle.gimli_write.specs.declared.convert_error.ConvertError.TheVariants.{MissingCompilationDirectory, MissingCompilationName, InvalidDirectoryIndex, InvalidLineBase}
+use Rattle.gimli_write.specs.convert.Texts.{◌>>=◌, if_there, without_zero, source_text}
+use Rattle.gimli_write.specs.convert.Lists.{Lists, directory_added, file_added, all_added}
+
+-- what a program of version 5 asks, and one up to version 4 can do without
+abbrev pub needed_from_5 : {A : Type 0} → ℕ → A → ConvertError → Result A ConvertError
+needed_from_5 version empty missing = if nat_le version 4 then Ok empty else Err missing
+
+-- ---- the working directory, which is directory 0
+
+abbrev pub working_directory : ℕ → Sections → Header → Result (List ℕ) ConvertError
+working_directory version sections h =
+    option_map_or (source_text sections) (directory_of h 0) (needed_from_5 version [] MissingCompilationDirectory)
+
+-- ---- the source file, which is file 0, or has the name that is handed in
+
+-- the source file: its path, and its directory unless that is the working directory
+pub record SourceFile : Type 0 where
+  pub directory : Option (List ℕ)
+  pub path : List ℕ
+
+abbrev pub file_directory : Sections → Header → ℕ → Result (Option (List ℕ)) ConvertError
+file_directory sections h index =
+    if nat_eq index 0 then Ok None
+    else (ok_or (directory_of h index) InvalidDirectoryIndex >>= λ v. source_text sections v >>= λ text. Ok (Some text))
+
+abbrev pub own_source_file : Sections → Header → File → Result SourceFile ConvertError
+own_source_file sections h f =
+    file_directory sections h f.directory_index >>= λ directory.
+    source_text sections f.path_name >>= λ path.
+    Ok (record { directory = directory; path = path })
+
+abbrev pub named_source_file : List ℕ → Result SourceFile ConvertError
+named_source_file name = without_zero name >>= λ path. Ok (record { directory = None; path = path })
+
+-- a handed name is for sources up to version 4
+abbrev pub name_for : ℕ → Option (List ℕ) → Option (List ℕ)
+name_for source_version name = if nat_le source_version 4 then name else None
+
+abbrev pub source_file : ℕ → Sections → Header → Option (List ℕ) → Result SourceFile ConvertError
+source_file version sections h name =
+    option_map_or named_source_file (name_for h.parameters.encoding.version name)
+    (option_map_or (own_source_file sections h) (file_of h 0)
+    (needed_from_5 version (record { directory = None; path = [] }) MissingCompilationName))
+
+-- ---- the encoding of lines
+
+-- the source's can't be written: no special opcode is sure to advance no line, or no byte holds the one that does
+abbrev pub is_out_of_range : LineEncoding → Bool
+is_out_of_range e = int_le (e.line_base +ℤ pos e.line_range) (pos 0) || nat_lt 127 e.line_range
+
+-- the one that is handed in, else the source's
+abbrev pub chosen_line_encoding : LineEncoding → Option LineEncoding → Result LineEncoding ConvertError
+chosen_line_encoding own (Some handed) = Ok handed
+chosen_line_encoding own None = if is_out_of_range own then Err InvalidLineBase else Ok own
+
+abbrev pub line_encoding_of : LineEncoding → Option LineEncoding → Result LineEncoding ConvertError
+line_encoding_of own handed = if int_lt (pos 0) own.line_base then Err InvalidLineBase else chosen_line_encoding own handed
+
+-- ---- the program, with its first directory and file
+
+-- texts that are made, and the line strings behind them
+pub record FirstTexts : Type 0 where
+  pub working_directory : LineText
+  pub source_directory : Option LineText
+  pub source_file : LineText
+  pub line_strings : List (List ℕ)
+
+-- the working directory is made first, then the directory of the source file, then the source file
+abbrev pub first_texts : ℕ → List (List ℕ) → List ℕ → SourceFile → FirstTexts
+first_texts version line_strings directory file =
+    let made = made_text version in
+    let after = made_table version in
+    let second = after line_strings directory in
+    let third = option_map_or (after second) file.directory second in
+    record {
+      working_directory = made line_strings directory;
+      source_directory = option_map (made second) file.directory;
+      source_file = made third file.path;
+      line_strings = after third file.path;
+    }
+
+-- whether the files of a header have a value, which those up to version 4 all have of times and sizes
+abbrev pub has_before_5 : ℕ → Header → Bool
+has_before_5 content h = nat_le h.parameters.encoding.version 4 || has_content content h.file_formats
+
+abbrev pub started_program : Encoding → LineEncoding → Header → FirstTexts → Built
+started_program encoding line_encoding h texts =
+    record (started false encoding line_encoding
+        (first_directories encoding.version texts.working_directory texts.source_directory)
+        (first_files encoding.version texts.working_directory texts.source_directory texts.source_file None)) {
+      file_has_timestamp = has_before_5 0x0003 h;
+      file_has_size = has_before_5 0x0004 h;
+      file_has_md5 = has_content 0x0005 h.file_formats;
+      file_has_source = has_content 0x2001 h.file_formats;
+    }
+
+-- up to version 4 the lists of a source begin at 1
+abbrev pub first_ids : ℕ → List ℕ
+first_ids source_version = if nat_le source_version 4 then 0 ∷ [] else []
+
+abbrev pub started_lists : Encoding → LineEncoding → Header → FirstTexts → Lists
+started_lists encoding line_encoding h texts = record {
+  program = started_program encoding line_encoding h texts;
+  directory_ids = first_ids h.parameters.encoding.version;
+  file_ids = first_ids h.parameters.encoding.version;
+  line_strings = texts.line_strings;
+}
+
+-- ---- all of it
+
+-- what is handed in, and the line strings before it
+pub record Handed : Type 0 where
+  -- of the program that is built
+  pub encoding : Encoding
+  pub line_encoding : Option LineEncoding
+  pub name : Option (List ℕ)
+  pub line_strings : List (List ℕ)
+
+abbrev pub prepared : Sections → Header → Handed → Result Lists ConvertError
+prepared sections h handed =
+    working_directory handed.encoding.version sections h >>= λ directory.
+    source_file handed.encoding.version sections h handed.name >>= λ file.
+    line_encoding_of h.parameters.line_encoding handed.line_encoding >>= λ line_encoding.
+    all_added (directory_added sections) h.directories
+        (started_lists handed.encoding line_encoding h (first_texts handed.encoding.version handed.line_strings directory file)) >>= λ lists.
+    all_added (file_added sections) h.files lists
