@@ -7,7 +7,8 @@ use Rattle.gimli_core.specs.declared.error.Error.TheVariants.{AddressOverflow}
 use Rattle.gimli_line.specs.header.Header.{Header}
 use Rattle.gimli_line.specs.header.Parameters.{Parameters}
 use Rattle.gimli_line.specs.declared.run.row.LineRow.{LineRow}
-use Rattle.gimli_line.specs.run.Instruction.{Ins, is_end, makes_row}
+use Rattle.gimli_line.specs.declared.run.instruction.LineInstruction.TheVariants.{EndSequence, SetAddress}
+use Rattle.gimli_line.specs.run.Instruction.{Ins, makes_row}
 use Rattle.gimli_line.specs.run.InstructionReading.{decoded_at}
 use Rattle.gimli_line.specs.run.Machine.{stepped, is_refused}
 use Rattle.gimli_line.specs.run.OperationPointer.{is_hidden, overflows}
@@ -21,7 +22,7 @@ use Rattle.gimli_write.specs.declared.convert_error.ConvertError.TheVariants.{Re
 use Rattle.gimli_write.specs.declared.convert.run.SourceRow.{SourceRow}
 use Rattle.gimli_write.specs.convert.Texts.{◌>>=◌}
 use Rattle.gimli_write.specs.convert.Lists.{Lists}
-use Rattle.gimli_write.specs.convert.Offers.{Reading, stops, address_operand, base_at, pending, source_row, offered, reading_at, defined, lists_at, reading_behind, Reads}
+use Rattle.gimli_write.specs.convert.Offers.{Reading, stops, upon, base_at, pending, source_row, offered, reading_at, defined, lists_at, reading_behind, Reads}
 use Rattle.gimli_write.specs.convert.SourceState.{SourceState, started, row_made, base_behind, pending_behind, state_behind, instruction_reading, reading_from, reading_left}
 
 -- ---- the state behind a past
@@ -30,20 +31,14 @@ abbrev pub state_at : Header → List Ins → Unread → SourceState
 state_at h past unread = record { header = h; row = registers_after h.parameters past; base = base_at past; pending = pending past; unread = unread }
 
 base_is : (i : Ins) (past : List Ins) → base_behind i (base_at past) ≡ base_at (i ∷ past)
-base_is i past = by (is_end i) (address_operand i) refl refl
-  where
-    by : (b : Bool) (o : Option ℕ) → is_end i ≡ b → address_operand i ≡ o → base_behind i (base_at past) ≡ base_at (i ∷ past)
-    by true o e d = rw e refl
-    by false (Some a) e d = rw (e, d) refl
-    by false None e d = rw (e, d) refl
+base_is EndSequence past = refl
+base_is (SetAddress a) past = refl
+base_is i past = refl
 
 pending_is : (i : Ins) (past : List Ins) → pending_behind i (pending past) ≡ pending (i ∷ past)
-pending_is i past = by (makes_row i) (address_operand i) refl refl
-  where
-    by : (b : Bool) (o : Option ℕ) → makes_row i ≡ b → address_operand i ≡ o → pending_behind i (pending past) ≡ pending (i ∷ past)
-    by true o e d = rw e refl
-    by false (Some a) e d = rw (e, d) refl
-    by false None e d = rw (e, d) refl
+pending_is (SetAddress a) past = refl
+pending_is EndSequence past = refl
+pending_is i past = refl
 
 state_is : (h : Header) (u : Unread) (past : List Ins) (i : Ins) → state_behind i (state_at h past u) ≡ state_at h (i ∷ past) u
 state_is h u past i =
@@ -80,18 +75,22 @@ place_is h u past lists i rest =
 module _ (sections : Sections) (h : Header) (first : Lists) (u : Unread) where
   pub readings_are : (past list : List Ins) (end : Option Error) → reading_from sections (state_at h past u) (lists_at sections first past) list end ≡ reading_behind sections h.parameters first past list end
   readings_are past [] end = refl
-  readings_are past (i ∷ list) end = by (lists_at sections first past) refl
+  readings_are past (i ∷ list) end = by (readings_are (i ∷ past) list end) (lists_at sections first past) refl
     where
-      by : (there : Result Lists ConvertError) → lists_at sections first past ≡ there
+      by : reading_from sections (state_at h (i ∷ past) u) (lists_at sections first (i ∷ past)) list end ≡ reading_behind sections h.parameters first (i ∷ past) list end
+          → (there : Result Lists ConvertError) → lists_at sections first past ≡ there
           → reading_from sections (state_at h past u) (lists_at sections first past) (i ∷ list) end ≡ reading_behind sections h.parameters first past (i ∷ list) end
-      by (Err e) is = rw is refl
-      by (Ok lists) is =
+      by others (Err e) is = rw is refl
+      by others (Ok lists) is =
           let next : lists_at sections first (i ∷ past) ≡ defined sections lists i = ap (λ (there : Result Lists ConvertError). there >>= λ l. defined sections l i) is in
           let rest : reading_from sections (state_behind i (state_at h past u)) (defined sections lists i) list end ≡ reading_behind sections h.parameters first (i ∷ past) list end =
               ap (λ (s : SourceState). reading_from sections s (defined sections lists i) list end) (state_is h u past i)
               ∙ ap (λ (there : Result Lists ConvertError). reading_from sections (state_at h (i ∷ past) u) there list end) (sym next)
-              ∙ readings_are (i ∷ past) list end in
-          rw is (place_is h u past lists i (reading_from sections (state_behind i (state_at h past u)) (defined sections lists i) list end) ∙ ap (reading_at h.parameters lists past i) rest)
+              ∙ others in
+          ap (λ (there : Result Lists ConvertError). upon there (λ l. instruction_reading (state_at h past u) l i (reading_from sections (state_behind i (state_at h past u)) (defined sections l i) list end))) is
+          ∙ place_is h u past lists i (reading_from sections (state_behind i (state_at h past u)) (defined sections lists i) list end)
+          ∙ ap (reading_at h.parameters lists past i) rest
+          ∙ ap (λ (there : Result Lists ConvertError). upon there (λ l. reading_at h.parameters l past i (reading_behind sections h.parameters first (i ∷ past) list end))) (sym is)
 
 -- what is left at the start of a program is what is read of it
 pub start_reads : (notation : Notation) (sections : Sections) (h : Header) (first : Lists) (bytes : List ℕ)

@@ -1,6 +1,7 @@
 //! The run over a source: its registers, and where its addresses count from.
 
-ghost use Rattle.std.specs.Prelude.{◌≡◌, true, false, None, IfErr, IfOk, IsOk, OnOk};
+ghost use Rattle.std.specs.Prelude.{◌≡◌, ◌-◌, ◌*◌, ◌^◌, ◌||◌, nat_lt, nat_le, if◌then◌else◌, true, false, None, IfErr, IfOk, IsTrue, OnOk};
+ghost use Rattle.gimli_core.specs.Numbers.{is_address_size};
 ghost use Rattle.gimli_core.specs.declared.error.Error.TheVariants.{AddressOverflow};
 
 use crate::convert_error::{ConvertError, ConvertResult};
@@ -64,6 +65,41 @@ pub(crate) enum SourceStep<R: Reader> {
     Made(SourceRow),
 }
 
+impl<R: Reader> SourceStep<R> {
+    /// The step of an instruction that made a row, which may be hidden.
+    fn of_row(row: SourceRow, hidden: bool) -> Self
+        ensures { result ≡ (if hidden then SourceStep.More else SourceStep.Made row) }
+    {
+        if hidden {
+            SourceStep::More
+        } else {
+            SourceStep::Made(row)
+        }
+    }
+}
+
+/// Whether a set address hides what follows it, by the address before it and the size of addresses.
+fn hides(address: u64, before: u64, address_size: u8) -> bool
+    requires { IsTrue (is_address_size address_size) }
+    ensures { result ≡ (nat_lt address before || nat_le (2 ^ (8 * address_size) - 2) address) }
+{
+    address < before || address >= u64::min_tombstone(address_size)
+}
+
+/// The address from which offsets count behind a row, which may end its sequence.
+fn base_behind_row(base: u64, ends: bool) -> u64
+    ensures { result ≡ (if ends then 0 else base) }
+{
+    if ends { 0 } else { base }
+}
+
+/// Whether what follows a row is hidden, where the row was or wasn't, and may end its sequence.
+fn hidden_behind_row(hidden: bool, ends: bool) -> bool
+    ensures { result ≡ (if ends then false else hidden) }
+{
+    if ends { false } else { hidden }
+}
+
 /// A source, as far as it was read.
 #[derive(Drop)]
 pub(crate) struct SourceRun<R: Reader> {
@@ -101,15 +137,18 @@ impl<R: Reader> SourceRun<R> {
     ghost use Rattle.gimli_line.specs.run.Machine.{IsAllowed, is_refused};
     ghost use Rattle.gimli_build.specs.Texts.{Sections};
     ghost use Rattle.gimli_write.specs.convert.Lists.{Lists};
-    ghost use Rattle.gimli_write.specs.convert.Offers.{stops, address_operand};
+    ghost use Rattle.gimli_write.specs.convert.Offers.{stops, address_operand, Reads};
     ghost use Rattle.gimli_write.specs.convert.SourceState.{started, state_behind, step_made, reading_left, step_reading, Shortens};
 
     /// The source, from its start on.
     pub(crate) fn start(program: IncompleteLineProgram<R>) -> Self
-        ensures { result ≡ started program.meaning (record { bytes = program.meaning.program; notation = program.notation }) }
+        ensures start { result ≡ started program.meaning (record { bytes = program.meaning.program; notation = program.notation }) }
+        ensures reads { (sections : Sections) (first : Lists) →
+            Reads program.notation sections program.meaning first program.meaning.program (reading_left sections result first) }
     {
-        let row = LineRow::new(program.header());
-        let instructions = program.header().instructions();
+        let header = program.header();
+        let row = LineRow::new(header);
+        let instructions = header.instructions();
         SourceRun {
             program,
             row,
@@ -138,7 +177,7 @@ impl<R: Reader> SourceRun<R> {
         match instruction {
             LineInstruction::DefineFile(file) => Ok(SourceStep::Defines(file)),
             LineInstruction::SetAddress(address) => {
-                self.set_address(address)?;
+                self.set_address(address);
                 Ok(SourceStep::More)
             }
             _ => self.execute(instruction),
@@ -146,18 +185,16 @@ impl<R: Reader> SourceRun<R> {
     }
 
     /// Sets the address, or hides what follows.
-    fn set_address(&mut self, address: u64) -> ConvertResult<()>
-        ensures ok { IsOk result }
-        ensures step { self.new ≡ state_behind (LineInstruction.SetAddress address) self.old }
+    fn set_address(&mut self, address: u64)
+        ensures { self.new ≡ state_behind (LineInstruction.SetAddress address) self.old }
     {
-        let address_size = self.program.header().encoding().address_size;
-        self.hidden = address < self.row.address() || address >= u64::min_tombstone(address_size);
+        let size = self.program.header().encoding().address_size;
+        let before = self.row.address();
+        self.hidden = hides(address, before, size);
         self.base = address;
         self.pending = Some(address);
-        match self.row.execute(LineInstruction::SetAddress(address), &mut self.program) {
-            Ok(_) => Ok(()),
-            Err(e) => Err(ConvertError::Read(e)),
-        }
+        let set_address = LineInstruction::SetAddress(address);
+        let _never_refused = self.row.execute(set_address, &mut self.program);
     }
 
     /// Executes an instruction, which doesn't set an address and defines no file. Refused by `AddressOverflow`.
@@ -180,21 +217,18 @@ impl<R: Reader> SourceRun<R> {
         if !made {
             return Ok(SourceStep::More);
         }
+        let address = self.row.address();
+        let ends = self.row.end_sequence();
         let source_row = SourceRow {
             set_address: self.pending,
-            address_offset: self.row.address().saturating_sub(self.base),
+            address_offset: address.saturating_sub(self.base),
             row: self.row,
         };
-        let hidden = self.hidden;
-        if self.row.end_sequence() {
-            self.base = 0;
-            self.hidden = false;
-        }
+        let step = SourceStep::of_row(source_row, self.hidden);
+        self.hidden = hidden_behind_row(self.hidden, ends);
+        self.base = base_behind_row(self.base, ends);
         self.pending = None;
         self.row.reset(self.program.header());
-        if hidden {
-            return Ok(SourceStep::More);
-        }
-        Ok(SourceStep::Made(source_row))
+        Ok(step)
     }
 }
