@@ -10,8 +10,10 @@ use Rattle.gimli_line.specs.header.Header.{Header}
 use Rattle.gimli_line.specs.header.File.{File}
 use Rattle.gimli_line.specs.header.Parameters.{Parameters}
 use Rattle.gimli_line.specs.declared.run.row.LineRow.{LineRow}
+use Rattle.gimli_line.specs.declared.run.instruction.LineInstruction.{LineInstruction}
 use Rattle.gimli_line.specs.declared.run.instruction.LineInstruction.TheVariants.{Special, Copy, EndSequence, DefineFile, SetAddress}
-use Rattle.gimli_line.specs.run.Instruction.{Ins, is_end, makes_row, defines_file, files_behind}
+use Rattle.gimli_line.specs.declared.header.file_entry.FileEntry.{FileEntry}
+use Rattle.gimli_line.specs.run.Instruction.{Ins, ins_seen, is_end, makes_row, defines_file, files_behind}
 use Rattle.gimli_line.specs.run.InstructionGrammar.{SpellsInstruction, instruction_production}
 use Rattle.gimli_line.specs.run.InstructionReading.{decoded_at}
 use Rattle.gimli_line.specs.run.Machine.{stepped, reset_row, is_refused, pointer_of}
@@ -300,7 +302,7 @@ pub executed_shortens : {R Endian Offset : Type 0} (r : Result (SourceStep R End
 executed_shortens (Ok step) old new lt = shortens step old new lt
 executed_shortens (Err e) old new lt = tt
 
-module _ {R Endian Offset : Type 0} (bytes : R → List ℕ) (number : Offset → ℕ) (s : SourceState) (u : Unread) (notation : u.notation ≡ s.unread.notation)
+module _ {R Offset : Type 0} (Endian : Type 0) (bytes : R → List ℕ) (number : Offset → ℕ) (s : SourceState) (u : Unread) (notation : u.notation ≡ s.unread.notation)
     (i : Ins) (front : List ℕ) (parts : s.unread.bytes ≡ front ++ u.bytes) (spelled : SpellsInstruction s.unread.notation s.header front i) where
   made_reading : is_refused s.header.parameters i s.row ≡ false → defines_file i ≡ false → (sections : Sections) (lists : Lists)
       → reading_left sections s lists ≡ step_reading {Endian = Endian} bytes number sections lists (step_made (with_unread s u) i) (state_behind i (with_unread s u))
@@ -324,3 +326,8 @@ module _ {R Endian Offset : Type 0} (bytes : R → List ℕ) (number : Offset �
       → IfErr r (λ e. (sections : Sections) (lists : Lists) → reading_left sections s lists ≡ stops e)
   executed_refusal (Ok step) over = tt
   executed_refusal (Err e) over = λ sections lists. after_refusal sections lists s u notation i front parts spelled over.1 ∙ ap stops (sym over.0)
+
+-- an instruction that isn't a definition defines no file
+pub other_kind : {R Offset Endian : Type 0} (bytes : R → List ℕ) (number : Offset → ℕ) (x : LineInstruction R Offset Endian) → ((f : FileEntry R Offset Endian) → x ≢ DefineFile f) → defines_file (ins_seen bytes number x) ≡ false
+other_kind bytes number (DefineFile f) other = absurd (other f refl)
+other_kind bytes number x other = refl

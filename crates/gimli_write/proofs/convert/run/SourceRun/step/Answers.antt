@@ -1,11 +1,11 @@
-use Rattle.std.proofs.Common.{rules, ◌≡◌, ◌<◌, false, length, refl, sym, ap, ◌∙◌, subst}
+use Rattle.std.proofs.Common.{◌≡◌, ◌<◌, false, length, refl, sym, ap, ◌∙◌, subst}
 use Rattle.gimli_core.specs.Notation.{Notation}
 use Rattle.gimli_line.specs.declared.run.instruction.LineInstruction.TheVariants.{SetAddress, DefineFile}
 use Rattle.gimli_line.specs.header.File.{file_seen}
 use Rattle.gimli_line.specs.run.Instruction.{ins_seen, defines_file}
 use Rattle.gimli_line.specs.run.Unread.{Unread}
 use Rattle.gimli_write.specs.convert.SourceState.{SourceState, reading_left}
-use Rattle.gimli_write.proofs.SourceSteps.{state, spelled_as, is_shorter, none_left, at_fault, after_file, after_quiet, executed_reading, executed_refusal, executed_shortens}
+use Rattle.gimli_write.proofs.SourceSteps.{state, other_kind, spelled_as, is_shorter, none_left, at_fault, after_file, after_quiet, executed_reading, executed_refusal, executed_shortens}
 use Rattle.gimli_write.proofs.convert.run.SourceRun.step.Goals as goal
 
 pub returns-in-Err-clause-refusal : goal.returns-in-Err-clause-refusal
@@ -45,14 +45,14 @@ returns-in_default g c =
     let u = c.next_instruction.new.self in
     let lent : c.header.result.now.meaning ≡ c.self.inside.program.meaning = rw c.header.ensures refl in
     let spelled = spelled_as c.self.inside.instructions.notation c.self.inside.program.meaning c.header.result.now.meaning n.0 i i lent refl n.2 in
-    let file : defines_file i ≡ false = search rules in
+    let file : defines_file i ≡ false = other_kind g.R.Reader.bytes g.R.Offset.ReaderOffset.number c.in-Ok-Some.instruction (λ f is. c.in_default.not-DefineFile f is) in
     let shorter : length c.execute.new.self.unread.bytes < length c.self.inside.instructions.bytes =
         subst (λ (v : Unread). length v.bytes < length c.self.inside.instructions.bytes) (sym c.execute.ensures.unread)
         (is_shorter c.self.inside.instructions.notation c.self.inside.program.meaning c.self.inside.instructions.bytes i n.0 u.bytes n.1 spelled) in
     record {
-      reading = rw (← c.self.view_is) (executed_reading g.R.Reader.bytes g.R.Offset.ReaderOffset.number s u c.in-Ok-Some.ensures.notation i n.0 n.1 spelled c.execute.new.self c.execute.result
+      reading = rw (← c.self.view_is) (executed_reading _ g.R.Reader.bytes g.R.Offset.ReaderOffset.number s u c.in-Ok-Some.ensures.notation i n.0 n.1 spelled c.execute.new.self c.execute.result
           file c.execute.ensures.fits c.execute.ensures.step c.execute.ensures.made);
-      refusal = rw (← c.self.view_is) (executed_refusal g.R.Reader.bytes g.R.Offset.ReaderOffset.number s u c.in-Ok-Some.ensures.notation i n.0 n.1 spelled c.execute.result c.execute.ensures.overflow);
+      refusal = rw (← c.self.view_is) (executed_refusal _ g.R.Reader.bytes g.R.Offset.ReaderOffset.number s u c.in-Ok-Some.ensures.notation i n.0 n.1 spelled c.execute.result c.execute.ensures.overflow);
       shorter = rw (← c.self.view_is) (executed_shortens c.execute.result s c.execute.new.self shorter);
       header = rw (← c.self.view_is) c.execute.ensures.header;
       notation = rw (← c.self.view_is) (ap (λ (v : Unread). v.notation) c.execute.ensures.unread ∙ c.in-Ok-Some.ensures.notation);
