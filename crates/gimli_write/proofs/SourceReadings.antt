@@ -84,9 +84,9 @@ module _ (sections : Sections) (h : Header) (first : Lists) (u : Unread) where
       by others (Ok lists) is =
           let next : lists_at sections first (i ∷ past) ≡ defined sections lists i = ap (λ (there : Result Lists ConvertError). there >>= λ l. defined sections l i) is in
           let rest : reading_from sections (state_behind i (state_at h past u)) (defined sections lists i) list end ≡ reading_behind sections h.parameters first (i ∷ past) list end =
-              ap (λ (s : SourceState). reading_from sections s (defined sections lists i) list end) (state_is h u past i)
-              ∙ ap (λ (there : Result Lists ConvertError). reading_from sections (state_at h (i ∷ past) u) there list end) (sym next)
-              ∙ others in
+          ap (λ (s : SourceState). reading_from sections s (defined sections lists i) list end) (state_is h u past i)
+          ∙ ap (λ (there : Result Lists ConvertError). reading_from sections (state_at h (i ∷ past) u) there list end) (sym next)
+          ∙ others in
           ap (λ (there : Result Lists ConvertError). upon there (λ l. instruction_reading (state_at h past u) l i (reading_from sections (state_behind i (state_at h past u)) (defined sections l i) list end))) is
           ∙ place_is h u past lists i (reading_from sections (state_behind i (state_at h past u)) (defined sections lists i) list end)
           ∙ ap (reading_at h.parameters lists past i) rest

@@ -56,7 +56,7 @@ module _ (notation : Notation) (h : Header) (bytes : List ℕ) where
   pub is_shorter : (i : Ins) (front rest : List ℕ) → bytes ≡ front ++ rest → SpellsInstruction notation h front i → length rest < length bytes
   is_shorter i front rest parts s =
       let some : length (i ∷ []) ≤ length front =
-          instructions_bounded notation h front (i ∷ []) None (record { front = front; rest = []; parts = sym (append-nil front); spelled = (front, [], sym (append-nil front), s, refl); ended = refl }) in
+      instructions_bounded notation h front (i ∷ []) None (record { front = front; rest = []; parts = sym (append-nil front); spelled = (front, [], sym (append-nil front), s, refl); ended = refl }) in
       omega (arith, length-append front rest, ap length parts)
 
 -- ---- readings
@@ -92,8 +92,8 @@ module _ (sections : Sections) (lists : Lists) (s : SourceState) where
         let there = defined sections lists i in
         let c = decoded_at s.unread.notation s.header u.bytes in
         let rest : reading_from sections (state_behind i s) there c.0 c.1 ≡ reading_upon sections (record (state_behind i s) { unread = u }) there =
-            same_reading sections s.unread u (state_behind i s) there c.0 c.1
-            ∙ ap (λ (n : Notation). reading_from sections (record (state_behind i s) { unread = u }) there (decoded_at n s.header u.bytes).0 (decoded_at n s.header u.bytes).1) (sym notation) in
+        same_reading sections s.unread u (state_behind i s) there c.0 c.1
+        ∙ ap (λ (n : Notation). reading_from sections (record (state_behind i s) { unread = u }) there (decoded_at n s.header u.bytes).0 (decoded_at n s.header u.bytes).1) (sym notation) in
         ap (λ (d : List Ins × Option Error). reading_from sections s (Ok lists) d.0 d.1) (decoded_some s.unread.notation s.header s.unread.bytes i front u.bytes parts spelled)
         ∙ ap (instruction_reading s lists i) rest
 
@@ -238,7 +238,7 @@ module _ (i : Ins) (h h2 : Header) (r r2 : LineRow) (b : ℕ) (p : Option ℕ) (
       → (last : Bool) → last ≡ r2.end_sequence → (n : ℕ) → n ≡ (if last then 0 else b) → state h2 r3 n None u ≡ state_behind i (state h r b p u)
   row_state loud ready k lent r3 reset last ended n counts =
       let registers : r3 ≡ next_registers h.parameters i r =
-          reset ∙ ap (λ (x : Header). reset_row x.parameters r2) (lent ∙ header_kept) ∙ ap (reset_row h.parameters) step ∙ sym (next_is true loud) in
+      reset ∙ ap (λ (x : Header). reset_row x.parameters r2) (lent ∙ header_kept) ∙ ap (reset_row h.parameters) step ∙ sym (next_is true loud) in
       let last_is : last ≡ is_end i = ended ∙ ap (λ (x : LineRow). x.end_sequence) step ∙ ends_row h.parameters i r ready loud in
       let of_row : base_behind i b ≡ (if is_end i then 0 else b) = ap (λ (o : Option ℕ). if is_end i then 0 else unwrap_or o b) address in
       let base : n ≡ base_behind i b = counts ∙ ap (λ (x : Bool). if x then 0 else b) last_is ∙ sym of_row in
@@ -254,9 +254,9 @@ module _ (i : Ins) (h h2 : Header) (r r2 : LineRow) (b : ℕ) (p : Option ℕ) (
   made_is given hidden offset is same loud counts =
       let x : SourceRow = record { set_address = p; address_offset = offset; row = r2 } in
       let offset_is : x ≡ record { set_address = p; address_offset = r2.address - b; row = r2 } =
-          ap (λ (o : ℕ). let y : SourceRow = record { set_address = p; address_offset = o; row = r2 } in y) counts in
+      ap (λ (o : ℕ). let y : SourceRow = record { set_address = p; address_offset = o; row = r2 } in y) counts in
       let row_is : record { set_address = p; address_offset = r2.address - b; row = r2 } ≡ row_made (state h r b p u) i =
-          ap (λ (w : LineRow). let y : SourceRow = record { set_address = p; address_offset = w.address - b; row = w } in y) step in
+      ap (λ (w : LineRow). let y : SourceRow = record { set_address = p; address_offset = w.address - b; row = w } in y) step in
       is ∙ same_or_other (makes_row i) hidden r.hidden x (row_made (state h r b p u) i) loud same (offset_is ∙ row_is)
 
 -- ---- what is done of a set address
@@ -272,7 +272,7 @@ module _ (p : Parameters) (a : ℕ) (old new : LineRow) where
       → old.end_sequence ≡ false → new ≡ stepped p (SetAddress a) old → IsReady hidden new
   address_ready hidden before size is b s ended step =
       let hides_is : hidden ≡ hides p a (pointer_of old) =
-          is ∙ ap (λ (n : ℕ). nat_lt a n || nat_le (2 ^ (8 * size) - 2) a) b ∙ ap (λ (n : ℕ). nat_lt a old.address || nat_le (2 ^ (8 * n) - 2) a) s in
+      is ∙ ap (λ (n : ℕ). nat_lt a n || nat_le (2 ^ (8 * size) - 2) a) b ∙ ap (λ (n : ℕ). nat_lt a old.address || nat_le (2 ^ (8 * n) - 2) a) s in
       (hides_is ∙ sym (ap (λ (r : LineRow). r.hidden) step), ap (λ (r : LineRow). r.end_sequence) step ∙ ended)
 
 pub address_header : (a : ℕ) (h h2 : Header) (r : Result Bool Error) → OnOk r (h2 ≡ record h { files = files_behind true (SetAddress a) h.files }) → OnErr r (h2 ≡ h) → h2 ≡ h

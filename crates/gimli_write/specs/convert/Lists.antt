@@ -1,9 +1,9 @@
 -- The directories and files of a source, as they are added to the program that is built of it.
-use Rattle.std.specs.Prelude.{ℕ, List, [], ◌∷◌, ◌++◌, Option, Some, option_map, ok_or, slice_get, Result, Ok, Err}
+use Rattle.std.specs.Prelude.{ℕ, List, [], ◌∷◌, ◌++◌, Option, Some, option_map, ok_or, slice_get, Result, Ok}
 use Rattle.std.specs.Option.{option_map_or}
 use Rattle.gimli_core.specs.Values.{Value}
 use Rattle.gimli_line.specs.header.File.{File}
-use Rattle.gimli_build.specs.LineText.{LineText, made_text, made_table}
+use Rattle.gimli_build.specs.LineText.{made_text, made_table}
 use Rattle.gimli_build.specs.Tables.{FileKey, with_directory, place_of_directory, with_file, place_of_file}
 use Rattle.gimli_build.specs.Built.{Built}
 use Rattle.gimli_build.specs.Texts.{Sections}
@@ -60,10 +60,11 @@ pub record FileParts : Type 0 where
   pub directory : ℕ
   pub source : Option (List ℕ)
 
-abbrev pub file_parts : Sections → Lists → File → Result FileParts ConvertError
-file_parts sections lists f =
-    source_path (version_of lists) sections f.path_name >>= λ path.
-    ok_or (slice_get lists.directory_ids f.directory_index) InvalidDirectoryIndex >>= λ directory.
+-- in a program of this version, with these ids of directories
+abbrev pub file_parts : ℕ → Sections → List ℕ → File → Result FileParts ConvertError
+file_parts version sections directory_ids f =
+    source_path version sections f.path_name >>= λ path.
+    ok_or (slice_get directory_ids f.directory_index) InvalidDirectoryIndex >>= λ directory.
     if_there (source_text sections) f.source >>= λ source.
     Ok (record { path = path; directory = directory; source = source })
 
@@ -84,7 +85,8 @@ with_parts lists f parts =
     }
 
 abbrev pub file_added : Sections → Lists → File → Result Lists ConvertError
-file_added sections lists f = file_parts sections lists f >>= λ parts. Ok (with_parts lists f parts)
+file_added sections lists f =
+    file_parts (version_of lists) sections lists.directory_ids f >>= λ parts. Ok (with_parts lists f parts)
 
 -- ---- many
 

@@ -1,7 +1,6 @@
 -- What is made of the header of a source, before its program is read.
-use Rattle.std.specs.Prelude.{ℕ, ◌||◌, List, [], ◌∷◌, Bool, Option, Some, None, option_map, ok_or, Result, Ok, Err, nat_eq, nat_le, nat_lt, pos, ◌+ℤ◌, int_lt, int_le, if◌then◌else◌}
+use Rattle.std.specs.Prelude.{ℕ, ◌||◌, List, [], ◌∷◌, Bool, false, Option, Some, None, option_map, ok_or, unwrap_or, Result, Ok, Err, nat_eq, nat_le, nat_lt, pos, ◌+ℤ◌, int_lt, int_le, if◌then◌else◌}
 use Rattle.std.specs.Option.{option_map_or}
-use Rattle.gimli_core.specs.Values.{Value}
 use Rattle.gimli_core.specs.declared.common.Encoding.{Encoding}
 use Rattle.gimli_core.specs.declared.common.LineEncoding.{LineEncoding}
 use Rattle.gimli_line.specs.header.File.{File}
@@ -12,7 +11,7 @@ use Rattle.gimli_build.specs.FirstTables.{first_directories, first_files}
 use Rattle.gimli_build.specs.Texts.{Sections}
 use Rattle.gimli_write.specs.declared.convert_error.ConvertError.{ConvertError}
 use Rattle.gimli_write.specs.declared.convert_error.ConvertError.TheVariants.{MissingCompilationDirectory, MissingCompilationName, InvalidDirectoryIndex, InvalidLineBase}
-use Rattle.gimli_write.specs.convert.Texts.{◌>>=◌, if_there, without_zero, source_text}
+use Rattle.gimli_write.specs.convert.Texts.{◌>>=◌, without_zero, source_text}
 use Rattle.gimli_write.specs.convert.Lists.{Lists, directory_added, file_added, all_added}
 
 -- what a program of version 5 asks, and one up to version 4 can do without
@@ -100,8 +99,8 @@ has_before_5 content h = nat_le h.parameters.encoding.version 4 || has_content c
 abbrev pub started_program : Encoding → LineEncoding → Header → FirstTexts → Built
 started_program encoding line_encoding h texts =
     record (started false encoding line_encoding
-        (first_directories encoding.version texts.working_directory texts.source_directory)
-        (first_files encoding.version texts.working_directory texts.source_directory texts.source_file None)) {
+    (first_directories encoding.version texts.working_directory texts.source_directory)
+    (first_files encoding.version texts.working_directory texts.source_directory texts.source_file None)) {
       file_has_timestamp = has_before_5 0x0003 h;
       file_has_size = has_before_5 0x0004 h;
       file_has_md5 = has_content 0x0005 h.file_formats;
@@ -122,19 +121,26 @@ started_lists encoding line_encoding h texts = record {
 
 -- ---- all of it
 
--- what is handed in, and the line strings before it
+-- what is handed in: the encodings of the program that is built, and the name of the source file
 pub record Handed : Type 0 where
-  -- of the program that is built
-  pub encoding : Encoding
+  pub encoding : Option Encoding
   pub line_encoding : Option LineEncoding
   pub name : Option (List ℕ)
-  pub line_strings : List (List ℕ)
 
-abbrev pub prepared : Sections → Header → Handed → Result Lists ConvertError
-prepared sections h handed =
-    working_directory handed.encoding.version sections h >>= λ directory.
-    source_file handed.encoding.version sections h handed.name >>= λ file.
-    line_encoding_of h.parameters.line_encoding handed.line_encoding >>= λ line_encoding.
+abbrev pub handed : Option Encoding → Option LineEncoding → Option (List ℕ) → Handed
+handed encoding line_encoding name = record { encoding = encoding; line_encoding = line_encoding; name = name }
+
+-- the one that is handed in, else the source's
+abbrev pub encoding_of : Header → Handed → Encoding
+encoding_of h given = unwrap_or given.encoding h.parameters.encoding
+
+-- the lists behind all directories and files of a header, from the line strings before it
+abbrev pub prepared : Sections → Header → Handed → List (List ℕ) → Result Lists ConvertError
+prepared sections h given line_strings =
+    let encoding = encoding_of h given in
+    working_directory encoding.version sections h >>= λ directory.
+    source_file encoding.version sections h given.name >>= λ file.
+    line_encoding_of h.parameters.line_encoding given.line_encoding >>= λ line_encoding.
     all_added (directory_added sections) h.directories
-        (started_lists handed.encoding line_encoding h (first_texts handed.encoding.version handed.line_strings directory file)) >>= λ lists.
+    (started_lists encoding line_encoding h (first_texts encoding.version line_strings directory file)) >>= λ lists.
     all_added (file_added sections) h.files lists

@@ -1,5 +1,5 @@
 -- The texts of a source that is converted.
-use Rattle.std.specs.Prelude.{ℕ, ◌&&◌, List, [], ◌∷◌, Option, Some, None, option_map, Result, Ok, Err, length, nat_eq, nat_le, if◌then◌else◌}
+use Rattle.std.specs.Prelude.{◌≡◌, ◌⊎◌, ℕ, ◌&&◌, List, Option, Some, None, Result, Ok, Err, length, nat_eq, nat_le, if◌then◌else◌}
 use Rattle.std.specs.List.{list_any}
 use Rattle.std.specs.Result.{result_map_both}
 use Rattle.gimli_core.specs.Values.{Value}
@@ -7,13 +7,17 @@ use Rattle.gimli_core.specs.declared.attribute_value.AttributeValue.TheVariants.
 use Rattle.gimli_build.specs.Texts.{Sections}
 use Rattle.gimli_write.specs.TextReading.{text_of}
 use Rattle.gimli_write.specs.declared.convert_error.ConvertError.{ConvertError}
-use Rattle.gimli_write.specs.declared.convert_error.ConvertError.TheVariants.{Read, InvalidAttributeValue, UnsupportedLineStringForm}
+use Rattle.gimli_write.specs.declared.convert_error.ConvertError.TheVariants.{Read, InvalidAttributeValue, UnsupportedLineStringForm, OutOfMemory}
 
 -- one step after another, to the first refusal
 infixl 10 ◌>>=◌
 abbrev pub ◌>>=◌ : {A B : Type 0} → Result A ConvertError → (A → Result B ConvertError) → Result B ConvertError
 Ok x >>= f = f x
 Err e >>= f = Err e
+
+-- a call is refused: memory is wanting, or the step that it does is refused so
+abbrev pub IsRefusedBy : {A : Type 0} → Result A ConvertError → ConvertError → Type 0
+IsRefusedBy step e = (e ≡ OutOfMemory) ⊎ (step ≡ Err e)
 
 -- a step for what may be there
 abbrev pub if_there : {A B : Type 0} → (A → Result B ConvertError) → Option A → Result (Option B) ConvertError

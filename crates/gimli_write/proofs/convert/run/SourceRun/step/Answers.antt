@@ -1,5 +1,4 @@
 use Rattle.std.proofs.Common.{◌≡◌, ◌<◌, false, length, refl, sym, ap, ◌∙◌, subst}
-use Rattle.gimli_core.specs.Notation.{Notation}
 use Rattle.gimli_line.specs.declared.run.instruction.LineInstruction.TheVariants.{SetAddress, DefineFile}
 use Rattle.gimli_line.specs.header.File.{file_seen}
 use Rattle.gimli_line.specs.run.Instruction.{ins_seen, defines_file}
@@ -47,8 +46,8 @@ returns-in_default g c =
     let spelled = spelled_as c.self.inside.instructions.notation c.self.inside.program.meaning c.header.result.now.meaning n.0 i i lent refl n.2 in
     let file : defines_file i ≡ false = other_kind g.R.Reader.bytes g.R.Offset.ReaderOffset.number c.in-Ok-Some.instruction (λ f is. c.in_default.not-DefineFile f is) in
     let shorter : length c.execute.new.self.unread.bytes < length c.self.inside.instructions.bytes =
-        subst (λ (v : Unread). length v.bytes < length c.self.inside.instructions.bytes) (sym c.execute.ensures.unread)
-        (is_shorter c.self.inside.instructions.notation c.self.inside.program.meaning c.self.inside.instructions.bytes i n.0 u.bytes n.1 spelled) in
+    subst (λ (v : Unread). length v.bytes < length c.self.inside.instructions.bytes) (sym c.execute.ensures.unread)
+    (is_shorter c.self.inside.instructions.notation c.self.inside.program.meaning c.self.inside.instructions.bytes i n.0 u.bytes n.1 spelled) in
     record {
       reading = rw (← c.self.view_is) (executed_reading _ g.R.Reader.bytes g.R.Offset.ReaderOffset.number s u c.in-Ok-Some.ensures.notation i n.0 n.1 spelled c.execute.new.self c.execute.result
           file c.execute.ensures.fits c.execute.ensures.step c.execute.ensures.made);
