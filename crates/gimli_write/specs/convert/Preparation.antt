@@ -99,8 +99,8 @@ has_before_5 content h = nat_le h.parameters.encoding.version 4 || has_content c
 abbrev pub started_program : Encoding → LineEncoding → Header → FirstTexts → Built
 started_program encoding line_encoding h texts =
     record (started false encoding line_encoding
-    (first_directories encoding.version texts.working_directory texts.source_directory)
-    (first_files encoding.version texts.working_directory texts.source_directory texts.source_file None)) {
+        (first_directories encoding.version texts.working_directory texts.source_directory)
+        (first_files encoding.version texts.working_directory texts.source_directory texts.source_file None)) {
       file_has_timestamp = has_before_5 0x0003 h;
       file_has_size = has_before_5 0x0004 h;
       file_has_md5 = has_content 0x0005 h.file_formats;
@@ -142,5 +142,5 @@ prepared sections h given line_strings =
     source_file encoding.version sections h given.name >>= λ file.
     line_encoding_of h.parameters.line_encoding given.line_encoding >>= λ line_encoding.
     all_added (directory_added sections) h.directories
-    (started_lists encoding line_encoding h (first_texts encoding.version line_strings directory file)) >>= λ lists.
+        (started_lists encoding line_encoding h (first_texts encoding.version line_strings directory file)) >>= λ lists.
     all_added (file_added sections) h.files lists
