@@ -12,7 +12,7 @@ use Rattle.gimli_line.specs.run.OperationPointer.{is_hidden, overflows}
 use Rattle.gimli_line.specs.run.Events.{row, row_at, events_at, behind}
 use Rattle.gimli_line.specs.run.Progress.{files_from}
 use Rattle.gimli_line.specs.run.Machine.{initial, reset_row, stepped, is_refused}
-use Rattle.gimli_line.specs.run.EventsWithFiles.{EventWithFiles, EventsWithFiles, FilesAtEnd, with_files, files_at, events_with_files_behind, step_events, next_registers, events_with_files_from}
+use Rattle.gimli_line.specs.run.EventsWithFiles.{EventWithFiles, EventsWithFiles, FilesAtEnd, with_files, files_at, events_with_files_behind, step_events, next_registers, registers_after, events_with_files_from}
 use Rattle.gimli_line.specs.run.InstructionGrammar.{Decodes}
 use Rattle.gimli_line.specs.run.InstructionReading.{decoded_at}
 use Rattle.gimli_line.specs.run.Rows.{events_left, files_at_end, started}
@@ -80,3 +80,19 @@ module _ (a : Bool) (h : Header) (o : Notation) (offset : ℕ) (s : Unread) wher
 
   pub started_files : FilesAtEnd s.notation a h s.bytes (files_at_end (started a h o offset s))
   started_files = record { list = parts.0; end = parts.1; decoding = decoding; given = files_from_start a h.files parts.0 }
+
+-- ---- the registers behind a past
+
+-- they are those that are found by looking back
+looked_back : (h : Parameters) (past : List Ins) → registers_after h past ≡ registers h past
+looked_back h [] = refl
+looked_back h (i ∷ past) = ap (next_registers h i) (looked_back h past) ∙ goes h past i (overflows h past i) (makes_row i) refl refl
+
+pub refused_behind : (h : Parameters) (past : List Ins) (i : Ins) → is_refused h i (registers_after h past) ≡ overflows h past i
+refused_behind h past i = ap (is_refused h i) (looked_back h past)
+
+pub hidden_behind : (h : Parameters) (past : List Ins) → (registers_after h past).hidden ≡ is_hidden h past
+hidden_behind h past = ap (λ (r : LineRow). r.hidden) (looked_back h past)
+
+pub row_behind : (h : Parameters) (past : List Ins) (i : Ins) → makes_row i ≡ true → is_hidden h past ≡ false → stepped h i (registers_after h past) ≡ row_at h past i
+row_behind h past i loud seen = ap (stepped h i) (looked_back h past) ∙ row_is h past i loud seen

@@ -1,7 +1,7 @@
 //! Laws of the two grammars: a unit has one header or one refusal, a program is decoded in one way. And laws of what
 //! a run gives.
 
-ghost use Rattle.std.specs.Prelude.{◌≡◌, ◌≢◌, ◌≤◌, ◌⊎◌, ◌+◌, ℕ, Bool, List, [], Option, Some, length};
+ghost use Rattle.std.specs.Prelude.{◌≡◌, ◌≢◌, ◌≤◌, ◌⊎◌, ◌+◌, ℕ, Bool, List, [], Option, Some, length, true, false};
 ghost use Rattle.std.specs.Ordering.{nat_cmp};
 ghost use Rattle.gimli_core.specs.Equality.{IsExact};
 ghost use Rattle.gimli_core.specs.Notation.{Notation};
@@ -9,14 +9,15 @@ ghost use Rattle.gimli_core.specs.declared.common.Format.{Format};
 ghost use Rattle.gimli_core.specs.declared.error.Error.{Error};
 ghost use Rattle.gimli_line.specs.header.Header.{Header, UnitEntry};
 ghost use Rattle.gimli_line.specs.header.HeaderGrammar.{Entry, SpellsUnit, HasHeaderFault, SpellsEntries, HoldsCount};
-ghost use Rattle.gimli_line.specs.run.Events.{events_behind};
-ghost use Rattle.gimli_line.specs.run.Instruction.{Ins};
-ghost use Rattle.gimli_line.specs.run.EventsWithFiles.{EventsWithFiles, FilesAtEnd, events_with_files_behind, events_with_files_from};
+ghost use Rattle.gimli_line.specs.run.Events.{events_behind, row_at};
+ghost use Rattle.gimli_line.specs.run.Instruction.{Ins, makes_row};
+ghost use Rattle.gimli_line.specs.run.EventsWithFiles.{EventsWithFiles, FilesAtEnd, events_with_files_behind, events_with_files_from, registers_after};
 ghost use Rattle.gimli_line.specs.run.InstructionGrammar.{Decodes, instruction_production, IsInstructionRefusal};
-ghost use Rattle.gimli_line.specs.run.OperationPointer.{OperationPointer, IsPointerList, pointers};
+ghost use Rattle.gimli_line.specs.run.InstructionReading.{decoded_at};
+ghost use Rattle.gimli_line.specs.run.OperationPointer.{OperationPointer, IsPointerList, pointers, is_hidden, overflows};
 ghost use Rattle.gimli_line.specs.run.Rows.{events_left, files_at_end, started};
 ghost use Rattle.gimli_line.specs.run.Unread.{Unread};
-ghost use Rattle.gimli_line.specs.run.Machine.{run, initial};
+ghost use Rattle.gimli_line.specs.run.Machine.{run, initial, is_refused, stepped};
 ghost use Rattle.gimli_line.specs.run.NonDecreasing.{AreOneSequence, NeverBelow};
 ghost use Rattle.gimli_line.specs.header.Parameters.{Parameters};
 ghost use Rattle.gimli_line.specs.run.Row.{column_number};
@@ -156,3 +157,20 @@ pub fn equal_instructions_are_same<R: Reader + PartialEq>()
 {
     equal_files_are_same::<R>();
 }
+
+/// The instructions and the end that are taken of a program one by one are those that it is decoded into.
+pub fn instructions_are_taken()
+    ensures { (notation : Notation) (h : Header) (bytes : List ℕ) →
+        Decodes notation h bytes (decoded_at notation h bytes).0 (decoded_at notation h bytes).1 }
+{}
+
+/// The registers that the machine has behind a past are what looking back says: which instruction is refused, what is
+/// hidden, and which row a place makes that isn't hidden.
+pub fn registers_look_back()
+    ensures refused { (parameters : Parameters) (past : List Ins) (i : Ins) →
+        is_refused parameters i (registers_after parameters past) ≡ overflows parameters past i }
+    ensures hidden { (parameters : Parameters) (past : List Ins) →
+        (registers_after parameters past).hidden ≡ is_hidden parameters past }
+    ensures row { (parameters : Parameters) (past : List Ins) (i : Ins) → makes_row i ≡ true → is_hidden parameters past ≡ false →
+        stepped parameters i (registers_after parameters past) ≡ row_at parameters past i }
+{}

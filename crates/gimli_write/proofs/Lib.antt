@@ -5,3 +5,5 @@ pub mod RoundTrips
 mod BuiltAnswers
 pub mod ConvertSteps
 pub mod ConvertHeader
+pub mod SourceReadings
+pub mod SourceSteps

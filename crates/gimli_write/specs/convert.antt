@@ -2,3 +2,5 @@
 pub mod Texts
 pub mod Lists
 pub mod Preparation
+pub mod Offers
+pub mod SourceState

@@ -9,6 +9,7 @@ mod convert_error;
 mod read_back;
 mod text;
 
+pub use convert::offer::ConvertLineRow;
 pub use convert_error::{ConvertError, ConvertResult};
 pub use gimli_build::{
     BuiltItem, BuiltItems, DirectoryId, FileId, FileInfo, Files, LineProgram, LineRow, LineString,

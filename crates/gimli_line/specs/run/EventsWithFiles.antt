@@ -11,7 +11,7 @@ use Rattle.gimli_line.specs.header.Header.{Header}
 use Rattle.gimli_line.specs.run.Instruction.{files_behind}
 use Rattle.gimli_line.specs.run.InstructionGrammar.{Decodes}
 use Rattle.gimli_line.specs.run.Events.{Event, row, fault, events_at, end_events, defined_files, behind}
-use Rattle.gimli_line.specs.run.Machine.{stepped, reset_row, is_refused}
+use Rattle.gimli_line.specs.run.Machine.{initial, stepped, reset_row, is_refused}
 
 -- an event, and the files of the header at its place
 pub record EventWithFiles : Type 0 where
@@ -59,6 +59,11 @@ step_events parameters i r =
 -- the registers behind an instruction: they are reset behind a row and behind a refusal
 abbrev pub next_registers : Parameters → Ins → LineRow → LineRow
 next_registers parameters i r = if is_refused parameters i r || makes_row i then reset_row parameters (stepped parameters i r) else stepped parameters i r
+
+-- the registers behind a past, run from the start of a program
+abbrev pub registers_after : Parameters → List Ins → LineRow
+registers_after parameters [] = initial parameters
+registers_after parameters (i ∷ past) = next_registers parameters i (registers_after parameters past)
 
 -- what these instructions and this end give from these registers and files on
 abbrev pub events_with_files_from : Bool → Parameters → LineRow → List File → List Ins → Option Error → List EventWithFiles

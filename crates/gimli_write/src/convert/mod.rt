@@ -2,4 +2,6 @@
 
 pub(crate) mod header;
 pub(crate) mod lists;
+pub(crate) mod offer;
+pub(crate) mod run;
 pub(crate) mod texts;

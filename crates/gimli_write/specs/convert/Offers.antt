@@ -1,0 +1,140 @@
+-- What a conversion reads of a line program: rows and ends, each at its place, found by looking back (DWARF 5, sections
+-- 6.2.2 and 6.2.5). The past of a place is the list of the instructions before it, the nearest first.
+use Rattle.std.specs.Prelude.{◌≡◌, ℕ, ◌-◌, not, ◌&&◌, if◌then◌else◌, nat_eq, nat_le, List, [], ◌∷◌, slice_get, Option, Some, None, ok_or, Result, Ok, Err}
+use Rattle.gimli_core.specs.Notation.{Notation}
+use Rattle.gimli_core.specs.declared.error.Error.{Error}
+use Rattle.gimli_core.specs.declared.error.Error.TheVariants.{AddressOverflow}
+use Rattle.gimli_line.specs.header.Header.{Header}
+use Rattle.gimli_line.specs.header.Parameters.{Parameters}
+use Rattle.gimli_line.specs.run.Instruction.{Ins, makes_row}
+use Rattle.gimli_line.specs.run.InstructionGrammar.{Decodes}
+use Rattle.gimli_line.specs.run.Registers.{sequence, nearest}
+use Rattle.gimli_line.specs.run.OperationPointer.{is_hidden, overflows}
+use Rattle.gimli_line.specs.run.Events.{row_at}
+use Rattle.gimli_line.specs.declared.run.instruction.LineInstruction.TheVariants.{DefineFile, SetAddress as SetAddressIns}
+use Rattle.gimli_build.specs.Texts.{Sections}
+use Rattle.gimli_build.specs.declared.built.row.LineRow.{LineRow}
+use Rattle.gimli_write.specs.convert.Texts.{◌>>=◌}
+use Rattle.gimli_write.specs.convert.Lists.{Lists, file_added}
+use Rattle.gimli_write.specs.declared.convert_error.ConvertError.{ConvertError}
+use Rattle.gimli_write.specs.declared.convert_error.ConvertError.TheVariants.{Read, InvalidFileIndex}
+use Rattle.gimli_write.specs.declared.convert.run.SourceRow.{SourceRow}
+use Rattle.gimli_write.specs.declared.convert.offer.ConvertLineRow.{ConvertLineRow}
+use Rattle.gimli_write.specs.declared.convert.offer.ConvertLineRow.TheVariants.{SetAddress, Row, EndSequence}
+
+-- ---- set addresses
+
+abbrev pub address_operand : Ins → Option ℕ
+address_operand (SetAddressIns a) = Some a
+address_operand i = None
+
+-- the address that was last set in the sequence of a place, from which offsets count; else 0
+abbrev pub base_at : List Ins → ℕ
+base_at past = nearest address_operand 0 (sequence past)
+
+-- the address that was last set behind the last place that makes a row, if one was
+abbrev pub pending : List Ins → Option ℕ
+pending [] = None
+pending (i ∷ past) = if makes_row i then None else (elim (address_operand i) [ Some a ↦ Some a | None ↦ pending past ])
+
+-- ---- rows
+
+-- the row of a place
+abbrev pub source_row : Parameters → List Ins → Ins → SourceRow
+source_row parameters past i =
+    let row = row_at parameters past i in
+    record { set_address = pending past; address_offset = row.address - base_at past; row = row }
+
+-- the id of a file number; up to version 4 of the source none has number 0
+abbrev pub file_id : ℕ → Lists → ℕ → Result ℕ ConvertError
+file_id version lists n = if nat_le version 4 && nat_eq n 0 then Err InvalidFileIndex else ok_or (slice_get lists.file_ids n) InvalidFileIndex
+
+-- a row of the source as one that is built, with this file
+abbrev pub row_in : SourceRow → ℕ → LineRow
+row_in r file = record {
+  address_offset = r.address_offset;
+  op_index = r.row.op_index;
+  file = file;
+  line = r.row.line;
+  column = r.row.column;
+  discriminator = r.row.discriminator;
+  is_statement = r.row.is_stmt;
+  basic_block = r.row.basic_block;
+  prologue_end = r.row.prologue_end;
+  epilogue_begin = r.row.epilogue_begin;
+  isa = r.row.isa;
+}
+
+-- the same with the id of its own file, for a source of this version
+abbrev pub built_row : ℕ → Lists → SourceRow → Result LineRow ConvertError
+built_row version lists r = file_id version lists r.row.file >>= λ file. Ok (row_in r file)
+
+-- ---- what is read
+
+-- what is read of a source, to its end or to what stops it
+pub data Reading : Type 0 where
+  -- nothing more; the lists are then these
+  ends : Lists → Reading
+  -- a refusal
+  stops : ConvertError → Reading
+  -- an address, a row or an end, with the lists at its place, and what is read behind it
+  offers : ConvertLineRow → Lists → Reading → Reading
+
+abbrev pub address_offered : Option ℕ → Lists → Reading → Reading
+address_offered (Some a) lists rest = offers (SetAddress a) lists rest
+address_offered None lists rest = rest
+
+abbrev pub row_offered : Result LineRow ConvertError → Lists → Reading → Reading
+row_offered (Ok row) lists rest = offers (Row row) lists rest
+row_offered (Err e) lists rest = stops e
+
+abbrev pub place_offered : ℕ → Lists → SourceRow → Reading → Reading
+place_offered version lists r rest =
+    if r.row.end_sequence then offers (EndSequence r.address_offset) lists rest else row_offered (built_row version lists r) lists rest
+
+-- a row of the source, behind the address that was set for it
+abbrev pub offered : ℕ → Lists → SourceRow → Reading → Reading
+offered version lists r rest = address_offered r.set_address lists (place_offered version lists r rest)
+
+-- what a place gives, and what is read behind it: a refusal where it overflows, else its row where it makes one and
+-- isn't hidden
+abbrev pub reading_at : Parameters → Lists → List Ins → Ins → Reading → Reading
+reading_at parameters lists past i rest =
+    if overflows parameters past i then stops (Read AddressOverflow)
+    else (if makes_row i && not (is_hidden parameters past) then offered parameters.encoding.version lists (source_row parameters past i) rest else rest)
+
+abbrev pub end_reading : Option Error → Lists → Reading
+end_reading None lists = ends lists
+end_reading (Some e) lists = stops (Read e)
+
+-- lists that may be refused, and what is read with them
+abbrev pub upon : Result Lists ConvertError → (Lists → Reading) → Reading
+upon (Ok lists) next = next lists
+upon (Err e) next = stops e
+
+-- ---- files that the program defines
+
+-- the lists behind an instruction: a file that it defines is added
+abbrev pub defined : Sections → Lists → Ins → Result Lists ConvertError
+defined sections lists (DefineFile f) = file_added sections lists f
+defined sections lists i = Ok lists
+
+-- the lists at a place: the first ones, and the files that were defined before it, hidden or not
+abbrev pub lists_at : Sections → Lists → List Ins → Result Lists ConvertError
+lists_at sections first [] = Ok first
+lists_at sections first (i ∷ past) = lists_at sections first past >>= λ lists. defined sections lists i
+
+-- ---- programs
+
+-- what is read of these instructions and this end behind a past
+abbrev pub reading_behind : Sections → Parameters → Lists → List Ins → List Ins → Option Error → Reading
+reading_behind sections parameters first past [] end = upon (lists_at sections first past) (end_reading end)
+reading_behind sections parameters first past (i ∷ list) end =
+    upon (lists_at sections first past) (λ lists. reading_at parameters lists past i (reading_behind sections parameters first (i ∷ past) list end))
+
+-- what is read of a program's bytes, with these lists at its start
+pub record Reads (notation : Notation) (sections : Sections) (h : Header) (first : Lists) (bytes : List ℕ) (reading : Reading) : Type 0 where
+  pub list : List Ins
+  pub end : Option Error
+  pub decoding : Decodes notation h bytes list end
+  pub given : reading ≡ reading_behind sections h.parameters first [] list end

@@ -1,0 +1,234 @@
+//! The run over a source: its registers, and where its addresses count from.
+
+ghost use Rattle.std.specs.Prelude.{◌≡◌, ◌-◌, ◌*◌, ◌^◌, ◌||◌, nat_lt, nat_le, if◌then◌else◌, true, false, None, IfErr, IfOk, IsTrue, OnOk};
+ghost use Rattle.gimli_core.specs.Numbers.{is_address_size};
+ghost use Rattle.gimli_core.specs.declared.error.Error.TheVariants.{AddressOverflow};
+
+use crate::convert_error::{ConvertError, ConvertResult};
+use gimli_build::{FileId, LineRow as BuiltRow};
+use gimli_core::{Reader, ReaderAddress};
+use gimli_line::{
+    ColumnType, FileEntry, IncompleteLineProgram, LineInstruction, LineInstructions, LineRow,
+};
+use std::marker::Model;
+
+/// A row of the source that isn't hidden.
+#[derive(Clone, Copy, Debug)]
+pub(crate) struct SourceRow {
+    /// The address that was set behind the row before it, if one was.
+    pub(crate) set_address: Option<u64>,
+    /// How many bytes it is behind the address that was last set in the sequence, or behind 0 where none was.
+    pub(crate) address_offset: u64,
+    /// The registers.
+    pub(crate) row: LineRow,
+}
+
+impl SourceRow {
+    ghost use Rattle.gimli_write.specs.convert.Offers.{row_in};
+
+    /// The row as it is built, with this file.
+    pub(crate) fn built(&self, file: FileId) -> BuiltRow
+        ensures { result ≡ row_in self.now file }
+    {
+        let row = &self.row;
+        BuiltRow {
+            address_offset: self.address_offset,
+            op_index: row.op_index(),
+            file,
+            line: match row.line() {
+                Some(line) => line.get(),
+                None => 0,
+            },
+            column: match row.column() {
+                ColumnType::Column(column) => column.get(),
+                ColumnType::LeftEdge => 0,
+            },
+            discriminator: row.discriminator(),
+            is_statement: row.is_stmt(),
+            basic_block: row.basic_block(),
+            prologue_end: row.prologue_end(),
+            epilogue_begin: row.epilogue_begin(),
+            isa: row.isa(),
+        }
+    }
+}
+
+/// What one instruction of the source did.
+pub(crate) enum SourceStep<R: Reader> {
+    /// There was none.
+    Done,
+    /// It gave nothing.
+    More,
+    /// It defines a file, which isn't added to the source's own.
+    Defines(FileEntry<R>),
+    /// It made a row that isn't hidden.
+    Made(SourceRow),
+}
+
+impl<R: Reader> SourceStep<R> {
+    /// The step of an instruction that made a row, which may be hidden.
+    fn of_row(row: SourceRow, hidden: bool) -> Self
+        ensures { result ≡ (if hidden then SourceStep.More else SourceStep.Made row) }
+    {
+        if hidden {
+            SourceStep::More
+        } else {
+            SourceStep::Made(row)
+        }
+    }
+}
+
+/// Whether a set address hides what follows it, by the address before it and the size of addresses.
+fn hides(address: u64, before: u64, address_size: u8) -> bool
+    requires { IsTrue (is_address_size address_size) }
+    ensures { result ≡ (nat_lt address before || nat_le (2 ^ (8 * address_size) - 2) address) }
+{
+    address < before || address >= u64::min_tombstone(address_size)
+}
+
+/// The address from which offsets count behind a row, which may end its sequence.
+fn base_behind_row(base: u64, ends: bool) -> u64
+    ensures { result ≡ (if ends then 0 else base) }
+{
+    if ends { 0 } else { base }
+}
+
+/// Whether what follows a row is hidden, where the row was or wasn't, and may end its sequence.
+fn hidden_behind_row(hidden: bool, ends: bool) -> bool
+    ensures { result ≡ (if ends then false else hidden) }
+{
+    if ends { false } else { hidden }
+}
+
+/// A source, as far as it was read.
+#[derive(Drop)]
+pub(crate) struct SourceRun<R: Reader> {
+    program: IncompleteLineProgram<R>,
+    /// The registers, ready for the next instruction.
+    row: LineRow,
+    instructions: LineInstructions<R>,
+    /// The address that was last set in the sequence, hidden or not; else 0.
+    base: u64,
+    /// The address that was set behind the last place that made a row, hidden or not.
+    pending: Option<u64>,
+    /// Whether the last set address hides what follows it.
+    hidden: bool,
+}
+
+impl<R: Reader> Model for SourceRun<R> {
+    ghost use Rattle.std.specs.Prelude.{◌≡◌, false};
+    ghost use Rattle.gimli_write.specs.convert.SourceState.{SourceState};
+
+    ghost Value = { SourceState };
+
+    ghost view = { λ a. record {
+      header = a.program.meaning;
+      row = a.row;
+      base = a.base;
+      pending = a.pending;
+      unread = a.instructions;
+    } };
+
+    ghost invariant = { λ a. (a.hidden ≡ a.row.hidden) × (a.row.end_sequence ≡ false) };
+}
+
+impl<R: Reader> SourceRun<R> {
+    ghost use Rattle.gimli_line.specs.run.Instruction.{ins_seen, defines_file};
+    ghost use Rattle.gimli_line.specs.run.Machine.{IsAllowed, is_refused};
+    ghost use Rattle.gimli_build.specs.Texts.{Sections};
+    ghost use Rattle.gimli_write.specs.convert.Lists.{Lists};
+    ghost use Rattle.gimli_write.specs.convert.Offers.{stops, address_operand, Reads};
+    ghost use Rattle.gimli_write.specs.convert.SourceState.{started, state_behind, step_made, reading_left, step_reading, Shortens};
+
+    /// The source, from its start on.
+    pub(crate) fn start(program: IncompleteLineProgram<R>) -> Self
+        ensures start { result ≡ started program.meaning (record { bytes = program.meaning.program; notation = program.notation }) }
+        ensures reads { (sections : Sections) (first : Lists) →
+            Reads program.notation sections program.meaning first program.meaning.program (reading_left sections result first) }
+    {
+        let header = program.header();
+        let row = LineRow::new(header);
+        let instructions = header.instructions();
+        SourceRun {
+            program,
+            row,
+            instructions,
+            base: 0,
+            pending: None,
+            hidden: false,
+        }
+    }
+
+    /// Takes the next instruction and executes it, unless it defines a file. Refused by `Read`, as the instruction
+    /// is, or by `AddressOverflow`. Takes no memory.
+    pub(crate) fn step(&mut self) -> ConvertResult<SourceStep<R>>
+        ensures reading { IfOk result (λ step. (sections : Sections) (lists : Lists) → reading_left sections self.old lists
+            ≡ step_reading R.bytes R.Offset.number sections lists step self.new) }
+        ensures refusal { IfErr result (λ e. (sections : Sections) (lists : Lists) → reading_left sections self.old lists ≡ stops e) }
+        ensures shorter { IfOk result (λ step. Shortens step self.old self.new) }
+        ensures header { self.new.header ≡ self.old.header }
+        ensures notation { self.new.unread.notation ≡ self.old.unread.notation }
+    {
+        let instruction = match self.instructions.next_instruction(self.program.header()) {
+            Err(e) => return Err(ConvertError::Read(e)),
+            Ok(None) => return Ok(SourceStep::Done),
+            Ok(Some(instruction)) => instruction,
+        };
+        match instruction {
+            LineInstruction::DefineFile(file) => Ok(SourceStep::Defines(file)),
+            LineInstruction::SetAddress(address) => {
+                self.set_address(address);
+                Ok(SourceStep::More)
+            }
+            _ => self.execute(instruction),
+        }
+    }
+
+    /// Sets the address, or hides what follows.
+    fn set_address(&mut self, address: u64)
+        ensures { self.new ≡ state_behind (LineInstruction.SetAddress address) self.old }
+    {
+        let size = self.program.header().encoding().address_size;
+        let before = self.row.address();
+        self.hidden = hides(address, before, size);
+        self.base = address;
+        self.pending = Some(address);
+        let set_address = LineInstruction::SetAddress(address);
+        let _never_refused = self.row.execute(set_address, &mut self.program);
+    }
+
+    /// Executes an instruction, which doesn't set an address and defines no file. Refused by `AddressOverflow`.
+    fn execute(&mut self, instruction: LineInstruction<R>) -> ConvertResult<SourceStep<R>>
+        requires allowed { IsAllowed self.old.header.parameters (ins_seen R.bytes R.Offset.number instruction) }
+        requires address { address_operand (ins_seen R.bytes R.Offset.number instruction) ≡ None }
+        requires file { defines_file (ins_seen R.bytes R.Offset.number instruction) ≡ false }
+        ensures fits { OnOk result (is_refused self.old.header.parameters (ins_seen R.bytes R.Offset.number instruction) self.old.row ≡ false) }
+        ensures step { OnOk result (self.new ≡ state_behind (ins_seen R.bytes R.Offset.number instruction) self.old) }
+        ensures made { IfOk result (λ step. step ≡ step_made self.old (ins_seen R.bytes R.Offset.number instruction)) }
+        ensures overflow { IfErr result (λ e. (e ≡ ConvertError.Read AddressOverflow)
+            × (is_refused self.old.header.parameters (ins_seen R.bytes R.Offset.number instruction) self.old.row ≡ true)) }
+        ensures header { self.new.header ≡ self.old.header }
+        ensures unread { self.new.unread ≡ self.old.unread }
+    {
+        let made = match self.row.execute(instruction, &mut self.program) {
+            Ok(made) => made,
+            Err(e) => return Err(ConvertError::Read(e)),
+        };
+        if !made {
+            return Ok(SourceStep::More);
+        }
+        let address = self.row.address();
+        let ends = self.row.end_sequence();
+        let source_row = SourceRow {
+            set_address: self.pending,
+            address_offset: address.saturating_sub(self.base),
+            row: self.row,
+        };
+        let step = SourceStep::of_row(source_row, self.hidden);
+        self.hidden = hidden_behind_row(self.hidden, ends);
+        self.base = base_behind_row(self.base, ends);
+        self.pending = None;
+        self.row.reset(self.program.header());
+        Ok(step)
+    }
+}
