@@ -1,8 +1,6 @@
 //! The words of a script's line.
 
-use crate::calls::{
-    Call, Details, Flags, Form, PieceSize, Registers, Start, Target, Text,
-};
+use crate::calls::{Call, Details, Flags, Form, PieceSize, Registers, Start, Target, Text};
 use crate::fault::Fault;
 use gimli_core::{Encoding, Format, LineEncoding, RunTimeEndian};
 use gimli_write::Address;

@@ -24,11 +24,9 @@ ghost use Rattle.gimli_line.specs.run.Row.{column_number};
 ghost use Rattle.gimli_line.specs.declared.header.file_entry.FileEntryFormat.{FileEntryFormat};
 ghost use Rattle.gimli_line.specs.declared.run.row.ColumnType.{ColumnType as Column};
 
-use crate::run::row::ColumnType;
-
 use crate::header::file_entry::{FileEntry, FileEntryFormat};
 use crate::run::instruction::LineInstruction;
-use crate::run::row::LineRow;
+use crate::run::row::{ColumnType, LineRow};
 use gimli_core::laws::equal_values_are_same;
 use gimli_core::{AttributeValue, Reader};
 

@@ -118,7 +118,10 @@ pub(crate) fn print_row<O: Write>(row: LineRow, out: &mut O) -> Result<(), Refus
 }
 
 /// Prints a line of text.
-pub(crate) fn print_line<T: fmt::Display + Drop, O: Write>(line: T, out: &mut O) -> Result<(), Refusal>
+pub(crate) fn print_line<T: fmt::Display + Drop, O: Write>(
+    line: T,
+    out: &mut O,
+) -> Result<(), Refusal>
     ensures refusal { IfErr result (λ r. r ≡ Refusal.Output) }
 {
     match writeln!(out, "{line}") {

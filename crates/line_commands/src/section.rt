@@ -10,7 +10,10 @@ use std::alloc::Global;
 use std::io::Read;
 
 /// The bytes of the file.
-pub(crate) fn read_section<F: Read + Drop>(alloc: Global, file: Option<F>) -> Result<Vec<u8>, Refusal>
+pub(crate) fn read_section<F: Read + Drop>(
+    alloc: Global,
+    file: Option<F>,
+) -> Result<Vec<u8>, Refusal>
     ensures no_file { IsNone file → result ≡ Err Refusal.File }
     ensures refusal { IfErr result (λ r. r ≢ Refusal.Usage) }
 {

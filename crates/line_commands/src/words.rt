@@ -98,9 +98,7 @@ impl Command {
             ["sequences", _file, order, size, offset] => {
                 Some(Command::Sequences(Place::parse(order, size, offset)?))
             }
-            ["units", _file, order, size] => {
-                Some(Command::Units(Numbers::parse(order, size)?))
-            }
+            ["units", _file, order, size] => { Some(Command::Units(Numbers::parse(order, size)?)) }
             ["find", _file, order, size, offset, address] => {
                 Some(Command::Find(Query::parse(order, size, offset, address)?))
             }
