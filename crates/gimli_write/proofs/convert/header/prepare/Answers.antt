@@ -26,7 +26,7 @@ returns-in_err-add_directories-clause-err g c =
     let start =
     lists_are c.in_ok-lists.lists c.first_program.new.line_strings (started_lists encoding lines h made) (c.in_ok-lists.ensures.program ∙ program)
     (c.in_ok-lists.ensures.directories ∙ ap first_ids c.version.ensures) (c.in_ok-lists.ensures.files ∙ ap first_ids c.version.ensures) after in
-    let refused = rw c.include_directories.ensures at c.in_err-add_directories.ensures.err in
+    let refused = rw c.include_directories.ensures.directories at c.in_err-add_directories.ensures.err in
     let p = err_from_is_err_and c.from_residual-in_err-add_directories.result c.from_residual-in_err-add_directories.ensures.1 in
     rw (p.1, p.2)
     (refused_at_directories s h given before encoding target directory c.in_ok-directory.ensures.ok file c.in_ok-file.ensures.ok lines third
@@ -56,8 +56,8 @@ returns-in_err-add_files-clause-err g c =
     lists_are c.in_ok-lists.lists c.first_program.new.line_strings (started_lists encoding lines h made) (c.in_ok-lists.ensures.program ∙ program)
     (c.in_ok-lists.ensures.directories ∙ ap first_ids c.version.ensures) (c.in_ok-lists.ensures.files ∙ ap first_ids c.version.ensures) after in
     let lists = lists_with c.add_directories.new.line_strings c.add_directories.new.self in
-    let fourth = rw c.include_directories.ensures at c.in_ok-add_directories.ensures.ok in
-    let refused = rw c.file_names.ensures at c.in_err-add_files.ensures.err in
+    let fourth = rw c.include_directories.ensures.directories at c.in_ok-add_directories.ensures.ok in
+    let refused = rw c.file_names.ensures.files at c.in_err-add_files.ensures.err in
     let p = err_from_is_err_and c.from_residual-in_err-add_files.result c.from_residual-in_err-add_files.ensures.1 in
     rw (p.1, p.2)
     (refused_at_files s h given before encoding target directory c.in_ok-directory.ensures.ok file c.in_ok-file.ensures.ok lines third
@@ -89,8 +89,8 @@ returns-clause-ok g c =
     lists_are c.in_ok-lists.lists c.first_program.new.line_strings (started_lists encoding lines h made) (c.in_ok-lists.ensures.program ∙ program)
     (c.in_ok-lists.ensures.directories ∙ ap first_ids c.version.ensures) (c.in_ok-lists.ensures.files ∙ ap first_ids c.version.ensures) after in
     let lists = lists_with c.add_directories.new.line_strings c.add_directories.new.self in
-    let fourth = rw c.include_directories.ensures at c.in_ok-add_directories.ensures.ok in
-    let last = rw c.file_names.ensures at c.in_ok-add_files.ensures.ok in
+    let fourth = rw c.include_directories.ensures.directories at c.in_ok-add_directories.ensures.ok in
+    let last = rw c.file_names.ensures.files at c.in_ok-add_files.ensures.ok in
     sym (at_files s h given before encoding target directory c.in_ok-directory.ensures.ok file c.in_ok-file.ensures.ok lines third
     c.in_ok-lists.lists c.first_program.new.line_strings start lists fourth)
     ∙ last
