@@ -32,16 +32,16 @@
 
 mod answer;
 mod arguments;
+mod in_pieces;
 mod numbers;
 mod order_calls;
 mod outcome;
-mod pieces;
 mod reader_calls;
 mod readers;
 mod sections;
 mod tables;
 mod writers;
 
-pub use pieces::pieces;
+pub use in_pieces::pieces;
 pub use readers::read;
 pub use sections::bytes;
