@@ -176,7 +176,8 @@ pub fn items_define_no_file()
 /// So the rows of a written unit take no memory: at its start nothing of its program defines a file; nor does what is
 /// left once the run has gone on; and `next_row` is refused by `AddressOverflow` alone then, never for want of memory.
 pub fn written_rows_take_no_memory()
-    ensures start { (notation : Notation) (unit_entry : UnitEntry) (sections : Sections) (p : Built) (strings line_strings : List (List ℕ)) (unit : List ℕ)
+    ensures start { (notation : Notation) (unit_entry : UnitEntry) (sections : Sections) (p : Built)
+        (strings line_strings : List (List ℕ)) (unit : List ℕ)
         (back : ReadsBack notation unit_entry sections p strings line_strings unit) (appends : Bool) (offset : ℕ) →
         DefinesNoFile (started appends back.header notation offset (record { bytes = back.header.program; notation = notation })) }
     ensures goes { (old new : RunState) (events : List Event) → DefinesNoFile old → Progress old new events → DefinesNoFile new }

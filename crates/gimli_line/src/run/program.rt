@@ -33,7 +33,9 @@ pub trait LineProgram<R: Reader> {
     /// Adds a file that the program defines, where the list of files isn't complete. Refused by `OutOfMemory`
     /// alone; nothing is changed then.
     fn add_file(&mut self, file: FileEntry<R>) -> Result<()>
-        ensures ok { OnOk result (meaning self.new ≡ record (meaning self.old) { files = added appends (file_seen R.bytes R.Offset.number file) (meaning self.old).files }) }
+        ensures ok { OnOk result (meaning self.new ≡ record (meaning self.old) {
+          files = added appends (file_seen R.bytes R.Offset.number file) (meaning self.old).files;
+        }) }
         ensures err { OnErr result (meaning self.new ≡ meaning self.old) }
         ensures memory { IfErr result (λ e. (e ≡ Error.OutOfMemory) × (appends ≡ true)) }
         ensures notation { notation self.new ≡ notation self.old }
@@ -108,7 +110,9 @@ impl<R: Reader> LineProgram<R> for IncompleteLineProgram<R> {
     }
 
     fn add_file(&mut self, file: FileEntry<R>) -> Result<()>
-        ensures ok { OnOk result (self.new.meaning ≡ record self.old.meaning { files = self.old.meaning.files ++ file_seen R.bytes R.Offset.number file ∷ [] }) }
+        ensures ok { OnOk result (self.new.meaning ≡ record self.old.meaning {
+          files = self.old.meaning.files ++ file_seen R.bytes R.Offset.number file ∷ [];
+        }) }
         ensures err { OnErr result (self.new.meaning ≡ self.old.meaning) }
         ensures memory { IfErr result (λ e. (e ≡ Error.OutOfMemory) × (true ≡ true)) }
         ensures notation { self.new.notation ≡ self.old.notation }

@@ -187,7 +187,9 @@ impl LineRow {
         ensures made { IfOk result (λ made. made ≡ makes_row (ins_seen R.bytes R.Offset.number instruction)) }
         ensures step { OnOk result (self.new ≡ stepped (P.meaning program.old).parameters (ins_seen R.bytes R.Offset.number instruction) self.old) }
         ensures fits { OnOk result (is_refused (P.meaning program.old).parameters (ins_seen R.bytes R.Offset.number instruction) self.old ≡ false) }
-        ensures files { OnOk result (P.meaning program.new ≡ record (P.meaning program.old) { files = files_behind P.appends (ins_seen R.bytes R.Offset.number instruction) (P.meaning program.old).files }) }
+        ensures files { OnOk result (P.meaning program.new ≡ record (P.meaning program.old) {
+          files = files_behind P.appends (ins_seen R.bytes R.Offset.number instruction) (P.meaning program.old).files;
+        }) }
         ensures overflow { IfErr result (λ e. e ≡ Error.AddressOverflow →
             (is_refused (P.meaning program.old).parameters (ins_seen R.bytes R.Offset.number instruction) self.old ≡ true)
             × (self.new ≡ stepped (P.meaning program.old).parameters (ins_seen R.bytes R.Offset.number instruction) self.old)) }
