@@ -1,0 +1,63 @@
+//! From a section to rows with the paths of their files.
+
+ghost use Rattle.std.specs.Prelude.{◌≡◌, ◌≢◌, IfOk, map};
+ghost use Rattle.gimli_core.specs.Reading.{seen};
+ghost use Rattle.gimli_core.specs.Values.{value_seen};
+ghost use Rattle.gimli_line.specs.run.Events.{row};
+ghost use Rattle.gimli_line.specs.run.Rows.{events_left};
+ghost use Rattle.gimli_line.specs.run.Sequences.{events_of};
+ghost use Rattle.gimli_write.specs.TextReading.{text_from, text_of};
+
+use gimli_core::{AttributeValue, Error, Reader, ReaderOffset, Result};
+use gimli_line::{LineRow, OneShotLineRows};
+use std::alloc::Global;
+
+/// All rows of a run. Refused by its first fault, or by `OutOfMemory`.
+pub fn rows_of<R: Reader>(alloc: Global, rows: OneShotLineRows<R>) -> Result<Vec<LineRow>>
+    ensures ok { IfOk result (λ found. events_of (events_left rows) ≡ map row found.items) }
+{
+    let mut rows = rows;
+    let mut found = Vec::new(alloc);
+    'rows: loop {
+        let row = match rows.next_row()? {
+            Some((_header, row)) => *row,
+            None => return Ok(found),
+        };
+        if found.push(row).is_err() {
+            return Err(Error::OutOfMemory);
+        }
+    }
+}
+
+/// The sections that hold texts.
+pub struct Sections<R: Reader> {
+    /// The section `.debug_str`.
+    pub strings: R,
+    /// The section `.debug_line_str`.
+    pub line_strings: R,
+}
+
+/// The text that a path or a directory stands for. Refused by `UnexpectedEof` where the section ends before the text
+/// does, and by `ExpectedStringAttributeValue` for a value that stands for no text of these sections.
+pub fn text<R: Reader>(value: AttributeValue<R>, sections: &Sections<R>) -> Result<R>
+    ensures { seen R.bytes result ≡ text_of (record {
+      strings = R.bytes sections.now.strings;
+      line_strings = R.bytes sections.now.line_strings;
+    }) (value_seen R.bytes R.Offset.number value) }
+{
+    match value {
+        AttributeValue::String(text) => Ok(text),
+        AttributeValue::DebugStrRef(offset) => text_from(sections.strings, offset.0),
+        AttributeValue::DebugLineStrRef(offset) => text_from(sections.line_strings, offset.0),
+        _ => Err(Error::ExpectedStringAttributeValue),
+    }
+}
+
+/// The text of a section from an offset on, up to a zero byte.
+fn text_from<R: Reader>(section: R, offset: R::Offset) -> Result<R>
+    ensures { seen R.bytes result ≡ text_from (R.bytes section) (R.Offset.number offset) }
+{
+    let mut section = section;
+    section.skip(offset)?;
+    section.read_null_terminated_slice()
+}
