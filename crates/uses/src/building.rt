@@ -36,7 +36,7 @@ pub fn one_file(alloc: Global) -> Result<LineProgram>
 }
 
 /// A row of a file: its offset from the address of the sequence, and its line.
-pub struct Place {
+pub struct BuiltPlace {
     /// Bytes from the address of the sequence.
     pub offset: u64,
     /// The line.
@@ -48,7 +48,7 @@ pub struct Place {
 pub fn add_sequence(
     program: &mut LineProgram,
     address: u64,
-    places: &[Place],
+    places: &[BuiltPlace],
     length: u64,
 ) -> Result<bool>
     requires can { CanWrite program.old [] [] }

@@ -6,6 +6,6 @@ mod building;
 mod lookup;
 mod reading;
 
-pub use building::{Place, add_sequence, one_file, written};
-pub use lookup::line_at;
-pub use reading::{Sections, rows_of, text};
+pub use building::{BuiltPlace, add_sequence, one_file, written};
+pub use lookup::{Place, line_at, place_of};
+pub use reading::{Sections, directory_of, path_of, rows_of, text};

@@ -1,15 +1,16 @@
 //! From a section to rows with the paths of their files.
 
-ghost use Rattle.std.specs.Prelude.{◌≡◌, ◌≢◌, IfOk, map};
+ghost use Rattle.std.specs.Prelude.{◌≡◌, IfOk, None, map};
 ghost use Rattle.gimli_core.specs.Reading.{seen};
 ghost use Rattle.gimli_core.specs.Values.{value_seen};
+ghost use Rattle.gimli_line.specs.header.Header.{file_of};
 ghost use Rattle.gimli_line.specs.run.Events.{row};
 ghost use Rattle.gimli_line.specs.run.Rows.{events_left};
 ghost use Rattle.gimli_line.specs.run.Sequences.{events_of};
 ghost use Rattle.gimli_write.specs.TextReading.{text_from, text_of};
 
 use gimli_core::{AttributeValue, Error, Reader, ReaderOffset, Result};
-use gimli_line::{LineRow, OneShotLineRows};
+use gimli_line::{LineProgramHeader, LineRow, OneShotLineRows};
 use std::alloc::Global;
 
 /// All rows of a run. Refused by its first fault, or by `OutOfMemory`.
@@ -60,4 +61,33 @@ fn text_from<R: Reader>(section: R, offset: R::Offset) -> Result<R>
     let mut section = section;
     section.skip(offset)?;
     section.read_null_terminated_slice()
+}
+
+/// The path of a row's file, which is relative to its directory. None where the header has no such file.
+pub fn path_of<R: Reader>(
+    row: &LineRow,
+    header: &LineProgramHeader<R>,
+    sections: &Sections<R>,
+) -> Result<Option<R>>
+    ensures none { IfOk result (λ path. path ≡ None → file_of header.now.meaning row.now.file ≡ None) }
+{
+    match row.file(header) {
+        Some(file) => Ok(Some(text(file.path_name(), sections)?)),
+        None => Ok(None),
+    }
+}
+
+/// The directory of a row's file. None where the header has no such file, or no such directory.
+pub fn directory_of<R: Reader>(
+    row: &LineRow,
+    header: &LineProgramHeader<R>,
+    sections: &Sections<R>,
+) -> Result<Option<R>> {
+    let Some(file) = row.file(header) else {
+        return Ok(None);
+    };
+    match file.directory(header) {
+        Some(directory) => Ok(Some(text(directory, sections)?)),
+        None => Ok(None),
+    }
 }
