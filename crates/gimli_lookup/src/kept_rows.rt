@@ -22,7 +22,7 @@ fn addresses_never_go_down(rows: &[LineRow]) -> bool
 }
 
 /// The rows of one sequence, in order. Of its calls, one alone tells an address, and that one counts it as a probe.
-#[derive(Drop)]
+#[derive(Debug, Drop)]
 pub(crate) struct KeptRows {
     rows: Vec<LineRow>,
     is_in_order: bool,

@@ -79,6 +79,7 @@ fn rows_of_each<R: Reader>(
 
 /// The rows of a line program, kept so that those that cover an address are found.
 #[derive(Drop)]
+#[derive_where(Debug; R, R::Offset)]
 pub struct Lookup<R: Reader> {
     program: CompleteLineProgram<R>,
     sequences: Vec<LineSequence<R>>,

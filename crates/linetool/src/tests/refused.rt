@@ -16,10 +16,19 @@ struct Case {
     out: &'static str,
 }
 
+/// What `demo` prints, and `demo pieces` too.
+const DEMO_OUT: &str = "2f 00 00 00 04 00 1b 00 00 00 01 01 01 fb 0e 0d\n00 01 01 01 01 00 00 00 01 00 00 01 00 61 2e 63\n00 00 00 00 00 00 05 02 00 10 00 00 01 4c 02 04\n00 01 01\n0000000000001000 0 1 1 0 0 0 s\n0000000000001004 0 1 3 0 0 0 s\n0000000000001008 0 1 3 0 0 0 se\n";
+
 const DEMO: Case = Case {
     words: &["demo"],
     reads_file: false,
-    out: "2f 00 00 00 04 00 1b 00 00 00 01 01 01 fb 0e 0d\n00 01 01 01 01 00 00 00 01 00 00 01 00 61 2e 63\n00 00 00 00 00 00 05 02 00 10 00 00 01 4c 02 04\n00 01 01\n0000000000001000 0 1 1 0 0 0 s\n0000000000001004 0 1 3 0 0 0 s\n0000000000001008 0 1 3 0 0 0 se\n",
+    out: DEMO_OUT,
+};
+
+const DEMO_PIECES: Case = Case {
+    words: &["demo", "pieces"],
+    reads_file: false,
+    out: DEMO_OUT,
 };
 
 const ROWS: Case = Case {
@@ -34,6 +43,21 @@ const SEQUENCES: Case = Case {
     out: "sequence 0000000000001000 0000000000001008 3\n0000000000001000 0 1 1 0 0 0 s\n0000000000001004 0 1 3 0 0 0 s\n0000000000001008 0 1 3 0 0 0 se\n",
 };
 
+const UNITS: Case = Case {
+    words: &["units", "line.bin", "little", "4"],
+    reads_file: true,
+    out: "unit 0 version 4 rows 3\n",
+};
+
+const FIND: Case = Case {
+    words: &["find", "line.bin", "little", "4", "0", "1005"],
+    reads_file: true,
+    out: "0000000000001004 0 1 3 0 0 0 s\n0000000000001008 0 1 3 0 0 0 se\n",
+};
+
+/// Every command.
+const ALL: [Case; 6] = [DEMO, DEMO_PIECES, ROWS, SEQUENCES, UNITS, FIND];
+
 impl Case {
     /// The file of the command.
     fn file(self) -> Option<&'static [u8]> {
@@ -47,7 +71,7 @@ impl Case {
 
 #[test]
 fn each_write_refused(rt: HostRuntime) {
-    for case in [DEMO, ROWS, SEQUENCES] {
+    for case in ALL {
         let words = case.words;
         let text = case.out.as_bytes();
         for room in 0..text.len() {
@@ -68,7 +92,7 @@ fn each_write_refused(rt: HostRuntime) {
 /// Holds also where an allocation is refused.
 #[test]
 fn each_growth_refused(rt: HostRuntime) {
-    for case in [DEMO, ROWS, SEQUENCES] {
+    for case in ALL {
         let words = case.words;
         let ran = run_with(rt.alloc(), words, case.file(), 512);
         if ran.status == 0 {
@@ -84,7 +108,7 @@ fn each_growth_refused(rt: HostRuntime) {
 
 #[test]
 fn file_that_cannot_be_opened(rt: HostRuntime) {
-    for case in [ROWS, SEQUENCES] {
+    for case in [ROWS, SEQUENCES, UNITS, FIND] {
         let none: Option<&[u8]> = None;
         let ran = run_with(rt.alloc(), case.words, none, 512);
         assert_eq!(rt; ran.status, 1);

@@ -1,0 +1,72 @@
+//! A measure of lookups: `bench_lookup FILE OFFSET WORK TIMES` does some work so many times on the unit at OFFSET of a
+//! section, in little-endian order and with addresses of eight bytes, and prints what it counted and a sum over it.
+//!
+//! | WORK | Does | Counts | Sums |
+//! |---|---|---|---|
+//! | `rows` | runs the program | rows | their addresses |
+//! | `sequences` | cuts the program | sequences | where they end |
+//! | `resumed` | cuts it, and runs each sequence | rows | their addresses |
+//! | `new` | makes a lookup | sequences | where they end |
+//! | `find` | finds 10,000 addresses in a lookup that is made once | those that are found, and probes | the addresses of the rows that are found |
+//!
+//! The instructions of the work are those of more times less those of fewer, so that the rest drops out.
+#![tactic(auto)]
+
+mod work;
+
+use std::alloc::Global;
+use std::fs::File;
+use std::io::{ErrorKind, Read};
+use std::process::ExitCode;
+use std::{env, io};
+use work::{Tally, do_work};
+
+fn main(rt: HostRuntime) -> ExitCode {
+    match start(&rt) {
+        Ok(()) => ExitCode::from(0),
+        Err(_) => ExitCode::from(1),
+    }
+}
+
+/// Does the work that the words after the program's name tell, and prints what it counted.
+fn start(rt: &HostRuntime) -> io::Result<()> {
+    let arguments: Vec<String> = env::args(rt)?.collect(rt.alloc())?;
+    let mut words = Vec::new(rt.alloc());
+    for word in arguments.iter().skip(1) {
+        words.push(word.as_str())?;
+    }
+    let [path, offset, work, times] = words.as_slice() else {
+        return Err(io::Error::from(ErrorKind::InvalidInput));
+    };
+    let section = read_file(rt, path)?;
+    let tally = measure(rt.alloc(), &section, offset, work, times)?;
+    let count = tally.count;
+    let probes = tally.probes;
+    let sum = tally.sum;
+    println!(rt; "count {count} probes {probes} sum {sum}")
+}
+
+/// The bytes of a file.
+fn read_file(rt: &HostRuntime, path: &str) -> io::Result<Vec<u8>> {
+    let mut bytes = Vec::new(rt.alloc());
+    let mut file = File::open(rt, path)?;
+    file.read_to_end(&mut bytes)?;
+    Ok(bytes)
+}
+
+/// What the last time of the work counted.
+fn measure(
+    alloc: Global,
+    section: &[u8],
+    offset: &str,
+    work: &str,
+    times: &str,
+) -> io::Result<Tally> {
+    let (Ok(offset), Ok(times)) = (offset.parse::<usize>(), times.parse::<u64>()) else {
+        return Err(io::Error::from(ErrorKind::InvalidInput));
+    };
+    match do_work(alloc, section, offset, work, times) {
+        Ok(tally) => Ok(tally),
+        Err(_) => Err(io::Error::from(ErrorKind::InvalidData)),
+    }
+}

@@ -1,0 +1,165 @@
+//! The work that is measured.
+
+use gimli_core::{DebugLineOffset, EndianSlice, Error, LittleEndian, Reader, Result};
+use gimli_line::{
+    CompleteLineProgram, DebugLine, IncompleteLineProgram, LineProgram, LineRows, LineSequence,
+};
+use gimli_lookup::Lookup;
+use std::alloc::Global;
+
+/// How many addresses are found each time.
+const ADDRESSES: u64 = 10_000;
+
+/// What was counted.
+#[derive(Clone, Copy, Default)]
+pub struct Tally {
+    pub count: u64,
+    pub probes: u64,
+    pub sum: u64,
+}
+
+impl Tally {
+    /// Counts one more, with this number.
+    fn add(&mut self, number: u64) {
+        self.count = self.count.wrapping_add(1);
+        self.sum = self.sum.wrapping_add(number);
+    }
+}
+
+/// Does the work that the word names so many times, and answers what the last time counted.
+pub fn do_work(
+    alloc: Global,
+    section: &[u8],
+    offset: usize,
+    work: &str,
+    times: u64,
+) -> Result<Tally> {
+    if work == "find" {
+        let lookup = Lookup::new(program_at(alloc, section, offset)?)?;
+        return Ok(find_times(&lookup, times));
+    }
+    let mut tally = Tally::default();
+    for _ in 0..times {
+        let program = program_at(alloc, section, offset)?;
+        tally = match work {
+            "rows" => tally_of_rows(program)?,
+            "sequences" => tally_of_sequences(program.sequences()?.1.as_slice()),
+            "resumed" => tally_of_resumed(program)?,
+            "new" => tally_of_sequences(Lookup::new(program)?.sequences()),
+            _ => return Err(Error::UnsupportedOffset),
+        };
+    }
+    Ok(tally)
+}
+
+/// The program of the unit at an offset.
+fn program_at(
+    alloc: Global,
+    section: &[u8],
+    offset: usize,
+) -> Result<IncompleteLineProgram<EndianSlice<'_, LittleEndian>>> {
+    let section = DebugLine::new(section, LittleEndian);
+    section.program(alloc, DebugLineOffset(offset), 8, None, None)
+}
+
+// ---- runs
+
+/// Adds the rows that are still to come.
+fn add_rows<R: Reader, P: LineProgram<R> + Drop>(
+    rows: LineRows<R, P>,
+    tally: &mut Tally,
+) -> Result<()> {
+    let mut rows = rows;
+    for _ in 0..u64::MAX {
+        match rows.next_row()? {
+            Some((_, row)) => tally.add(row.address()),
+            None => return Ok(()),
+        }
+    }
+    Ok(())
+}
+
+/// The rows of a program.
+fn tally_of_rows<R: Reader>(program: IncompleteLineProgram<R>) -> Result<Tally> {
+    let mut tally = Tally::default();
+    add_rows(program.rows(), &mut tally)?;
+    Ok(tally)
+}
+
+/// Sequences.
+fn tally_of_sequences<R: Reader>(sequences: &[LineSequence<R>]) -> Tally {
+    let mut tally = Tally::default();
+    for sequence in sequences {
+        tally.add(sequence.end);
+    }
+    tally
+}
+
+/// The rows of each sequence of a program.
+fn tally_of_resumed<R: Reader>(program: IncompleteLineProgram<R>) -> Result<Tally> {
+    let (program, sequences) = program.sequences()?;
+    let mut tally = Tally::default();
+    for sequence in &sequences {
+        add_rows_of(&program, sequence, &mut tally)?;
+    }
+    Ok(tally)
+}
+
+/// Adds the rows of a sequence.
+fn add_rows_of<R: Reader>(
+    program: &CompleteLineProgram<R>,
+    sequence: &LineSequence<R>,
+    tally: &mut Tally,
+) -> Result<()> {
+    add_rows(program.resume_from(sequence), tally)
+}
+
+// ---- addresses
+
+/// The addresses from the lowest start of a sequence on, and how many there are to the highest end.
+fn span<R: Reader>(sequences: &[LineSequence<R>]) -> (u64, u64) {
+    let mut lowest = u64::MAX;
+    let mut highest = 0;
+    for sequence in sequences {
+        lowest = lowest.min(sequence.start);
+        highest = highest.max(sequence.end);
+    }
+    (lowest, highest.saturating_sub(lowest))
+}
+
+/// Finds addresses at even distances so many times. The probes are counted in one more time.
+fn find_times<R: Reader>(lookup: &Lookup<R>, times: u64) -> Tally {
+    let (lowest, length) = span(lookup.sequences());
+    let mut tally = Tally::default();
+    for _ in 0..times {
+        tally = find_all(lookup, lowest, length);
+    }
+    tally.probes = count_probes(lookup, lowest, length);
+    tally
+}
+
+/// An address so far from the lowest one.
+fn address(lowest: u64, length: u64, place: u64) -> u64 {
+    lowest.wrapping_add(length.wrapping_mul(place) / ADDRESSES)
+}
+
+/// Finds each address.
+fn find_all<R: Reader>(lookup: &Lookup<R>, lowest: u64, length: u64) -> Tally {
+    let mut tally = Tally::default();
+    for place in 0..ADDRESSES {
+        if let Some((row, _)) = lookup.find(address(lowest, length, place)) {
+            tally.add(row.address());
+        }
+    }
+    tally
+}
+
+/// The probes of finding each address.
+fn count_probes<R: Reader>(lookup: &Lookup<R>, lowest: u64, length: u64) -> u64 {
+    let mut probes: u64 = 0;
+    for place in 0..ADDRESSES {
+        let (_, count) = lookup.find_counted(address(lowest, length, place));
+        probes = probes.wrapping_add(count);
+    }
+    probes
+}
