@@ -14,6 +14,7 @@ pub mod Opened
 pub mod LookUps
 pub mod Operands
 pub mod Runs
+pub mod Executions
 pub mod EventsWithFilesLaws
 pub mod SequenceLaws
 pub mod NonDecreasingLaws

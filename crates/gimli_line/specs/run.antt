@@ -7,6 +7,7 @@ pub mod Registers
 pub mod OperationPointer
 pub mod Events
 pub mod Machine
+pub mod Execution
 pub mod Row
 pub mod EventsWithFiles
 pub mod RunState

@@ -1,6 +1,6 @@
 //! Rows, and what each instruction does to the registers.
 
-ghost use Rattle.std.specs.Prelude.{◌≡◌, ◌≢◌, ◌≤◌, ◌+◌, true, false, IfErr, IfOk, MatchOption, OnErr, OnOk, option_map};
+ghost use Rattle.std.specs.Prelude.{◌≡◌, ◌≢◌, ◌<◌, ◌≤◌, ◌+◌, true, false, IfErr, IfOk, IfSome, IsNone, MatchOption, OnErr, OnOk, option_map};
 ghost use Rattle.std.specs.Int.NonZero.{non_zero_u64_get};
 
 use crate::header::file_entry::FileEntry;
@@ -8,7 +8,7 @@ use crate::header::parameters::Parameters;
 use crate::header::program_header::LineProgramHeader;
 use crate::run::instruction::LineInstruction;
 use crate::run::program::LineProgram;
-use gimli_core::{Error, Reader, ReaderAddress, ReaderOffset, Result};
+use gimli_core::{DwLns, Error, Reader, ReaderAddress, ReaderOffset, Result, constants};
 use std::num::NonZeroU64;
 
 /// A row, or the registers on the way to one.
@@ -40,12 +40,15 @@ pub enum ColumnType {
 }
 
 impl LineRow {
-    ghost use Rattle.gimli_line.specs.header.Header.{file_of};
+    ghost use Rattle.gimli_core.specs.Notation.{Notation};
+    ghost use Rattle.gimli_line.specs.header.Header.{Header, file_of};
     ghost use Rattle.gimli_line.specs.run.Instruction.{files_behind};
     ghost use Rattle.gimli_line.specs.run.Instruction.{ins_seen, makes_row, defines_file};
     ghost use Rattle.gimli_line.specs.header.File.{file_seen};
     ghost use Rattle.gimli_line.specs.run.Machine.{initial, reset_row, rebased, IsAllowed, is_refused, stepped, with_register};
     ghost use Rattle.gimli_line.specs.run.OperationPointer.{exceeds};
+    ghost use Rattle.gimli_line.specs.run.Execution.{ExecutedWell};
+    ghost use Rattle.gimli_line.specs.run.InstructionReading.{standard_at};
     ghost use Rattle.gimli_line.specs.run.Row.{column_number};
     ghost use Rattle.gimli_line.specs.run.Registers.{advanced_line};
 
@@ -271,6 +274,45 @@ impl LineRow {
         }
     }
 
+    /// Executes one of the standard opcodes that are met most, from the bytes behind it, and says whether it makes a
+    /// row. None at another opcode, or where its operand isn't there; no register changes then.
+    pub(crate) fn exec_common_opcode<R: Reader>(
+        &mut self,
+        opcode: DwLns,
+        input: &mut R,
+    ) -> Option<bool>
+        ensures executed { IfSome result (λ made. (n : Notation) → (h : Header) →
+            ExecutedWell h.parameters (standard_at n h opcode.0 (R.bytes input.old)) (R.bytes input.new) self.old self.new made) }
+        ensures some { IfSome result (λ _. 0 < opcode.0) }
+        ensures none { IsNone result → self.new ≡ self.old }
+        ensures order { R.big input.new ≡ R.big input.old }
+    {
+        match opcode {
+            constants::DW_LNS_copy => return Some(true),
+            constants::DW_LNS_advance_line => {
+                let Ok(line_advance) = input.read_sleb128() else {
+                    return None;
+                };
+                self.apply_line_advance(line_advance);
+            }
+            constants::DW_LNS_set_file => {
+                let Ok(file) = input.read_uleb128() else {
+                    return None;
+                };
+                self.file = file;
+            }
+            constants::DW_LNS_set_column => {
+                let Ok(column) = input.read_uleb128() else {
+                    return None;
+                };
+                self.column = column;
+            }
+            constants::DW_LNS_negate_stmt => self.is_stmt = !self.is_stmt,
+            _ => return None,
+        }
+        Some(false)
+    }
+
     /// Makes the registers ready for what follows a row: those of a row alone are cleared, and behind an end all
     /// start anew.
     pub fn reset<R: Reader>(&mut self, header: &LineProgramHeader<R>)
@@ -373,8 +415,9 @@ impl LineRow {
     }
 
     /// Moves the line, the address and op_index at once.
-    fn exec_special_opcode(&mut self, opcode: u8, parameters: &Parameters) -> Result<()>
+    pub(crate) fn exec_special_opcode(&mut self, opcode: u8, parameters: &Parameters) -> Result<()>
         requires { parameters.now.opcode_base ≤ opcode }
+        ensures some { 0 < opcode }
         ensures step { self.new ≡ stepped parameters.now (LineInstruction.Special opcode) self.old }
         ensures fits { OnOk result (is_refused parameters.now (LineInstruction.Special opcode) self.old ≡ false) }
         ensures overflow { IfErr result (λ e. (e ≡ Error.AddressOverflow) × (is_refused parameters.now (LineInstruction.Special opcode) self.old ≡ true)) }

@@ -160,8 +160,33 @@ impl<R: Reader, P: LineProgram<R>> LineRows<R, P> {
         }
     }
 
-    /// Executes one instruction.
+    /// Executes one instruction: one of those that are met most from its bytes, any other as it is parsed.
     fn step(&mut self) -> Result<Step>
+        ensures ok { IfOk result (StepIs self.old self.new) }
+        ensures err { IfErr result (FaultIs self.old self.new) }
+        ensures fixed { self.new.fixed ≡ self.old.fixed }
+        ensures appends { self.new.appends ≡ self.old.appends }
+        ensures notation { self.new.notation ≡ self.old.notation }
+        ensures offset { self.new.offset ≡ self.old.offset }
+    {
+        let header = self.program.header();
+        let made = match self.instructions.execute_common(header, &mut self.row) {
+            Err(e) => return Err(e),
+            Ok(None) => return self.step_any(),
+            Ok(Some(made)) => made,
+        };
+        if !made {
+            return Ok(Step::More);
+        }
+        if !self.row.is_hidden() {
+            return Ok(Step::Made);
+        }
+        self.row.reset(self.program.header());
+        Ok(Step::More)
+    }
+
+    /// Executes one instruction of any kind.
+    fn step_any(&mut self) -> Result<Step>
         ensures ok { IfOk result (StepIs self.old self.new) }
         ensures err { IfErr result (FaultIs self.old self.new) }
         ensures fixed { self.new.fixed ≡ self.old.fixed }
