@@ -8,6 +8,7 @@ use gimli_bytes::{Result, Writer};
 use gimli_core::{Format, SectionId};
 
 /// Appends a byte, which is the same in either order.
+#[inline(always)]
 pub(crate) fn write_byte<W: Writer>(w: &mut W, byte: u8) -> Result<()>
     ensures { Writes W.Writer w.old w.new result (Ok (byte ∷ [])) }
 {

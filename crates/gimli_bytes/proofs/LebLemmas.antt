@@ -4,12 +4,16 @@ use Rattle.std.proofs.Math.Nat.{mod-eq_of_lt}
 use Rattle.std.proofs.lemmas.List.{take_more_set}
 use Rattle.std.proofs.lemmas.Bool.{lt-ltb, le-ltb}
 use Rattle.std.specs.Int.{int_div_euclid}
-use Rattle.gimli_bytes.specs.Number.{uleb_within, sleb_within, low_bits, high_bits, has_seven_bits}
+use Rattle.gimli_bytes.specs.Number.{uleb, uleb_within, sleb, sleb_within, low_bits, high_bits, has_seven_bits}
 
 -- the last group
 pub uleb_last : (k v : ℕ) → v < 128 → uleb_within k v ≡ v ∷ []
 uleb_last zero v h = ap (λ (x : ℕ). x ∷ []) (mod-eq_of_lt h)
 uleb_last (suc k) v h = ap (λ b. if b then v ∷ [] else (v % 128 + 128) ∷ uleb_within k (v / 128)) (lt-ltb v 128 h)
+
+pub uleb_one : (v : ℕ) → v < 128 → uleb v ≡ v ∷ []
+unfolding uleb
+uleb_one v h = uleb_last 9 v h
 
 -- a group that isn't the last
 pub uleb_more : (k v : ℕ) → 128 ≤ v → uleb_within (suc k) v ≡ (v % 128 + 128) ∷ uleb_within k (v / 128)
@@ -40,6 +44,10 @@ pub sleb_last : (k : ℕ) (z : ℤ) → has_seven_bits z ≡ true → sleb_withi
 unfolding sleb_within
 sleb_last zero z h = refl
 sleb_last (suc k) z h = ap (λ b. if b then low_bits z ∷ [] else (low_bits z + 128) ∷ sleb_within k (high_bits z)) h
+
+pub sleb_one : (z : ℤ) → has_seven_bits z ≡ true → sleb z ≡ low_bits z ∷ []
+unfolding sleb
+sleb_one z h = sleb_last 9 z h
 
 pub sleb_more : (k : ℕ) (z : ℤ) → has_seven_bits z ≡ false → sleb_within (suc k) z ≡ (low_bits z + 128) ∷ sleb_within k (high_bits z)
 unfolding sleb_within

@@ -91,6 +91,7 @@ impl<E: Endianity> Writer for EndianVec<E> {
         self.vec.len()
     }
 
+    #[inline(always)]
     fn write(&mut self, bytes: &[u8]) -> Result<()>
         ensures ok { OnOk result (self.new ≡ record self.old { bytes = self.old.bytes ++ bytes.now }) }
         ensures err { OnErr result (self.new ≡ self.old) }

@@ -73,7 +73,7 @@ impl Leb128 {
 }
 
 /// The lowest seven bits.
-fn low_bits(val: i64) -> u8
+pub(crate) fn low_bits(val: i64) -> u8
     ensures value { result ≡ low_bits_of val }
     ensures small { result < 128 }
 {
@@ -81,7 +81,7 @@ fn low_bits(val: i64) -> u8
 }
 
 /// Whether seven bits hold the number, with its sign.
-fn has_seven_bits(val: i64) -> bool
+pub(crate) fn has_seven_bits(val: i64) -> bool
     ensures { result ≡ holds_seven_bits val }
 {
     -64 <= val && val < 64

@@ -5,7 +5,7 @@ ghost use Rattle.gimli_bytes.specs.Number.{udata, sdata, twos_complement, uleb, 
 
 use crate::address::Address;
 use crate::error::{Error, Result};
-use crate::leb128::Leb128;
+use crate::leb128::{Leb128, has_seven_bits, low_bits};
 use gimli_core::{DwEhPe, Endianity, Format, SectionId, constants};
 
 /// What a section is written to.
@@ -431,6 +431,7 @@ pub trait Writer {
     }
 
     /// Appends an unsigned number as LEB128, in its shortest spelling.
+    #[inline(always)]
     fn write_uleb128(&mut self, val: u64) -> Result<()>
         ensures shortest { IsShortest (SpellsUleb128 64) (uleb val) val }
         ensures keeps { Begins (contents self.old) (contents self.new) }
@@ -439,10 +440,14 @@ pub trait Writer {
             OnOk result (Appends (Ok (uleb val)) (contents self.old) (contents self.new)) }
         ensures err { IsTrue fails_for_memory_alone → IfErr result (Refuses (Ok (uleb val))) }
     {
+        if val < 128 {
+            return self.write(&[val as u8]);
+        }
         self.write(Leb128::unsigned(val).bytes())
     }
 
     /// Appends a signed number as LEB128, in its shortest spelling.
+    #[inline(always)]
     fn write_sleb128(&mut self, val: i64) -> Result<()>
         ensures shortest { IsShortest SpellsSleb128 (sleb val) val }
         ensures keeps { Begins (contents self.old) (contents self.new) }
@@ -451,6 +456,9 @@ pub trait Writer {
             OnOk result (Appends (Ok (sleb val)) (contents self.old) (contents self.new)) }
         ensures err { IsTrue fails_for_memory_alone → IfErr result (Refuses (Ok (sleb val))) }
     {
+        if has_seven_bits(val) {
+            return self.write(&[low_bits(val)]);
+        }
         self.write(Leb128::signed(val).bytes())
     }
 

@@ -32,6 +32,7 @@ pub(crate) enum LineInstruction {
 }
 
 /// Appends an instruction.
+#[inline(always)]
 pub(crate) fn write_instruction<W: Writer>(w: &mut W, instruction: LineInstruction) -> Result<()>
     ensures { Writes W.Writer w.old w.new result (Ok (instruction_bytes (read_as instruction))) }
 {
@@ -54,6 +55,7 @@ pub(crate) fn write_instruction<W: Writer>(w: &mut W, instruction: LineInstructi
 }
 
 /// Appends an instruction where it is due.
+#[inline(always)]
 pub(crate) fn write_if<W: Writer>(w: &mut W, due: bool, instruction: LineInstruction) -> Result<()>
     ensures { Writes W.Writer w.old w.new result
         (Ok (instructions_bytes (when due (read_as instruction)))) }
@@ -88,6 +90,7 @@ fn write_discriminator<W: Writer>(w: &mut W, discriminator: u64) -> Result<()>
 }
 
 /// Appends a standard opcode and its unsigned operand.
+#[inline(always)]
 fn write_unsigned<W: Writer>(w: &mut W, opcode: DwLns, operand: u64) -> Result<()>
     ensures { Writes W.Writer w.old w.new result (Ok (opcode.0 ∷ uleb operand)) }
 {
@@ -96,6 +99,7 @@ fn write_unsigned<W: Writer>(w: &mut W, opcode: DwLns, operand: u64) -> Result<(
 }
 
 /// Appends a standard opcode and its signed operand.
+#[inline(always)]
 fn write_signed<W: Writer>(w: &mut W, opcode: DwLns, operand: i64) -> Result<()>
     ensures { Writes W.Writer w.old w.new result (Ok (opcode.0 ∷ sleb operand)) }
 {

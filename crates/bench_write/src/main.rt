@@ -1,0 +1,183 @@
+//! Builds and writes line programs, to be counted and timed: `bench_write [SEQUENCES]`.
+//!
+//! Each program has so many sequences of 1,000 rows (version 4, 32-bit format), is written into an `EndianVec`, and is
+//! let go; seven times. Standard output has the length of each section and a sum of its bytes, standard error the times.
+#![tactic(auto)]
+
+ghost use Rattle.std.specs.Prelude.{◌≡◌, [], OnOk, IfOk};
+ghost use Rattle.gimli_build.specs.Conditions.{CanWrite};
+
+use gimli_build::{LineProgram, LineString};
+use gimli_bytes::{Address, DebugLine, EndianVec, LineStringTable, Result, StringTable};
+use gimli_core::{Encoding, Format, LineEncoding, LittleEndian};
+use std::alloc::Global;
+use std::process::ExitCode;
+use std::time::Instant;
+use std::{env, io};
+
+/// How often a program is built and written.
+const TIMES: u64 = 7;
+
+/// How many rows a sequence has.
+const ROWS: u64 = 1000;
+
+fn main(rt: HostRuntime) -> ExitCode {
+    ExitCode::from(start(&rt).unwrap_or(1))
+}
+
+/// Measures so many sequences as the word behind the program's name says, and answers the status of the program.
+fn start(rt: &HostRuntime) -> io::Result<u8> {
+    let arguments: Vec<String> = env::args(rt)?.collect(rt.alloc())?;
+    let sequences = match arguments.get(1) {
+        Some(word) => word.parse::<u64>().unwrap_or(1000),
+        None => 1000,
+    };
+    for _ in 0..TIMES {
+        let status = measure(rt, sequences)?;
+        if status != 0 {
+            return Ok(status);
+        }
+    }
+    Ok(0)
+}
+
+/// Builds and writes one program, and prints what it was. The status is 1 where memory ran out.
+fn measure(rt: &HostRuntime, sequences: u64) -> io::Result<u8> {
+    let begin = Instant::now(rt)?;
+    let Ok(program) = build(rt.alloc(), sequences) else {
+        return Ok(1);
+    };
+    let build_time = begin.elapsed(rt)?.as_nanos();
+    let begin = Instant::now(rt)?;
+    let Ok(section) = write(rt.alloc(), &program) else {
+        return Ok(1);
+    };
+    let write_time = begin.elapsed(rt)?.as_nanos();
+    eprintln!(rt; "build_ns {build_time} write_ns {write_time}")?;
+    println!(rt;
+        "bytes {} sum {}",
+        section.len(),
+        byte_sum(section.as_slice())
+    )?;
+    Ok(0)
+}
+
+/// A sum in which each byte and its place count.
+fn byte_sum(bytes: &[u8]) -> u64 {
+    let mut sum: u64 = 0;
+    for byte in bytes {
+        sum = sum.rotate_left(1).wrapping_add(u64::from(*byte));
+    }
+    sum
+}
+
+/// The section of a program.
+fn write(alloc: Global, program: &LineProgram) -> Result<Vec<u8>>
+    requires { CanWrite program.now [] [] }
+{
+    let mut strings = StringTable::default(alloc);
+    let mut line_strings = LineStringTable::default(alloc);
+    let mut section = DebugLine::from(EndianVec::new(alloc, LittleEndian));
+    program.write(
+        &mut section,
+        program.encoding(),
+        &mut line_strings,
+        &mut strings,
+    )?;
+    let DebugLine(bytes) = section;
+    Ok(bytes.into_vec())
+}
+
+/// A program of so many sequences.
+fn build(alloc: Global, sequences: u64) -> Result<LineProgram>
+    ensures { IfOk result (λ program. CanWrite program [] []) }
+{
+    let mut program = empty_program(alloc)?;
+    put_file(&mut program, alloc)?;
+    let mut seed: u64 = 1;
+    for i in 0..sequences {
+        seed = put_sequence(&mut program, i, seed)?;
+    }
+    Ok(program)
+}
+
+/// Builds a sequence, and answers the seed of the next one.
+fn put_sequence(program: &mut LineProgram, i: u64, seed: u64) -> Result<u64>
+    requires can { CanWrite program.old [] [] }
+    ensures can { OnOk result (CanWrite program.new [] []) }
+{
+    let mut seed = seed;
+    program.set_address(Address::Constant(i.wrapping_mul(0x10000)))?;
+    for _ in 0..ROWS {
+        seed = seed
+            .wrapping_mul(6364136223846793005)
+            .wrapping_add(1442695040888963407);
+        put_row(program, seed)?;
+    }
+    let end = program.row().address_offset.wrapping_add(4);
+    if program.can_end_sequence(end) {
+        program.end_sequence(end)?;
+    }
+    Ok(seed)
+}
+
+/// Builds a row, if it can be built.
+fn put_row(program: &mut LineProgram, seed: u64) -> Result<()>
+    requires can { CanWrite program.old [] [] }
+    ensures can { OnOk result (CanWrite program.new [] []) }
+{
+    move_on(program, seed);
+    if program.can_generate_row() {
+        program.generate_row()?;
+    }
+    Ok(())
+}
+
+/// Moves the current row on by what the bits of the seed say.
+fn move_on(program: &mut LineProgram, seed: u64)
+    requires can { CanWrite program.old [] [] }
+    ensures can { CanWrite program.new [] [] }
+{
+    let row = program.row();
+    row.address_offset = row.address_offset.wrapping_add((seed >> 33) & 15);
+    row.line = 1 + ((seed >> 40) & 63) + ((seed >> 50) & 7);
+    if (seed >> 60) & 1 == 1 {
+        row.column = (seed >> 56) & 15;
+    }
+    row.is_statement = (seed >> 62) & 1 == 1;
+}
+
+/// A program without a file.
+fn empty_program(alloc: Global) -> Result<LineProgram>
+    ensures can { IfOk result (λ program. CanWrite program [] []) }
+    ensures files { IfOk result (λ program. program.files ≡ []) }
+{
+    let encoding = Encoding {
+        address_size: 8,
+        format: Format::Dwarf32,
+        version: 4,
+    };
+    let working_dir = LineString::String(b"/w".to_vec(alloc)?);
+    let source_file = LineString::String(b"a.c".to_vec(alloc)?);
+    LineProgram::new(
+        alloc,
+        encoding,
+        LineEncoding::default(),
+        working_dir,
+        None,
+        source_file,
+        None,
+    )
+}
+
+/// Puts in the file that rows start with.
+fn put_file(program: &mut LineProgram, alloc: Global) -> Result<()>
+    requires can { CanWrite program.old [] [] }
+    requires files { program.old.files ≡ [] }
+    ensures can { OnOk result (CanWrite program.new [] []) }
+{
+    let name = LineString::String(b"a.c".to_vec(alloc)?);
+    let directory = program.default_directory();
+    program.add_file(name, directory, None)?;
+    Ok(())
+}
