@@ -1,0 +1,5 @@
+pub mod Status
+pub mod Place
+pub mod Run
+pub mod Seen
+pub mod Written
