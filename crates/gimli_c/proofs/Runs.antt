@@ -1,5 +1,5 @@
 -- Runs: rows that are counted and copied.
-use Rattle.std.proofs.Common.{◌≡◌, ◌≢◌, ℕ, zero, suc, ◌+◌, ◌-◌, ◌<◌, ◌≤◌, ◌^◌, Bool, true, false, not, ◌&&◌, if◌then◌else◌, List, [], ◌∷◌, ◌++◌, length, map, drop, set, refl, sym, ap, subst, ◌∙◌, append_assoc, arith}
+use Rattle.std.proofs.Common.{◌≡◌, ℕ, ◌+◌, ◌-◌, ◌<◌, ◌≤◌, ◌^◌, Bool, true, false, not, ◌&&◌, if◌then◌else◌, List, [], ◌∷◌, ◌++◌, length, map, drop, set, refl, sym, ap, subst, ◌∙◌, append_assoc, arith}
 use Rattle.std.specs.Prelude.{Option, Some, None, ltb}
 use Rattle.std.proofs.lemmas.List.{map-append, length-append, length-map, append-nil, drop-append-le, drop_all, length-drop}
 use Rattle.std.proofs.lemmas.Bool.{ltb-true, ltb-false}
@@ -16,6 +16,10 @@ use Rattle.gimli_line.specs.run.OperationPointer.{is_hidden, overflows}
 use Rattle.gimli_line.specs.run.Events.{Event, row, fault, row_at, events_at, events_behind, end_events, Events}
 use Rattle.gimli_line.specs.run.EventsWithFiles.{EventWithFiles, EventsWithFiles, with_files, files_at, events_with_files_behind}
 use Rattle.gimli_line.specs.run.Sequences.{events_of}
+use Rattle.gimli_line.specs.run.InstructionReading.{decoded_at, decoded_upto}
+use Rattle.gimli_line.specs.run.Progress.{files_from}
+use Rattle.gimli_line.specs.run.Rows.{files_at_end}
+use Rattle.gimli_line.specs.run.RunState.{RunState}
 use Rattle.gimli_c.specs.declared.row.GimliRow.{GimliRow}
 use Rattle.gimli_c.specs.Place.{Place, notation_at, HasUnit}
 use Rattle.gimli_c.specs.Run.{rows_of, fault_of, Copied, HasEvents}
@@ -76,6 +80,7 @@ one_more events left rest skip count old now next r way is skipped put = record 
     below : count < skip → next ≡ written (map row_seen (drop skip (way.seen ++ r ∷ []))) old
     below lt = skipped lt ∙ way.copied ∙ ap (λ (xs : List LineRow). written (map row_seen xs) old)
         (drop_all skip way.seen (omega (arith, way.count_is)) ∙ sym (drop_all skip (way.seen ++ r ∷ []) (omega (arith, way.count_is, length-append way.seen (r ∷ [])))))
+
     above : skip ≤ count → next ≡ written (map row_seen (drop skip (way.seen ++ r ∷ []))) old
     above le =
         let so_far = map row_seen (drop skip way.seen) in
@@ -85,6 +90,7 @@ one_more events left rest skip count old now next r way is skipped put = record 
         ∙ sym (written_more so_far (row_seen r) old)
         ∙ ap (λ (xs : List GimliRow). written xs old) (sym (map-append row_seen (drop skip way.seen) (r ∷ [])))
         ∙ ap (λ (xs : List LineRow). written (map row_seen xs) old) (sym (drop-append-le skip way.seen (r ∷ []) (omega (arith, way.count_is))))
+
     at_test : (b : Bool) → ltb count skip ≡ b → next ≡ written (map row_seen (drop skip (way.seen ++ r ∷ []))) old
     at_test true e = below (ltb-true count skip e)
     at_test false e = above (ltb-false count skip e)
@@ -166,3 +172,8 @@ has_events p notation h events unit is given = record {
   unit = unit;
   given = subst (λ (n : Notation). Events n h h.program (events_of events)) is (without_files notation true h h.program events given);
 }
+
+-- where no bytes are left, no more files come
+pub files_ended : (a : RunState) → a.unread.bytes ≡ [] → files_at_end a ≡ a.files
+unfolding decoded_upto
+files_ended a none = ap (λ (bytes : List ℕ). files_from a.appends a.files (decoded_at a.unread.notation a.fixed bytes).0) none

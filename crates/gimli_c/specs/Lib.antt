@@ -3,3 +3,5 @@ pub mod Place
 pub mod Run
 pub mod Seen
 pub mod Written
+pub mod Unit
+pub mod Found

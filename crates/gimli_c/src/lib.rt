@@ -4,11 +4,15 @@
 //! of the caller. Nothing of the caller is kept behind a call. `include/gimli_line.h` declares all of it.
 #![tactic(auto)]
 
+mod find;
 mod place;
 mod row;
 mod rows;
 mod run;
 pub mod status;
+mod unit;
 
+pub use find::gimli_line_find;
 pub use row::GimliRow;
 pub use rows::gimli_line_rows;
+pub use unit::{GimliUnit, gimli_line_unit};

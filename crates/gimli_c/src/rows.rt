@@ -3,13 +3,11 @@
 ghost use Rattle.std.specs.Prelude.{◌≡◌, ◌≢◌, ◌⊎◌};
 ghost use Rattle.gimli_c.specs.Place.{place};
 ghost use Rattle.gimli_c.specs.Run.{GivesRows, GivesNone};
-ghost use Rattle.gimli_c.specs.Status.{fault_status};
 
 use crate::place::program_at;
 use crate::row::GimliRow;
-use crate::run::{copy_rows, rows_fit};
-use crate::status::{OK, OUT_OF_MEMORY, error_status};
-use gimli_core::Error;
+use crate::run::{copy_rows, fault_status, rows_fit};
+use crate::status::{OUT_OF_MEMORY, error_status};
 use std::alloc::Global;
 
 /// Runs the program of the unit at an offset. Its rows from the `skip`-th on, from 0, go into `rows`, as far as there is
@@ -36,17 +34,10 @@ pub extern "C" fn gimli_line_rows(
         Err(status) => return status,
     };
     rows_fit(&program);
-    let run = copy_rows(&mut program.rows(), skip, rows);
+    let run = match copy_rows(&mut program.rows(), skip, rows) {
+        Ok(run) => run,
+        Err(e) => return error_status(e),
+    };
     *count = run.count;
     fault_status(run.fault)
-}
-
-/// The number of a run: that of its first fault.
-fn fault_status(fault: Option<Error>) -> u32
-    ensures { result ≡ fault_status fault }
-{
-    match fault {
-        None => OK,
-        Some(e) => error_status(e),
-    }
 }

@@ -1,23 +1,22 @@
 use Rattle.std.proofs.Common.{refl, ap, ◌∙◌, ◌<◌, ◌+◌, ◌^◌, arith}
 use Rattle.std.specs.Prelude.{Some, None}
-use Rattle.gimli_line.specs.run.Rows.{events_left}
 use Rattle.gimli_line.specs.run.Sequences.{events_of}
 use Rattle.gimli_c.specs.Run.{rows_of, fault_of}
 use Rattle.gimli_c.proofs.Runs.{at_start, one_more, at_end, counted}
 use Rattle.gimli_c.proofs.run.copy_rows.Goals as goal
 
 pub rows-init : goal.rows-init
-rows-init g c = record { way = at_start _ _ _; files = refl; fixed = refl }
+rows-init g c = record { way = at_start _ _ _; files = refl }
 
-pub returns-in-Ok-None-clause-copied : goal.returns-in-Ok-None-clause-copied
-returns-in-Ok-None-clause-copied g c = λ _.
+pub returns-in-Ok-None-clause-ok : goal.returns-in-Ok-None-clause-ok
+returns-in-Ok-None-clause-ok g c =
     let end = rw c.in-Ok-None.field-0-is at c.in-Ok-None.ensures.end in
     let none = ap events_of end.0 in
     at_end _ _ _ _ _ _ None c.rows.invariant.way (ap rows_of none) (ap fault_of none)
 
-pub returns-in-Err-clause-copied : goal.returns-in-Err-clause-copied
-returns-in-Err-clause-copied g c = λ not_memory.
-    let next = c.in-Err.ensures.fault (λ is. not_memory (ap Some is)) in
+pub returns-in-Err-clause-ok : goal.returns-in-Err-clause-ok
+returns-in-Err-clause-ok g c =
+    let next = c.in-Err.ensures.fault (c.is_memory.ensures.other c.if-is_memory.false) in
     at_end _ _ _ _ _ _ (Some c.in-Err.e) c.rows.invariant.way (ap rows_of next) (ap fault_of next)
 
 pub overflow_add-count : goal.overflow_add-count
@@ -29,9 +28,7 @@ overflow_add-count g c =
 pub rows-preserved : goal.rows-preserved
 rows-preserved g c =
     let next = rw c.in-Ok-Some.field-0-is at c.in-Ok-Some.ensures.row in
-    let files = rw c.in-Ok-Some.field-0-is at c.in-Ok-Some.ensures.files in
     record {
       way = one_more _ _ _ _ _ _ _ _ c.in-Ok-Some.row c.rows.invariant.way next c.put_row.ensures.skipped c.put_row.ensures.put;
-      files = files ∙ c.rows.invariant.files;
-      fixed = c.advance.ensures.fixed ∙ c.rows.invariant.fixed;
+      files = c.in-Ok-Some.ensures.files ∙ c.rows.invariant.files;
     }

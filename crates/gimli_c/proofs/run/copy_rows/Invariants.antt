@@ -8,7 +8,6 @@ abbrev pub invariant-rows : goal.invariant-rows
 invariant-rows g l = record {
   way : IsOnTheWay (events_of (events_left l.initial.rows)) (events_of (events_left l.rows)) l.skip l.count l.initial.room l.room;
   files : files_at_end l.rows ≡ files_at_end l.initial.rows;
-  fixed : l.rows.fixed ≡ l.initial.rows.fixed;
 }
 
 abbrev pub decreases-rows : goal.decreases-rows
