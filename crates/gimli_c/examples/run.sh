@@ -1,0 +1,64 @@
+#!/usr/bin/env bash
+# Builds a small program, takes its line information as raw bytes, builds both examples over libgimli_c.a, and compares what
+# they print with what linetool prints: every row of every unit, and the rows round some addresses. It needs a C compiler and
+# objcopy; rustc for the second example. Where one is missing it says so, and ends well.
+#
+# The library is built by (cd crates/gimli_c && rt lib), and linetool by (cd crates/linetool && rt run -- demo); both are
+# built here where they aren't there.
+set -eu
+here=$(cd "$(dirname "$0")" && pwd)
+crate=$(dirname "$here")
+top=$(cd "$crate/../.." && pwd)
+for tool in cc objcopy; do
+    command -v $tool >/dev/null || { echo "gimli_c: not tried, since $tool is missing"; exit 0; }
+done
+library=$crate/out/libgimli_c.a
+[ -f "$library" ] || (cd "$crate" && rt lib >/dev/null)
+program=$top/crates/linetool/out/linetool
+[ -x "$program" ] || (cd "$top/crates/linetool" && rt run -- demo >/dev/null)
+# The kit's folder: its c/ has the heap that Rattle's allocator calls.
+kit=$(dirname "$(rt doc)")/c
+work=$(mktemp -d)
+trap 'rm -rf "$work"' EXIT
+
+cc -std=c11 -Wall -Wextra -Werror -O2 -I "$crate/include" "$here/c/addr2line.c" "$library" "$kit/liblibc_c.a" -o "$work/c"
+examples=c
+if command -v rustc >/dev/null; then
+    rustc -O "$here/rust/addr2line.rs" -L "native=$crate/out" -l static=gimli_c -L "native=$kit" -l static=libc_c \
+        -o "$work/rust"
+    examples="c rust"
+else
+    echo "gimli_c: the Rust example isn't tried, since rustc is missing"
+fi
+
+# What linetool prints of all units, or of the units in turn until one has the address.
+expected() {
+    local answer=none
+    while read -r _ offset _; do
+        if [ "$#" = 0 ]; then
+            "$program" rows "$work/line.bin" little 8 "$offset"
+        else
+            answer=$("$program" find "$work/line.bin" little 8 "$offset" "$1")
+            [ "$answer" = none ] || break
+        fi
+    done < <("$program" units "$work/line.bin" little 8)
+    if [ "$#" != 0 ]; then echo "$answer"; fi
+}
+
+compared=0
+for version in 2 3 4 5; do
+    cc -g "-gdwarf-$version" -O1 "$top/compare/sources/main.c" "$top/compare/sources/sums.c" -o "$work/built"
+    objcopy --dump-section ".debug_line=$work/line.bin" "$work/built" "$work/copy"
+    expected >"$work/rows"
+    addresses=$(cut -d' ' -f1 "$work/rows" | sort -u)
+    for address in $addresses 0 ffffffffffffffff; do expected "$address"; done >"$work/pairs"
+    for example in $examples; do
+        "$work/$example" "$work/line.bin" >"$work/answer"
+        cmp "$work/rows" "$work/answer"
+        # shellcheck disable=SC2086
+        "$work/$example" "$work/line.bin" $addresses 0 ffffffffffffffff >"$work/answer"
+        cmp "$work/pairs" "$work/answer"
+        compared=$((compared + $(cat "$work/rows" "$work/pairs" | wc -l)))
+    done
+done
+echo "gimli_c: $compared lines of the examples ($examples) are linetool's"

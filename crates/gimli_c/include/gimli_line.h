@@ -1,0 +1,106 @@
+/* Line number programs of DWARF, versions 2 to 5, for C. The calls are those of libgimli_c.a, which is proved: called as this
+ * page says, none has undefined behaviour, each returns, and each answers what is said here.
+ *
+ * Link with out/libgimli_c.a and with the kit's c/liblibc_c.a, which hands malloc and free on.
+ *
+ * What a caller has to keep:
+ * - A pointer is never null, also where its length is 0: hand in any place then.
+ * - What a call writes to overlaps neither the section nor anything else that it writes to.
+ * - No call is made from a signal handler, or in the forked child of a process with threads.
+ * Nothing of the caller is kept after a call. Calls may run in several threads at once. */
+#ifndef GIMLI_LINE_H
+#define GIMLI_LINE_H
+
+#include <stdbool.h>
+#include <stddef.h>
+#include <stdint.h>
+
+#ifdef __cplusplus
+extern "C" {
+#endif
+
+/* What a call answers. */
+enum gimli_status {
+    GIMLI_OK = 0,
+    GIMLI_UNEXPECTED_EOF = 1,                          /* bytes are missing */
+    GIMLI_BAD_UNSIGNED_LEB128 = 2,                     /* an unsigned LEB128 number is too large or too long */
+    GIMLI_BAD_SIGNED_LEB128 = 3,                       /* a signed one */
+    GIMLI_UNKNOWN_RESERVED_LENGTH = 4,                 /* the length of a unit is a reserved one */
+    GIMLI_UNKNOWN_VERSION = 5,                         /* the version is none of 2 to 5 */
+    GIMLI_UNSUPPORTED_ADDRESS_SIZE = 6,                /* an address size, the unit's or the caller's, isn't 1, 2, 4 or 8 */
+    GIMLI_UNSUPPORTED_SEGMENT_SIZE = 7,                /* the size of segment selectors isn't 0 */
+    GIMLI_MINIMUM_INSTRUCTION_LENGTH_ZERO = 8,
+    GIMLI_MAXIMUM_OPERATIONS_PER_INSTRUCTION_ZERO = 9,
+    GIMLI_LINE_RANGE_ZERO = 10,
+    GIMLI_OPCODE_BASE_ZERO = 11,
+    GIMLI_MISSING_FILE_ENTRY_FORMAT_PATH = 12,         /* a table of version 5 doesn't have exactly one path format */
+    GIMLI_UNKNOWN_FORM = 13,                           /* a form that line programs don't know */
+    GIMLI_ADDRESS_OVERFLOW = 14,                       /* an address passes the greatest one of its size */
+    GIMLI_UNSUPPORTED_OFFSET = 15,
+    GIMLI_EXPECTED_STRING_ATTRIBUTE_VALUE = 16,
+    GIMLI_OUT_OF_MEMORY = 17,
+    GIMLI_NOT_FOUND = 18                               /* what was looked up isn't there */
+};
+
+/* A unit of the section .debug_line. */
+typedef struct gimli_unit {
+    uint64_t length;       /* in bytes, without the length itself */
+    uint64_t next;         /* the offset of what follows it in the section */
+    uint64_t directories;  /* how many its table has */
+    uint64_t files;        /* how many it has, those that its program defines included */
+    uint64_t rows;         /* how many its program gives before its first fault */
+    uint32_t version;      /* 2 to 5 */
+    uint32_t address_size; /* in bytes: 1, 2, 4 or 8 */
+    uint32_t offset_size;  /* in bytes: 4 or 8 */
+    uint32_t fault;        /* the number of its program's first fault; 0 where it has none */
+} gimli_unit;
+
+/* The flags of a row. */
+enum gimli_row_flag {
+    GIMLI_IS_STMT = 1,       /* a good place for a breakpoint */
+    GIMLI_BASIC_BLOCK = 2,   /* a basic block begins here */
+    GIMLI_END_SEQUENCE = 4,  /* the first byte after a sequence; what else the row says means nothing then */
+    GIMLI_PROLOGUE_END = 8,  /* the prologue of a function ends here */
+    GIMLI_EPILOGUE_BEGIN = 16 /* the epilogue of a function begins here */
+};
+
+/* A row of a line program. */
+typedef struct gimli_row {
+    uint64_t address;       /* of the machine instruction, in bytes */
+    uint64_t op_index;      /* which operation of the machine instruction, from 0 on */
+    uint64_t file;          /* the index of the source file: from 1 on up to version 4, from 0 on in version 5 */
+    uint64_t line;          /* from 1 on; 0 where the instruction belongs to no line */
+    uint64_t column;        /* from 1 on; 0 for the left edge of the line */
+    uint64_t isa;           /* the instruction set, by the machine's own numbers */
+    uint64_t discriminator; /* tells blocks of one source place apart */
+    uint64_t flags;         /* the sum of those of gimli_row_flag that hold */
+} gimli_row;
+
+/* All calls begin alike. `section` has the `length` bytes of .debug_line. `big` says that the most significant byte of a
+ * number comes first. `address_size` is that of the compilation unit: it counts up to version 4, and has to be 1, 2, 4 or 8
+ * in any version. `offset` is the value of the compilation unit's DW_AT_stmt_list; or begin with 0, and go on with `next`
+ * as long as it is below `length`. */
+
+/* Reads the unit at an offset, and runs its program. Where another number than 0 is answered, *unit stays as it was. */
+uint32_t gimli_line_unit(const uint8_t *section, size_t length, bool big, uint8_t address_size, size_t offset,
+                         gimli_unit *unit);
+
+/* Runs the program of the unit at an offset. Its rows from the skip-th on, from 0, go into rows[0] and so on, as far as
+ * there is room; *count is how many rows it has in all. The first fault ends the run: its number is answered, and the rows
+ * before it are there. Where no unit can be read *count is 0. Where memory is missing, *count is 0, and rows may have been
+ * written. */
+uint32_t gimli_line_rows(const uint8_t *section, size_t length, bool big, uint8_t address_size, size_t offset,
+                         uint64_t skip, gimli_row *rows, size_t room, uint64_t *count);
+
+/* Looks an address up in the unit at an offset: *first is the row that it belongs to, *second the next row, up to whose
+ * address that holds. They are the first two adjacent rows of one sequence of which the first has an address at most the
+ * one that is looked up, and the second one above it. GIMLI_NOT_FOUND where there are none. A program whose run has a fault
+ * can't be looked up in: its first fault is answered. Where another number than 0 is answered, both rows stay as they were. */
+uint32_t gimli_line_find(const uint8_t *section, size_t length, bool big, uint8_t address_size, size_t offset,
+                         uint64_t address, gimli_row *first, gimli_row *second);
+
+#ifdef __cplusplus
+}
+#endif
+
+#endif

@@ -1,0 +1,179 @@
+-- Runs: rows that are counted and copied.
+use Rattle.std.proofs.Common.{◌≡◌, ℕ, ◌+◌, ◌-◌, ◌<◌, ◌≤◌, ◌^◌, Bool, true, false, not, ◌&&◌, if◌then◌else◌, List, [], ◌∷◌, ◌++◌, length, map, drop, set, refl, sym, ap, subst, ◌∙◌, append_assoc, arith}
+use Rattle.std.specs.Prelude.{Option, Some, None, ltb}
+use Rattle.std.proofs.lemmas.List.{map-append, length-append, length-map, append-nil, drop-append-le, drop_all, length-drop}
+use Rattle.std.proofs.lemmas.Bool.{ltb-true, ltb-false}
+use Rattle.gimli_core.specs.declared.error.Error.{Error}
+use Rattle.gimli_core.specs.declared.error.Error.TheVariants.{AddressOverflow}
+use Rattle.gimli_core.specs.Notation.{Notation}
+use Rattle.gimli_line.specs.declared.run.row.LineRow.{LineRow}
+use Rattle.gimli_line.specs.header.File.{File}
+use Rattle.gimli_line.specs.header.Header.{Header}
+use Rattle.gimli_line.specs.header.Parameters.{Parameters}
+use Rattle.gimli_line.specs.run.Instruction.{Ins, makes_row}
+use Rattle.gimli_line.specs.run.InstructionGrammar.{Decodes}
+use Rattle.gimli_line.specs.run.OperationPointer.{is_hidden, overflows}
+use Rattle.gimli_line.specs.run.Events.{Event, row, fault, row_at, events_at, events_behind, end_events, Events}
+use Rattle.gimli_line.specs.run.EventsWithFiles.{EventWithFiles, EventsWithFiles, with_files, files_at, events_with_files_behind}
+use Rattle.gimli_line.specs.run.Sequences.{events_of}
+use Rattle.gimli_line.specs.run.InstructionReading.{decoded_at, decoded_upto}
+use Rattle.gimli_line.specs.run.Progress.{files_from}
+use Rattle.gimli_line.specs.run.Rows.{files_at_end}
+use Rattle.gimli_line.specs.run.RunState.{RunState}
+use Rattle.gimli_c.specs.declared.row.GimliRow.{GimliRow}
+use Rattle.gimli_c.specs.Place.{Place, notation_at, HasUnit}
+use Rattle.gimli_c.specs.Run.{rows_of, fault_of, Copied, HasEvents}
+use Rattle.gimli_c.specs.Seen.{row_seen}
+use Rattle.gimli_c.specs.Written.{written}
+
+-- ---- an array of the caller
+
+written_none : {A : Type 0} (old : List A) → written [] old ≡ old
+written_none [] = refl
+written_none (o ∷ old) = refl
+
+-- one more, behind those that stand there
+written_more : {A : Type 0} (xs : List A) (x : A) (old : List A) → written (xs ++ x ∷ []) old ≡ set (written xs old) (length xs) x
+written_more [] x [] = refl
+written_more [] x (o ∷ old) = ap (λ (ys : List _). x ∷ ys) (written_none old)
+written_more (y ∷ ys) x [] = refl
+written_more (y ∷ ys) x (o ∷ old) = ap (λ (zs : List _). y ∷ zs) (written_more ys x old)
+
+-- ---- rows before a fault
+
+rows_behind : (seen : List LineRow) (rest : List Event) → rows_of (map row seen ++ rest) ≡ seen ++ rows_of rest
+rows_behind [] rest = refl
+rows_behind (r ∷ seen) rest = ap (λ (xs : List LineRow). r ∷ xs) (rows_behind seen rest)
+
+fault_behind : (seen : List LineRow) (rest : List Event) → fault_of (map row seen ++ rest) ≡ fault_of rest
+fault_behind [] rest = refl
+fault_behind (r ∷ seen) rest = fault_behind seen rest
+
+-- ---- a run on its way
+
+-- of these events, so many rows were seen; they stand in the array, and the others are still to come
+pub record IsOnTheWay (events left : List Event) (skip count : ℕ) (old now : List GimliRow) : Type 0 where
+  pub seen : List LineRow
+  pub given : events ≡ map row seen ++ left
+  pub count_is : count ≡ length seen
+  pub copied : now ≡ written (map row_seen (drop skip seen)) old
+
+pub at_start : (events : List Event) (skip : ℕ) (old : List GimliRow) → IsOnTheWay events events skip 0 old old
+at_start events skip old = record {
+  seen = [];
+  given = refl;
+  count_is = refl;
+  copied = sym (ap (λ (xs : List LineRow). written (map row_seen xs) old) (drop_all skip [] (omega arith)) ∙ written_none old);
+}
+
+pub one_more : (events left rest : List Event) (skip count : ℕ) (old now next : List GimliRow) (r : LineRow) → IsOnTheWay events left skip count old now
+    → left ≡ row r ∷ rest → (count < skip → next ≡ now) → (skip ≤ count → next ≡ set now (count - skip) (row_seen r))
+    → IsOnTheWay events rest skip (count + 1) old next
+one_more events left rest skip count old now next r way is skipped put = record {
+  seen = way.seen ++ r ∷ [];
+  given = way.given ∙ ap (λ (xs : List Event). map row way.seen ++ xs) is
+      ∙ sym (ap (λ (xs : List Event). xs ++ rest) (map-append row way.seen (r ∷ [])) ∙ append_assoc (map row way.seen) (row r ∷ []) rest);
+  count_is = omega (arith, way.count_is, length-append way.seen (r ∷ []));
+  copied = at_test (ltb count skip) refl;
+}
+  where
+    below : count < skip → next ≡ written (map row_seen (drop skip (way.seen ++ r ∷ []))) old
+    below lt = skipped lt ∙ way.copied ∙ ap (λ (xs : List LineRow). written (map row_seen xs) old)
+        (drop_all skip way.seen (omega (arith, way.count_is)) ∙ sym (drop_all skip (way.seen ++ r ∷ []) (omega (arith, way.count_is, length-append way.seen (r ∷ [])))))
+
+    above : skip ≤ count → next ≡ written (map row_seen (drop skip (way.seen ++ r ∷ []))) old
+    above le =
+        let so_far = map row_seen (drop skip way.seen) in
+        let place : count - skip ≡ length so_far = omega (arith, way.count_is, length-map (drop skip way.seen) row_seen, length-drop skip way.seen) in
+        put le ∙ ap (λ (xs : List GimliRow). set xs (count - skip) (row_seen r)) way.copied
+        ∙ ap (λ (n : ℕ). set (written so_far old) n (row_seen r)) place
+        ∙ sym (written_more so_far (row_seen r) old)
+        ∙ ap (λ (xs : List GimliRow). written xs old) (sym (map-append row_seen (drop skip way.seen) (r ∷ [])))
+        ∙ ap (λ (xs : List LineRow). written (map row_seen xs) old) (sym (drop-append-le skip way.seen (r ∷ []) (omega (arith, way.count_is))))
+
+    at_test : (b : Bool) → ltb count skip ≡ b → next ≡ written (map row_seen (drop skip (way.seen ++ r ∷ []))) old
+    at_test true e = below (ltb-true count skip e)
+    at_test false e = above (ltb-false count skip e)
+
+pub at_end : (events left : List Event) (skip count : ℕ) (old now : List GimliRow) (end : Option Error) → IsOnTheWay events left skip count old now
+    → rows_of left ≡ [] → fault_of left ≡ end → Copied events skip old now count end
+at_end events left skip count old now end way none is =
+    let rows_are : rows_of events ≡ way.seen = ap rows_of way.given ∙ rows_behind way.seen left ∙ ap (λ (xs : List LineRow). way.seen ++ xs) none ∙ append-nil way.seen in
+    record {
+      count_is = way.count_is ∙ ap length (sym rows_are);
+      end_is = sym is ∙ sym (fault_behind way.seen left) ∙ ap fault_of (sym way.given);
+      copied = way.copied ∙ ap (λ (xs : List LineRow). written (map row_seen (drop skip xs)) old) (sym rows_are);
+    }
+
+-- those that were seen and the next one are no more than all
+pub counted : (events left rest : List Event) (skip count : ℕ) (old now : List GimliRow) (r : LineRow) → IsOnTheWay events left skip count old now
+    → left ≡ row r ∷ rest → length (rows_of events) < 2 ^ 64 → count + 1 < 2 ^ 64
+counted events left rest skip count old now r way is fits =
+    omega (
+      arith,
+      way.count_is,
+      ap length (ap rows_of (way.given ∙ ap (λ (xs : List Event). map row way.seen ++ xs) is) ∙ rows_behind way.seen (row r ∷ rest)),
+      length-append way.seen (r ∷ rows_of rest),
+      fits,
+    )
+
+-- ---- the events of a program
+
+events_of_at : (files : List File) (es : List Event) → events_of (with_files files es) ≡ es
+events_of_at files [] = refl
+events_of_at files (e ∷ es) = ap (λ (xs : List Event). e ∷ xs) (events_of_at files es)
+
+events_of_behind : (a : Bool) (h : Header) (past list : List Ins) (end : Option Error)
+    → events_of (events_with_files_behind a h past list end) ≡ events_behind h.parameters past list ++ end_events end
+events_of_behind a h past [] end = events_of_at (files_at a h.files past) (end_events end)
+events_of_behind a h past (i ∷ list) end =
+    let files = files_at a h.files past in
+    let here = events_at h.parameters past i in
+    map-append (λ (t : EventWithFiles). t.event) (with_files files here) (events_with_files_behind a h (i ∷ past) list end)
+    ∙ ap (λ (xs : List Event). xs ++ events_of (events_with_files_behind a h (i ∷ past) list end)) (events_of_at files here)
+    ∙ ap (λ (xs : List Event). here ++ xs) (events_of_behind a h (i ∷ past) list end)
+    ∙ sym (append_assoc here (events_behind h.parameters (i ∷ past) list) (end_events end))
+
+-- events that have files are events
+pub without_files : (notation : Notation) (a : Bool) (h : Header) (bytes : List ℕ) (events : List EventWithFiles) → EventsWithFiles notation a h bytes events
+    → Events notation h bytes (events_of events)
+without_files notation a h bytes events given = record {
+  list = given.list;
+  end = given.end;
+  decoding = given.decoding;
+  given = ap events_of given.given ∙ events_of_behind a h [] given.list given.end;
+}
+
+-- a program has no more rows than instructions
+few_rows : (parameters : Parameters) (past list : List Ins) (end : Option Error) → length (rows_of (events_behind parameters past list ++ end_events end)) ≤ length list
+few_rows parameters past [] None = omega arith
+few_rows parameters past [] (Some e) = omega arith
+few_rows parameters past (i ∷ list) end =
+    let more = few_rows parameters (i ∷ past) list end in
+    at_test (overflows parameters past i) (makes_row i && not (is_hidden parameters past)) more
+  where
+    at_test : (b c : Bool) → length (rows_of (events_behind parameters (i ∷ past) list ++ end_events end)) ≤ length list
+        → length (rows_of (((if b then fault AddressOverflow ∷ [] else (if c then row (row_at parameters past i) ∷ [] else [])) ++ events_behind parameters (i ∷ past) list) ++ end_events end)) ≤ length (i ∷ list)
+    at_test true c more = omega arith
+    at_test false true more = omega (arith, more)
+    at_test false false more = omega (arith, more)
+
+pub rows_fit : (notation : Notation) (a : Bool) (h : Header) (bytes : List ℕ) (events : List EventWithFiles) (n : ℕ) → EventsWithFiles notation a h bytes events
+    → ((list : List Ins) (end : Option Error) → Decodes notation h bytes list end → length list ≤ length bytes) → length bytes < n
+    → length (rows_of (events_of events)) < n
+rows_fit notation a h bytes events n given bounded fits =
+    let w = without_files notation a h bytes events given in
+    omega (arith, ap (λ (es : List Event). length (rows_of es)) w.given, few_rows h.parameters [] w.list w.end, bounded w.list w.end w.decoding, fits)
+
+-- what the unit at a place gives, whatever the name of its notation
+pub has_events : (p : Place) (notation : Notation) (h : Header) (events : List EventWithFiles) → HasUnit p h → notation ≡ notation_at p
+    → EventsWithFiles notation true h h.program events → HasEvents p h (events_of events)
+has_events p notation h events unit is given = record {
+  unit = unit;
+  given = subst (λ (n : Notation). Events n h h.program (events_of events)) is (without_files notation true h h.program events given);
+}
+
+-- where no bytes are left, no more files come
+pub files_ended : (a : RunState) → a.unread.bytes ≡ [] → files_at_end a ≡ a.files
+unfolding decoded_upto
+files_ended a none = ap (λ (bytes : List ℕ). files_from a.appends a.files (decoded_at a.unread.notation a.fixed bytes).0) none

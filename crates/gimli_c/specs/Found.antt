@@ -1,0 +1,45 @@
+-- What a look-up in a unit's program answers.
+use Rattle.std.specs.Prelude.{◌≡◌, ℕ, List, map, All}
+use Rattle.gimli_core.specs.declared.error.Error.{Error}
+use Rattle.gimli_line.specs.declared.run.row.LineRow.{LineRow}
+use Rattle.gimli_line.specs.header.Header.{Header}
+use Rattle.gimli_line.specs.run.Events.{row}
+use Rattle.gimli_line.specs.run.Sequences.{Part, resumed, AreSequences, HasFirstFault}
+use Rattle.gimli_lookup.specs.FirstPair.{HasNoPair, IsFirstPair}
+use Rattle.gimli_c.specs.declared.row.GimliRow.{GimliRow}
+use Rattle.gimli_c.specs.Place.{Place, notation_at, HasUnit}
+use Rattle.gimli_c.specs.Seen.{row_seen}
+use Rattle.gimli_c.specs.Status.{error_status}
+
+-- the program of the unit at the place is cut into sequences, and these are the rows of each
+pub record HasSequences (p : Place) (rows : List (List LineRow)) : Type 0 where
+  pub header : Header
+  pub unit : HasUnit p header
+  pub complete : Header
+  pub parts : List Part
+  pub cut : AreSequences (notation_at p) header complete parts
+  pub each : map (map row) rows ≡ map (resumed complete) parts
+
+-- the first two rows that cover the address
+pub record GivesPair (p : Place) (address : ℕ) (first second : GimliRow) : Type 0 where
+  pub rows : List (List LineRow)
+  pub sequences : HasSequences p rows
+  pub x : LineRow
+  pub y : LineRow
+  pub is_first : IsFirstPair address rows x y
+  pub first_is : first ≡ row_seen x
+  pub second_is : second ≡ row_seen y
+
+-- no rows cover the address
+pub record GivesNoPair (p : Place) (address : ℕ) : Type 0 where
+  pub rows : List (List LineRow)
+  pub sequences : HasSequences p rows
+  pub none : All (HasNoPair address) rows
+
+-- the run of the unit's program has a fault, and this is the number of the first
+pub record HasFault (p : Place) (status : ℕ) : Type 0 where
+  pub header : Header
+  pub unit : HasUnit p header
+  pub fault : Error
+  pub first : HasFirstFault (notation_at p) header fault
+  pub status_is : status ≡ error_status fault

@@ -1,0 +1,38 @@
+-- Where a unit stands: a section, how its numbers are read, and an offset.
+use Rattle.std.specs.Prelude.{◌≡◌, ◌^◌, ◌⊎◌, ℕ, Bool, false, List, None, drop}
+use Rattle.gimli_core.specs.Notation.{Notation, noted}
+use Rattle.gimli_core.specs.Numbers.{is_address_size}
+use Rattle.gimli_core.specs.declared.error.Error.{Error}
+use Rattle.gimli_line.specs.header.Header.{Header, UnitEntry}
+use Rattle.gimli_line.specs.header.HeaderGrammar.{SpellsUnit, HasHeaderFault}
+use Rattle.gimli_c.specs.Status.{error_status}
+
+-- a section of bytes, whether the most significant byte of a number comes first, the size of addresses up to version 4,
+-- and the offset of a unit
+pub record Place : Type 0 where
+  pub section : List ℕ
+  pub big : Bool
+  pub address_size : ℕ
+  pub offset : ℕ
+
+abbrev pub place : List ℕ → Bool → ℕ → ℕ → Place
+place section big address_size offset =
+    record { section = section; big = big; address_size = address_size; offset = offset }
+
+-- offsets have 64 bits
+abbrev pub notation_at : Place → Notation
+notation_at p = noted p.big (2 ^ 64)
+
+-- no directory and no name is handed in
+abbrev pub unit_entry_at : Place → UnitEntry
+unit_entry_at p = record { address_size = p.address_size; directory = None; name = None }
+
+-- the bytes from the offset on begin with a unit of this header
+abbrev pub HasUnit : Place → Header → Type 0
+HasUnit p h = SpellsUnit (notation_at p) (unit_entry_at p) (drop p.offset p.section) h
+
+-- they begin with no unit, and this is the number of the refusal; or no address has the size that was handed in
+abbrev pub HasNoUnit : Place → ℕ → Type 0
+HasNoUnit p status =
+    ((is_address_size p.address_size ≡ false) × (status ≡ 6))
+    ⊎ ((e : Error) × HasHeaderFault (notation_at p) (unit_entry_at p) (drop p.offset p.section) e × (status ≡ error_status e))

@@ -1,0 +1,51 @@
+//! The rows round an address.
+
+ghost use Rattle.std.specs.Prelude.{◌≡◌, ◌≢◌, ◌⊎◌};
+ghost use Rattle.gimli_c.specs.Found.{GivesNoPair, GivesPair, HasFault};
+ghost use Rattle.gimli_c.specs.Place.{place, HasNoUnit};
+
+use crate::place::program_at;
+use crate::row::GimliRow;
+use crate::status::{NOT_FOUND, OK, OUT_OF_MEMORY, error_status};
+use gimli_lookup::Lookup;
+use std::alloc::Global;
+
+/// Looks an address up in the unit at an offset: `first` is the row that it belongs to, and `second` the next row, up to
+/// whose address that holds. They are the first two adjacent rows of one sequence of which the first has an address at
+/// most the one that is looked up, and the second one above it. `NOT_FOUND` where there are none. A program whose run has
+/// a fault has no sequences, and its first fault is answered. Where another number than 0 is answered, both rows stay as
+/// they were. For `address_size` and the order see `gimli_line_unit`.
+#[unsafe(no_mangle)]
+pub extern "C" fn gimli_line_find(
+    alloc: Global,
+    section: &[u8],
+    big: bool,
+    address_size: u8,
+    offset: usize,
+    address: u64,
+    first: &mut GimliRow,
+    second: &mut GimliRow,
+) -> u32
+    ensures found { result ≡ OK → GivesPair (place section.now big address_size offset) address first.new second.new }
+    ensures none { result ≡ NOT_FOUND → GivesNoPair (place section.now big address_size offset) address }
+    ensures refused { result ≢ OK → result ≢ NOT_FOUND → result ≢ OUT_OF_MEMORY →
+        HasNoUnit (place section.now big address_size offset) result ⊎ HasFault (place section.now big address_size offset) result }
+    ensures kept { result ≢ OK → (first.new ≡ first.old) × (second.new ≡ second.old) }
+{
+    let program = match program_at(alloc, section, big, address_size, offset) {
+        Ok(program) => program,
+        Err(status) => return status,
+    };
+    let lookup = match Lookup::new(program) {
+        Ok(lookup) => lookup,
+        Err(e) => return error_status(e),
+    };
+    match lookup.find(address) {
+        Some((x, y)) => {
+            *first = GimliRow::new(&x);
+            *second = GimliRow::new(&y);
+            OK
+        }
+        None => NOT_FOUND,
+    }
+}

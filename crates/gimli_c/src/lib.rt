@@ -1,0 +1,18 @@
+//! Line number programs of DWARF, versions 2 to 5, for programs in C and in Rust.
+//!
+//! Each call takes the bytes of a section and numbers, and answers a number of [`status`]; what it found goes into places
+//! of the caller. Nothing of the caller is kept behind a call. `include/gimli_line.h` declares all of it.
+#![tactic(auto)]
+
+mod find;
+mod place;
+mod row;
+mod rows;
+mod run;
+pub mod status;
+mod unit;
+
+pub use find::gimli_line_find;
+pub use row::GimliRow;
+pub use rows::gimli_line_rows;
+pub use unit::{GimliUnit, gimli_line_unit};

@@ -1,0 +1,43 @@
+//! The rows of a unit.
+
+ghost use Rattle.std.specs.Prelude.{◌≡◌, ◌≢◌, ◌⊎◌};
+ghost use Rattle.gimli_c.specs.Place.{place};
+ghost use Rattle.gimli_c.specs.Run.{GivesRows, GivesNone};
+
+use crate::place::program_at;
+use crate::row::GimliRow;
+use crate::run::{copy_rows, fault_status, rows_fit};
+use crate::status::{OUT_OF_MEMORY, error_status};
+use std::alloc::Global;
+
+/// Runs the program of the unit at an offset. Its rows from the `skip`-th on, from 0, go into `rows`, as far as there is
+/// room; `count` is how many rows it has in all. The first fault ends the run: its number is answered, and the rows before
+/// it are there. For `address_size` and the order see `gimli_line_unit`.
+#[unsafe(no_mangle)]
+pub extern "C" fn gimli_line_rows(
+    alloc: Global,
+    section: &[u8],
+    big: bool,
+    address_size: u8,
+    offset: usize,
+    skip: u64,
+    rows: &mut [GimliRow],
+    count: &mut u64,
+) -> u32
+    ensures { result ≢ OUT_OF_MEMORY →
+        GivesRows (place section.now big address_size offset) skip rows.old rows.new count.new result
+        ⊎ GivesNone (place section.now big address_size offset) rows.old rows.new count.new result }
+{
+    *count = 0;
+    let program = match program_at(alloc, section, big, address_size, offset) {
+        Ok(program) => program,
+        Err(status) => return status,
+    };
+    rows_fit(&program);
+    let run = match copy_rows(&mut program.rows(), skip, rows) {
+        Ok(run) => run,
+        Err(e) => return error_status(e),
+    };
+    *count = run.count;
+    fault_status(run.fault)
+}

@@ -1,0 +1,70 @@
+//! The numbers that calls answer.
+
+ghost use Rattle.std.specs.Prelude.{◌≡◌};
+ghost use Rattle.gimli_c.specs.Status.{error_status};
+
+use gimli_core::Error;
+
+/// The call did what it says.
+pub const OK: u32 = 0;
+/// Bytes are missing.
+pub const UNEXPECTED_EOF: u32 = 1;
+/// An unsigned LEB128 number doesn't fit its width, or is spelled too long.
+pub const BAD_UNSIGNED_LEB128: u32 = 2;
+/// A signed LEB128 number doesn't fit 64 bits, or is spelled too long.
+pub const BAD_SIGNED_LEB128: u32 = 3;
+/// The first word of a length is one of the reserved ones.
+pub const UNKNOWN_RESERVED_LENGTH: u32 = 4;
+/// The version of a unit is none of 2 to 5.
+pub const UNKNOWN_VERSION: u32 = 5;
+/// The size of addresses, in bytes, isn't 1, 2, 4 or 8: that of the unit, or the one that was handed in.
+pub const UNSUPPORTED_ADDRESS_SIZE: u32 = 6;
+/// The size of segment selectors isn't 0.
+pub const UNSUPPORTED_SEGMENT_SIZE: u32 = 7;
+/// The minimum instruction length of a line program is 0.
+pub const MINIMUM_INSTRUCTION_LENGTH_ZERO: u32 = 8;
+/// The maximum number of operations of an instruction is 0.
+pub const MAXIMUM_OPERATIONS_PER_INSTRUCTION_ZERO: u32 = 9;
+/// The line range of a line program is 0.
+pub const LINE_RANGE_ZERO: u32 = 10;
+/// The opcode base of a line program is 0.
+pub const OPCODE_BASE_ZERO: u32 = 11;
+/// The formats of a table of version 5 don't have exactly one path.
+pub const MISSING_FILE_ENTRY_FORMAT_PATH: u32 = 12;
+/// A value has a form that line programs don't know.
+pub const UNKNOWN_FORM: u32 = 13;
+/// An address passes the greatest one of its size.
+pub const ADDRESS_OVERFLOW: u32 = 14;
+/// A number doesn't fit an offset.
+pub const UNSUPPORTED_OFFSET: u32 = 15;
+/// A value that stands for a text is of another kind.
+pub const EXPECTED_STRING_ATTRIBUTE_VALUE: u32 = 16;
+/// Not enough memory.
+pub const OUT_OF_MEMORY: u32 = 17;
+/// What was looked up isn't there.
+pub const NOT_FOUND: u32 = 18;
+
+/// The number of a refusal.
+pub(crate) fn error_status(error: Error) -> u32
+    ensures { result ≡ error_status error }
+{
+    match error {
+        Error::UnexpectedEof(_) => UNEXPECTED_EOF,
+        Error::BadUnsignedLeb128 => BAD_UNSIGNED_LEB128,
+        Error::BadSignedLeb128 => BAD_SIGNED_LEB128,
+        Error::UnknownReservedLength => UNKNOWN_RESERVED_LENGTH,
+        Error::UnknownVersion(_) => UNKNOWN_VERSION,
+        Error::UnsupportedAddressSize(_) => UNSUPPORTED_ADDRESS_SIZE,
+        Error::UnsupportedSegmentSize(_) => UNSUPPORTED_SEGMENT_SIZE,
+        Error::MinimumInstructionLengthZero => MINIMUM_INSTRUCTION_LENGTH_ZERO,
+        Error::MaximumOperationsPerInstructionZero => MAXIMUM_OPERATIONS_PER_INSTRUCTION_ZERO,
+        Error::LineRangeZero => LINE_RANGE_ZERO,
+        Error::OpcodeBaseZero => OPCODE_BASE_ZERO,
+        Error::MissingFileEntryFormatPath => MISSING_FILE_ENTRY_FORMAT_PATH,
+        Error::UnknownForm(_) => UNKNOWN_FORM,
+        Error::AddressOverflow => ADDRESS_OVERFLOW,
+        Error::UnsupportedOffset => UNSUPPORTED_OFFSET,
+        Error::ExpectedStringAttributeValue => EXPECTED_STRING_ATTRIBUTE_VALUE,
+        Error::OutOfMemory => OUT_OF_MEMORY,
+    }
+}

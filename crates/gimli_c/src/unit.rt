@@ -1,0 +1,103 @@
+//! The unit at an offset.
+
+ghost use Rattle.std.specs.Prelude.{◌≡◌, ◌≢◌, ◌≤◌, ◌<◌, ◌+◌, ◌^◌, IfErr, IfOk};
+ghost use Rattle.gimli_c.specs.Place.{place, HasNoUnit};
+ghost use Rattle.gimli_c.specs.Unit.{length_field, GivesUnit, IsReadUnit};
+
+use crate::place::program_at;
+use crate::run::{copy_rows, fault_status, rows_fit, run_on};
+use crate::status::{OK, OUT_OF_MEMORY, error_status};
+use gimli_core::{Error, Format, Reader, ReaderOffset, Result};
+use gimli_line::IncompleteLineProgram;
+use std::alloc::Global;
+
+/// A unit of a section `.debug_line`: its header, and what its program gives.
+#[repr(C)]
+#[derive(Clone, Copy, Debug, PartialEq, Eq)]
+pub struct GimliUnit {
+    /// Its length in bytes, without the length itself.
+    pub length: u64,
+    /// The offset of what follows it in the section.
+    pub next: u64,
+    /// How many directories its table has. Up to version 4 they have the indices from 1 on, in version 5 from 0 on.
+    pub directories: u64,
+    /// How many files it has, those that its program defines included. Up to version 4 they have the indices from 1 on,
+    /// in version 5 from 0 on.
+    pub files: u64,
+    /// How many rows its program has, before its first fault.
+    pub rows: u64,
+    /// Its version, from 2 to 5.
+    pub version: u32,
+    /// The number of bytes of an address: 1, 2, 4 or 8.
+    pub address_size: u32,
+    /// The number of bytes of an offset: 4 or 8.
+    pub offset_size: u32,
+    /// The number of its program's first fault; 0 where it has none.
+    pub fault: u32,
+}
+
+/// Reads the unit at an offset, and runs its program. `big` says that the most significant byte of a number comes first.
+/// `address_size` is that of the compilation unit, which counts up to version 4; it has to be 1, 2, 4 or 8. Where another
+/// number than 0 is answered, `unit` stays as it was.
+#[unsafe(no_mangle)]
+pub extern "C" fn gimli_line_unit(
+    alloc: Global,
+    section: &[u8],
+    big: bool,
+    address_size: u8,
+    offset: usize,
+    unit: &mut GimliUnit,
+) -> u32
+    ensures ok { result ≡ OK → GivesUnit (place section.now big address_size offset) unit.new }
+    ensures refused { result ≢ OK → result ≢ OUT_OF_MEMORY → HasNoUnit (place section.now big address_size offset) result }
+    ensures kept { result ≢ OK → unit.new ≡ unit.old }
+{
+    let program = match program_at(alloc, section, big, address_size, offset) {
+        Ok(program) => program,
+        Err(status) => return status,
+    };
+    match read_unit(program, offset) {
+        Ok(read) => {
+            *unit = read;
+            OK
+        }
+        Err(e) => error_status(e),
+    }
+}
+
+/// What is said of the unit of a program, which stands at an offset. Refused by `OutOfMemory` alone.
+fn read_unit<R: Reader>(program: IncompleteLineProgram<R>, offset: usize) -> Result<GimliUnit>
+    requires { offset + length_field program.meaning.parameters.encoding.format + program.meaning.unit_length < 2 ^ 64 }
+    ensures ok { IfOk result (λ unit. IsReadUnit offset program.meaning program.notation unit) }
+    ensures err { IfErr result (λ e. e ≡ Error.OutOfMemory) }
+{
+    rows_fit(&program);
+    let header = program.header();
+    let encoding = header.encoding();
+    let length = header.unit_length().into_u64();
+    let directories = header.include_directories().len() as u64;
+    let mut rows = program.rows();
+    let run = copy_rows(&mut rows, 0, &mut [])?;
+    run_on(&mut rows)?;
+    Ok(GimliUnit {
+        length,
+        next: offset as u64 + length_field(encoding.format) + length,
+        directories,
+        files: rows.header().file_names().len() as u64,
+        rows: run.count,
+        version: u32::from(encoding.version),
+        address_size: u32::from(encoding.address_size),
+        offset_size: u32::from(encoding.format.word_size()),
+        fault: fault_status(run.fault),
+    })
+}
+
+/// How many bytes the length of a unit takes.
+fn length_field(format: Format) -> u64
+    ensures { result ≡ length_field format }
+{
+    match format {
+        Format::Dwarf32 => 4,
+        Format::Dwarf64 => 12,
+    }
+}
