@@ -1,0 +1,81 @@
+-- What it means that a converted program says what its source says, and what is asked of the source for it.
+use Rattle.std.specs.Prelude.{◌≡◌, ◌≢◌, ℕ, ◌+◌, ◌≤◌, Bool, true, false, not, ◌&&◌, ◌||◌, if◌then◌else◌, List, [], ◌∷◌, ◌++◌, map, slice_get, Option, Some, None, option_map, Result, Ok, All}
+use Rattle.gimli_core.specs.Notation.{Notation}
+use Rattle.gimli_core.specs.Values.{Value}
+use Rattle.gimli_core.specs.declared.error.Error.{Error}
+use Rattle.gimli_bytes.specs.declared.address.Address.{Address}
+use Rattle.gimli_bytes.specs.declared.address.Address.TheVariants.{Constant}
+use Rattle.gimli_line.specs.declared.run.row.LineRow.{LineRow as ReadRow}
+use Rattle.gimli_line.specs.header.File.{File}
+use Rattle.gimli_line.specs.header.Header.{Header, directory_of}
+use Rattle.gimli_line.specs.header.Parameters.{Parameters}
+use Rattle.gimli_line.specs.run.Events.{Events, row}
+use Rattle.gimli_line.specs.run.EventsWithFiles.{FilesAtEnd}
+use Rattle.gimli_line.specs.run.Instruction.{Ins, is_end, makes_row}
+use Rattle.gimli_line.specs.run.InstructionGrammar.{Decodes}
+use Rattle.gimli_line.specs.run.OperationPointer.{is_hidden}
+use Rattle.gimli_build.specs.Built.{Built, address_value}
+use Rattle.gimli_build.specs.LineText.{LineText, bytes_in}
+use Rattle.gimli_build.specs.SameRow.{read_row}
+use Rattle.gimli_build.specs.Tables.{File as BuiltFile}
+use Rattle.gimli_build.specs.Texts.{Sections, IsText, IsOptionalText}
+use Rattle.gimli_build.specs.declared.built.row.LineRow.{LineRow}
+use Rattle.gimli_build.specs.declared.built.items.BuiltItem.{BuiltItem}
+use Rattle.gimli_build.specs.declared.built.items.BuiltItem.TheVariants.{SetAddress, Row, End}
+use Rattle.gimli_write.specs.convert.Feeding.{Conversion}
+
+-- ---- what is asked
+
+-- each address is mapped to itself
+abbrev pub MapsToItself : (ℕ → Option Address) → Type 0
+MapsToItself convert_address = (a : ℕ) → convert_address a ≡ Some (Constant a)
+
+-- a place of the sequence that ends this past made a row that isn't hidden
+abbrev pub gave_row : Parameters → List Ins → Bool
+gave_row parameters [] = false
+gave_row parameters (i ∷ past) = if is_end i then false else ((makes_row i && not (is_hidden parameters past)) || gave_row parameters past)
+
+-- none of these instructions behind a past ends a sequence hidden that gave a row
+abbrev pub SeesEndsBehind : Parameters → List Ins → List Ins → Type 0
+SeesEndsBehind parameters past [] = Unit {0}
+SeesEndsBehind parameters past (i ∷ list) =
+    (is_end i ≡ true → is_hidden parameters past ≡ true → gave_row parameters past ≡ false) × SeesEndsBehind parameters (i ∷ past) list
+
+-- no sequence of a program that gave a row ends hidden
+pub record SeesEnds (notation : Notation) (h : Header) (bytes : List ℕ) : Type 0 where
+  pub list : List Ins
+  pub end : Option Error
+  pub decoding : Decodes notation h bytes list end
+  pub seen : SeesEndsBehind h.parameters [] list
+
+-- ---- rows and ends
+
+-- the id of a file number, in a source of this version; up to version 4 none has number 0
+pub record IsFileId (version : ℕ) (file_ids : List ℕ) (number id : ℕ) : Type 0 where
+  pub from_one : version ≤ 4 → number ≢ 0
+  pub there : slice_get file_ids number ≡ Some id
+
+-- a row of the source says what a built one says, where the address `base` was set before it; the built one has the id
+-- of its file
+pub record IsMappedRow (version : ℕ) (file_ids : List ℕ) (base : ℕ) (built : LineRow) (source : ReadRow) : Type 0 where
+  pub file : IsFileId version file_ids source.file built.file
+  pub others : source ≡ record (read_row version base built) { file = source.file }
+
+-- an end of the source has the address of the built one
+pub record IsMappedEnd (base offset : ℕ) (source : ReadRow) : Type 0 where
+  pub address : source.address ≡ base + offset
+  pub ends : source.end_sequence ≡ true
+
+-- the rows of a source are the built rows and ends one by one, where the address `base` was set before them
+abbrev pub RowsMapped : ℕ → List ℕ → ℕ → List BuiltItem → List ReadRow → Type 0
+RowsMapped version file_ids base [] rows = rows ≡ []
+RowsMapped version file_ids base (SetAddress a ∷ items) rows = RowsMapped version file_ids (address_value a) items rows
+RowsMapped version file_ids base (Row built ∷ items) (source ∷ rows) = IsMappedRow version file_ids base built source × RowsMapped version file_ids base items rows
+RowsMapped version file_ids base (End offset op_index ∷ items) (source ∷ rows) = IsMappedEnd base offset source × RowsMapped version file_ids 0 items rows
+RowsMapped version file_ids base (item ∷ items) [] = ⊥
+
+-- the events of a source are rows, and these are the built rows and ends
+pub record AreRowsMapped (notation : Notation) (h : Header) (bytes : List ℕ) (c : Conversion) : Type 0 where
+  pub rows : List ReadRow
+  pub events : Events notation h bytes (map row rows)
+  pub mapped : RowsMapped h.parameters.encoding.version c.file_ids 0 c.program.items rows
