@@ -6,6 +6,7 @@ use Rattle.std.proofs.lemmas.Nat.{pow_pos}
 use Rattle.gimli_line.specs.declared.run.instruction.LineInstruction.TheVariants.{Special, Copy, AdvancePc, ConstAddPc, FixedAddPc, EndSequence, SetAddress}
 use Rattle.gimli_line.specs.header.Parameters.{Parameters}
 use Rattle.gimli_line.specs.run.Instruction.{Ins, is_end, makes_row}
+use Rattle.gimli_line.specs.run.Events.{row_at}
 use Rattle.gimli_line.specs.run.OperationPointer.{OperationPointer, address_limit, hides, exceeds, operations_on, stopped, next_pointer, pointer_at, is_hidden}
 use Rattle.gimli_line.proofs.NonDecreasingLaws.{rises}
 use Rattle.gimli_write.specs.convert.Offers.{base_at, pending}
@@ -71,6 +72,14 @@ base_below parameters (EndSequence ∷ past) seen = omega arith
 base_below parameters (i ∷ past) seen =
     let before = base_below parameters past seen in
     let up = rises parameters (is_hidden parameters past) i (pointer_at parameters past) refl in
+    omega arith
+
+-- nor above that of the row that a place makes
+pub base_below_row : (parameters : Parameters) (past : List Ins) (i : Ins) → is_hidden parameters past ≡ false → is_end i ≡ false → base_at past ≤ (row_at parameters past i).address
+base_below_row parameters past i seen inner =
+    let before = base_below parameters past seen in
+    let up = rises parameters (is_hidden parameters past) i (pointer_at parameters past) inner in
+    let address : (row_at parameters past i).address ≡ (pointer_at parameters (i ∷ past)).address = rw inner refl in
     omega arith
 
 -- ---- what was built behind a past
