@@ -9,3 +9,4 @@ pub mod SourceReadings
 pub mod SourceSteps
 pub mod MappedAddresses
 pub mod MappedRows
+pub mod MappedLists
