@@ -10,3 +10,4 @@ pub mod SourceSteps
 pub mod MappedAddresses
 pub mod MappedRows
 pub mod MappedLists
+pub mod MappedPrograms

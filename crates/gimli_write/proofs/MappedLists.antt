@@ -17,7 +17,7 @@ use Rattle.gimli_line.specs.header.File.{File}
 use Rattle.gimli_line.specs.header.Header.{Header}
 use Rattle.gimli_line.specs.run.Instruction.{Ins}
 use Rattle.gimli_build.specs.LineText.{LineText, Inline, InStrings, InLineStrings, IsWithin, HasNoZero, made_text, made_table}
-use Rattle.gimli_build.specs.Tables.{FileKey, Details, File as BuiltFile, with_directory, with_details, with_file, has_file, place_of_file, no_details}
+use Rattle.gimli_build.specs.Tables.{FileKey, Details, File as BuiltFile, with_directory, place_of_directory, with_details, with_file, has_file, place_of_file, no_details}
 use Rattle.gimli_build.specs.FirstTables.{first_directories, first_files}
 use Rattle.gimli_build.specs.Texts.{Sections}
 use Rattle.gimli_write.specs.declared.convert_error.ConvertError.{ConvertError}
@@ -223,3 +223,47 @@ pub file_ready : (strings : List (List ℕ)) (encoding : Encoding) (sections : S
 file_ready strings encoding sections lists next f is so =
     let t = took (file_parts (version_of lists) sections lists.directory_ids f) (λ parts. Ok (with_parts lists f parts)) next is in
     subst (IsReady strings encoding) (same_ok (with_parts lists f t.0) next t.2) (parts_ready strings encoding lists f t.0 so)
+
+-- ---- the lists of a header
+
+started_ready : (strings : List (List ℕ)) (encoding : Encoding) (line_encoding : LineEncoding) (h : Header) (line_strings : List (List ℕ)) (directory : List ℕ) (file : SourceFile)
+    → IsReady strings encoding (started_lists encoding line_encoding h (first_texts encoding.version line_strings directory file))
+started_ready strings encoding line_encoding h line_strings directory file =
+    let texts = first_texts encoding.version line_strings directory file in
+    let second = made_table encoding.version line_strings directory in
+    let third = sources_table encoding.version second file.directory in
+    let last = made_table encoding.version third file.path in
+    let a : length second ≤ length third = source_longer encoding.version second file.directory in
+    let b : length third ≤ length last = table_longer encoding.version third file.path in
+    let le : length second ≤ length last = omega arith in
+    let working : IsWithin strings last texts.working_directory = within_longer strings second last texts.working_directory le (made_within strings encoding.version line_strings directory) in
+    let own : IfSome texts.source_directory (IsWithin strings last) = if_some_longer strings third last texts.source_directory b (source_within strings encoding.version second file.directory) in
+    let path : IsWithin strings last texts.source_file = made_within strings encoding.version third file.path in
+    record {
+      items = refl;
+      program = refl;
+      encoding_is = refl;
+      directories = both last texts.working_directory texts.source_directory (nat_le encoding.version 4) working own;
+      files = one last texts.working_directory texts.source_directory texts.source_file (nat_le encoding.version 4) path;
+    }
+  where
+    both : (last : List (List ℕ)) (working : LineText) (own : Option LineText) (old : Bool) → IsWithin strings last working → IfSome own (IsWithin strings last)
+        → All (IsWithin strings last) (if old then working ∷ [] else option_map_or (with_directory (working ∷ [])) own (working ∷ []))
+    both last working own true w o = All-cons (IsWithin strings last) working [] w (All-nil (IsWithin strings last))
+    both last working (Some t) false w o = directories_with strings last (working ∷ []) t (All-cons (IsWithin strings last) working [] w (All-nil (IsWithin strings last))) o
+    both last working None false w o = All-cons (IsWithin strings last) working [] w (All-nil (IsWithin strings last))
+
+    one : (last : List (List ℕ)) (working : LineText) (own : Option LineText) (path : LineText) (old : Bool) → IsWithin strings last path
+        → All (CanKeep strings last encoding.version) (if old then [] else ((path, option_map_or (place_of_directory (working ∷ [])) own 0), no_details) ∷ [])
+    one last working own path true w = All-nil (CanKeep strings last encoding.version)
+    one last working own path false w = All-cons (CanKeep strings last encoding.version) _ [] (record { path = w; source = tt; source_ends = λ new. tt }) (All-nil (CanKeep strings last encoding.version))
+
+-- what `new` makes of a header can be written, and nothing is built in it
+pub prepared_ready : (strings : List (List ℕ)) (sections : Sections) (h : Header) (given : Handed) (line_strings : List (List ℕ)) (lists : Lists)
+    → prepared sections h given line_strings ≡ Ok lists → IsReady strings (encoding_of h given) lists
+prepared_ready strings sections h given line_strings lists is =
+    let p = is_prepared sections h given line_strings lists is in
+    let encoding = encoding_of h given in
+    all_added_keeps (IsReady strings encoding) (file_added sections) (λ l n f a so. file_ready strings encoding sections l n f a so) h.files p.with_directories lists p.files
+    (all_added_keeps (IsReady strings encoding) (directory_added sections) (λ l n v a so. directory_ready strings encoding sections l n v a so) h.directories _ p.with_directories p.directories
+    (started_ready strings encoding p.line_encoding h line_strings p.directory p.file))

@@ -15,6 +15,7 @@ use Rattle.gimli_line.specs.run.Instruction.{Ins, is_end, makes_row}
 use Rattle.gimli_line.specs.run.InstructionGrammar.{Decodes}
 use Rattle.gimli_line.specs.run.OperationPointer.{is_hidden}
 use Rattle.gimli_build.specs.Built.{Built, address_value}
+use Rattle.gimli_build.specs.FileNumber.{file_number}
 use Rattle.gimli_build.specs.LineText.{LineText, bytes_in}
 use Rattle.gimli_build.specs.SameRow.{read_row}
 use Rattle.gimli_build.specs.Tables.{File as BuiltFile}
@@ -79,3 +80,13 @@ pub record AreRowsMapped (notation : Notation) (h : Header) (bytes : List ℕ) (
   pub rows : List ReadRow
   pub events : Events notation h bytes (map row rows)
   pub mapped : RowsMapped h.parameters.encoding.version c.file_ids 0 c.program.items rows
+
+-- ---- rows that are read back
+
+-- a row that is read back of a conversion in this version says what a row of the source in its version says: an end has
+-- its address, and any other row all its registers, with the number that its file has now
+pub record IsReadAs (source_version version : ℕ) (file_ids : List ℕ) (source back : ReadRow) : Type 0 where
+  pub address : back.address ≡ source.address
+  pub ends : back.end_sequence ≡ source.end_sequence
+  pub registers : source.end_sequence ≡ false → back ≡ record source { file = back.file }
+  pub file : source.end_sequence ≡ false → (id : ℕ) × IsFileId source_version file_ids source.file id × (back.file ≡ file_number version id)
