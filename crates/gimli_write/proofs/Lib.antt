@@ -11,3 +11,4 @@ pub mod MappedAddresses
 pub mod MappedRows
 pub mod MappedLists
 pub mod MappedPrograms
+pub mod MappedTexts
