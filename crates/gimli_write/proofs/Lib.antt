@@ -12,3 +12,4 @@ pub mod MappedRows
 pub mod MappedLists
 pub mod MappedPrograms
 pub mod MappedTexts
+pub mod MappedDirectories

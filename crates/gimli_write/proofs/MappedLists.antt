@@ -176,7 +176,7 @@ directory_ready strings encoding sections lists next v is so =
     })
 
 -- the line strings behind the source of a file
-abbrev sources_table : ℕ → List (List ℕ) → Option (List ℕ) → List (List ℕ)
+abbrev pub sources_table : ℕ → List (List ℕ) → Option (List ℕ) → List (List ℕ)
 sources_table version paths source = option_map_or (made_table version paths) source paths
 
 source_longer : (version : ℕ) (paths : List (List ℕ)) (source : Option (List ℕ)) → length paths ≤ length (sources_table version paths source)

@@ -1,5 +1,6 @@
 -- What it means that a converted program says what its source says, and what is asked of the source for it.
 use Rattle.std.specs.Prelude.{◌≡◌, ◌≢◌, ℕ, ◌+◌, ◌≤◌, Bool, true, false, not, ◌&&◌, ◌||◌, if◌then◌else◌, List, [], ◌∷◌, ◌++◌, map, slice_get, Option, Some, None, option_map, Result, Ok, All}
+use Rattle.std.specs.List.{AllByRecursion}
 use Rattle.gimli_core.specs.Notation.{Notation}
 use Rattle.gimli_core.specs.Values.{Value}
 use Rattle.gimli_core.specs.declared.error.Error.{Error}
@@ -7,7 +8,7 @@ use Rattle.gimli_bytes.specs.declared.address.Address.{Address}
 use Rattle.gimli_bytes.specs.declared.address.Address.TheVariants.{Constant}
 use Rattle.gimli_line.specs.declared.run.row.LineRow.{LineRow as ReadRow}
 use Rattle.gimli_line.specs.header.File.{File}
-use Rattle.gimli_line.specs.header.Header.{Header, directory_of}
+use Rattle.gimli_line.specs.header.Header.{Header, directory_of, entry_of}
 use Rattle.gimli_line.specs.header.Parameters.{Parameters}
 use Rattle.gimli_line.specs.run.Events.{Events, row}
 use Rattle.gimli_line.specs.run.EventsWithFiles.{FilesAtEnd}
@@ -80,6 +81,55 @@ pub record AreRowsMapped (notation : Notation) (h : Header) (bytes : List ℕ) (
   pub rows : List ReadRow
   pub events : Events notation h bytes (map row rows)
   pub mapped : RowsMapped h.parameters.encoding.version c.file_ids 0 c.program.items rows
+
+-- ---- files
+
+-- a directory of a source has this path; one that isn't there has the empty one
+abbrev pub IsDirectoryPath : Sections → Option Value → List ℕ → Type 0
+IsDirectoryPath sections (Some v) path = IsText sections v path
+IsDirectoryPath sections None path = path ≡ []
+
+-- a file of a source has this path, and its directory has this one
+pub record HasPaths (sections : Sections) (h : Header) (path directory : List ℕ) (f : File) : Type 0 where
+  pub own : IsText sections f.path_name path
+  pub of_directory : IsDirectoryPath sections (directory_of h f.directory_index) directory
+
+-- it is the last of these files that has these paths
+pub record IsLastWithPaths (sections : Sections) (h : Header) (path directory : List ℕ) (files : List File) (f : File) : Type 0 where
+  pub before : List File
+  pub behind : List File
+  pub parts : files ≡ before ++ f ∷ behind
+  pub has : HasPaths sections h path directory f
+  pub none_behind : AllByRecursion (λ g. HasPaths sections h path directory g → ⊥) behind
+
+-- the file with this id has the paths of a file of the source, and what is known of the last one that has them
+pub record IsMappedFile (sections : Sections) (h : Header) (files : List File) (strings : List (List ℕ)) (c : Conversion) (f : File) (id : ℕ) : Type 0 where
+  pub built : BuiltFile
+  pub there : slice_get c.program.files id ≡ Some built
+  pub directory : LineText
+  pub directory_there : slice_get c.program.directories built.0.1 ≡ Some directory
+  pub has : HasPaths sections h (bytes_in strings c.line_strings built.0.0) (bytes_in strings c.line_strings directory) f
+  pub last : File
+  pub is_last : IsLastWithPaths sections h (bytes_in strings c.line_strings built.0.0) (bytes_in strings c.line_strings directory) files last
+  pub timestamp : built.1.timestamp ≡ last.timestamp
+  pub size : built.1.size ≡ last.size
+  pub md5 : built.1.md5 ≡ last.md5
+  pub source : IsOptionalText sections last.source (option_map (bytes_in strings c.line_strings) built.1.source)
+
+-- each file number of the source has an id, whose file is the one that it stands for; no other number has one
+pub record AreFilesMapped (sections : Sections) (h : Header) (files : List File) (strings : List (List ℕ)) (c : Conversion) : Type 0 where
+  pub each : (n : ℕ) (f : File) → entry_of h.parameters.encoding.version None files n ≡ Some f
+      → (id : ℕ) × IsFileId h.parameters.encoding.version c.file_ids n id × IsMappedFile sections h files strings c f id
+  pub only : (n id : ℕ) → IsFileId h.parameters.encoding.version c.file_ids n id → (f : File) × (entry_of h.parameters.encoding.version None files n ≡ Some f)
+
+-- ---- all of it
+
+-- a converted program says what its source says: its rows and ends, and its files, those that the program defines too
+pub record IsMapped (notation : Notation) (sections : Sections) (h : Header) (bytes : List ℕ) (strings : List (List ℕ)) (c : Conversion) : Type 0 where
+  pub rows : AreRowsMapped notation h bytes c
+  pub source_files : List File
+  pub at_end : FilesAtEnd notation true h bytes source_files
+  pub files : AreFilesMapped sections h source_files strings c
 
 -- ---- rows that are read back
 
