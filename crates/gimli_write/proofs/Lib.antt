@@ -13,3 +13,4 @@ pub mod MappedLists
 pub mod MappedPrograms
 pub mod MappedTexts
 pub mod MappedDirectories
+pub mod MappedFiles
