@@ -14,3 +14,4 @@ pub mod MappedPrograms
 pub mod MappedTexts
 pub mod MappedDirectories
 pub mod MappedFiles
+pub mod MappedNames

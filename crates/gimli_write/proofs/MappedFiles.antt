@@ -336,3 +336,54 @@ module _ (sections : Sections) (lists : Lists) (g : File) (added : FileParts) (a
             split = ap (λ (l : List File). l ++ g ∷ []) so.split ∙ append_assoc so.before (so.last ∷ so.behind) (g ∷ []);
             none_behind = all_push (HasOthers sections (version_of lists) lists.directory_ids so.parts) so.behind g so.none_behind (record { own = added; own_is = added_are; other = other });
           }
+
+-- ---- all files
+
+-- each id of a file of the source is that of its paths
+pub record AreFiles (sections : Sections) (h : Header) (lists : Lists) (source : List File) : Type 0 where
+  pub ids : List ℕ
+  pub ids_are : lists.file_ids ≡ first_ids h.parameters.encoding.version ++ ids
+  pub each : OneByOne (IsFileOf sections (version_of lists) lists.line_strings lists.directory_ids lists.program.files source) source ids
+
+pub file_next : (sections : Sections) (h : Header) (lists next : Lists) (g : File) (source : List File) → file_added sections lists g ≡ Ok next
+    → AreFiles sections h lists source → AreFiles sections h next (source ++ g ∷ [])
+file_next sections h lists next g source is so =
+    let version = version_of lists in
+    let t = took (file_parts version sections lists.directory_ids g) (λ parts. Ok (with_parts lists g parts)) next is in
+    let parts = t.0 in
+    let paths = made_table version lists.line_strings parts.path in
+    let after = sources_table version paths parts.source in
+    let k : FileKey = (made_text version lists.line_strings parts.path, parts.directory) in
+    let d : Details = record { timestamp = g.timestamp; size = g.size; md5 = g.md5; source = option_map (made_text version paths) parts.source } in
+    let R = IsFileOf sections version after lists.directory_ids (with_file lists.program.files k (Some d)) (source ++ g ∷ []) in
+    subst (λ (l : Lists). AreFiles sections h l (source ++ g ∷ [])) (same_ok (with_parts lists g parts) next t.2) (record {
+      ids = so.ids ++ place_of_file lists.program.files k ∷ [];
+      ids_are =
+          ap (λ (l : List ℕ). l ++ place_of_file lists.program.files k ∷ []) so.ids_are
+          ∙ append_assoc (first_ids h.parameters.encoding.version) so.ids (place_of_file lists.program.files k ∷ []);
+      each =
+          one_by_one_push R source so.ids g (place_of_file lists.program.files k)
+          (one_by_one_map (IsFileOf sections version lists.line_strings lists.directory_ids lists.program.files source) R (file_old sections lists g parts t.1 source) source so.ids so.each)
+          (file_new sections lists g parts t.1 source);
+    })
+
+-- those of a header
+pub files_next : (sections : Sections) (h : Header) (done rest : List File) (lists last : Lists) → all_added (file_added sections) rest lists ≡ Ok last
+    → AreFiles sections h lists done → AreFiles sections h last (done ++ rest)
+files_next sections h done [] lists last is so =
+    subst (AreFiles sections h last) (sym (append-nil done)) (subst (λ (l : Lists). AreFiles sections h l done) (same_ok lists last is) so)
+files_next sections h done (g ∷ rest) lists last is so =
+    let t = took (file_added sections lists g) (all_added (file_added sections) rest) last is in
+    subst (AreFiles sections h last) (append_assoc done (g ∷ []) rest) (files_next sections h (done ++ g ∷ []) rest t.0 last t.2 (file_next sections h lists t.0 g done t.1 so))
+
+-- and those that a program defines
+pub files_defined : (sections : Sections) (h : Header) (first : Lists) (past : List Ins) (lists : Lists) → lists_at sections first past ≡ Ok lists
+    → AreFiles sections h first h.files → AreFiles sections h lists (defined_files h.files past)
+files_defined sections h first [] lists is so = subst (λ (l : Lists). AreFiles sections h l h.files) (same_ok first lists is) so
+files_defined sections h first (i ∷ past) lists is so =
+    let t = took (lists_at sections first past) (λ l. defined sections l i) lists is in
+    one i t.0 t.2 (files_defined sections h first past t.0 t.1 so)
+  where
+    one : (i : Ins) (before : Lists) → defined sections before i ≡ Ok lists → AreFiles sections h before (defined_files h.files past) → AreFiles sections h lists (defined_files h.files (i ∷ past))
+    one (DefineFile f) before at q = file_next sections h before lists f (defined_files h.files past) at q
+    one i before at q = subst (λ (l : Lists). AreFiles sections h l (defined_files h.files past)) (same_ok before lists at) q
