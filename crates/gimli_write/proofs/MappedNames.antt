@@ -22,7 +22,7 @@ use Rattle.gimli_write.proofs.ReadTexts.{text_read, text_there}
 use Rattle.gimli_write.proofs.MappedLists.{took, same_ok}
 use Rattle.gimli_write.proofs.MappedTexts.{IsMade, made_bytes}
 use Rattle.gimli_write.proofs.MappedDirectories.{source_text_of, source_path_of, IsDirectoryId, directory_there, one_path, AreDirectories}
-use Rattle.gimli_write.proofs.MappedFiles.{IsKnown, HasOthers, HasParts, IsFileOf, AreFiles, one_by_one_at, one_by_one_back}
+use Rattle.gimli_write.proofs.MappedFiles.{IsKnown, HasOthers, HasParts, IsFileOf, AreFiles, one_by_one_map, one_by_one_at, one_by_one_back}
 
 -- ---- one text
 
@@ -142,3 +142,37 @@ module _ (sections : Sections) (h : Header) (strings : List (List ℕ)) (lists :
             (source_is_text sections version strings lists.line_strings so.last.source so.last_parts.source last_read.source so.known.source_made));
       }
 
+-- ---- file numbers
+
+module _ (version : ℕ) (R : File → ℕ → Type 0) (files : List File) (ids file_ids : List ℕ) (all : OneByOne R files ids) where
+  -- each number has an id
+  each_number : (old : Bool) → nat_le version 4 ≡ old → file_ids ≡ (if old then 0 ∷ [] else []) ++ ids
+      → (n : ℕ) (f : File) → (if old then from_one None files n else slice_get files n) ≡ Some f → (id : ℕ) × IsFileId version file_ids n id × R f id
+  each_number true is ids_are zero f at = absurd cc
+  each_number true is ids_are (suc i) f at =
+      let found = one_by_one_at R files ids i f all at in
+      (found.0, record { from_one = λ old zero. absurd (omega arith); there = ap (λ (l : List ℕ). slice_get l (suc i)) ids_are ∙ found.1 }, found.2)
+  each_number false is ids_are n f at =
+      let found = one_by_one_at R files ids n f all at in
+      (found.0, record { from_one = λ old. absurd (true≢false (sym (le-leb version 4 old) ∙ is)); there = ap (λ (l : List ℕ). slice_get l n) ids_are ∙ found.1 }, found.2)
+
+  -- and no other
+  only_number : (old : Bool) → nat_le version 4 ≡ old → file_ids ≡ (if old then 0 ∷ [] else []) ++ ids
+      → (n id : ℕ) → IsFileId version file_ids n id → (f : File) × ((if old then from_one None files n else slice_get files n) ≡ Some f)
+  only_number true is ids_are zero id so = absurd (so.from_one (leb-true version 4 is) refl)
+  only_number true is ids_are (suc i) id so = one_by_one_back R files ids i id all (sym (ap (λ (l : List ℕ). slice_get l (suc i)) ids_are) ∙ so.there)
+  only_number false is ids_are n id so = one_by_one_back R files ids n id all (sym (ap (λ (l : List ℕ). slice_get l n) ids_are) ∙ so.there)
+
+-- ---- all files
+
+pub files_mapped : (sections : Sections) (h : Header) (strings : List (List ℕ)) (lists : Lists) (source : List File) (c : Conversion) → AreDirectories sections h lists → AreFiles sections h lists source
+    → c.program.directories ≡ lists.program.directories → c.program.files ≡ lists.program.files → c.file_ids ≡ lists.file_ids → c.line_strings ≡ lists.line_strings
+    → AreFilesMapped sections h source strings c
+files_mapped sections h strings lists source c directories so directories_same files_same ids_same texts_same =
+    let version = h.parameters.encoding.version in
+    let all = one_by_one_map (IsFileOf sections (version_of lists) lists.line_strings lists.directory_ids lists.program.files source) (IsMappedFile sections h source strings c)
+        (λ f id is. file_mapped sections h strings lists directories source c f id directories_same files_same texts_same is) source so.ids so.each in
+    record {
+      each = each_number version (IsMappedFile sections h source strings c) source so.ids c.file_ids all (nat_le version 4) refl (ids_same ∙ so.ids_are);
+      only = only_number version (IsMappedFile sections h source strings c) source so.ids c.file_ids all (nat_le version 4) refl (ids_same ∙ so.ids_are);
+    }
