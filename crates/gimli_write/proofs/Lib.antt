@@ -15,3 +15,4 @@ pub mod MappedTexts
 pub mod MappedDirectories
 pub mod MappedFiles
 pub mod MappedNames
+pub mod FeedingLemmas
