@@ -16,3 +16,4 @@ pub mod MappedDirectories
 pub mod MappedFiles
 pub mod MappedNames
 pub mod FeedingLemmas
+pub mod MappedEnds

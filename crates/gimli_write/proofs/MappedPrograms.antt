@@ -2,7 +2,6 @@
 use Rattle.std.proofs.Common.{◌≡◌, ℕ, ◌*◌, ◌^◌, ◌≤◌, List, [], ◌∷◌, ◌++◌, length, map, refl, sym, ap, subst, ◌∙◌, arith}
 use Rattle.std.specs.Prelude.{Option, Some, None, IfSome, Result, Ok, Err, All}
 use Rattle.std.proofs.lemmas.Bool.{true≢false}
-use Rattle.std.proofs.lemmas.List.Elements.{All-weaker}
 use Rattle.std.proofs.Math.Pow.{pow_mono}
 use Rattle.std.proofs.lemmas.List.{append-nil}
 use Rattle.gimli_core.specs.Notation.{Notation}
@@ -17,12 +16,9 @@ use Rattle.gimli_line.specs.run.Instruction.{Ins}
 use Rattle.gimli_line.specs.run.InstructionGrammar.{Decodes}
 use Rattle.gimli_line.proofs.InstructionLaws.{one_decoding}
 use Rattle.gimli_build.specs.Built.{Built, base_of}
-use Rattle.gimli_build.specs.Conditions.{CanWrite}
 use Rattle.gimli_build.specs.FileNumber.{file_number}
 use Rattle.gimli_build.specs.Items.{AddressesFit}
-use Rattle.gimli_build.specs.LineText.{LineText, IsWithin, HasNoZero}
 use Rattle.gimli_build.specs.SameRow.{RowsMatch, read_row}
-use Rattle.gimli_build.specs.Tables.{File as BuiltFile}
 use Rattle.gimli_build.specs.Texts.{Sections, OneByOne}
 use Rattle.gimli_build.specs.declared.built.row.LineRow.{LineRow}
 use Rattle.gimli_build.specs.declared.built.items.BuiltItem.{BuiltItem}
@@ -35,10 +31,11 @@ use Rattle.gimli_write.specs.convert.Feeding.{Conversion, converted}
 use Rattle.gimli_write.specs.convert.Mapped.{MapsToItself, SeesEnds, SeesEndsBehind, IsFileId, IsMappedRow, IsMappedEnd, RowsMapped, AreRowsMapped, IsMapped, IsReadAs}
 use Rattle.gimli_write.proofs.MappedAddresses.{follows_start}
 use Rattle.gimli_write.proofs.MappedDirectories.{AreDirectories, directories_prepared, directories_stay}
+use Rattle.gimli_write.proofs.MappedEnds.{comes, encoding_kept}
 use Rattle.gimli_write.proofs.MappedFiles.{AreFiles, files_next, files_defined}
-use Rattle.gimli_write.proofs.MappedLists.{took, same_ok, is_prepared, all_added_keeps, CanKeep, IsReady, lists_at_keeps, file_ready, prepared_ready}
+use Rattle.gimli_write.proofs.MappedLists.{took, same_ok, is_prepared, all_added_keeps, IsReady, lists_at_keeps, prepared_ready}
 use Rattle.gimli_write.proofs.MappedNames.{files_mapped}
-use Rattle.gimli_write.proofs.MappedRows.{Rest, Finished, rest_mapped}
+use Rattle.gimli_write.proofs.MappedRows.{Rest, rest_mapped}
 
 -- ---- one row
 
@@ -83,9 +80,6 @@ module _ (notation : Notation) (sections : Sections) (h : Header) (given : Hande
   all_items : c.program.items ≡ whole.items
   all_items = whole.built ∙ ap (λ (l : List BuiltItem). l ++ whole.items) (first_ready []).items
 
-  encoding_kept : c.program.encoding ≡ encoding_of h given
-  encoding_kept = whole.encoding ∙ (first_ready []).encoding_is
-
   pub rows_mapped : AreRowsMapped notation h bytes c
   rows_mapped = record {
     rows = whole.rows;
@@ -95,27 +89,8 @@ module _ (notation : Notation) (sections : Sections) (h : Header) (given : Hande
 
   pub addresses_fit : AddressesFit c.program.encoding.address_size 0 (0, 0) c.program.items
   addresses_fit =
-      subst (λ (e : Encoding). AddressesFit e.address_size 0 (0, 0) c.program.items) (sym encoding_kept)
+      subst (λ (e : Encoding). AddressesFit e.address_size 0 (0, 0) c.program.items) (sym (encoding_kept notation sections h given line_strings first bytes reading convert_address c ready reads is))
       (subst (λ (items : List BuiltItem). AddressesFit (encoding_of h given).address_size 0 (0, 0) items) (sym all_items) whole.fit)
-
-  pub can_write : (strings : List (List ℕ)) → CanWrite c.program strings c.line_strings
-  can_write strings =
-      let f = whole.finished in
-      let last : IsReady strings (encoding_of h given) f.lists =
-          lists_at_keeps (IsReady strings (encoding_of h given)) sections first (λ l n d a so. file_ready strings (encoding_of h given) sections l n d a so) (behind [] reads.list) f.lists f.there (first_ready strings) in
-      let files : All (CanKeep strings c.line_strings c.program.encoding.version) c.program.files =
-          subst (λ (t : List (List ℕ)). All (CanKeep strings t c.program.encoding.version) c.program.files) (sym f.line_strings)
-          (subst (λ (files : List BuiltFile). All (CanKeep strings f.lists.line_strings c.program.encoding.version) files) (sym f.files)
-          (subst (λ (e : Encoding). All (CanKeep strings f.lists.line_strings e.version) f.lists.program.files) (last.encoding_is ∙ sym encoding_kept) last.files)) in
-      record {
-        program = whole.is_none ∙ (first_ready []).program;
-        directories =
-            subst (λ (t : List (List ℕ)). All (IsWithin strings t) c.program.directories) (sym f.line_strings)
-            (subst (λ (ds : List LineText). All (IsWithin strings f.lists.line_strings) ds) (sym f.directories) last.directories);
-        paths = All-weaker (CanKeep strings c.line_strings c.program.encoding.version) (λ f. IsWithin strings c.line_strings f.0.0) (λ f so. so.path) c.program.files files;
-        sources = All-weaker (CanKeep strings c.line_strings c.program.encoding.version) (λ f. IfSome f.1.source (IsWithin strings c.line_strings)) (λ f so. so.source) c.program.files files;
-        sources_end = λ new has. All-weaker (CanKeep strings c.line_strings c.program.encoding.version) (λ f. IfSome f.1.source HasNoZero) (λ f so. so.source_ends new) c.program.files files;
-      }
 
   -- the files
   files_are : AreFiles sections h first h.files
@@ -134,7 +109,7 @@ module _ (notation : Notation) (sections : Sections) (h : Header) (given : Hande
 
   pub is_mapped : (strings : List (List ℕ)) → IsMapped notation sections h bytes strings c
   is_mapped strings =
-      let f = whole.finished in
+      let f = (comes notation sections h given line_strings first bytes reading convert_address c ready reads is).finished in
       let past = behind [] reads.list in
       record {
         rows = rows_mapped;

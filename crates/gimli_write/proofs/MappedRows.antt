@@ -11,7 +11,7 @@ use Rattle.gimli_line.specs.declared.run.row.LineRow.{LineRow as ReadRow}
 use Rattle.gimli_line.specs.declared.run.instruction.LineInstruction.TheVariants.{EndSequence, DefineFile}
 use Rattle.gimli_line.specs.header.File.{File}
 use Rattle.gimli_line.specs.header.Parameters.{Parameters}
-use Rattle.gimli_line.specs.run.Events.{Event, row, fault, row_at, events_at, events_behind, end_events, behind}
+use Rattle.gimli_line.specs.run.Events.{Event, row, fault, row_at, events_at, events_behind, end_events}
 use Rattle.gimli_line.specs.run.Instruction.{Ins, is_end, makes_row}
 use Rattle.gimli_line.specs.run.OperationPointer.{address_limit, pointer_at, is_hidden, overflows}
 use Rattle.gimli_build.specs.Built.{Built, previous_place}
@@ -76,15 +76,6 @@ row_parts r address seen at inner =
 
 -- ---- what comes of the rest of a program
 
--- the lists at the end, which a conversion answers
-pub record Finished (sections : Sections) (first : Lists) (past : List Ins) (c : Conversion) : Type 0 where
-  pub lists : Lists
-  pub there : lists_at sections first past ≡ Ok lists
-  pub directories : c.program.directories ≡ lists.program.directories
-  pub files : c.program.files ≡ lists.program.files
-  pub file_ids : c.file_ids ≡ lists.file_ids
-  pub line_strings : c.line_strings ≡ lists.line_strings
-
 -- what comes of these instructions and this end behind a past, from a program on
 pub record Rest (sections : Sections) (parameters : Parameters) (first : Lists) (size : ℕ) (c : Conversion) (past list : List Ins) (end : Option Error) (base : ℕ) (place : ℕ × ℕ) (p : Built) : Type 0 where
   pub rows : List ReadRow
@@ -96,10 +87,6 @@ pub record Rest (sections : Sections) (parameters : Parameters) (first : Lists) 
   pub lists : Lists
   pub there : lists_at sections first past ≡ Ok lists
   pub stay : (n id : ℕ) → slice_get lists.file_ids n ≡ Some id → slice_get c.file_ids n ≡ Some id
-  pub finished : Finished sections first (behind past list) c
-  pub is_none : c.program.is_none ≡ p.is_none
-  pub encoding : c.program.encoding ≡ p.encoding
-  pub line_encoding : c.program.line_encoding ≡ p.line_encoding
 
 module _ (sections : Sections) (parameters : Parameters) (first : Lists) (convert_address : ℕ → Option Address) (itself : MapsToItself convert_address)
     (size : ℕ) (wide : address_limit parameters ≤ 2 ^ (8 * size)) (c : Conversion) where
@@ -125,10 +112,6 @@ module _ (sections : Sections) (parameters : Parameters) (first : Lists) (conver
             lists = lists;
             there = there;
             stay = λ n id at. at;
-            finished = record { lists = lists; there = there; directories = refl; files = refl; file_ids = refl; line_strings = refl };
-            is_none = refl;
-            encoding = refl;
-            line_encoding = refl;
           })
 
       by : (there : Result Lists ConvertError) → lists_at sections first past ≡ there → (end : Option Error)
@@ -154,19 +137,15 @@ module _ (sections : Sections) (parameters : Parameters) (first : Lists) (conver
       lists = lists;
       there = at;
       stay = λ n id is. r.stay n id (stays r.lists r.there n id is);
-      finished = r.finished;
-      is_none = r.is_none;
-      encoding = r.encoding;
-      line_encoding = r.line_encoding;
     }
 
     -- a place gives a row, and an item is built of it
     taken : (base later : ℕ) (place behind_it : ℕ × ℕ) (p next : Built) (read : ReadRow) (built : BuiltItem) → events_at parameters past i ≡ row read ∷ []
-        → next.items ≡ p.items ++ built ∷ [] → next.is_none ≡ p.is_none → next.encoding ≡ p.encoding → next.line_encoding ≡ p.line_encoding
+        → next.items ≡ p.items ++ built ∷ []
         → ((items : List BuiltItem) (rows : List ReadRow) → RowsMapped parameters.encoding.version c.file_ids later items rows → RowsMapped parameters.encoding.version c.file_ids base (built ∷ items) (read ∷ rows))
         → ((items : List BuiltItem) → AddressesFit size later behind_it items → AddressesFit size base place (built ∷ items))
         → Rest sections parameters first size c (i ∷ past) list end later behind_it next → Rest sections parameters first size c past (i ∷ list) end base place p
-    taken base later place behind_it p next read built one pushed none encoding line_encoding mapped fit r = record {
+    taken base later place behind_it p next read built one pushed mapped fit r = record {
       rows = read ∷ r.rows;
       events = ap (λ (here : List Event). (here ++ events_behind parameters (i ∷ past) list) ++ end_events end) one ∙ ap (λ (events : List Event). row read ∷ events) r.events;
       items = built ∷ r.items;
@@ -176,10 +155,6 @@ module _ (sections : Sections) (parameters : Parameters) (first : Lists) (conver
       lists = lists;
       there = at;
       stay = λ n id is. r.stay n id (stays r.lists r.there n id is);
-      finished = r.finished;
-      is_none = r.is_none ∙ none;
-      encoding = r.encoding ∙ encoding;
-      line_encoding = r.line_encoding ∙ line_encoding;
     }
 
     -- an address is set before what a place gives
@@ -195,10 +170,6 @@ module _ (sections : Sections) (parameters : Parameters) (first : Lists) (conver
       lists = r.lists;
       there = r.there;
       stay = r.stay;
-      finished = r.finished;
-      is_none = r.is_none;
-      encoding = r.encoding;
-      line_encoding = r.line_encoding;
     }
 
     -- what is read behind a place, and what comes of it
@@ -224,7 +195,7 @@ module _ (sections : Sections) (parameters : Parameters) (first : Lists) (conver
         let address : (row_at parameters past i).address ≡ (pointer_at parameters past).address = rw closes refl in
         let below : base_at past ≤ (pointer_at parameters past).address = base_below parameters past seen in
         let within : (pointer_at parameters past).address < address_limit parameters = address_within parameters past in
-        taken base 0 place (0, 0) p next (row_at parameters past i) built one refl refl refl refl
+        taken base 0 place (0, 0) p next (row_at parameters past i) built one refl
         (λ items rows mapped. (record { address = omega arith; ends = closes }, mapped))
         (λ items fit. (omega (arith, wide), fit))
         (follow 0 (0, 0) next (follows_end parameters past i closes)
@@ -249,7 +220,7 @@ module _ (sections : Sections) (parameters : Parameters) (first : Lists) (conver
             (was_built (can_build q.line_encoding (previous_place q.items) built) next (reading_behind sections parameters first (i ∷ past) list end) is) in
         let number : IsFileId parameters.encoding.version lists.file_ids (row_at parameters past i).file file = file_id-is parameters.encoding.version lists (row_at parameters past i).file file known in
         let later : slice_get c.file_ids (row_at parameters past i).file ≡ Some file = rest.stay (row_at parameters past i).file file (stays rest.lists rest.there (row_at parameters past i).file file number.there) in
-        taken base (base_at past) place (r.address_offset, r.op_index) p next (row_at parameters past i) built one refl refl refl refl
+        taken base (base_at past) place (r.address_offset, r.op_index) p next (row_at parameters past i) built one refl
         (λ items rows mapped. (
           record { file = record { from_one = number.from_one; there = later }; others = row_parts (row_at parameters past i) (base + ((row_at parameters past i).address - base_at past)) refl sum inner },
           subst (λ (b : ℕ). RowsMapped parameters.encoding.version c.file_ids b items rows) (sym same) mapped,
