@@ -1,21 +1,14 @@
--- The tests of a conversion tell the builder's conditions; and what comes of a reading doesn't hang on the tables that a
--- program has before it.
-use Rattle.std.proofs.Common.{◌≡◌, ℕ, ◌+◌, ◌-◌, ◌*◌, ◌/◌, ◌%◌, ◌^◌, ◌<◌, ◌≤◌, Bool, true, false, not, ◌&&◌, ◌||◌, if◌then◌else◌, List, [], ◌∷◌, refl, sym, ap, ◌∙◌, arith}
-use Rattle.std.specs.Prelude.{◌↔◌, IsTrue, nat_eq, nat_lt, nat_le, Option, Result, Ok, Err}
+-- The tests of a conversion tell the builder's conditions.
+use Rattle.std.proofs.Common.{◌≡◌, ℕ, ◌+◌, ◌-◌, ◌*◌, ◌/◌, ◌%◌, ◌^◌, ◌≤◌, Bool, true, false, not, ◌&&◌, ◌||◌, refl}
+use Rattle.std.specs.Prelude.{nat_eq, nat_lt, nat_le}
 use Rattle.std.specs.Bool.{Decides}
-use Rattle.std.proofs.lemmas.Bool.{true≢false, and_from, and_parts, leb-true, ltb-true, eqb-true, le-leb, lt-ltb, eq-eqb}
+use Rattle.std.proofs.lemmas.Bool.{and_from, and_parts, leb-true, ltb-true, eqb-true, le-leb, lt-ltb, eq-eqb}
 use Rattle.gimli_core.specs.declared.common.LineEncoding.{LineEncoding}
-use Rattle.gimli_bytes.specs.declared.address.Address.{Address}
 use Rattle.gimli_build.specs.Advance.{CanFollow, IsPlace}
-use Rattle.gimli_build.specs.Built.{Built}
 use Rattle.gimli_build.specs.Conditions.{CanBuild}
-use Rattle.gimli_build.specs.LineText.{LineText}
-use Rattle.gimli_build.specs.Tables.{File}
 use Rattle.gimli_build.specs.declared.built.items.BuiltItem.{BuiltItem}
 use Rattle.gimli_build.specs.declared.built.items.BuiltItem.TheVariants.{SetAddress, Row, End}
-use Rattle.gimli_write.specs.convert.Offers.{Reading, ends, stops, offers}
-use Rattle.gimli_write.specs.convert.Feeding.{Conversion, can_follow, can_build, converted}
-use Rattle.gimli_write.specs.declared.convert_error.ConvertError.{ConvertError}
+use Rattle.gimli_write.specs.convert.Feeding.{can_follow, can_build}
 
 -- ---- the tests
 
@@ -72,20 +65,3 @@ can_build-tells e place (Row r) =
       λ can. and_from (can_follow e place r.address_offset r.op_index) (nat_lt r.line (2 ^ 63)) (follow.1 can.0) (lt-ltb r.line (2 ^ 63) can.1),
     )
 can_build-tells e place (End offset op_index) = can_follow-tells e place offset op_index
-
--- so the test is what the builder's own test answers
-pub can_build-is : (e : LineEncoding) (place : ℕ × ℕ) (item : BuiltItem) (answer : Bool) → IsTrue answer ↔ CanBuild e place item → can_build e place item ≡ answer
-can_build-is e place item true tells = (can_build-tells e place item).1 (tells.0 refl)
-can_build-is e place item false tells = by (can_build e place item) refl
-  where
-    by : (b : Bool) → can_build e place item ≡ b → b ≡ false
-    by true is = absurd (true≢false (sym (tells.1 ((can_build-tells e place item).0 is))))
-    by false is = refl
-
--- ---- the tables before a reading
-
-pub tables_unseen : (convert_address : ℕ → Option Address) (reading : Reading) (p : Built) (directories : List LineText) (files : List File)
-    → converted convert_address reading (record p { directories = directories; files = files }) ≡ converted convert_address reading p
-tables_unseen convert_address (ends lists) p directories files = refl
-tables_unseen convert_address (stops e) p directories files = refl
-tables_unseen convert_address (offers item lists rest) p directories files = refl

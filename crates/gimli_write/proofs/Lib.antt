@@ -17,3 +17,5 @@ pub mod MappedFiles
 pub mod MappedNames
 pub mod FeedingLemmas
 pub mod MappedEnds
+pub mod Conversions
+pub mod Feedings
