@@ -4,3 +4,6 @@ pub mod Lists
 pub mod Preparation
 pub mod Offers
 pub mod SourceState
+pub mod Feeding
+pub mod Mapped
+pub mod ConversionState
