@@ -13,6 +13,8 @@ mod headers;
 #[cfg(test)]
 mod instructions;
 #[cfg(test)]
+mod lookup;
+#[cfg(test)]
 mod narrow;
 #[cfg(test)]
 mod readers;
