@@ -1,16 +1,21 @@
-//! The cost of reading: runs the rows of all units of a section, so many times, as in `bench_read FILE TIMES`.
+//! The cost of reading: `bench_read FILE TIMES` runs the rows of all units of a section, so many times, and
+//! `bench_read FILE TIMES sequences` splits all units into their sequences.
 //!
-//! Standard output has the counts and a checksum over every register, standard error the time of each pass.
+//! Standard output has the counts and a checksum, over every register or over the bounds of the sequences; standard
+//! error has the time of each pass.
 #![tactic(auto)]
 
-use gimli_core::{DebugLineOffset, LittleEndian};
-use gimli_line::{ColumnType, DebugLine, LineRow};
+use gimli_core::{DebugLineOffset, EndianSlice, LittleEndian};
+use gimli_line::{ColumnType, DebugLine, IncompleteLineProgram, LineRow};
 use std::alloc::Global;
 use std::fs::File;
 use std::io::Read;
 use std::process::ExitCode;
 use std::time::Instant;
 use std::{env, io};
+
+/// The bytes of a section.
+type Section<'i> = EndianSlice<'i, LittleEndian>;
 
 fn main(rt: HostRuntime) -> ExitCode {
     match run(&rt) {
@@ -31,42 +36,64 @@ fn run(rt: &HostRuntime) -> io::Result<()> {
         Some(word) => word.parse::<u64>().unwrap_or(7),
         None => 7,
     };
+    let (name, what) = match arguments.get(3) {
+        Some(_) => ("sequences", What::Sequences),
+        None => ("rows", What::Rows),
+    };
     for _ in 0..times {
         let begin = Instant::now(rt)?;
-        let (units, rows, sum) = pass(rt.alloc(), &section);
+        let total = pass(rt.alloc(), &section, what);
         let nanos = begin.elapsed(rt)?.as_nanos();
-        println!(rt; "units {units} rows {rows} sum {sum}")?;
+        println!(rt;
+            "units {} {name} {} sum {}",
+            total.units, total.count, total.sum
+        )?;
         eprintln!(rt; "{nanos} ns")?;
     }
     Ok(())
 }
 
-/// One pass over all units: how many units and rows it met, and the checksum.
-fn pass(alloc: Global, section: &[u8]) -> (u64, u64, u64) {
-    let mut units: u64 = 0;
-    let mut total = Total { rows: 0, sum: 0 };
-    let mut offset: usize = 0;
-    for _ in 0..u64::MAX {
-        let Some(length) = unit(alloc, section, offset, &mut total) else {
-            return (units, total.rows, total.sum);
-        };
-        units = units.wrapping_add(1);
-        offset = offset.saturating_add(length).saturating_add(4);
-    }
-    (units, total.rows, total.sum)
+/// What is counted in a unit.
+#[derive(Clone, Copy)]
+enum What {
+    Rows,
+    Sequences,
 }
 
-/// What was counted so far.
+/// One pass over all units.
+fn pass(alloc: Global, section: &[u8], what: What) -> Total {
+    let mut total = Total {
+        units: 0,
+        count: 0,
+        sum: 0,
+    };
+    let mut offset: usize = 0;
+    for _ in 0..u64::MAX {
+        let Some(length) = unit(alloc, section, offset, what, &mut total) else {
+            return total;
+        };
+        offset = offset.saturating_add(length).saturating_add(4);
+    }
+    total
+}
+
+/// What was counted so far: units, rows or sequences, and the checksum.
 #[derive(Drop)]
 struct Total {
-    rows: u64,
+    units: u64,
+    count: u64,
     sum: u64,
 }
 
 impl Total {
-    /// Counts a row, and takes each of its registers into the checksum.
-    fn add(&mut self, row: &LineRow) {
-        self.rows = self.rows.wrapping_add(1);
+    /// Counts a row or a sequence, and takes a word into the checksum.
+    fn add(&mut self, word: u64) {
+        self.count = self.count.wrapping_add(1);
+        self.sum = self.sum.rotate_left(1).wrapping_add(word);
+    }
+
+    /// Counts a row, with each of its registers.
+    fn add_row(&mut self, row: &LineRow) {
         let flags = u64::from(row.is_stmt())
             | u64::from(row.basic_block()) << 1
             | u64::from(row.end_sequence()) << 2
@@ -88,12 +115,18 @@ impl Total {
             ^ row.isa().rotate_left(12)
             ^ row.discriminator().rotate_left(32)
             ^ flags.rotate_left(59);
-        self.sum = self.sum.rotate_left(1).wrapping_add(word);
+        self.add(word);
     }
 }
 
-/// Counts the rows of the unit at an offset, and answers its length without the length field.
-fn unit(alloc: Global, section: &[u8], offset: usize, total: &mut Total) -> Option<usize> {
+/// Counts in the unit at an offset, and answers its length without the length field.
+fn unit(
+    alloc: Global,
+    section: &[u8],
+    offset: usize,
+    what: What,
+    total: &mut Total,
+) -> Option<usize> {
     if offset >= section.len() {
         return None;
     }
@@ -102,12 +135,30 @@ fn unit(alloc: Global, section: &[u8], offset: usize, total: &mut Total) -> Opti
         return None;
     };
     let length = program.header().unit_length();
+    match what {
+        What::Rows => add_rows(program, total),
+        What::Sequences => add_sequences(program, total),
+    }
+    total.units = total.units.wrapping_add(1);
+    Some(length)
+}
+
+/// Counts the rows of a program.
+fn add_rows(program: IncompleteLineProgram<Section<'_>>, total: &mut Total) {
     let mut rows = program.rows();
     for _ in 0..u64::MAX {
         match rows.next_row() {
-            Ok(Some((_, row))) => total.add(row),
-            Ok(None) | Err(_) => return Some(length),
+            Ok(Some((_, row))) => total.add_row(row),
+            Ok(None) | Err(_) => return,
         }
     }
-    None
+}
+
+/// Counts the sequences of a program.
+fn add_sequences(program: IncompleteLineProgram<Section<'_>>, total: &mut Total) {
+    if let Ok((_, sequences)) = program.sequences() {
+        for sequence in &sequences {
+            total.add(sequence.start ^ sequence.end.rotate_left(32));
+        }
+    }
 }

@@ -1,6 +1,7 @@
 //! Runs of line programs: instructions, registers, rows and sequences.
 
 pub(crate) mod instruction;
+pub(crate) mod leb128;
 pub(crate) mod program;
 pub(crate) mod row;
 pub(crate) mod rows;

@@ -7,6 +7,7 @@ use crate::header::file_entry::FileEntry;
 use crate::header::parameters::Parameters;
 use crate::header::program_header::LineProgramHeader;
 use crate::run::instruction::LineInstruction;
+use crate::run::leb128::{read_short_sleb128, read_short_uleb128};
 use crate::run::program::LineProgram;
 use gimli_core::{DwLns, Error, Reader, ReaderAddress, ReaderOffset, Result, constants};
 use std::num::NonZeroU64;
@@ -275,7 +276,7 @@ impl LineRow {
     }
 
     /// Executes one of the standard opcodes that are met most, from the bytes behind it, and says whether it makes a
-    /// row. None at another opcode, or where its operand isn't there; no register changes then.
+    /// row. None at another opcode, or where its operand isn't short; no register changes then.
     pub(crate) fn exec_common_opcode<R: Reader>(
         &mut self,
         opcode: DwLns,
@@ -290,19 +291,19 @@ impl LineRow {
         match opcode {
             constants::DW_LNS_copy => return Some(true),
             constants::DW_LNS_advance_line => {
-                let Ok(line_advance) = input.read_sleb128() else {
+                let Some(line_advance) = read_short_sleb128(input) else {
                     return None;
                 };
                 self.apply_line_advance(line_advance);
             }
             constants::DW_LNS_set_file => {
-                let Ok(file) = input.read_uleb128() else {
+                let Some(file) = read_short_uleb128(input) else {
                     return None;
                 };
                 self.file = file;
             }
             constants::DW_LNS_set_column => {
-                let Ok(column) = input.read_uleb128() else {
+                let Some(column) = read_short_uleb128(input) else {
                     return None;
                 };
                 self.column = column;

@@ -185,7 +185,8 @@ impl<R: Reader, P: LineProgram<R>> LineRows<R, P> {
         Ok(Step::More)
     }
 
-    /// Executes one instruction of any kind.
+    /// Executes one instruction of any kind. Few are left to it, and so it stays out of line.
+    #[inline(never)]
     fn step_any(&mut self) -> Result<Step>
         ensures ok { IfOk result (StepIs self.old self.new) }
         ensures err { IfErr result (FaultIs self.old self.new) }
