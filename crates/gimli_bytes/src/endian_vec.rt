@@ -97,7 +97,10 @@ impl<E: Endianity> Writer for EndianVec<E> {
         ensures err { OnErr result (self.new ≡ self.old) }
         ensures memory { IfErr result (λ e. e ≡ Error.OutOfMemory) }
     {
-        self.vec.extend_from_slice(bytes)?;
+        match bytes {
+            [byte] => self.vec.push(*byte)?,
+            _ => self.vec.extend_from_slice(bytes)?,
+        }
         Ok(())
     }
 

@@ -22,6 +22,7 @@ impl Model for Leb128 {
 
 impl Leb128 {
     /// The shortest spelling of an unsigned number.
+    #[inline(never)]
     pub fn unsigned(val: u64) -> Leb128
         ensures { result ≡ uleb val }
     {
@@ -43,6 +44,7 @@ impl Leb128 {
     }
 
     /// The shortest spelling of a signed number.
+    #[inline(never)]
     pub fn signed(val: i64) -> Leb128
         ensures { result ≡ sleb val }
     {

@@ -1,4 +1,4 @@
-ghost use Rattle.std.specs.Prelude.{◌≡◌, ◌≢◌, ℕ, ◌+◌, ◌<◌, ◌≤◌, ◌^◌, Bool, true, false, List, [], ◌∷◌, ◌++◌, length, option_map, slice_get, IfOk, IfErr, OnOk, OnErr, IfSome, Some, None, IsTrue, ◌↔◌};
+ghost use Rattle.std.specs.Prelude.{◌≡◌, ◌≢◌, ℕ, ◌+◌, ◌/◌, ◌%◌, ◌<◌, ◌≤◌, ◌^◌, Bool, true, false, nat_eq, List, [], ◌∷◌, ◌++◌, length, option_map, slice_get, IfOk, IfErr, OnOk, OnErr, IfSome, Some, None, IsTrue, ◌↔◌};
 ghost use Rattle.std.specs.Option.{option_to_list};
 ghost use Rattle.gimli_core.specs.Numbers.{is_address_size};
 ghost use Rattle.gimli_build.specs.Advance.{CanEncode, CanFollow};
@@ -530,13 +530,35 @@ fn can_follow(
     ensures { IsTrue result
         ↔ CanFollow line_encoding previous_offset previous_op_index offset op_index }
 {
-    let length = u64::from(line_encoding.minimum_instruction_length);
     let operations = u64::from(line_encoding.maximum_operations_per_instruction);
-    if !offset.is_multiple_of(length) || op_index >= operations || offset < previous_offset {
+    if !is_whole(line_encoding, offset) || op_index >= operations || offset < previous_offset {
         return false;
     }
     if offset == previous_offset && op_index < previous_op_index {
         return false;
     }
-    (offset - previous_offset) / length <= (u64::MAX - op_index) / operations
+    operations == 1
+        || instruction_count(line_encoding, offset - previous_offset)
+            <= (u64::MAX - op_index) / operations
+}
+
+/// Whether an offset is a whole number of shortest instructions.
+fn is_whole(line_encoding: LineEncoding, offset: u64) -> bool
+    requires { CanEncode line_encoding }
+    ensures { result ≡ nat_eq (offset % line_encoding.minimum_instruction_length) 0 }
+{
+    let length = line_encoding.minimum_instruction_length;
+    length == 1 || offset.is_multiple_of(u64::from(length))
+}
+
+/// How many shortest instructions so many bytes are. Where they have one byte each, nothing is divided.
+pub(crate) fn instruction_count(line_encoding: LineEncoding, bytes: u64) -> u64
+    requires { CanEncode line_encoding }
+    ensures { result ≡ bytes / line_encoding.minimum_instruction_length }
+{
+    let length = line_encoding.minimum_instruction_length;
+    if length == 1 {
+        return bytes;
+    }
+    bytes / u64::from(length)
 }

@@ -12,6 +12,7 @@ ghost use Rattle.gimli_build.specs.ReadAs.{read_as};
 ghost use Rattle.gimli_build.specs.Writes.{Writes};
 
 use crate::built::items::BuiltItem;
+use crate::built::line_program::instruction_count;
 use crate::built::row::LineRow;
 use crate::rows::instruction::{LineInstruction, write_if, write_instruction, write_set_address};
 use gimli_bytes::{Result, Writer};
@@ -37,20 +38,19 @@ pub(crate) fn write_items<W: Writer>(
 {
     let mut previous = LineRow::initial(encoding, line_encoding);
     for item in items {
-        write_item(w, encoding, line_encoding, &previous, item)?;
-        previous = behind_item(encoding, line_encoding, &previous, item);
+        previous = write_item(w, encoding, line_encoding, &previous, item)?;
     }
     Ok(())
 }
 
-/// Appends the instructions of one item that follows `previous`.
+/// Appends the instructions of one item that follows `previous`, and answers the row that the next item follows.
 fn write_item<W: Writer>(
     w: &mut W,
     encoding: Encoding,
     line_encoding: LineEncoding,
     previous: &LineRow,
     item: &BuiltItem,
-) -> Result<()>
+) -> Result<LineRow>
     requires can { CanEncode line_encoding }
     requires place { IsPlace line_encoding previous.now.address_offset previous.now.op_index }
     requires previous_line { previous.now.line < 2 ^ 63 }
@@ -58,34 +58,29 @@ fn write_item<W: Writer>(
     ensures writes { Writes W.Writer w.old w.new result
         (item_bytes (W.big w.old) encoding line_encoding previous.now item.now) }
     ensures fit { OnOk result (FitsItem encoding.version item.now) }
+    ensures next { IfOk result (λ next. next
+        ≡ next_previous encoding.version line_encoding.default_is_stmt previous.now item.now) }
 {
     match item {
-        BuiltItem::SetAddress(address) => write_set_address(w, *address, encoding.address_size),
-        BuiltItem::Row(row) => write_row(w, encoding, line_encoding, previous, row),
+        BuiltItem::SetAddress(address) => {
+            write_set_address(w, *address, encoding.address_size)?;
+            Ok(LineRow {
+                address_offset: 0,
+                op_index: 0,
+                ..*previous
+            })
+        }
+        BuiltItem::Row(row) => {
+            write_row(w, encoding, line_encoding, previous, row)?;
+            Ok(*row)
+        }
         BuiltItem::End {
             address_offset,
             op_index,
-        } => write_end(w, line_encoding, previous, *address_offset, *op_index),
-    }
-}
-
-/// The row that the item behind this one follows.
-fn behind_item(
-    encoding: Encoding,
-    line_encoding: LineEncoding,
-    previous: &LineRow,
-    item: &BuiltItem,
-) -> LineRow
-    ensures { result ≡ next_previous encoding.version line_encoding.default_is_stmt previous.now item.now }
-{
-    match item {
-        BuiltItem::SetAddress(_) => LineRow {
-            address_offset: 0,
-            op_index: 0,
-            ..*previous
-        },
-        BuiltItem::Row(row) => *row,
-        BuiltItem::End { .. } => LineRow::initial(encoding, line_encoding),
+        } => {
+            write_end(w, line_encoding, previous, *address_offset, *op_index)?;
+            Ok(LineRow::initial(encoding, line_encoding))
+        }
     }
 }
 
@@ -263,9 +258,9 @@ fn operation_advance(
     ensures { result ≡ operations line_encoding.now previous.now.address_offset previous.now.op_index
         address_offset op_index }
 {
-    let length = u64::from(line_encoding.minimum_instruction_length);
     let operations = u64::from(line_encoding.maximum_operations_per_instruction);
-    (address_offset - previous.address_offset) / length * operations + op_index - previous.op_index
+    let instructions = instruction_count(*line_encoding, address_offset - previous.address_offset);
+    instructions * operations + op_index - previous.op_index
 }
 
 /// How far a line is behind another one.

@@ -2,10 +2,10 @@ use Rattle.std.proofs.Common.{arith}
 use Rattle.gimli_build.proofs.Steps.{operations_above}
 use Rattle.gimli_build.proofs.rows.encode.operation_advance.Goals as goal
 
-pub overflow_sub-result-2 : goal.overflow_sub-result-2
-overflow_sub-result-2 c =
+pub overflow_sub-result : goal.overflow_sub-result
+overflow_sub-result c =
     let e = c.args.line_encoding.now in
     let r = c.requires in
     let h = operations_above e.minimum_instruction_length e.maximum_operations_per_instruction c.args.previous.now.address_offset c.args.previous.now.op_index c.args.address_offset c.args.op_index
     (omega arith) r.place.divides r.follows.place.divides r.follows.after r.follows.later r.place.within in
-    rw (c.from-length.ensures, c.from-operations.ensures) h
+    rw (c.instruction_count-instructions.ensures, c.from-operations.ensures) h

@@ -31,12 +31,12 @@ loop-item-preserved g c =
     let split = next_left items i item lt c.item-item.is in
     let way = rw split at c.loop-item.invariant.way in
     record {
-      keeps = begins_then (contents c.args.w.now) (contents c.loop-item.w) (contents c.write_item.new.w) c.loop-item.invariant.keeps c.in_ok-write_item.ensures.writes.keeps;
-      ordered = c.in_ok-write_item.ensures.writes.ordered ∙ c.loop-item.invariant.ordered;
-      fit = rw (taken_next items i item lt c.item-item.is) (fit_more c.args.encoding.version (take i items) item c.loop-item.invariant.fit c.in_ok-write_item.ensures.fit);
-      way = rw c.behind_item-previous.ensures (way_on c.args.encoding.version e c.requires.can c.loop-item.previous item (drop (i + 1) items) way);
+      keeps = begins_then (contents c.args.w.now) (contents c.loop-item.w) (contents c.write_item.new.w) c.loop-item.invariant.keeps c.in_ok-previous.ensures.writes.keeps;
+      ordered = c.in_ok-previous.ensures.writes.ordered ∙ c.loop-item.invariant.ordered;
+      fit = rw (taken_next items i item lt c.item-item.is) (fit_more c.args.encoding.version (take i items) item c.loop-item.invariant.fit c.in_ok-previous.ensures.fit);
+      way = rw c.in_ok-previous.ensures.next (way_on c.args.encoding.version e c.requires.can c.loop-item.previous item (drop (i + 1) items) way);
       put = λ keeps_bytes.
           let so = rw split at (c.loop-item.invariant.put keeps_bytes) in
-          let more = rw c.loop-item.invariant.ordered at (c.in_ok-write_item.ensures.writes.ok keeps_bytes) in
-          rw c.behind_item-previous.ensures (standing_more big c.args.encoding e whole (contents c.args.w.now) (contents c.loop-item.w) (contents c.write_item.new.w) c.loop-item.previous item (drop (i + 1) items) so more);
+          let more = rw c.loop-item.invariant.ordered at (c.in_ok-previous.ensures.writes.ok keeps_bytes) in
+          rw c.in_ok-previous.ensures.next (standing_more big c.args.encoding e whole (contents c.args.w.now) (contents c.loop-item.w) (contents c.write_item.new.w) c.loop-item.previous item (drop (i + 1) items) so more);
     }
