@@ -24,7 +24,7 @@ trap 'rm -rf "$work"' EXIT
 cc -std=c11 -Wall -Wextra -Werror -O2 -I "$crate/include" "$here/c/addr2line.c" "$library" "$kit/liblibc_c.a" -o "$work/c"
 examples=c
 if command -v rustc >/dev/null; then
-    rustc -O "$here/rust/addr2line.rs" -L "native=$crate/out" -l static=gimli_c -L "native=$kit" -l static=libc_c \
+    rustc --edition 2024 -O "$here/rust/addr2line.rs" -L "native=$crate/out" -l static=gimli_c -L "native=$kit" -l static=libc_c \
         -o "$work/rust"
     examples="c rust"
 else
