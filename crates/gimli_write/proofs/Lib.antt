@@ -19,3 +19,4 @@ pub mod FeedingLemmas
 pub mod MappedEnds
 pub mod Conversions
 pub mod Feedings
+pub mod MappedLaws
