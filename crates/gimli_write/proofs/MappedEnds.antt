@@ -29,7 +29,7 @@ use Rattle.gimli_write.specs.declared.convert.offer.ConvertLineRow.TheVariants a
 use Rattle.gimli_write.specs.convert.Texts.{◌>>=◌, source_path}
 use Rattle.gimli_write.specs.convert.Lists.{Lists, version_of, with_path, directory_added, file_added}
 use Rattle.gimli_write.specs.convert.Preparation.{Handed, encoding_of, first_ids, prepared}
-use Rattle.gimli_write.specs.convert.Offers.{Reading, ends, stops, offers, source_row, built_row, address_offered, row_offered, place_offered, offered, reading_at, end_reading, upon, lists_at, reading_behind, Reads}
+use Rattle.gimli_write.specs.convert.Offers.{Reading, stops, offers, source_row, built_row, address_offered, row_offered, place_offered, offered, reading_at, end_reading, upon, lists_at, reading_behind, Reads}
 use Rattle.gimli_write.specs.convert.Mapped.{AreFilesMapped}
 use Rattle.gimli_write.specs.convert.Feeding.{Conversion, converted, with_tables, can_build, behind_address, behind_row, behind_end}
 use Rattle.gimli_write.proofs.MappedDirectories.{AreDirectories, directories_prepared, directories_stay}
@@ -170,11 +170,11 @@ module _ (notation : Notation) (sections : Sections) (h : Header) (given : Hande
       let encoding = encoding_of h given in
       let start : IsReady strings encoding first = prepared_ready strings sections h given line_strings first ready in
       let last : IsReady strings encoding f.lists =
-          lists_at_keeps (IsReady strings encoding) sections first (λ l n d a so. file_ready strings encoding sections l n d a so) (behind [] reads.list) f.lists f.there start in
+      lists_at_keeps (IsReady strings encoding) sections first (λ l n d a so. file_ready strings encoding sections l n d a so) (behind [] reads.list) f.lists f.there start in
       let files : All (CanKeep strings c.line_strings c.program.encoding.version) c.program.files =
-          subst (λ (t : List (List ℕ)). All (CanKeep strings t c.program.encoding.version) c.program.files) (sym f.line_strings)
-          (subst (λ (files : List BuiltFile). All (CanKeep strings f.lists.line_strings c.program.encoding.version) files) (sym f.files)
-          (subst (λ (e : Encoding). All (CanKeep strings f.lists.line_strings e.version) f.lists.program.files) (last.encoding_is ∙ sym encoding_kept) last.files)) in
+      subst (λ (t : List (List ℕ)). All (CanKeep strings t c.program.encoding.version) c.program.files) (sym f.line_strings)
+      (subst (λ (files : List BuiltFile). All (CanKeep strings f.lists.line_strings c.program.encoding.version) files) (sym f.files)
+      (subst (λ (e : Encoding). All (CanKeep strings f.lists.line_strings e.version) f.lists.program.files) (last.encoding_is ∙ sym encoding_kept) last.files)) in
       record {
         program = comes.kind.is_none ∙ start.program;
         directories =
@@ -191,7 +191,7 @@ module _ (notation : Notation) (sections : Sections) (h : Header) (given : Hande
       let p = is_prepared sections h given line_strings first ready in
       let version = h.parameters.encoding.version in
       let none : p.with_directories.file_ids ≡ first_ids version =
-          all_added_keeps (λ l. l.file_ids ≡ first_ids version) (directory_added sections) (λ l n v a so. no_file sections l n v a ∙ so) h.directories _ p.with_directories p.directories refl in
+      all_added_keeps (λ l. l.file_ids ≡ first_ids version) (directory_added sections) (λ l n v a so. no_file sections l n v a ∙ so) h.directories _ p.with_directories p.directories refl in
       files_next sections h [] h.files p.with_directories first p.files (record { ids = []; ids_are = none ∙ sym (append-nil (first_ids version)); each = tt })
 
   directories_are : AreDirectories sections h first

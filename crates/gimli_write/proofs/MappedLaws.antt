@@ -1,6 +1,6 @@
 -- What the laws of conversions say.
 use Rattle.std.proofs.Common.{◌≡◌, ℕ, Bool, true, false, ◌&&◌, if◌then◌else◌, List, [], ◌∷◌, map, refl, sym, ap, subst, ◌∙◌}
-use Rattle.std.specs.Prelude.{nat_eq, slice_get, Option, Some, None, unwrap_or, option_map, Result, Ok, Err, MatchResult, All}
+use Rattle.std.specs.Prelude.{nat_eq, slice_get, Option, Some, unwrap_or, option_map, Result, Ok, Err, MatchResult, All}
 use Rattle.std.proofs.lemmas.Option.{slice_get-map, slice_get_within, get_or_from_slice_get}
 use Rattle.gimli_core.specs.Notation.{Notation}
 use Rattle.gimli_core.specs.declared.error.Error.{Error}
@@ -122,8 +122,8 @@ module _ (convert_address : ℕ → Option Address) (notation : Notation) (secti
       let once = one_decoding notation h h.program w.reads.list w.reads.end w.reads.decoding ∙ sym (one_decoding notation h h.program at_end.list at_end.end at_end.decoding) in
       let same : defined_files h.files (behind [] w.reads.list) ≡ files = ap (λ (p : List Ins × Option Error). defined_files h.files (behind [] p.0)) once ∙ sym at_end.given in
       let mapped : AreFilesMapped sections h files strings c =
-          subst (λ (files : List File). AreFilesMapped sections h files strings c) same
-          (files_same notation sections h given line_strings w.first h.program w.reading convert_address c w.ready w.reads w.is strings) in
+      subst (λ (files : List File). AreFilesMapped sections h files strings c) same
+      (files_same notation sections h given line_strings w.first h.program w.reading convert_address c w.ready w.reads w.is strings) in
       let can : CanWrite c.program strings c.line_strings = conversion_written strings in
       let after = line_strings_behind c.program c.line_strings in
       let keeps : KeepsTexts c.line_strings after = keeps_behind c.program c.line_strings in
@@ -134,9 +134,9 @@ module _ (convert_address : ℕ → Option Address) (notation : Notation) (secti
             let built = built_file c.program strings after in
             let answer : FileAnswer = built m.built in
             let path : bytes_in strings after m.built.0.0 ≡ bytes_in strings c.line_strings m.built.0.0 =
-                bytes_longer strings c.line_strings after m.built.0.0 keeps (element (λ f. IsWithin strings c.line_strings f.0.0) c.program.files found.0 m.built can.paths m.there) in
+            bytes_longer strings c.line_strings after m.built.0.0 keeps (element (λ f. IsWithin strings c.line_strings f.0.0) c.program.files found.0 m.built can.paths m.there) in
             let directory : bytes_in strings after m.directory ≡ bytes_in strings c.line_strings m.directory =
-                bytes_longer strings c.line_strings after m.directory keeps (element (IsWithin strings c.line_strings) c.program.directories m.built.0.1 m.directory can.directories m.directory_there) in (
+            bytes_longer strings c.line_strings after m.directory keeps (element (IsWithin strings c.line_strings) c.program.directories m.built.0.1 m.directory can.directories m.directory_there) in (
               found.0,
               found.1,
               (

@@ -1,6 +1,6 @@
 -- A conversion of a whole program.
-use Rattle.std.proofs.Common.{◌≡◌, ℕ, ◌*◌, ◌^◌, ◌≤◌, List, [], ◌∷◌, ◌++◌, length, map, refl, sym, ap, subst, ◌∙◌, arith}
-use Rattle.std.specs.Prelude.{Option, Some, None, IfSome, Result, Ok, Err, All}
+use Rattle.std.proofs.Common.{◌≡◌, ℕ, ◌≤◌, List, [], ◌∷◌, ◌++◌, refl, sym, ap, subst, ◌∙◌, arith}
+use Rattle.std.specs.Prelude.{Option, Ok}
 use Rattle.std.proofs.lemmas.Bool.{true≢false}
 use Rattle.std.proofs.Math.Pow.{pow_mono}
 use Rattle.gimli_core.specs.Notation.{Notation}
@@ -9,11 +9,11 @@ use Rattle.gimli_core.specs.declared.common.Encoding.{Encoding}
 use Rattle.gimli_bytes.specs.declared.address.Address.{Address}
 use Rattle.gimli_line.specs.declared.run.row.LineRow.{LineRow as ReadRow}
 use Rattle.gimli_line.specs.header.Header.{Header}
-use Rattle.gimli_line.specs.run.Events.{Event, row, program_events, defined_files, behind}
+use Rattle.gimli_line.specs.run.Events.{defined_files, behind}
 use Rattle.gimli_line.specs.run.Instruction.{Ins}
 use Rattle.gimli_line.specs.run.InstructionGrammar.{Decodes}
 use Rattle.gimli_line.proofs.InstructionLaws.{one_decoding}
-use Rattle.gimli_build.specs.Built.{Built, base_of}
+use Rattle.gimli_build.specs.Built.{base_of}
 use Rattle.gimli_build.specs.FileNumber.{file_number}
 use Rattle.gimli_build.specs.Items.{AddressesFit}
 use Rattle.gimli_build.specs.SameRow.{RowsMatch, read_row}
@@ -23,9 +23,9 @@ use Rattle.gimli_build.specs.declared.built.items.BuiltItem.{BuiltItem}
 use Rattle.gimli_build.specs.declared.built.items.BuiltItem.TheVariants.{SetAddress, Row, End}
 use Rattle.gimli_write.specs.convert.Lists.{Lists}
 use Rattle.gimli_write.specs.convert.Preparation.{Handed, encoding_of, prepared}
-use Rattle.gimli_write.specs.convert.Offers.{Reading, Reads, lists_at, reading_behind}
+use Rattle.gimli_write.specs.convert.Offers.{Reading, Reads}
 use Rattle.gimli_write.specs.convert.Feeding.{Conversion, converted}
-use Rattle.gimli_write.specs.convert.Mapped.{MapsToItself, SeesEnds, SeesEndsBehind, IsFileId, IsMappedRow, IsMappedEnd, RowsMapped, AreRowsMapped, IsMapped, IsReadAs}
+use Rattle.gimli_write.specs.convert.Mapped.{MapsToItself, SeesEnds, SeesEndsBehind, RowsMapped, AreRowsMapped, IsMapped, IsReadAs}
 use Rattle.gimli_write.proofs.MappedAddresses.{follows_start}
 use Rattle.gimli_write.proofs.MappedEnds.{encoding_kept, files_same}
 use Rattle.gimli_write.proofs.MappedLists.{IsReady, prepared_ready}

@@ -1,5 +1,5 @@
 -- What it means that a converted program says what its source says, and what is asked of the source for it.
-use Rattle.std.specs.Prelude.{◌≡◌, ◌≢◌, ℕ, ◌+◌, ◌≤◌, Bool, true, false, not, ◌&&◌, ◌||◌, if◌then◌else◌, List, [], ◌∷◌, ◌++◌, map, slice_get, Option, Some, None, option_map, Result, Ok, All}
+use Rattle.std.specs.Prelude.{◌≡◌, ◌≢◌, ℕ, ◌+◌, ◌≤◌, Bool, true, false, not, ◌&&◌, ◌||◌, if◌then◌else◌, List, [], ◌∷◌, ◌++◌, map, slice_get, Option, Some, None, option_map}
 use Rattle.std.specs.List.{AllByRecursion}
 use Rattle.gimli_core.specs.Notation.{Notation}
 use Rattle.gimli_core.specs.Values.{Value}
@@ -15,7 +15,7 @@ use Rattle.gimli_line.specs.run.EventsWithFiles.{FilesAtEnd}
 use Rattle.gimli_line.specs.run.Instruction.{Ins, is_end, makes_row}
 use Rattle.gimli_line.specs.run.InstructionGrammar.{Decodes}
 use Rattle.gimli_line.specs.run.OperationPointer.{is_hidden}
-use Rattle.gimli_build.specs.Built.{Built, address_value}
+use Rattle.gimli_build.specs.Built.{address_value}
 use Rattle.gimli_build.specs.FileNumber.{file_number}
 use Rattle.gimli_build.specs.LineText.{LineText, bytes_in}
 use Rattle.gimli_build.specs.SameRow.{read_row}
