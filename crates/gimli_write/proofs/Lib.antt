@@ -20,3 +20,4 @@ pub mod MappedEnds
 pub mod Conversions
 pub mod Feedings
 pub mod MappedLaws
+mod WorkedConversions
