@@ -8,7 +8,7 @@ use Rattle.gimli_bytes.specs.declared.address.Address.{Address}
 use Rattle.gimli_bytes.specs.Texts.{KeepsTexts, with_text}
 use Rattle.gimli_bytes.proofs.TextLemmas.{with_text-KeepsTexts}
 use Rattle.gimli_line.specs.declared.run.row.LineRow.{LineRow as ReadRow}
-use Rattle.gimli_line.specs.header.Header.{Header}
+use Rattle.gimli_line.specs.header.Header.{Header, UnitEntry}
 use Rattle.gimli_line.specs.run.Events.{Event, row, Events, program_events, defined_files, behind}
 use Rattle.gimli_line.specs.run.EventsWithFiles.{FilesAtEnd}
 use Rattle.gimli_line.specs.header.File.{File}
@@ -18,6 +18,7 @@ use Rattle.gimli_build.specs.Built.{Built}
 use Rattle.gimli_build.specs.Conditions.{CanWrite}
 use Rattle.gimli_build.specs.Items.{AddressesFit}
 use Rattle.gimli_build.specs.LineText.{LineText, Inline, InStrings, InLineStrings, IsWithin, bytes_in}
+use Rattle.gimli_build.specs.ReadsBack.{ReadsBack}
 use Rattle.gimli_build.specs.SameRow.{RowsMatch}
 use Rattle.gimli_build.specs.Texts.{Sections, OneByOne}
 use Rattle.gimli_build.specs.Version5Tables.{needs_empty, first_form, sources, line_strings_behind}
@@ -112,6 +113,14 @@ module _ (convert_address : ℕ → Option Address) (notation : Notation) (secti
         let same : mapped.rows ≡ rows = same_rows mapped.rows rows (events_once notation h h.program (map row mapped.rows) (map row rows) mapped.events events) in
         subst (λ (source : List ReadRow). OneByOne (IsReadAs h.parameters.encoding.version c.program.encoding.version c.file_ids) source back) same
         (rows_again h.parameters.encoding.version c.program.encoding.version c.file_ids [] c.program.items mapped.rows back mapped.mapped (built conversion_fits))
+
+    -- the same of a unit that is read back
+    pub unit_back : (rows : List ReadRow) → Events notation h h.program (map row rows)
+        → (again : Notation) (unit_entry : UnitEntry) (texts : Sections) (strings after : List (List ℕ)) (unit : List ℕ) (back : ReadsBack again unit_entry texts c.program strings after unit)
+        → (found : List ReadRow) × Events again back.header back.header.program (map row found) × OneByOne (IsReadAs h.parameters.encoding.version c.program.encoding.version c.file_ids) rows found
+    unit_back rows events again unit_entry texts strings after unit back =
+        let found = back.rows conversion_fits in
+        (found.0, found.1, conversion_back rows found.0 events (λ fit. found.2))
 
   pub files_back : (strings : List (List ℕ)) (files : List File) (answers : List FileAnswer) (directories : List (List ℕ)) → FilesAtEnd notation true h h.program files
       → answers ≡ map (built_file c.program strings (line_strings_behind c.program c.line_strings)) c.program.files

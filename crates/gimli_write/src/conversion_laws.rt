@@ -6,7 +6,7 @@ ghost use Rattle.std.specs.Bool.{Decides};
 ghost use Rattle.gimli_core.specs.declared.common.LineEncoding.{LineEncoding};
 ghost use Rattle.gimli_core.specs.Notation.{Notation};
 ghost use Rattle.gimli_bytes.specs.declared.address.Address.{Address};
-ghost use Rattle.gimli_line.specs.header.Header.{Header};
+ghost use Rattle.gimli_line.specs.header.Header.{Header, UnitEntry};
 ghost use Rattle.gimli_line.specs.header.File.{File};
 ghost use Rattle.gimli_line.specs.run.EventsWithFiles.{FilesAtEnd};
 ghost use Rattle.gimli_line.specs.run.Events.{Events, row};
@@ -15,6 +15,7 @@ ghost use Rattle.gimli_build.specs.Conditions.{CanBuild, CanWrite};
 ghost use Rattle.gimli_build.specs.declared.built.items.BuiltItem.{BuiltItem};
 ghost use Rattle.gimli_build.specs.Items.{AddressesFit};
 ghost use Rattle.gimli_build.specs.LineText.{bytes_in};
+ghost use Rattle.gimli_build.specs.ReadsBack.{ReadsBack};
 ghost use Rattle.gimli_build.specs.SameRow.{RowsMatch};
 ghost use Rattle.gimli_build.specs.Texts.{Sections, OneByOne};
 ghost use Rattle.gimli_build.specs.Version5Tables.{line_strings_behind};
@@ -49,14 +50,22 @@ pub fn conversions_are_faithful()
         AddressesFit c.program.encoding.address_size 0 (0, 0) c.program.items }
 {}
 
-/// So the rows that `round_trip` answers of it say what the rows of the source say, one by one: an end has its address, and
-/// any other row all its registers, with the number that its file has now.
+/// So the rows that are read back of it say what the rows of the source say, one by one: an end has its address, and any
+/// other row all its registers, with the number that its file has now. These are the rows that `round_trip` answers, and
+/// those of a unit that `LineProgram::write` wrote, however it is read well.
 pub fn converted_rows_are_read_back()
-    ensures { (convert_address : ℕ → Option Address) (notation : Notation) (sections : Sections) (h : Header) (given : Handed)
+    ensures answered { (convert_address : ℕ → Option Address) (notation : Notation) (sections : Sections) (h : Header) (given : Handed)
         (line_strings : List (List ℕ)) (c : Conversion) (rows back : List ReadRow) → CanBeFaithful convert_address notation h given →
         IsConverted convert_address notation sections h given line_strings (Ok c) → Events notation h h.program (map row rows) →
         (AddressesFit c.program.encoding.address_size 0 (0, 0) c.program.items → RowsMatch c.program.encoding.version [] c.program.items back) →
         OneByOne (IsReadAs h.parameters.encoding.version c.program.encoding.version c.file_ids) rows back }
+    ensures written { (convert_address : ℕ → Option Address) (notation : Notation) (sections : Sections) (h : Header) (given : Handed)
+        (line_strings : List (List ℕ)) (c : Conversion) (rows : List ReadRow) → CanBeFaithful convert_address notation h given →
+        IsConverted convert_address notation sections h given line_strings (Ok c) → Events notation h h.program (map row rows) →
+        (again : Notation) (unit_entry : UnitEntry) (texts : Sections) (strings after : List (List ℕ)) (unit : List ℕ)
+        (back : ReadsBack again unit_entry texts c.program strings after unit) →
+        (found : List ReadRow) × Events again back.header back.header.program (map row found)
+        × OneByOne (IsReadAs h.parameters.encoding.version c.program.encoding.version c.file_ids) rows found }
 {}
 
 /// And the files that it answers have the paths of those of the source: each file number of the source has an id, which is
