@@ -21,3 +21,4 @@ pub mod Conversions
 pub mod Feedings
 pub mod MappedLaws
 mod WorkedConversions
+pub mod Gathers

@@ -7,3 +7,4 @@ pub mod SourceState
 pub mod Feeding
 pub mod Mapped
 pub mod ConversionState
+pub mod Sequences
