@@ -29,9 +29,9 @@ use Rattle.gimli_write.specs.convert.Feeding.{Conversion, converted}
 use Rattle.gimli_write.specs.convert.Lists.{Lists}
 use Rattle.gimli_write.specs.convert.Mapped.{CanBeFaithful, IsMapped, IsReadAs, AreRowsMapped, HasPaths, AreFilesMapped, AreFilesReadAs}
 use Rattle.gimli_write.specs.convert.Offers.{Reading, Reads}
-use Rattle.gimli_write.specs.convert.Preparation.{Handed, prepared}
+use Rattle.gimli_write.specs.convert.Preparation.{Handed, encoding_of, prepared}
 use Rattle.gimli_write.proofs.ConvertSteps.{kept_self}
-use Rattle.gimli_write.proofs.MappedEnds.{can_write, files_same}
+use Rattle.gimli_write.proofs.MappedEnds.{can_write, encoding_kept, files_same}
 use Rattle.gimli_write.proofs.MappedPrograms.{is_mapped, addresses_fit, rows_again}
 
 -- the parts of a conversion that was done
@@ -93,6 +93,11 @@ module _ (convert_address : ℕ → Option Address) (notation : Notation) (secti
   conversion_written =
       let w = was_converted convert_address notation sections h given line_strings c so in
       can_write notation sections h given line_strings w.first h.program w.reading convert_address c w.ready w.reads w.is
+
+  pub conversion_encoded : c.program.encoding ≡ encoding_of h given
+  conversion_encoded =
+      let w = was_converted convert_address notation sections h given line_strings c so in
+      encoding_kept notation sections h given line_strings w.first h.program w.reading convert_address c w.ready w.reads w.is
 
   module _ (can : CanBeFaithful convert_address notation h given) where
     pub conversion_mapped : (strings : List (List ℕ)) → IsMapped notation sections h h.program strings c

@@ -23,7 +23,7 @@ ghost use Rattle.gimli_write.specs.RoundTrip.{FileAnswer, built_file};
 ghost use Rattle.gimli_write.specs.convert.ConversionState.{IsConverted};
 ghost use Rattle.gimli_write.specs.convert.Feeding.{Conversion, can_build};
 ghost use Rattle.gimli_write.specs.convert.Mapped.{CanBeFaithful, IsMapped, IsReadAs, AreFilesReadAs};
-ghost use Rattle.gimli_write.specs.convert.Preparation.{Handed};
+ghost use Rattle.gimli_write.specs.convert.Preparation.{Handed, encoding_of};
 
 /// A conversion asks of each row and end what the builder's own calls ask.
 pub fn conversions_ask_what_the_builder_asks()
@@ -35,6 +35,13 @@ pub fn converted_programs_can_be_written()
     ensures { (convert_address : ℕ → Option Address) (notation : Notation) (sections : Sections) (h : Header) (given : Handed)
         (line_strings strings : List (List ℕ)) (c : Conversion) →
         IsConverted convert_address notation sections h given line_strings (Ok c) → CanWrite c.program strings c.line_strings }
+{}
+
+/// A converted program has the encoding that is handed, else that of its source.
+pub fn converted_programs_keep_their_encoding()
+    ensures { (convert_address : ℕ → Option Address) (notation : Notation) (sections : Sections) (h : Header) (given : Handed)
+        (line_strings : List (List ℕ)) (c : Conversion) → IsConverted convert_address notation sections h given line_strings (Ok c) →
+        c.program.encoding ≡ encoding_of h given }
 {}
 
 /// Where each address is mapped to itself, addresses are at least as wide as those of the source, and no sequence of the
