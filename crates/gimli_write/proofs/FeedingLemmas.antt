@@ -4,7 +4,7 @@ use Rattle.std.specs.Prelude.{nat_eq, nat_lt, nat_le}
 use Rattle.std.specs.Bool.{Decides}
 use Rattle.std.proofs.lemmas.Bool.{and_from, and_parts, leb-true, ltb-true, eqb-true, le-leb, lt-ltb, eq-eqb}
 use Rattle.gimli_core.specs.declared.common.LineEncoding.{LineEncoding}
-use Rattle.gimli_build.specs.Advance.{CanFollow, IsPlace}
+use Rattle.gimli_build.specs.Advance.{CanFollow}
 use Rattle.gimli_build.specs.Conditions.{CanBuild}
 use Rattle.gimli_build.specs.declared.built.items.BuiltItem.{BuiltItem}
 use Rattle.gimli_build.specs.declared.built.items.BuiltItem.TheVariants.{SetAddress, Row, End}
@@ -35,24 +35,24 @@ can_follow-tells e place o i =
     let later = not (nat_eq o place.0) || nat_le place.1 i in
     let fits = nat_lt ((o - place.0) / e.minimum_instruction_length * e.maximum_operations_per_instruction + i) (2 ^ 64) in (
       λ is.
-        let d = and_parts (divides && within && after && later) fits is in
-        let c = and_parts (divides && within && after) later d.0 in
-        let b = and_parts (divides && within) after c.0 in
-        let a = and_parts divides within b.0 in
-        record {
-          place = record { divides = eqb-true (o % e.minimum_instruction_length) 0 a.0; within = ltb-true i e.maximum_operations_per_instruction a.1 };
-          after = leb-true place.0 o b.1;
-          later = later_test o place.0 place.1 i c.1;
-          fits = ltb-true ((o - place.0) / e.minimum_instruction_length * e.maximum_operations_per_instruction + i) (2 ^ 64) d.1;
-        },
+          let d = and_parts (divides && within && after && later) fits is in
+          let c = and_parts (divides && within && after) later d.0 in
+          let b = and_parts (divides && within) after c.0 in
+          let a = and_parts divides within b.0 in
+          record {
+            place = record { divides = eqb-true (o % e.minimum_instruction_length) 0 a.0; within = ltb-true i e.maximum_operations_per_instruction a.1 };
+            after = leb-true place.0 o b.1;
+            later = later_test o place.0 place.1 i c.1;
+            fits = ltb-true ((o - place.0) / e.minimum_instruction_length * e.maximum_operations_per_instruction + i) (2 ^ 64) d.1;
+          },
       λ can.
-        and_from (divides && within && after && later) fits
-        (and_from (divides && within && after) later
-        (and_from (divides && within) after
-        (and_from divides within (eq-eqb (o % e.minimum_instruction_length) 0 can.place.divides) (lt-ltb i e.maximum_operations_per_instruction can.place.within))
-        (le-leb place.0 o can.after))
-        (later_tested o place.0 place.1 i can.later))
-        (lt-ltb ((o - place.0) / e.minimum_instruction_length * e.maximum_operations_per_instruction + i) (2 ^ 64) can.fits),
+          and_from (divides && within && after && later) fits
+          (and_from (divides && within && after) later
+          (and_from (divides && within) after
+          (and_from divides within (eq-eqb (o % e.minimum_instruction_length) 0 can.place.divides) (lt-ltb i e.maximum_operations_per_instruction can.place.within))
+          (le-leb place.0 o can.after))
+          (later_tested o place.0 place.1 i can.later))
+          (lt-ltb ((o - place.0) / e.minimum_instruction_length * e.maximum_operations_per_instruction + i) (2 ^ 64) can.fits),
     )
 
 pub can_build-tells : (e : LineEncoding) (place : ℕ × ℕ) (item : BuiltItem) → Decides (can_build e place item) (CanBuild e place item)
@@ -60,8 +60,8 @@ can_build-tells e place (SetAddress a) = (λ is. tt, λ can. refl)
 can_build-tells e place (Row r) =
     let follow = can_follow-tells e place r.address_offset r.op_index in (
       λ is.
-        let a = and_parts (can_follow e place r.address_offset r.op_index) (nat_lt r.line (2 ^ 63)) is in
-        (follow.0 a.0, ltb-true r.line (2 ^ 63) a.1),
+          let a = and_parts (can_follow e place r.address_offset r.op_index) (nat_lt r.line (2 ^ 63)) is in
+          (follow.0 a.0, ltb-true r.line (2 ^ 63) a.1),
       λ can. and_from (can_follow e place r.address_offset r.op_index) (nat_lt r.line (2 ^ 63)) (follow.1 can.0) (lt-ltb r.line (2 ^ 63) can.1),
     )
 can_build-tells e place (End offset op_index) = can_follow-tells e place offset op_index

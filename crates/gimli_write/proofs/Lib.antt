@@ -19,4 +19,6 @@ pub mod FeedingLemmas
 pub mod MappedEnds
 pub mod Conversions
 pub mod Feedings
+pub mod MappedLaws
+mod WorkedConversions
 pub mod Gathers

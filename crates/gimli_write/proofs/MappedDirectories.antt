@@ -1,7 +1,7 @@
 -- The directories of a conversion: each id of a directory of the source is that of its path.
-use Rattle.std.proofs.Common.{◌≡◌, ℕ, zero, suc, ◌+◌, ◌<◌, ◌≤◌, Bool, true, false, ◌||◌, ◌&&◌, if◌then◌else◌, List, [], ◌∷◌, ◌++◌, length, refl, sym, ap, subst, ◌∙◌, arith, inl, inr, append_assoc, length-append}
+use Rattle.std.proofs.Common.{◌≡◌, ℕ, zero, suc, ◌+◌, Bool, true, false, if◌then◌else◌, List, [], ◌∷◌, ◌++◌, length, refl, sym, ap, subst, ◌∙◌, arith, inl, inr, append_assoc, length-append}
 use Rattle.std.specs.Prelude.{◌⊎◌, nat_le, Option, Some, None, option_map, slice_get, Result, Ok, Err}
-use Rattle.std.specs.List.{list_any, position_or_len}
+use Rattle.std.specs.List.{list_any}
 use Rattle.std.specs.Option.{option_map_or}
 use Rattle.std.specs.Result.{result_map_both}
 use Rattle.std.proofs.lemmas.Bool.{or_left}
@@ -18,15 +18,14 @@ use Rattle.gimli_build.specs.FirstTables.{first_directories}
 use Rattle.gimli_build.specs.Texts.{Sections, IsText}
 use Rattle.gimli_build.proofs.TableLemmas.{directory_found}
 use Rattle.gimli_write.specs.TextReading.{text_of}
-use Rattle.gimli_write.specs.declared.convert_error.ConvertError.{ConvertError}
 use Rattle.gimli_write.specs.declared.convert_error.ConvertError.TheVariants.{Read, MissingCompilationDirectory, InvalidAttributeValue}
 use Rattle.gimli_write.specs.convert.Texts.{◌>>=◌, without_zero, source_text, source_path}
-use Rattle.gimli_write.specs.convert.Lists.{Lists, version_of, with_path, directory_added, FileParts, file_parts, with_parts, file_added, all_added}
+use Rattle.gimli_write.specs.convert.Lists.{Lists, version_of, with_path, directory_added, file_parts, with_parts, file_added, all_added}
 use Rattle.gimli_write.specs.convert.Mapped.{IsDirectoryPath}
 use Rattle.gimli_write.specs.convert.Preparation.{SourceFile, working_directory, first_texts, started_lists, first_ids, Handed, encoding_of, needed_from_5}
 use Rattle.gimli_write.proofs.ReadTexts.{text_read}
 use Rattle.gimli_write.proofs.MappedLists.{took, same_ok, sources_table, IsPrepared}
-use Rattle.gimli_write.proofs.MappedTexts.{grown_place, grown_any, own_place, own_any, last_element, same_text, IsMade, HasMade, has_itself, has_then, is_made, is_same, table_has, made_bytes, made_apart}
+use Rattle.gimli_write.proofs.MappedTexts.{grown_place, grown_any, own_place, own_any, same_text, IsMade, HasMade, has_itself, has_then, is_made, is_same, table_has, made_apart}
 
 -- ---- texts of a source
 
@@ -174,13 +173,13 @@ module _ (sections : Sections) (h : Header) where
                   before.0,
                   before.1,
                   longer_texts version lists.line_strings after (with_directory lists.program.directories text) before.0 id (table_has version lists.line_strings path)
-                  (more_directories version lists.line_strings lists.program.directories text before.0 id before.2),
+                      (more_directories version lists.line_strings lists.program.directories text before.0 id before.2),
                 )
             | inr here_it_is ↦ (
-                path,
-                subst (λ (o : Option Value). IsDirectoryPath sections o path) (sym (ap (directory_of h) here_it_is.0 ∙ here)) read,
-                subst (IsDirectoryId version after (with_directory lists.program.directories text) path) here_it_is.1 new,
-              )
+              path,
+              subst (λ (o : Option Value). IsDirectoryPath sections o path) (sym (ap (directory_of h) here_it_is.0 ∙ here)) read,
+              subst (IsDirectoryId version after (with_directory lists.program.directories text) path) here_it_is.1 new,
+            )
           ];
         },
         length-append lists.directory_ids (place_of_directory lists.program.directories text ∷ []),
@@ -193,8 +192,8 @@ module _ (sections : Sections) (h : Header) where
   directories_next done (v ∷ rest) lists last parts count is so =
       let t = took (directory_added sections lists v) (all_added (directory_added sections) rest) last is in
       let here : directory_of h (length lists.directory_ids) ≡ Some v =
-          ap (λ (ds : List Value). if nat_le h.parameters.encoding.version 4 then from_one (option_map String h.comp_dir) ds (length lists.directory_ids) else slice_get ds (length lists.directory_ids)) parts
-          ∙ entry_at (nat_le h.parameters.encoding.version 4) (option_map String h.comp_dir) done rest v (length lists.directory_ids) count in
+      ap (λ (ds : List Value). if nat_le h.parameters.encoding.version 4 then from_one (option_map String h.comp_dir) ds (length lists.directory_ids) else slice_get ds (length lists.directory_ids)) parts
+      ∙ entry_at (nat_le h.parameters.encoding.version 4) (option_map String h.comp_dir) done rest v (length lists.directory_ids) count in
       let next = directory_next lists t.0 v here t.1 so in
       directories_next (done ++ v ∷ []) rest t.0 last (parts ∙ sym (append_assoc done (v ∷ []) rest))
       (omega (arith, next.1, count, length-append done (v ∷ []))) t.2 next.0
@@ -251,9 +250,9 @@ module _ (sections : Sections) (h : Header) where
             directory,
             read,
             subst (IsDirectoryId encoding.version last (first_directories encoding.version working own) directory) zero_is
-            (with_own last working own (nat_le encoding.version 4)
-            (longer_texts encoding.version third last (working ∷ []) directory 0 (table_has encoding.version third file.path)
-            (longer_texts encoding.version second third (working ∷ []) directory 0 (sources_has encoding.version second file.directory) alone))),
+                (with_own last working own (nat_le encoding.version 4)
+                (longer_texts encoding.version third last (working ∷ []) directory 0 (table_has encoding.version third file.path)
+                (longer_texts encoding.version second third (working ∷ []) directory 0 (sources_has encoding.version second file.directory) alone))),
           )
       each true (suc d) id at = absurd cc
       each false d id at = absurd cc

@@ -2,14 +2,16 @@
 use Rattle.std.proofs.Common.{◌≡◌, ℕ, Bool, true, false, not, ◌&&◌, if◌then◌else◌, List, [], ◌∷◌, refl, sym, ap, subst, ◌∙◌}
 use Rattle.std.specs.Prelude.{Option, Some, None, ok_or, IfSome, Result, Ok, Err, All}
 use Rattle.std.proofs.lemmas.List.Elements.{All-weaker}
+use Rattle.std.proofs.lemmas.List.{append-nil}
 use Rattle.gimli_core.specs.Notation.{Notation}
+use Rattle.gimli_core.specs.Values.{Value}
 use Rattle.gimli_core.specs.declared.common.Encoding.{Encoding}
 use Rattle.gimli_core.specs.declared.error.Error.{Error}
 use Rattle.gimli_core.specs.declared.error.Error.TheVariants.{AddressOverflow}
 use Rattle.gimli_bytes.specs.declared.address.Address.{Address}
 use Rattle.gimli_line.specs.header.Header.{Header}
 use Rattle.gimli_line.specs.header.Parameters.{Parameters}
-use Rattle.gimli_line.specs.run.Events.{behind}
+use Rattle.gimli_line.specs.run.Events.{defined_files, behind}
 use Rattle.gimli_line.specs.run.Instruction.{Ins, makes_row}
 use Rattle.gimli_line.specs.run.OperationPointer.{is_hidden, overflows}
 use Rattle.gimli_build.specs.Built.{Built, previous_place}
@@ -24,12 +26,16 @@ use Rattle.gimli_write.specs.declared.convert_error.ConvertError.TheVariants.{Re
 use Rattle.gimli_write.specs.declared.convert.run.SourceRow.{SourceRow}
 use Rattle.gimli_write.specs.declared.convert.offer.ConvertLineRow.{ConvertLineRow}
 use Rattle.gimli_write.specs.declared.convert.offer.ConvertLineRow.TheVariants as offer
-use Rattle.gimli_write.specs.convert.Texts.{◌>>=◌}
-use Rattle.gimli_write.specs.convert.Lists.{Lists}
-use Rattle.gimli_write.specs.convert.Preparation.{Handed, encoding_of, prepared}
-use Rattle.gimli_write.specs.convert.Offers.{Reading, ends, stops, offers, source_row, built_row, address_offered, row_offered, place_offered, offered, reading_at, end_reading, upon, lists_at, reading_behind, Reads}
+use Rattle.gimli_write.specs.convert.Texts.{◌>>=◌, source_path}
+use Rattle.gimli_write.specs.convert.Lists.{Lists, version_of, with_path, directory_added, file_added}
+use Rattle.gimli_write.specs.convert.Preparation.{Handed, encoding_of, first_ids, prepared}
+use Rattle.gimli_write.specs.convert.Offers.{Reading, stops, offers, source_row, built_row, address_offered, row_offered, place_offered, offered, reading_at, end_reading, upon, lists_at, reading_behind, Reads}
+use Rattle.gimli_write.specs.convert.Mapped.{AreFilesMapped}
 use Rattle.gimli_write.specs.convert.Feeding.{Conversion, converted, with_tables, can_build, behind_address, behind_row, behind_end}
-use Rattle.gimli_write.proofs.MappedLists.{CanKeep, IsReady, lists_at_keeps, file_ready, prepared_ready}
+use Rattle.gimli_write.proofs.MappedDirectories.{AreDirectories, directories_prepared, directories_stay}
+use Rattle.gimli_write.proofs.MappedFiles.{AreFiles, files_next, files_defined}
+use Rattle.gimli_write.proofs.MappedLists.{took, same_ok, is_prepared, all_added_keeps, CanKeep, IsReady, lists_at_keeps, file_ready, prepared_ready}
+use Rattle.gimli_write.proofs.MappedNames.{files_mapped}
 
 -- the lists at the end, which a conversion answers
 pub record Finished (sections : Sections) (first : Lists) (past : List Ins) (c : Conversion) : Type 0 where
@@ -139,6 +145,13 @@ module _ (convert_address : ℕ → Option Address) (c : Conversion) where
             kind = record { is_none = after.kind.is_none ∙ on.is_none; encoding = after.kind.encoding ∙ on.encoding; line_encoding = after.kind.line_encoding ∙ on.line_encoding };
           }
 
+-- ---- directories have no files
+
+no_file : (sections : Sections) (lists next : Lists) (v : Value) → directory_added sections lists v ≡ Ok next → next.file_ids ≡ lists.file_ids
+no_file sections lists next v is =
+    let t = took (source_path (version_of lists) sections v) (λ path. Ok (with_path lists path)) next is in
+    sym (ap (λ (l : Lists). l.file_ids) (same_ok (with_path lists t.0) next t.2))
+
 -- ---- a program that was converted can be written
 
 module _ (notation : Notation) (sections : Sections) (h : Header) (given : Handed) (line_strings : List (List ℕ)) (first : Lists) (bytes : List ℕ) (reading : Reading)
@@ -157,11 +170,11 @@ module _ (notation : Notation) (sections : Sections) (h : Header) (given : Hande
       let encoding = encoding_of h given in
       let start : IsReady strings encoding first = prepared_ready strings sections h given line_strings first ready in
       let last : IsReady strings encoding f.lists =
-          lists_at_keeps (IsReady strings encoding) sections first (λ l n d a so. file_ready strings encoding sections l n d a so) (behind [] reads.list) f.lists f.there start in
+      lists_at_keeps (IsReady strings encoding) sections first (λ l n d a so. file_ready strings encoding sections l n d a so) (behind [] reads.list) f.lists f.there start in
       let files : All (CanKeep strings c.line_strings c.program.encoding.version) c.program.files =
-          subst (λ (t : List (List ℕ)). All (CanKeep strings t c.program.encoding.version) c.program.files) (sym f.line_strings)
-          (subst (λ (files : List BuiltFile). All (CanKeep strings f.lists.line_strings c.program.encoding.version) files) (sym f.files)
-          (subst (λ (e : Encoding). All (CanKeep strings f.lists.line_strings e.version) f.lists.program.files) (last.encoding_is ∙ sym encoding_kept) last.files)) in
+      subst (λ (t : List (List ℕ)). All (CanKeep strings t c.program.encoding.version) c.program.files) (sym f.line_strings)
+      (subst (λ (files : List BuiltFile). All (CanKeep strings f.lists.line_strings c.program.encoding.version) files) (sym f.files)
+      (subst (λ (e : Encoding). All (CanKeep strings f.lists.line_strings e.version) f.lists.program.files) (last.encoding_is ∙ sym encoding_kept) last.files)) in
       record {
         program = comes.kind.is_none ∙ start.program;
         directories =
@@ -171,3 +184,27 @@ module _ (notation : Notation) (sections : Sections) (h : Header) (given : Hande
         sources = All-weaker (CanKeep strings c.line_strings c.program.encoding.version) (λ f. IfSome f.1.source (IsWithin strings c.line_strings)) (λ f so. so.source) c.program.files files;
         sources_end = λ new has. All-weaker (CanKeep strings c.line_strings c.program.encoding.version) (λ f. IfSome f.1.source HasNoZero) (λ f so. so.source_ends new) c.program.files files;
       }
+
+  -- the files
+  files_are : AreFiles sections h first h.files
+  files_are =
+      let p = is_prepared sections h given line_strings first ready in
+      let version = h.parameters.encoding.version in
+      let none : p.with_directories.file_ids ≡ first_ids version =
+      all_added_keeps (λ l. l.file_ids ≡ first_ids version) (directory_added sections) (λ l n v a so. no_file sections l n v a ∙ so) h.directories _ p.with_directories p.directories refl in
+      files_next sections h [] h.files p.with_directories first p.files (record { ids = []; ids_are = none ∙ sym (append-nil (first_ids version)); each = tt })
+
+  directories_are : AreDirectories sections h first
+  directories_are =
+      let p = is_prepared sections h given line_strings first ready in
+      all_added_keeps (AreDirectories sections h) (file_added sections) (λ l n f a so. directories_stay sections h l n f a so) h.files p.with_directories first p.files
+      (directories_prepared sections h given line_strings first p)
+
+  pub files_same : (strings : List (List ℕ)) → AreFilesMapped sections h (defined_files h.files (behind [] reads.list)) strings c
+  files_same strings =
+      let f = comes.finished in
+      let past = behind [] reads.list in
+      files_mapped sections h strings f.lists (defined_files h.files past) c
+      (lists_at_keeps (AreDirectories sections h) sections first (λ l n d a so. directories_stay sections h l n d a so) past f.lists f.there directories_are)
+      (files_defined sections h first past f.lists f.there files_are)
+      f.directories f.files f.file_ids f.line_strings

@@ -1,9 +1,9 @@
 -- The files of a conversion: each id of a file of the source is that of its paths, with what is known of the last file
 -- that has them.
-use Rattle.std.proofs.Common.{◌≡◌, ◌≢◌, ℕ, zero, suc, ◌+◌, ◌<◌, ◌≤◌, Bool, true, false, not, cond, ◌||◌, ◌&&◌, if◌then◌else◌, List, [], ◌∷◌, ◌++◌, length, map, refl, sym, ap, subst, ◌∙◌, arith, inl, inr, append_assoc, length-append}
-use Rattle.std.specs.Prelude.{◌⊎◌, nat_le, nat_eq, Option, Some, None, option_map, ok_or, slice_get, Result, Ok, Err, bytes_eq, IfSome}
+use Rattle.std.proofs.Common.{◌≡◌, ◌≢◌, ℕ, zero, suc, ◌+◌, ◌<◌, Bool, true, false, not, cond, ◌||◌, if◌then◌else◌, List, [], ◌∷◌, ◌++◌, length, refl, sym, ap, subst, ◌∙◌, inl, inr, append_assoc}
+use Rattle.std.specs.Prelude.{◌⊎◌, nat_eq, Option, Some, None, option_map, slice_get, Ok, bytes_eq, IfSome}
 use Rattle.std.specs.List.{list_any, position_or_len, AllByRecursion}
-use Rattle.std.proofs.lemmas.Bool.{true≢false, and_from, eqb-true, eq-eqb}
+use Rattle.std.proofs.lemmas.Bool.{true≢false, eqb-true, eq-eqb}
 use Rattle.std.proofs.lemmas.List.{append-nil}
 use Rattle.std.proofs.lemmas.Option.{slice_get-map}
 use Rattle.std.proofs.lemmas.Slice.Eq.{bytes_eq-Decides}
@@ -16,13 +16,11 @@ use Rattle.gimli_build.specs.LineText.{LineText, made_text, made_table}
 use Rattle.gimli_build.specs.Tables.{FileKey, Details, File as BuiltFile, key_eq, has_file, place_of_file, with_details, with_file, keys_of}
 use Rattle.gimli_build.specs.Texts.{Sections, OneByOne}
 use Rattle.gimli_build.proofs.TableLemmas.{file_found_at, file_keeps, file_others, some_within}
-use Rattle.gimli_write.specs.declared.convert_error.ConvertError.{ConvertError}
-use Rattle.gimli_write.specs.convert.Texts.{◌>>=◌}
 use Rattle.gimli_write.specs.convert.Lists.{Lists, version_of, FileParts, file_parts, with_parts, file_added, all_added}
 use Rattle.gimli_write.specs.convert.Offers.{defined, lists_at}
 use Rattle.gimli_write.specs.convert.Preparation.{first_ids}
 use Rattle.gimli_write.proofs.MappedLists.{took, same_ok, sources_table}
-use Rattle.gimli_write.proofs.MappedTexts.{place_stays, place_new, any_stays, any_new, place_none, last_element, same_key, IsMade, HasMade, has_itself, has_then, is_made, is_same, table_has, made_apart}
+use Rattle.gimli_write.proofs.MappedTexts.{place_stays, place_new, any_stays, any_new, place_none, last_element, same_key, IsMade, HasMade, has_then, is_made, is_same, table_has, made_apart}
 use Rattle.gimli_write.proofs.MappedDirectories.{sources_has}
 
 -- ---- elements one by one
@@ -128,9 +126,9 @@ module _ (files : List BuiltFile) (k : FileKey) (d : Details) where
       let keys : slice_get (keys_of files) i ≡ Some l = slice_get-map (λ (f : BuiltFile). f.0) files i ∙ ap (option_map (λ f. f.0)) is in
       let stays = (file_keeps files k (Some d)).stays i (some_within (keys_of files) i l keys) in
       file_others files k (Some d) i lt (λ here.
-        let found = subst (λ (n : ℕ). slice_get (keys_of (with_file files k (Some d))) n ≡ Some k) (sym here) (file_found_at files k (Some d)) in
-        let same : l ≡ k = cc in
-        other same)
+      let found = subst (λ (n : ℕ). slice_get (keys_of (with_file files k (Some d))) n ≡ Some k) (sym here) (file_found_at files k (Some d)) in
+      let same : l ≡ k = cc in
+      other same)
       ∙ is
 
 -- ---- one file of a source
@@ -285,9 +283,9 @@ module _ (sections : Sections) (lists : Lists) (g : File) (added : FileParts) (a
       taken same =
           let text : made_text (version_of lists) lists.line_strings added.path ≡ made_text (version_of lists) lists.line_strings so.parts.path = ap (made_text (version_of lists) lists.line_strings) same.0 in
           let key : key_of ≡ (made_text (version_of lists) texts_behind so.parts.path, so.parts.directory) =
-              ap (λ (t : LineText). let k : FileKey = (t, added.directory) in k) (text ∙ sym text_same) ∙ ap (λ (n : ℕ). let k : FileKey = (made_text (version_of lists) texts_behind so.parts.path, n) in k) same.1 in
+          ap (λ (t : LineText). let k : FileKey = (t, added.directory) in k) (text ∙ sym text_same) ∙ ap (λ (n : ℕ). let k : FileKey = (made_text (version_of lists) texts_behind so.parts.path, n) in k) same.1 in
           let old_key : key_of ≡ (made_text (version_of lists) lists.line_strings so.parts.path, so.parts.directory) =
-              ap (λ (t : LineText). let k : FileKey = (t, added.directory) in k) text ∙ ap (λ (n : ℕ). let k : FileKey = (made_text (version_of lists) lists.line_strings so.parts.path, n) in k) same.1 in
+          ap (λ (t : LineText). let k : FileKey = (t, added.directory) in k) text ∙ ap (λ (n : ℕ). let k : FileKey = (made_text (version_of lists) lists.line_strings so.parts.path, n) in k) same.1 in
           let at : place_of_file lists.program.files key_of ≡ id = ap (place_of_file lists.program.files) old_key ∙ sym so.place in
           record {
             parts = so.parts;
@@ -314,8 +312,8 @@ module _ (sections : Sections) (lists : Lists) (g : File) (added : FileParts) (a
       left : (SamePaths added so.parts → ⊥) → IsFileOf sections (version_of lists) texts_behind lists.directory_ids files_behind_it (source ++ g ∷ []) f id
       left other =
           let apart : (let k : FileKey = (made_text (version_of lists) lists.line_strings so.parts.path, so.parts.directory) in k) ≢ key_of = λ is.
-              let text : made_text (version_of lists) texts_behind so.parts.path ≡ made_text (version_of lists) texts_behind added.path = text_same ∙ ap (λ (k : FileKey). k.0) is ∙ sym own_same in
-              other (sym (made_apart (version_of lists) texts_behind so.parts.path added.path (texts_stay.there so.parts.path so.made) own_made text), sym (ap (λ (k : FileKey). k.1) is)) in
+          let text : made_text (version_of lists) texts_behind so.parts.path ≡ made_text (version_of lists) texts_behind added.path = text_same ∙ ap (λ (k : FileKey). k.0) is ∙ sym own_same in
+          other (sym (made_apart (version_of lists) texts_behind so.parts.path added.path (texts_stay.there so.parts.path so.made) own_made text), sym (ap (λ (k : FileKey). k.1) is)) in
           record {
             parts = so.parts;
             parts_are = so.parts_are;

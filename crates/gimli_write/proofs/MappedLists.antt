@@ -1,5 +1,5 @@
 -- The lists of a conversion, from the header of its source to the end of the program.
-use Rattle.std.proofs.Common.{◌≡◌, ℕ, zero, suc, ◌<◌, ◌≤◌, Bool, true, false, if◌then◌else◌, List, [], ◌∷◌, ◌++◌, length, refl, sym, ap, subst, ◌∙◌, arith, length-append}
+use Rattle.std.proofs.Common.{◌≡◌, ℕ, zero, suc, ◌≤◌, Bool, true, false, if◌then◌else◌, List, [], ◌∷◌, ◌++◌, length, refl, subst, arith, length-append}
 use Rattle.std.specs.Prelude.{nat_le, Option, Some, None, option_map, IfSome, Result, Ok, Err, All}
 use Rattle.std.specs.List.{list_any}
 use Rattle.std.specs.Option.{option_map_or}
@@ -18,7 +18,6 @@ use Rattle.gimli_line.specs.header.Header.{Header}
 use Rattle.gimli_line.specs.run.Instruction.{Ins}
 use Rattle.gimli_build.specs.LineText.{LineText, Inline, InStrings, InLineStrings, IsWithin, HasNoZero, made_text, made_table}
 use Rattle.gimli_build.specs.Tables.{FileKey, Details, File as BuiltFile, with_directory, place_of_directory, with_details, with_file, has_file, place_of_file, no_details}
-use Rattle.gimli_build.specs.FirstTables.{first_directories, first_files}
 use Rattle.gimli_build.specs.Texts.{Sections}
 use Rattle.gimli_write.specs.declared.convert_error.ConvertError.{ConvertError}
 use Rattle.gimli_write.specs.convert.Texts.{◌>>=◌, source_path}

@@ -1,28 +1,25 @@
 -- The files of a conversion are those of its source.
-use Rattle.std.proofs.Common.{◌≡◌, ◌≢◌, ℕ, zero, suc, ◌+◌, ◌<◌, ◌≤◌, Bool, true, false, if◌then◌else◌, List, [], ◌∷◌, ◌++◌, length, refl, sym, ap, subst, ◌∙◌, arith}
-use Rattle.std.specs.Prelude.{nat_le, Option, Some, None, option_map, ok_or, slice_get, Result, Ok, Err, IfSome}
+use Rattle.std.proofs.Common.{◌≡◌, ℕ, zero, suc, Bool, true, false, if◌then◌else◌, List, [], ◌∷◌, ◌++◌, refl, sym, ap, subst, ◌∙◌, arith}
+use Rattle.std.specs.Prelude.{nat_le, Option, Some, None, option_map, ok_or, slice_get, Result, Ok, IfSome}
 use Rattle.std.specs.List.{AllByRecursion}
-use Rattle.std.proofs.lemmas.Bool.{leb-true, leb-false, le-leb, true≢false}
+use Rattle.std.proofs.lemmas.Bool.{leb-true, le-leb, true≢false}
 use Rattle.gimli_core.specs.Values.{Value}
 use Rattle.gimli_core.specs.declared.error.Error.{Error}
 use Rattle.gimli_line.specs.header.File.{File}
-use Rattle.gimli_line.specs.header.Header.{Header, directory_of, entry_of, from_one}
+use Rattle.gimli_line.specs.header.Header.{Header, directory_of, from_one}
 use Rattle.gimli_build.specs.LineText.{LineText, bytes_in, made_text}
-use Rattle.gimli_build.specs.Tables.{Details, File as BuiltFile}
+use Rattle.gimli_build.specs.Tables.{File as BuiltFile}
 use Rattle.gimli_build.specs.Texts.{Sections, IsText, IsOptionalText, OneByOne}
-use Rattle.gimli_write.specs.TextReading.{text_of}
-use Rattle.gimli_write.specs.declared.convert_error.ConvertError.{ConvertError}
 use Rattle.gimli_write.specs.declared.convert_error.ConvertError.TheVariants.{InvalidDirectoryIndex}
-use Rattle.gimli_write.specs.convert.Texts.{◌>>=◌, if_there, source_text, source_path}
-use Rattle.gimli_write.specs.convert.Lists.{Lists, version_of, FileParts, file_parts}
-use Rattle.gimli_write.specs.convert.Preparation.{first_ids}
+use Rattle.gimli_write.specs.convert.Texts.{if_there, source_text, source_path}
+use Rattle.gimli_write.specs.convert.Lists.{Lists, version_of, FileParts}
 use Rattle.gimli_write.specs.convert.Feeding.{Conversion}
 use Rattle.gimli_write.specs.convert.Mapped.{IsFileId, IsDirectoryPath, HasPaths, IsLastWithPaths, IsMappedFile, AreFilesMapped}
 use Rattle.gimli_write.proofs.ReadTexts.{text_read, text_there}
 use Rattle.gimli_write.proofs.MappedLists.{took, same_ok}
 use Rattle.gimli_write.proofs.MappedTexts.{IsMade, made_bytes}
 use Rattle.gimli_write.proofs.MappedDirectories.{source_text_of, source_path_of, IsDirectoryId, directory_there, one_path, AreDirectories}
-use Rattle.gimli_write.proofs.MappedFiles.{IsKnown, HasOthers, HasParts, IsFileOf, AreFiles, one_by_one_map, one_by_one_at, one_by_one_back}
+use Rattle.gimli_write.proofs.MappedFiles.{HasOthers, HasParts, IsFileOf, AreFiles, one_by_one_map, one_by_one_at, one_by_one_back}
 
 -- ---- one text
 
@@ -94,7 +91,7 @@ module _ (sections : Sections) (h : Header) (strings : List (List ℕ)) (lists :
       let there = directories.each g.directory_index own.directory read.directory in
       let same : there.0 ≡ directory = one_directory sections (directory_of h g.directory_index) there.0 directory there.1 has.of_directory in
       let moved : IsDirectoryId (version_of lists) lists.line_strings lists.program.directories directory own.directory =
-          subst (λ (path : List ℕ). IsDirectoryId (version_of lists) lists.line_strings lists.program.directories path own.directory) same there.2 in
+      subst (λ (path : List ℕ). IsDirectoryId (version_of lists) lists.line_strings lists.program.directories path own.directory) same there.2 in
       (one_text sections g.path_name own.path parts.path read.path has.own, moved.place ∙ sym at.place)
 
   others_behind : (parts : FileParts) (directory : List ℕ) → IsDirectoryId (version_of lists) lists.line_strings lists.program.directories directory parts.directory
@@ -117,7 +114,7 @@ module _ (sections : Sections) (h : Header) (strings : List (List ℕ)) (lists :
       let to = λ (P : List ℕ → List ℕ → Type 0) (p : P so.parts.path d.0). subst (λ (x : List ℕ). P x (bytes_in strings c.line_strings directory)) path_bytes (subst (P so.parts.path) directory_bytes p) in
       let last_read = are_read sections version lists.directory_ids so.last_parts so.last so.last_are in
       let at_last : IsDirectoryId version lists.line_strings lists.program.directories d.0 so.last_parts.directory =
-          subst (IsDirectoryId version lists.line_strings lists.program.directories d.0) (sym so.same.1) d.2 in
+      subst (IsDirectoryId version lists.line_strings lists.program.directories d.0) (sym so.same.1) d.2 in
       let last_has : HasPaths sections h so.parts.path d.0 so.last = subst (λ (path : List ℕ). HasPaths sections h path d.0 so.last) so.same.0 (paths_of so.last_parts so.last d.0 so.last_are at_last) in
       let is_last : IsLastWithPaths sections h so.parts.path d.0 source so.last = record {
         before = so.before;
@@ -171,7 +168,7 @@ pub files_mapped : (sections : Sections) (h : Header) (strings : List (List ℕ)
 files_mapped sections h strings lists source c directories so directories_same files_same ids_same texts_same =
     let version = h.parameters.encoding.version in
     let all = one_by_one_map (IsFileOf sections (version_of lists) lists.line_strings lists.directory_ids lists.program.files source) (IsMappedFile sections h source strings c)
-        (λ f id is. file_mapped sections h strings lists directories source c f id directories_same files_same texts_same is) source so.ids so.each in
+    (λ f id is. file_mapped sections h strings lists directories source c f id directories_same files_same texts_same is) source so.ids so.each in
     record {
       each = each_number version (IsMappedFile sections h source strings c) source so.ids c.file_ids all (nat_le version 4) refl (ids_same ∙ so.ids_are);
       only = only_number version (IsMappedFile sections h source strings c) source so.ids c.file_ids all (nat_le version 4) refl (ids_same ∙ so.ids_are);

@@ -1,21 +1,19 @@
 -- A conversion of a whole program.
-use Rattle.std.proofs.Common.{◌≡◌, ℕ, ◌*◌, ◌^◌, ◌≤◌, List, [], ◌∷◌, ◌++◌, length, map, refl, sym, ap, subst, ◌∙◌, arith}
-use Rattle.std.specs.Prelude.{Option, Some, None, IfSome, Result, Ok, Err, All}
+use Rattle.std.proofs.Common.{◌≡◌, ℕ, ◌≤◌, List, [], ◌∷◌, ◌++◌, refl, sym, ap, subst, ◌∙◌, arith}
+use Rattle.std.specs.Prelude.{Option, Ok}
 use Rattle.std.proofs.lemmas.Bool.{true≢false}
 use Rattle.std.proofs.Math.Pow.{pow_mono}
-use Rattle.std.proofs.lemmas.List.{append-nil}
 use Rattle.gimli_core.specs.Notation.{Notation}
-use Rattle.gimli_core.specs.Values.{Value}
 use Rattle.gimli_core.specs.declared.error.Error.{Error}
 use Rattle.gimli_core.specs.declared.common.Encoding.{Encoding}
 use Rattle.gimli_bytes.specs.declared.address.Address.{Address}
 use Rattle.gimli_line.specs.declared.run.row.LineRow.{LineRow as ReadRow}
 use Rattle.gimli_line.specs.header.Header.{Header}
-use Rattle.gimli_line.specs.run.Events.{Event, row, program_events, defined_files, behind}
+use Rattle.gimli_line.specs.run.Events.{defined_files, behind}
 use Rattle.gimli_line.specs.run.Instruction.{Ins}
 use Rattle.gimli_line.specs.run.InstructionGrammar.{Decodes}
 use Rattle.gimli_line.proofs.InstructionLaws.{one_decoding}
-use Rattle.gimli_build.specs.Built.{Built, base_of}
+use Rattle.gimli_build.specs.Built.{base_of}
 use Rattle.gimli_build.specs.FileNumber.{file_number}
 use Rattle.gimli_build.specs.Items.{AddressesFit}
 use Rattle.gimli_build.specs.SameRow.{RowsMatch, read_row}
@@ -23,18 +21,14 @@ use Rattle.gimli_build.specs.Texts.{Sections, OneByOne}
 use Rattle.gimli_build.specs.declared.built.row.LineRow.{LineRow}
 use Rattle.gimli_build.specs.declared.built.items.BuiltItem.{BuiltItem}
 use Rattle.gimli_build.specs.declared.built.items.BuiltItem.TheVariants.{SetAddress, Row, End}
-use Rattle.gimli_write.specs.convert.Texts.{source_path}
-use Rattle.gimli_write.specs.convert.Lists.{Lists, version_of, with_path, directory_added, file_added}
-use Rattle.gimli_write.specs.convert.Preparation.{Handed, encoding_of, first_ids, prepared}
-use Rattle.gimli_write.specs.convert.Offers.{Reading, Reads, lists_at, reading_behind}
+use Rattle.gimli_write.specs.convert.Lists.{Lists}
+use Rattle.gimli_write.specs.convert.Preparation.{Handed, encoding_of, prepared}
+use Rattle.gimli_write.specs.convert.Offers.{Reading, Reads}
 use Rattle.gimli_write.specs.convert.Feeding.{Conversion, converted}
-use Rattle.gimli_write.specs.convert.Mapped.{MapsToItself, SeesEnds, SeesEndsBehind, IsFileId, IsMappedRow, IsMappedEnd, RowsMapped, AreRowsMapped, IsMapped, IsReadAs}
+use Rattle.gimli_write.specs.convert.Mapped.{MapsToItself, SeesEnds, SeesEndsBehind, RowsMapped, AreRowsMapped, IsMapped, IsReadAs}
 use Rattle.gimli_write.proofs.MappedAddresses.{follows_start}
-use Rattle.gimli_write.proofs.MappedDirectories.{AreDirectories, directories_prepared, directories_stay}
-use Rattle.gimli_write.proofs.MappedEnds.{comes, encoding_kept}
-use Rattle.gimli_write.proofs.MappedFiles.{AreFiles, files_next, files_defined}
-use Rattle.gimli_write.proofs.MappedLists.{took, same_ok, is_prepared, all_added_keeps, IsReady, lists_at_keeps, prepared_ready}
-use Rattle.gimli_write.proofs.MappedNames.{files_mapped}
+use Rattle.gimli_write.proofs.MappedEnds.{encoding_kept, files_same}
+use Rattle.gimli_write.proofs.MappedLists.{IsReady, prepared_ready}
 use Rattle.gimli_write.proofs.MappedRows.{Rest, rest_mapped}
 
 -- ---- one row
@@ -47,13 +41,6 @@ same_others source_version version base built source back mapped matches =
     matches
     ∙ ap (λ (r : ReadRow). let s : ReadRow = record r { file = number } in s) (sym mapped)
     ∙ ap (λ (n : ℕ). let s : ReadRow = record source { file = n } in s) (sym (ap (λ (r : ReadRow). r.file) matches))
-
--- ---- directories have no files
-
-no_file : (sections : Sections) (lists next : Lists) (v : Value) → directory_added sections lists v ≡ Ok next → next.file_ids ≡ lists.file_ids
-no_file sections lists next v is =
-    let t = took (source_path (version_of lists) sections v) (λ path. Ok (with_path lists path)) next is in
-    sym (ap (λ (l : Lists). l.file_ids) (same_ok (with_path lists t.0) next t.2))
 
 -- ---- the whole
 
@@ -92,34 +79,13 @@ module _ (notation : Notation) (sections : Sections) (h : Header) (given : Hande
       subst (λ (e : Encoding). AddressesFit e.address_size 0 (0, 0) c.program.items) (sym (encoding_kept notation sections h given line_strings first bytes reading convert_address c ready reads is))
       (subst (λ (items : List BuiltItem). AddressesFit (encoding_of h given).address_size 0 (0, 0) items) (sym all_items) whole.fit)
 
-  -- the files
-  files_are : AreFiles sections h first h.files
-  files_are =
-      let p = is_prepared sections h given line_strings first ready in
-      let version = h.parameters.encoding.version in
-      let none : p.with_directories.file_ids ≡ first_ids version =
-          all_added_keeps (λ l. l.file_ids ≡ first_ids version) (directory_added sections) (λ l n v a so. no_file sections l n v a ∙ so) h.directories _ p.with_directories p.directories refl in
-      files_next sections h [] h.files p.with_directories first p.files (record { ids = []; ids_are = none ∙ sym (append-nil (first_ids version)); each = tt })
-
-  directories_are : AreDirectories sections h first
-  directories_are =
-      let p = is_prepared sections h given line_strings first ready in
-      all_added_keeps (AreDirectories sections h) (file_added sections) (λ l n f a so. directories_stay sections h l n f a so) h.files p.with_directories first p.files
-      (directories_prepared sections h given line_strings first p)
-
   pub is_mapped : (strings : List (List ℕ)) → IsMapped notation sections h bytes strings c
-  is_mapped strings =
-      let f = (comes notation sections h given line_strings first bytes reading convert_address c ready reads is).finished in
-      let past = behind [] reads.list in
-      record {
-        rows = rows_mapped;
-        source_files = defined_files h.files past;
-        at_end = record { list = reads.list; end = reads.end; decoding = reads.decoding; given = refl };
-        files = files_mapped sections h strings f.lists (defined_files h.files past) c
-            (lists_at_keeps (AreDirectories sections h) sections first (λ l n d a so. directories_stay sections h l n d a so) past f.lists f.there directories_are)
-            (files_defined sections h first past f.lists f.there files_are)
-            f.directories f.files f.file_ids f.line_strings;
-      }
+  is_mapped strings = record {
+    rows = rows_mapped;
+    source_files = defined_files h.files (behind [] reads.list);
+    at_end = record { list = reads.list; end = reads.end; decoding = reads.decoding; given = refl };
+    files = files_same notation sections h given line_strings first bytes reading convert_address c ready reads is strings;
+  }
 
 -- ---- what is read back of it
 

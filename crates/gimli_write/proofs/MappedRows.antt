@@ -1,5 +1,5 @@
 -- The rows and ends that a conversion builds are those of its source.
-use Rattle.std.proofs.Common.{◌≡◌, ℕ, zero, suc, ◌+◌, ◌-◌, ◌^◌, ◌*◌, ◌<◌, ◌≤◌, Bool, true, false, not, ◌&&◌, if◌then◌else◌, List, [], ◌∷◌, ◌++◌, length, map, slice_get, refl, sym, ap, subst, ◌∙◌, arith, append_assoc}
+use Rattle.std.proofs.Common.{◌≡◌, ℕ, zero, suc, ◌+◌, ◌-◌, ◌^◌, ◌*◌, ◌<◌, ◌≤◌, Bool, true, false, not, ◌&&◌, if◌then◌else◌, List, [], ◌∷◌, ◌++◌, map, slice_get, refl, sym, ap, subst, ◌∙◌, arith, append_assoc}
 use Rattle.std.specs.Prelude.{nat_eq, nat_le, Option, Some, None, ok_or, Result, Ok, Err}
 use Rattle.std.proofs.lemmas.Bool.{true≢false, and_from, le-leb, eq-eqb}
 use Rattle.std.proofs.lemmas.List.{append-nil}
@@ -9,7 +9,6 @@ use Rattle.gimli_bytes.specs.declared.address.Address.{Address}
 use Rattle.gimli_bytes.specs.declared.address.Address.TheVariants.{Constant}
 use Rattle.gimli_line.specs.declared.run.row.LineRow.{LineRow as ReadRow}
 use Rattle.gimli_line.specs.declared.run.instruction.LineInstruction.TheVariants.{EndSequence, DefineFile}
-use Rattle.gimli_line.specs.header.File.{File}
 use Rattle.gimli_line.specs.header.Parameters.{Parameters}
 use Rattle.gimli_line.specs.run.Events.{Event, row, fault, row_at, events_at, events_behind, end_events}
 use Rattle.gimli_line.specs.run.Instruction.{Ins, is_end, makes_row}
@@ -22,12 +21,11 @@ use Rattle.gimli_build.specs.declared.built.items.BuiltItem.{BuiltItem}
 use Rattle.gimli_build.specs.declared.built.items.BuiltItem.TheVariants as item
 use Rattle.gimli_write.specs.declared.convert_error.ConvertError.{ConvertError}
 use Rattle.gimli_write.specs.declared.convert_error.ConvertError.TheVariants.{Read, InvalidFileIndex, MissingLineEndSequence, InvalidAddress, UnsupportedLineInstruction}
-use Rattle.gimli_write.specs.declared.convert.run.SourceRow.{SourceRow}
 use Rattle.gimli_write.specs.declared.convert.offer.ConvertLineRow.TheVariants as offer
 use Rattle.gimli_write.specs.convert.Texts.{◌>>=◌}
 use Rattle.gimli_write.specs.convert.Lists.{Lists, FileParts, file_parts, with_parts, version_of}
 use Rattle.gimli_write.specs.convert.Offers.{Reading, ends, stops, offers, base_at, pending, source_row, file_id, row_in, built_row, address_offered, row_offered, place_offered, offered, reading_at, end_reading, upon, defined, lists_at, reading_behind}
-use Rattle.gimli_write.specs.convert.Feeding.{Conversion, converted, ended, with_tables, can_build, if_built, behind_address, behind_row, behind_end}
+use Rattle.gimli_write.specs.convert.Feeding.{Conversion, converted, with_tables, can_build, behind_address, behind_row, behind_end}
 use Rattle.gimli_write.specs.convert.Mapped.{MapsToItself, gave_row, SeesEndsBehind, IsFileId, RowsMapped}
 use Rattle.gimli_write.proofs.MappedAddresses.{address_within, base_below, base_below_row, pending_is_base, Follows, follows_end, follows_row, follows_quiet}
 
@@ -216,8 +214,8 @@ module _ (sections : Sections) (parameters : Parameters) (first : Lists) (conver
         let within : (pointer_at parameters (i ∷ past)).address < address_limit parameters = address_within parameters (i ∷ past) in
         let sum : (row_at parameters past i).address ≡ base + ((row_at parameters past i).address - base_at past) = omega arith in
         let rest = follow (base_at past) (r.address_offset, r.op_index) next
-            (subst (λ (a : ℕ). Follows parameters (i ∷ past) (base_at past) (a - base_at past)) (sym address) (follows_row parameters past i loud inner seen))
-            (was_built (can_build q.line_encoding (previous_place q.items) built) next (reading_behind sections parameters first (i ∷ past) list end) is) in
+        (subst (λ (a : ℕ). Follows parameters (i ∷ past) (base_at past) (a - base_at past)) (sym address) (follows_row parameters past i loud inner seen))
+        (was_built (can_build q.line_encoding (previous_place q.items) built) next (reading_behind sections parameters first (i ∷ past) list end) is) in
         let number : IsFileId parameters.encoding.version lists.file_ids (row_at parameters past i).file file = file_id-is parameters.encoding.version lists (row_at parameters past i).file file known in
         let later : slice_get c.file_ids (row_at parameters past i).file ≡ Some file = rest.stay (row_at parameters past i).file file (stays rest.lists rest.there (row_at parameters past i).file file number.there) in
         taken base (base_at past) place (r.address_offset, r.op_index) p next (row_at parameters past i) built one refl
@@ -263,7 +261,7 @@ module _ (sections : Sections) (parameters : Parameters) (first : Lists) (conver
             let ahead = f.ahead a seen at in
             let next : Built = behind_address (Constant a) (with_tables lists p) in
             let mapped : converted convert_address here next ≡ Ok c =
-                sym (ap (λ (o : Option Address). (ok_or o InvalidAddress >>= λ m. Ok (behind_address m (with_tables lists p))) >>= λ n. converted convert_address here n) (itself a)) ∙ so in
+            sym (ap (λ (o : Option Address). (ok_or o InvalidAddress >>= λ m. Ok (behind_address m (with_tables lists p))) >>= λ n. converted convert_address here n) (itself a)) ∙ so in
             address_taken base place p a ahead.0 ahead.1 (placed a (0, 0) next one loud seen (sym (pending_is_base past a at)) mapped follow)
 
     -- any place

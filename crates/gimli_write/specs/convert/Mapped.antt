@@ -1,5 +1,5 @@
 -- What it means that a converted program says what its source says, and what is asked of the source for it.
-use Rattle.std.specs.Prelude.{◌≡◌, ◌≢◌, ℕ, ◌+◌, ◌≤◌, Bool, true, false, not, ◌&&◌, ◌||◌, if◌then◌else◌, List, [], ◌∷◌, ◌++◌, map, slice_get, Option, Some, None, option_map, Result, Ok, All}
+use Rattle.std.specs.Prelude.{◌≡◌, ◌≢◌, ℕ, ◌+◌, ◌≤◌, Bool, true, false, not, ◌&&◌, ◌||◌, if◌then◌else◌, List, [], ◌∷◌, ◌++◌, map, slice_get, Option, Some, None, option_map}
 use Rattle.std.specs.List.{AllByRecursion}
 use Rattle.gimli_core.specs.Notation.{Notation}
 use Rattle.gimli_core.specs.Values.{Value}
@@ -15,7 +15,7 @@ use Rattle.gimli_line.specs.run.EventsWithFiles.{FilesAtEnd}
 use Rattle.gimli_line.specs.run.Instruction.{Ins, is_end, makes_row}
 use Rattle.gimli_line.specs.run.InstructionGrammar.{Decodes}
 use Rattle.gimli_line.specs.run.OperationPointer.{is_hidden}
-use Rattle.gimli_build.specs.Built.{Built, address_value}
+use Rattle.gimli_build.specs.Built.{address_value}
 use Rattle.gimli_build.specs.FileNumber.{file_number}
 use Rattle.gimli_build.specs.LineText.{LineText, bytes_in}
 use Rattle.gimli_build.specs.SameRow.{read_row}
@@ -24,7 +24,9 @@ use Rattle.gimli_build.specs.Texts.{Sections, IsText, IsOptionalText}
 use Rattle.gimli_build.specs.declared.built.row.LineRow.{LineRow}
 use Rattle.gimli_build.specs.declared.built.items.BuiltItem.{BuiltItem}
 use Rattle.gimli_build.specs.declared.built.items.BuiltItem.TheVariants.{SetAddress, Row, End}
+use Rattle.gimli_write.specs.RoundTrip.{FileAnswer}
 use Rattle.gimli_write.specs.convert.Feeding.{Conversion}
+use Rattle.gimli_write.specs.convert.Preparation.{Handed, encoding_of}
 
 -- ---- what is asked
 
@@ -49,6 +51,12 @@ pub record SeesEnds (notation : Notation) (h : Header) (bytes : List ℕ) : Type
   pub end : Option Error
   pub decoding : Decodes notation h bytes list end
   pub seen : SeesEndsBehind h.parameters [] list
+
+-- what is asked of a source and of what is handed, so that a conversion is faithful
+pub record CanBeFaithful (convert_address : ℕ → Option Address) (notation : Notation) (h : Header) (given : Handed) : Type 0 where
+  pub itself : MapsToItself convert_address
+  pub wide : h.parameters.encoding.address_size ≤ (encoding_of h given).address_size
+  pub ends_seen : SeesEnds notation h h.program
 
 -- ---- rows and ends
 
@@ -131,7 +139,7 @@ pub record IsMapped (notation : Notation) (sections : Sections) (h : Header) (by
   pub at_end : FilesAtEnd notation true h bytes source_files
   pub files : AreFilesMapped sections h source_files strings c
 
--- ---- rows that are read back
+-- ---- what is read back
 
 -- a row that is read back of a conversion in this version says what a row of the source in its version says: an end has
 -- its address, and any other row all its registers, with the number that its file has now
@@ -140,3 +148,15 @@ pub record IsReadAs (source_version version : ℕ) (file_ids : List ℕ) (source
   pub ends : back.end_sequence ≡ source.end_sequence
   pub registers : source.end_sequence ≡ false → back ≡ record source { file = back.file }
   pub file : source.end_sequence ≡ false → (id : ℕ) × IsFileId source_version file_ids source.file id × (back.file ≡ file_number version id)
+
+-- a file that is read back, beside these directories, has the paths of a file of the source
+pub record IsFileReadAs (sections : Sections) (h : Header) (directories : List (List ℕ)) (f : File) (answer : FileAnswer) : Type 0 where
+  pub directory : List ℕ
+  pub directory_there : slice_get directories answer.directory_index ≡ Some directory
+  pub has : HasPaths sections h answer.path directory f
+
+-- each file number of the source has an id, and the file with this index that is read back is the one that it stands for
+pub record AreFilesReadAs (sections : Sections) (h : Header) (files : List File) (file_ids : List ℕ) (directories : List (List ℕ)) (answers : List FileAnswer) : Type 0 where
+  pub each : (n : ℕ) (f : File) → entry_of h.parameters.encoding.version None files n ≡ Some f
+      → (id : ℕ) × IsFileId h.parameters.encoding.version file_ids n id
+      × ((answer : FileAnswer) × (slice_get answers id ≡ Some answer) × IsFileReadAs sections h directories f answer)

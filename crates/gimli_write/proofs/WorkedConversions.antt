@@ -1,0 +1,109 @@
+-- Conversions of a few programs, worked out by hand (DWARF 4, section 6.2.5): what is read, and what is built of it.
+use Rattle.std.proofs.Common.{◌≡◌, ℕ, true, false, List, [], ◌∷◌, negsuc, refl, pos}
+use Rattle.std.specs.Prelude.{Option, Some, None, Result, Ok, Err}
+use Rattle.gimli_core.specs.declared.common.Format.TheVariants.{Dwarf32}
+use Rattle.gimli_bytes.specs.declared.address.Address.{Address}
+use Rattle.gimli_bytes.specs.declared.address.Address.TheVariants.{Constant}
+use Rattle.gimli_line.specs.declared.run.instruction.LineInstruction.TheVariants.{Copy, AdvancePc, AdvanceLine, SetFile, FixedAddPc, EndSequence, SetAddress}
+use Rattle.gimli_line.specs.header.Parameters.{Parameters}
+use Rattle.gimli_line.specs.run.Instruction.{Ins}
+use Rattle.gimli_build.specs.Built.{started}
+use Rattle.gimli_build.specs.LineText.{Inline}
+use Rattle.gimli_build.specs.Tables.{no_details}
+use Rattle.gimli_build.specs.declared.built.row.LineRow.{LineRow}
+use Rattle.gimli_build.specs.declared.built.items.BuiltItem.{BuiltItem}
+use Rattle.gimli_build.specs.declared.built.items.BuiltItem.TheVariants as item
+use Rattle.gimli_write.specs.declared.convert_error.ConvertError.{ConvertError}
+use Rattle.gimli_write.specs.declared.convert_error.ConvertError.TheVariants.{InvalidFileIndex, InvalidAddress, MissingLineEndSequence, UnsupportedLineInstruction}
+use Rattle.gimli_write.specs.convert.Lists.{Lists}
+use Rattle.gimli_write.specs.convert.Mapped.{SeesEndsBehind}
+use Rattle.gimli_write.specs.convert.Offers.{Reading, reading_behind}
+use Rattle.gimli_write.specs.convert.Feeding.{converted}
+
+-- a source of version 4 with addresses of 4 bytes, whose instructions have this length at least
+abbrev source : ℕ → Parameters
+source length = record {
+  encoding = record { address_size = 4; format = Dwarf32; version = 4 };
+  line_encoding = record { minimum_instruction_length = length; maximum_operations_per_instruction = 1; default_is_stmt = true; line_base = negsuc 4; line_range = 14 };
+  opcode_base = 13;
+}
+
+-- its directory is /w, and its file a.c there
+abbrev lists : ℕ → Lists
+lists length = record {
+  program = started false (source length).encoding (source length).line_encoding (Inline (47 ∷ 119 ∷ []) ∷ []) (((Inline (97 ∷ 46 ∷ 99 ∷ []), 0), no_details) ∷ []);
+  directory_ids = 0 ∷ [];
+  file_ids = 0 ∷ 0 ∷ [];
+  line_strings = [];
+}
+
+abbrev read : ℕ → List Ins → Reading
+read length list = reading_behind (record { strings = []; line_strings = [] }) (source length) (lists length) [] list None
+
+-- what is built, where addresses are mapped so
+abbrev items_of : (ℕ → Option Address) → ℕ → List Ins → Result (List BuiltItem) ConvertError
+items_of convert_address length list = elim (converted convert_address (read length list) (lists length).program) [
+  | Ok c ↦ Ok c.program.items
+  | Err e ↦ Err e
+]
+
+abbrev itself : ℕ → Option Address
+itself a = Some (Constant a)
+
+abbrev a_row : ℕ → ℕ → LineRow
+a_row offset line = record {
+  address_offset = offset;
+  op_index = 0;
+  file = 0;
+  line = line;
+  column = 0;
+  discriminator = 0;
+  is_statement = true;
+  basic_block = false;
+  prologue_end = false;
+  epilogue_begin = false;
+  isa = 0;
+}
+
+-- an address and then an end
+address_and_end : items_of itself 1 (SetAddress 16 ∷ EndSequence ∷ []) ≡ Ok (item.SetAddress (Constant 16) ∷ item.End 0 0 ∷ [])
+address_and_end = refl
+
+-- an address in mid-sequence: what was advanced before it counts for nothing
+mid_sequence : items_of itself 1 (SetAddress 16 ∷ Copy ∷ AdvancePc 4 ∷ SetAddress 32 ∷ Copy ∷ AdvancePc 4 ∷ EndSequence ∷ [])
+    ≡ Ok (item.SetAddress (Constant 16) ∷ item.Row (a_row 0 1) ∷ item.SetAddress (Constant 32) ∷ item.Row (a_row 0 1) ∷ item.End 4 0 ∷ [])
+mid_sequence = refl
+
+-- an address that goes back hides a row, up to one that doesn't; its sequence ends seen
+hidden_row : items_of itself 1 (SetAddress 16 ∷ Copy ∷ SetAddress 8 ∷ AdvanceLine (pos 1) ∷ Copy ∷ SetAddress 32 ∷ AdvanceLine (pos 1) ∷ Copy ∷ EndSequence ∷ [])
+    ≡ Ok (item.SetAddress (Constant 16) ∷ item.Row (a_row 0 1) ∷ item.SetAddress (Constant 32) ∷ item.Row (a_row 0 3) ∷ item.End 0 0 ∷ [])
+hidden_row = refl
+
+hidden_row_seen : SeesEndsBehind (source 1) [] (SetAddress 16 ∷ Copy ∷ SetAddress 8 ∷ AdvanceLine (pos 1) ∷ Copy ∷ SetAddress 32 ∷ AdvanceLine (pos 1) ∷ Copy ∷ EndSequence ∷ [])
+hidden_row_seen =
+    (λ e h. absurd cc, (λ e h. absurd cc, (λ e h. absurd cc, (λ e h. absurd cc, (λ e h. absurd cc, (λ e h. absurd cc, (λ e h. absurd cc, (λ e h. absurd cc, (λ e h. absurd cc, tt)))))))))
+
+-- a sequence of which all is hidden gives nothing
+all_hidden : items_of itself 1 (SetAddress 4294967294 ∷ Copy ∷ EndSequence ∷ []) ≡ Ok []
+all_hidden = refl
+
+-- one that gave a row and ends hidden stays open
+ends_hidden : items_of itself 1 (SetAddress 16 ∷ Copy ∷ SetAddress 4294967295 ∷ EndSequence ∷ []) ≡ Err MissingLineEndSequence
+ends_hidden = refl
+
+ends_hidden_unseen : SeesEndsBehind (source 1) [] (SetAddress 16 ∷ Copy ∷ SetAddress 4294967295 ∷ EndSequence ∷ []) → ⊥
+ends_hidden_unseen seen = let open_sequence = seen.1.1.1.0 refl refl in absurd cc
+
+-- ---- refusals
+
+no_end : items_of itself 1 (Copy ∷ []) ≡ Err MissingLineEndSequence
+no_end = refl
+
+no_such_file : items_of itself 1 (SetFile 9 ∷ Copy ∷ EndSequence ∷ []) ≡ Err InvalidFileIndex
+no_such_file = refl
+
+odd_address : items_of itself 2 (FixedAddPc 1 ∷ Copy ∷ EndSequence ∷ []) ≡ Err UnsupportedLineInstruction
+odd_address = refl
+
+no_address : items_of (λ a. None) 1 (SetAddress 16 ∷ Copy ∷ EndSequence ∷ []) ≡ Err InvalidAddress
+no_address = refl
