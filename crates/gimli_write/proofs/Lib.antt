@@ -7,3 +7,4 @@ pub mod ConvertSteps
 pub mod ConvertHeader
 pub mod SourceReadings
 pub mod SourceSteps
+pub mod Conversions

@@ -1,6 +1,7 @@
 -- What one instruction of a source does to what is still to be read.
 use Rattle.std.proofs.Common.{◌≡◌, ◌≢◌, ℕ, ◌<◌, ◌≤◌, ◌-◌, ◌*◌, ◌^◌, Bool, true, false, not, ◌&&◌, ◌||◌, if◌then◌else◌, List, [], ◌∷◌, ◌++◌, length, refl, sym, ap, ◌∙◌, subst, append_assoc, arith}
 use Rattle.std.specs.Prelude.{Option, Some, None, unwrap_or, Result, Ok, Err, OnOk, OnErr, IfOk, IfErr, nat_lt, nat_le}
+use Rattle.std.specs.List.{list_any}
 use Rattle.std.proofs.lemmas.List.{length-append, append-nil}
 use Rattle.std.proofs.lemmas.Bool.{false≢true}
 use Rattle.gimli_core.specs.Notation.{Notation}
@@ -29,7 +30,7 @@ use Rattle.gimli_write.specs.declared.convert.run.SourceStep.{SourceStep}
 use Rattle.gimli_write.specs.declared.convert.run.SourceStep.TheVariants.{Done, More, Made}
 use Rattle.gimli_write.specs.convert.Lists.{Lists, file_added}
 use Rattle.gimli_write.specs.convert.Offers.{Reading, ends, stops, address_operand, offered, defined}
-use Rattle.gimli_write.specs.convert.SourceState.{SourceState, row_made, base_behind, pending_behind, state_behind, instruction_reading, reading_from, reading_upon, reading_left, step_reading, step_made, Shortens}
+use Rattle.gimli_write.specs.convert.SourceState.{SourceState, row_made, base_behind, pending_behind, state_behind, instruction_reading, reading_from, reading_upon, reading_left, defines_ahead, step_reading, step_made, Shortens, KeepsAhead}
 
 -- ---- what a program is decoded into, by its front
 
@@ -293,14 +294,45 @@ with_unread s u = record s { unread = u }
 pub spelled_as : (notation : Notation) (h k : Header) (front : List ℕ) (i j : Ins) → k ≡ h → i ≡ j → SpellsInstruction notation k front i → SpellsInstruction notation h front j
 spelled_as notation h k front i j same is s = subst (λ (x : Header). SpellsInstruction notation x front j) same (subst (λ (y : Ins). SpellsInstruction notation k front y) is s)
 
-pub shortens : {R Endian Offset : Type 0} (step : SourceStep R Endian Offset) (old new : SourceState) → length new.unread.bytes < length old.unread.bytes → Shortens step old new
-shortens Done old new lt = tt
-shortens step old new lt = lt
+module _ (R Endian Offset : Type 0) (s old new : SourceState) (i : Ins) where
+  shortens : length new.unread.bytes < length old.unread.bytes → (b : Bool) → Shortens {R = R} {Endian = Endian} {Offset = Offset} (if b then Made (row_made s i) else More) old new
+  shortens lt true = lt
+  shortens lt false = lt
 
-pub executed_shortens : {R Endian Offset : Type 0} (r : Result (SourceStep R Endian Offset) ConvertError) (old new : SourceState) → length new.unread.bytes < length old.unread.bytes
-    → IfOk r (λ step. Shortens step old new)
-executed_shortens (Ok step) old new lt = shortens step old new lt
-executed_shortens (Err e) old new lt = tt
+  keeps_ahead : defines_ahead new ≡ defines_ahead old → (b : Bool) → KeepsAhead {R = R} {Endian = Endian} {Offset = Offset} (if b then Made (row_made s i) else More) old new
+  keeps_ahead same true = same
+  keeps_ahead same false = same
+
+module _ {R Endian Offset : Type 0} (s old new : SourceState) (i : Ins) where
+  pub executed_shortens : (r : Result (SourceStep R Endian Offset) ConvertError) → IfOk r (λ step. step ≡ step_made s i) → length new.unread.bytes < length old.unread.bytes → IfOk r (λ step. Shortens step old new)
+  executed_shortens (Ok step) made lt = rw made (shortens R Endian Offset s old new i lt (makes_row i && not s.row.hidden))
+  executed_shortens (Err e) made lt = tt
+
+  pub executed_ahead : (r : Result (SourceStep R Endian Offset) ConvertError) → IfOk r (λ step. step ≡ step_made s i) → defines_ahead new ≡ defines_ahead old → IfOk r (λ step. KeepsAhead step old new)
+  executed_ahead (Ok step) made same = rw made (keeps_ahead R Endian Offset s old new i same (makes_row i && not s.row.hidden))
+  executed_ahead (Err e) made same = tt
+
+-- ---- files that are still to be defined
+
+none_ahead : (s : SourceState) → s.unread.bytes ≡ [] → defines_ahead s ≡ false
+none_ahead s e = ap (λ (c : List Ins × Option Error). list_any defines_file c.0) (decoded_none s.unread.notation s.header s.unread.bytes e)
+
+pub ended_ahead : (s t : SourceState) → s.unread.bytes ≡ [] → t.unread.bytes ≡ [] → defines_ahead t ≡ defines_ahead s
+ended_ahead s t e f = none_ahead t f ∙ sym (none_ahead s e)
+
+module _ (s : SourceState) (i : Ins) (front rest : List ℕ) (parts : s.unread.bytes ≡ front ++ rest) (spelled : SpellsInstruction s.unread.notation s.header front i) where
+  first_ahead : defines_ahead s ≡ (defines_file i || list_any defines_file (decoded_at s.unread.notation s.header rest).0)
+  first_ahead = ap (λ (c : List Ins × Option Error). list_any defines_file c.0) (decoded_some s.unread.notation s.header s.unread.bytes i front rest parts spelled)
+
+  pub file_ahead : defines_file i ≡ true → defines_ahead s ≡ true
+  file_ahead file = first_ahead ∙ ap (λ (b : Bool). b || list_any defines_file (decoded_at s.unread.notation s.header rest).0) file
+
+  pub none_taken : (t : SourceState) → t.header ≡ s.header → t.unread.notation ≡ s.unread.notation → t.unread.bytes ≡ rest → defines_file i ≡ false → defines_ahead t ≡ defines_ahead s
+  none_taken t header notation bytes file =
+      ap (λ (k : Header). list_any defines_file (decoded_at t.unread.notation k t.unread.bytes).0) header
+      ∙ ap (λ (n : Notation). list_any defines_file (decoded_at n s.header t.unread.bytes).0) notation
+      ∙ ap (λ (xs : List ℕ). list_any defines_file (decoded_at s.unread.notation s.header xs).0) bytes
+      ∙ sym (first_ahead ∙ ap (λ (b : Bool). b || list_any defines_file (decoded_at s.unread.notation s.header rest).0) file)
 
 module _ {R Offset : Type 0} (Endian : Type 0) (bytes : R → List ℕ) (number : Offset → ℕ) (s : SourceState) (u : Unread) (notation : u.notation ≡ s.unread.notation)
     (i : Ins) (front : List ℕ) (parts : s.unread.bytes ≡ front ++ u.bytes) (spelled : SpellsInstruction s.unread.notation s.header front i) where

@@ -4,3 +4,5 @@ pub mod Lists
 pub mod Preparation
 pub mod Offers
 pub mod SourceState
+pub mod Feeding
+pub mod ConversionState

@@ -1,11 +1,12 @@
 -- What a run over a source has still to read.
-use Rattle.std.specs.Prelude.{◌<◌, ℕ, ◌-◌, not, ◌&&◌, if◌then◌else◌, List, [], ◌∷◌, length, Option, Some, None, unwrap_or, Result, Ok}
+use Rattle.std.specs.Prelude.{◌≡◌, ◌<◌, ℕ, Bool, true, ◌-◌, not, ◌&&◌, if◌then◌else◌, List, [], ◌∷◌, length, Option, Some, None, unwrap_or, Result, Ok}
+use Rattle.std.specs.List.{list_any}
 use Rattle.gimli_core.specs.declared.error.Error.{Error}
 use Rattle.gimli_core.specs.declared.error.Error.TheVariants.{AddressOverflow}
 use Rattle.gimli_line.specs.header.Header.{Header}
 use Rattle.gimli_line.specs.header.File.{file_seen}
 use Rattle.gimli_line.specs.declared.run.row.LineRow.{LineRow}
-use Rattle.gimli_line.specs.run.Instruction.{Ins, is_end, makes_row}
+use Rattle.gimli_line.specs.run.Instruction.{Ins, is_end, makes_row, defines_file}
 use Rattle.gimli_line.specs.run.InstructionReading.{decoded_at}
 use Rattle.gimli_line.specs.run.Machine.{initial, stepped, is_refused}
 use Rattle.gimli_line.specs.run.EventsWithFiles.{next_registers}
@@ -77,6 +78,10 @@ reading_upon sections s there = let c = decoded_at s.unread.notation s.header s.
 abbrev pub reading_left : Sections → SourceState → Lists → Reading
 reading_left sections s lists = reading_upon sections s (Ok lists)
 
+-- a file is still to be defined
+abbrev pub defines_ahead : SourceState → Bool
+defines_ahead s = list_any defines_file (decoded_at s.unread.notation s.header s.unread.bytes).0
+
 -- ---- steps
 
 module _ {R Offset Endian : Type 0} (bytes : R → List ℕ) (number : Offset → ℕ) where
@@ -91,7 +96,12 @@ module _ {R Offset Endian : Type 0} (bytes : R → List ℕ) (number : Offset �
 abbrev pub step_made : {R Endian Offset : Type 0} → SourceState → Ins → SourceStep R Endian Offset
 step_made s i = if makes_row i && not s.row.hidden then Made (row_made s i) else More
 
--- fewer bytes are unread behind a step
+-- fewer bytes are unread behind a step, and none behind the end
 abbrev pub Shortens : {R Endian Offset : Type 0} → SourceStep R Endian Offset → SourceState → SourceState → Type 0
-Shortens Done old new = Unit {0}
+Shortens Done old new = new.unread.bytes ≡ []
 Shortens step old new = length new.unread.bytes < length old.unread.bytes
+
+-- only a step that defines a file takes one of those that are still to be defined
+abbrev pub KeepsAhead : {R Endian Offset : Type 0} → SourceStep R Endian Offset → SourceState → SourceState → Type 0
+KeepsAhead (Defines f) old new = defines_ahead old ≡ true
+KeepsAhead step old new = defines_ahead new ≡ defines_ahead old

@@ -1,12 +1,14 @@
 //! The directories and files of a source, as they are added to the program that is built of it.
 
-ghost use Rattle.std.specs.Prelude.{◌≡◌, ◌≢◌, ◌≤◌, [], All, IfOk, IfErr, IfSome, OnOk, Ok, length, option_map, map, slice_get, ◌<◌};
+ghost use Rattle.std.specs.Prelude.{◌≡◌, ◌≢◌, ◌≤◌, ℕ, List, [], All, IfOk, IfErr, IfSome, OnOk, Ok, length, option_map, map, slice_get, ◌<◌};
 ghost use Rattle.std.specs.Option.{option_map_or};
 ghost use Rattle.gimli_core.specs.Values.{value_seen};
 ghost use Rattle.gimli_line.specs.header.File.{file_seen};
 ghost use Rattle.gimli_bytes.specs.Texts.{KeepsTexts};
 ghost use Rattle.gimli_build.specs.LineText.{LineText, line_text, made_text, made_table, HasNoZero, IsNotEmpty};
 ghost use Rattle.gimli_write.specs.convert.Texts.{IsRefusedBy};
+ghost use Rattle.gimli_write.specs.convert.Offers.{file_id};
+ghost use Rattle.gimli_write.specs.convert.ConversionState.{AddsFiles};
 ghost use Rattle.gimli_write.specs.convert.Lists.{lists_with, directory_added, file_added, file_parts, all_added};
 ghost use Rattle.gimli_write.specs.declared.convert_error.ConvertError.TheVariants.{OutOfMemory};
 
@@ -178,6 +180,7 @@ impl Lists {
         ensures err { IfErr result (IsRefusedBy (file_added sections.now (lists_with line_strings.old self.old)
             (file_seen R.bytes R.Offset.number file.now))) }
         ensures kept { IfErr result (λ e. e ≢ ConvertError.OutOfMemory → self.new ≡ self.old) }
+        ensures adds { AddsFiles self.old.program self.new.program }
         ensures stays { KeepsTexts line_strings.old line_strings.new }
     {
         let alloc = *line_strings.allocator();
@@ -194,6 +197,20 @@ impl Lists {
         match self.program.add_file(path, parts.directory, Some(info)) {
             Ok(id) => Ok(self.files.push(id)?),
             Err(e) => Err(from_write(e)),
+        }
+    }
+
+    /// The id of the file of a number in the source, which is of this version. Refused as `InvalidFileIndex` where the
+    /// source has no file of its number so far.
+    pub(crate) fn file_id(&self, source_version: u16, number: u64) -> ConvertResult<FileId>
+        ensures { (line_strings : List (List ℕ)) → result ≡ file_id source_version (lists_with line_strings self.now) number }
+    {
+        if source_version <= 4 && number == 0 {
+            return Err(ConvertError::InvalidFileIndex);
+        }
+        match file_at(self.files.as_slice(), number) {
+            Some(id) => Ok(id),
+            None => Err(ConvertError::InvalidFileIndex),
         }
     }
 
@@ -244,4 +261,12 @@ fn directory_id(ids: &[DirectoryId], index: u64) -> Option<DirectoryId>
 {
     let index = usize::try_from(index).ok()?;
     ids.get(index).copied()
+}
+
+/// The id of the file of a number in the source. No number wraps.
+fn file_at(ids: &[FileId], number: u64) -> Option<FileId>
+    ensures { result ≡ slice_get ids.now number }
+{
+    let number = usize::try_from(number).ok()?;
+    ids.get(number).copied()
 }

@@ -1,7 +1,10 @@
 //! Line programs that are read and built again.
 
+pub(crate) mod building;
+pub(crate) mod conversion;
 pub(crate) mod header;
 pub(crate) mod lists;
 pub(crate) mod offer;
+pub(crate) mod program;
 pub(crate) mod run;
 pub(crate) mod texts;

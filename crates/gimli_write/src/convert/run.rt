@@ -138,7 +138,7 @@ impl<R: Reader> SourceRun<R> {
     ghost use Rattle.gimli_build.specs.Texts.{Sections};
     ghost use Rattle.gimli_write.specs.convert.Lists.{Lists};
     ghost use Rattle.gimli_write.specs.convert.Offers.{stops, address_operand, Reads};
-    ghost use Rattle.gimli_write.specs.convert.SourceState.{started, state_behind, step_made, reading_left, step_reading, Shortens};
+    ghost use Rattle.gimli_write.specs.convert.SourceState.{started, state_behind, step_made, reading_left, step_reading, Shortens, KeepsAhead};
 
     /// The source, from its start on.
     pub(crate) fn start(program: IncompleteLineProgram<R>) -> Self
@@ -159,6 +159,13 @@ impl<R: Reader> SourceRun<R> {
         }
     }
 
+    /// The version of the source.
+    pub(crate) fn version(&self) -> u16
+        ensures { result ≡ self.now.header.parameters.encoding.version }
+    {
+        self.program.header().version()
+    }
+
     /// Takes the next instruction and executes it, unless it defines a file. Refused by `Read`, as the instruction
     /// is, or by `AddressOverflow`. Takes no memory.
     pub(crate) fn step(&mut self) -> ConvertResult<SourceStep<R>>
@@ -166,6 +173,7 @@ impl<R: Reader> SourceRun<R> {
             ≡ step_reading R.bytes R.Offset.number sections lists step self.new) }
         ensures refusal { IfErr result (λ e. (sections : Sections) (lists : Lists) → reading_left sections self.old lists ≡ stops e) }
         ensures shorter { IfOk result (λ step. Shortens step self.old self.new) }
+        ensures ahead { IfOk result (λ step. KeepsAhead step self.old self.new) }
         ensures header { self.new.header ≡ self.old.header }
         ensures notation { self.new.unread.notation ≡ self.old.unread.notation }
     {

@@ -1,0 +1,117 @@
+-- A conversion, one read after the other.
+use Rattle.std.proofs.Common.{◌≡◌, ◌⊎◌, ℕ, ◌<◌, Bool, true, false, ◌||◌, if◌then◌else◌, List, [], ◌∷◌, ◌++◌, length, refl, sym, ap, ◌∙◌, subst, inl, inr}
+use Rattle.std.specs.Prelude.{Option, Some, None, Result, Ok, Err, IfErr, IfOk}
+use Rattle.std.specs.List.{list_any}
+use Rattle.gimli_core.specs.declared.error.Error.{Error}
+use Rattle.gimli_core.specs.Values.{Value}
+use Rattle.gimli_line.specs.header.File.{File}
+use Rattle.gimli_line.specs.header.Header.{Header}
+use Rattle.gimli_line.specs.run.Instruction.{Ins}
+use Rattle.gimli_line.specs.run.InstructionReading.{decoded_at}
+use Rattle.gimli_build.specs.Texts.{Sections}
+use Rattle.gimli_write.specs.declared.convert_error.ConvertError.{ConvertError}
+use Rattle.gimli_write.specs.declared.convert_error.ConvertError.TheVariants.{OutOfMemory}
+use Rattle.gimli_write.specs.convert.Texts.{◌>>=◌, IsRefusedBy, source_path}
+use Rattle.gimli_write.specs.convert.Lists.{Converted, Lists, version_of, with_path, directory_added, FileParts, file_parts, with_parts, file_added, all_added}
+use Rattle.gimli_write.specs.convert.Preparation.{Handed, SourceFile, FirstTexts, prepared, started_lists, first_texts, encoding_of, working_directory, source_file, line_encoding_of}
+use Rattle.gimli_write.specs.convert.Offers.{Reading, stops, offers, file_id, row_in, built_row, row_offered, place_offered}
+use Rattle.gimli_write.specs.declared.convert.run.SourceRow.{SourceRow}
+use Rattle.gimli_write.specs.declared.convert.offer.ConvertLineRow.TheVariants.{Row, EndSequence}
+use Rattle.gimli_write.specs.convert.SourceState.{SourceState, reading_from, reading_upon, reading_left, defines_ahead}
+use Rattle.gimli_write.specs.convert.ConversionState.{ConversionState, plain, IsReadRefusal}
+
+-- ---- lists without what is built
+
+pub plain_file : (s : Sections) (lists : Lists) (f : File) → file_added s (plain lists) f ≡ (file_added s lists f >>= λ next. Ok (plain next))
+plain_file s lists f = by (file_parts (version_of lists) s lists.directory_ids f)
+  where
+    by : (r : Result FileParts ConvertError) → (r >>= λ parts. Ok (with_parts (plain lists) f parts)) ≡ ((r >>= λ parts. Ok (with_parts lists f parts)) >>= λ next. Ok (plain next))
+    by (Ok parts) = refl
+    by (Err e) = refl
+
+pub plain_directory : (s : Sections) (lists : Lists) (v : Value) → directory_added s (plain lists) v ≡ (directory_added s lists v >>= λ next. Ok (plain next))
+plain_directory s lists v = by (source_path (version_of lists) s v)
+  where
+    by : (r : Result (List ℕ) ConvertError) → (r >>= λ path. Ok (with_path (plain lists) path)) ≡ ((r >>= λ path. Ok (with_path lists path)) >>= λ next. Ok (plain next))
+    by (Ok path) = refl
+    by (Err e) = refl
+
+-- ---- a file that is defined
+
+stops_there : (sections : Sections) (s : SourceState) (e : ConvertError) (list : List Ins) (end : Option Error) → reading_from sections s (Err e) list end ≡ stops e
+stops_there sections s e [] end = refl
+stops_there sections s e (i ∷ list) end = refl
+
+module _ (sections : Sections) (s : SourceState) (lists : Lists) (f : File) where
+  -- behind it
+  pub file_taken : (next : Lists) → file_added sections lists f ≡ Ok next → reading_upon sections s (file_added sections (plain lists) f) ≡ reading_left sections s (plain next)
+  file_taken next is = ap (reading_upon sections s) (plain_file sections lists f ∙ ap (λ (r : Result Lists ConvertError). r >>= λ n. Ok (plain n)) is)
+
+  pub file_refused : (e : ConvertError) → file_added sections lists f ≡ Err e → reading_upon sections s (file_added sections (plain lists) f) ≡ stops e
+  file_refused e is =
+      ap (reading_upon sections s) (plain_file sections lists f ∙ ap (λ (r : Result Lists ConvertError). r >>= λ n. Ok (plain n)) is)
+      ∙ stops_there sections s e (decoded_at s.unread.notation s.header s.unread.bytes).0 (decoded_at s.unread.notation s.header s.unread.bytes).1
+
+  pub file_refusal : (old : Reading) (source : SourceState) (e : ConvertError) → reading_upon sections s (file_added sections (plain lists) f) ≡ old → defines_ahead source ≡ true
+      → IsRefusedBy (file_added sections lists f) e → IsReadRefusal old source e
+  file_refusal old source e here ahead (inl memory) = inr (memory, ahead)
+  file_refusal old source e here ahead (inr is) = inl (sym here ∙ file_refused e is)
+
+-- ---- the lists of a header have nothing built
+
+bound : {A B : Type 0} (r : Result A ConvertError) (f : A → Result B ConvertError) (y : B) → (r >>= f) ≡ Ok y → (x : A) × (r ≡ Ok x) × (f x ≡ Ok y)
+bound (Ok x) f y is = (x, refl, is)
+bound (Err e) f y is = absurd cc
+
+ok_same : {A : Type 0} (x y : A) → ◌≡◌ {A = Result A ConvertError} (Ok x) (Ok y) → x ≡ y
+ok_same x y is = cc
+
+module _ {A : Type 0} (add : Lists → A → Result Lists ConvertError) (commutes : (lists : Lists) (x : A) → add (plain lists) x ≡ (add lists x >>= λ next. Ok (plain next))) where
+  one_plain : (lists next : Lists) (x : A) → plain lists ≡ lists → add lists x ≡ Ok next → plain next ≡ next
+  one_plain lists next x is added =
+      ok_same (plain next) next
+      (sym (commutes lists x ∙ ap (λ (r : Result Lists ConvertError). r >>= λ n. Ok (plain n)) added)
+      ∙ ap (λ (l : Lists). add l x) is ∙ added)
+
+  all_plain : (xs : List A) (lists next : Lists) → plain lists ≡ lists → all_added add xs lists ≡ Ok next → plain next ≡ next
+  all_plain [] lists next is added = subst (λ (l : Lists). plain l ≡ l) (ok_same lists next added) is
+  all_plain (x ∷ xs) lists next is added =
+      let one = bound (add lists x) (all_added add xs) next added in
+      all_plain xs one.0 next (one_plain lists one.0 x is one.1) one.2
+
+pub prepared_plain : (sections : Sections) (h : Header) (given : Handed) (line_strings : List (List ℕ)) (lists : Lists) → prepared sections h given line_strings ≡ Ok lists → plain lists ≡ lists
+prepared_plain sections h given line_strings lists is =
+    let encoding = encoding_of h given in
+    let directory = bound (working_directory encoding.version sections h) _ lists is in
+    let file = bound (source_file encoding.version sections h given.name) _ lists directory.2 in
+    let lines = bound (line_encoding_of h.parameters.line_encoding given.line_encoding) _ lists file.2 in
+    let directories = bound (all_added (directory_added sections) h.directories
+    (started_lists encoding lines.0 h (first_texts encoding.version line_strings directory.0 file.0))) (all_added (file_added sections) h.files) lists lines.2 in
+    all_plain (file_added sections) (plain_file sections) h.files directories.0 lists
+    (all_plain (directory_added sections) (plain_directory sections) h.directories
+    (started_lists encoding lines.0 h (first_texts encoding.version line_strings directory.0 file.0)) directories.0 refl directories.1)
+    directories.2
+
+-- ---- rows
+
+module _ (version : ℕ) (lists : Lists) (r : SourceRow) (rest : Reading) (ends_not : r.row.end_sequence ≡ false) where
+  by_file : place_offered version lists r rest ≡ row_offered (built_row version lists r) lists rest
+  by_file = ap (λ (b : Bool). if b then offers (EndSequence r.address_offset) lists rest else row_offered (built_row version lists r) lists rest) ends_not
+
+  pub row_taken : (file : ℕ) → Ok file ≡ file_id version lists r.row.file → place_offered version lists r rest ≡ offers (Row (row_in r file)) lists rest
+  row_taken file is = by_file ∙ ap (λ (x : Result ℕ ConvertError). row_offered (x >>= λ n. Ok (row_in r n)) lists rest) (sym is)
+
+  pub row_refused : (e : ConvertError) → Err e ≡ file_id version lists r.row.file → place_offered version lists r rest ≡ stops e
+  row_refused e is = by_file ∙ ap (λ (x : Result ℕ ConvertError). row_offered (x >>= λ n. Ok (row_in r n)) lists rest) (sym is)
+
+-- ---- the state of a conversion, by its parts
+
+abbrev pub conversion : Sections → SourceState → Converted → Option ℕ → Option SourceRow → Option ConvertError → ConversionState
+conversion sections source lists address held failed = record {
+  sections = sections;
+  source = source;
+  lists = lists;
+  address = address;
+  held = held;
+  failed = failed;
+}

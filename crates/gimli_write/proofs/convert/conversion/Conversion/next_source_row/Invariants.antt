@@ -1,0 +1,25 @@
+use Rattle.std.proofs.Common.{◌≡◌, true, length}
+use Rattle.gimli_bytes.specs.Texts.{KeepsTexts}
+use Rattle.gimli_write.specs.convert.SourceState.{defines_ahead}
+use Rattle.gimli_write.specs.convert.ConversionState.{version_of_source, source_left, AddsFiles}
+use Rattle.gimli_write.proofs.Conversions.{conversion}
+use Rattle.gimli_write.proofs.convert.conversion.Conversion.next_source_row.Given as goal
+
+abbrev pub invariant-steps : goal.invariant-steps
+invariant-steps g l =
+    let a = l.self-inside in
+    let now = conversion a.sections a.source a.lists a.address a.held a.failed in
+    record {
+      left : source_left now l.line_strings ≡ source_left l.fn.self l.fn.line_strings;
+      ahead : defines_ahead a.source ≡ true → defines_ahead l.fn.self.source ≡ true;
+      version : version_of_source now ≡ version_of_source l.fn.self;
+      sections : a.sections ≡ l.fn.self.sections;
+      address : a.address ≡ l.fn.self.address;
+      held : a.held ≡ l.fn.self.held;
+      failed : a.failed ≡ l.fn.self.failed;
+      adds : AddsFiles l.fn.self.lists.program a.lists.program;
+      stays : KeepsTexts l.fn.line_strings l.line_strings;
+    }
+
+abbrev pub decreases-steps : goal.decreases-steps
+decreases-steps g l = length l.self-inside.source.unread.bytes

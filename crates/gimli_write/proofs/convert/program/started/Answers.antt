@@ -1,0 +1,24 @@
+use Rattle.std.proofs.Common.{◌≡◌, sym, subst}
+use Rattle.std.specs.Prelude.{option_map}
+use Rattle.gimli_build.specs.Texts.{Sections}
+use Rattle.gimli_write.specs.convert.Lists.{Lists, lists_with}
+use Rattle.gimli_write.specs.convert.Preparation.{handed}
+use Rattle.gimli_write.specs.convert.Offers.{Reads}
+use Rattle.gimli_write.specs.convert.SourceState.{started, reading_left}
+use Rattle.gimli_write.specs.convert.ConversionState.{plain}
+use Rattle.gimli_write.proofs.SourceReadings.{start_reads}
+use Rattle.gimli_write.proofs.Conversions.{prepared_plain}
+use Rattle.gimli_write.proofs.convert.program.started.Goals as goal
+
+pub returns-clause-reads : goal.returns-clause-reads
+returns-clause-reads g c =
+    let sections : Sections = record { strings = g.R.Reader.bytes c.args.debug_str; line_strings = g.R.Reader.bytes c.args.debug_line_str } in
+    let h = c.args.from_program.meaning in
+    let notation = c.args.from_program.notation in
+    let lists = lists_with c.prepare.new.line_strings c.in_ok-lists.lists in
+    let given = handed c.args.encoding c.args.line_encoding (option_map g.R.Reader.bytes c.args.from_comp_name) in
+    let is = rw c.header.ensures at c.in_ok-lists.ensures.ok in
+    let same : plain lists ≡ lists = prepared_plain sections h given c.args.line_strings.now lists is in
+    rw c.start.ensures
+    (subst (λ (x : Lists). Reads notation sections h lists h.program (reading_left sections (started h (record { bytes = h.program; notation = notation })) x))
+    (sym same) (start_reads notation sections h lists h.program))

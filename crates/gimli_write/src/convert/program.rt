@@ -1,0 +1,242 @@
+//! The conversion of a line program, as its callers see it.
+
+ghost use Rattle.std.specs.Prelude.{◌≡◌, ◌⊎◌, false, Some, None, Ok, option_map, IfErr, IfOk, IfSome, IsTrue, OnErr, OnOk};
+ghost use Rattle.gimli_core.specs.Numbers.{is_address_size};
+ghost use Rattle.gimli_bytes.specs.Texts.{KeepsTexts};
+ghost use Rattle.gimli_build.specs.Advance.{CanEncode};
+ghost use Rattle.gimli_build.specs.Built.{previous_place};
+ghost use Rattle.gimli_build.specs.Conditions.{CanBuild, CanEndSequence};
+ghost use Rattle.gimli_write.specs.convert.Texts.{IsRefusedBy};
+ghost use Rattle.gimli_write.specs.convert.Lists.{lists_with};
+ghost use Rattle.gimli_write.specs.convert.Offers.{Reads};
+ghost use Rattle.gimli_write.specs.convert.Preparation.{handed, prepared};
+ghost use Rattle.gimli_write.specs.convert.Feeding.{behind_address, behind_row, behind_end};
+ghost use Rattle.gimli_write.specs.convert.ConversionState.{lists_of, still_to_read, HandsOut, IsReadRefusal, AddsFiles, IsBuildRefusal, begun, with_program};
+
+use crate::convert::conversion::Conversion;
+use crate::convert::header::prepare;
+use crate::convert::lists::Lists;
+use crate::convert::offer::ConvertLineRow;
+use crate::convert_error::{ConvertError, ConvertResult};
+use crate::text::TextSections;
+use gimli_build::{BuiltItem, FileId, LineProgram, LineRow};
+use gimli_bytes::{Address, LineStringTable, StringTable};
+use gimli_core::{Encoding, LineEncoding, Reader};
+use gimli_line::IncompleteLineProgram;
+use std::marker::PhantomData;
+
+/// A line program that is read and built again.
+///
+/// It holds the tables of strings until it is dropped. What owns memory stands at the last type parameter, which is
+/// never written.
+#[derive(Drop)]
+pub struct ConvertLineProgram<'a, 'b, R: Reader, P = Conversion<R>> {
+    line_strings: &'a mut LineStringTable,
+    strings: &'b mut StringTable,
+    conversion: P,
+    reader: PhantomData<R>,
+}
+
+/// What is made of the header of a source, in the tables that are handed.
+fn started<R: Reader>(
+    debug_str: R,
+    debug_line_str: R,
+    from_program: IncompleteLineProgram<R>,
+    from_comp_name: Option<R>,
+    encoding: Option<Encoding>,
+    line_encoding: Option<LineEncoding>,
+    line_strings: &mut LineStringTable,
+) -> ConvertResult<Conversion<R>>
+    requires address_size { IfSome encoding (λ e. IsTrue (is_address_size e.address_size)) }
+    requires lines { IfSome line_encoding CanEncode }
+    ensures ok { IfOk result (λ conversion. prepared
+        (record { strings = R.bytes debug_str; line_strings = R.bytes debug_line_str }) from_program.meaning
+        (handed encoding line_encoding (option_map R.bytes from_comp_name)) line_strings.old
+        ≡ Ok (lists_with line_strings.new conversion.lists)) }
+    ensures err { IfErr result (IsRefusedBy (prepared
+        (record { strings = R.bytes debug_str; line_strings = R.bytes debug_line_str }) from_program.meaning
+        (handed encoding line_encoding (option_map R.bytes from_comp_name)) line_strings.old)) }
+    ensures reads { IfOk result (λ conversion. Reads from_program.notation
+        (record { strings = R.bytes debug_str; line_strings = R.bytes debug_line_str }) from_program.meaning
+        (lists_with line_strings.new conversion.lists) from_program.meaning.program
+        (still_to_read conversion line_strings.new)) }
+    ensures stays { KeepsTexts line_strings.old line_strings.new }
+{
+    let sections = TextSections {
+        strings: debug_str,
+        line_strings: debug_line_str,
+    };
+    let lists = prepare(
+        &sections,
+        from_program.header(),
+        from_comp_name,
+        encoding,
+        line_encoding,
+        line_strings,
+    )?;
+    Ok(Conversion::start(sections, from_program, lists))
+}
+
+impl<'a, 'b, R: Reader> ConvertLineProgram<'a, 'b, R, Conversion<R>> {
+    /// A conversion of a source, over the sections that hold its texts. Its directories and files are added to the
+    /// program that is built, by the encodings that are handed, else by the source's own. The name is that of the source
+    /// file, where the source is of version 4 or less; else file 0 is it. Asks encodings that a program may have, where
+    /// they are handed. Refused, in this order: for the working directory, the source file, the encoding of lines, the
+    /// directories and the files; or by `OutOfMemory`. The tables keep their texts.
+    pub fn new(
+        debug_str: R,
+        debug_line_str: R,
+        from_program: IncompleteLineProgram<R>,
+        from_comp_name: Option<R>,
+        encoding: Option<Encoding>,
+        line_encoding: Option<LineEncoding>,
+        line_strings: &'a mut LineStringTable,
+        strings: &'b mut StringTable,
+    ) -> ConvertResult<Self>
+        requires address_size { IfSome encoding (λ e. IsTrue (is_address_size e.address_size)) }
+        requires lines { IfSome line_encoding CanEncode }
+        ensures ok { IfOk result (λ convert. prepared
+            (record { strings = R.bytes debug_str; line_strings = R.bytes debug_line_str }) from_program.meaning
+            (handed encoding line_encoding (option_map R.bytes from_comp_name)) line_strings.old
+            ≡ Ok (lists_with convert.line_strings.now convert.conversion.lists)) }
+        ensures err { IfErr result (IsRefusedBy (prepared
+            (record { strings = R.bytes debug_str; line_strings = R.bytes debug_line_str }) from_program.meaning
+            (handed encoding line_encoding (option_map R.bytes from_comp_name)) line_strings.old)) }
+        ensures reads { IfOk result (λ convert. Reads from_program.notation
+            (record { strings = R.bytes debug_str; line_strings = R.bytes debug_line_str }) from_program.meaning
+            (lists_with convert.line_strings.now convert.conversion.lists) from_program.meaning.program
+            (still_to_read convert.conversion convert.line_strings.now)) }
+        ensures stays { IfOk result (λ convert. KeepsTexts line_strings.old convert.line_strings.now) }
+        ensures strings { IfOk result (λ convert. convert.strings.now ≡ strings.old) }
+        ensures same_line_strings { IfOk result (λ convert. convert.line_strings.ghost_name ≡ line_strings.entry.ghost_name) }
+        ensures same_strings { IfOk result (λ convert. convert.strings.ghost_name ≡ strings.entry.ghost_name) }
+    {
+        let conversion = started(
+            debug_str,
+            debug_line_str,
+            from_program,
+            from_comp_name,
+            encoding,
+            line_encoding,
+            line_strings,
+        )?;
+        Ok(ConvertLineProgram {
+            line_strings,
+            strings,
+            conversion,
+            reader: PhantomData,
+        })
+    }
+
+    /// Begins a sequence in the program that is built. Refused as `UnsupportedLineInstruction` where one has begun, or
+    /// by `OutOfMemory`; then nothing changes.
+    pub fn begin_sequence(&mut self, address: Option<Address>) -> ConvertResult<()>
+        ensures ok { OnOk result (self.new.conversion
+            ≡ with_program (begun address self.old.conversion.lists.program) self.old.conversion) }
+        ensures outside { OnOk result (self.old.conversion.lists.program.in_sequence ≡ false) }
+        ensures err { IfErr result (IsBuildRefusal (self.old.conversion.lists.program.in_sequence ≡ false)) }
+        ensures kept { OnErr result (self.new.conversion ≡ self.old.conversion) }
+        ensures line_strings { self.new.line_strings.now ≡ self.old.line_strings.now }
+        ensures strings { self.new.strings.now ≡ self.old.strings.now }
+        ensures same_line_strings { self.new.line_strings.ghost_name ≡ self.old.line_strings.ghost_name }
+        ensures same_strings { self.new.strings.ghost_name ≡ self.old.strings.ghost_name }
+    {
+        self.conversion.begin_sequence(address)
+    }
+
+    /// Sets the address in the program that is built, where a sequence begins if none has. Refused by `OutOfMemory`
+    /// alone; then nothing changes.
+    pub fn set_address(&mut self, address: Address) -> ConvertResult<()>
+        ensures ok { OnOk result (self.new.conversion
+            ≡ with_program (behind_address address self.old.conversion.lists.program) self.old.conversion) }
+        ensures memory { IfErr result (λ e. e ≡ ConvertError.OutOfMemory) }
+        ensures kept { OnErr result (self.new.conversion ≡ self.old.conversion) }
+        ensures line_strings { self.new.line_strings.now ≡ self.old.line_strings.now }
+        ensures strings { self.new.strings.now ≡ self.old.strings.now }
+        ensures same_line_strings { self.new.line_strings.ghost_name ≡ self.old.line_strings.ghost_name }
+        ensures same_strings { self.new.strings.ghost_name ≡ self.old.strings.ghost_name }
+    {
+        self.conversion.set_address(address)
+    }
+
+    /// Makes this row the current one of the program that is built, and builds it. Refused as
+    /// `UnsupportedLineInstruction` where it can't be generated behind the row before it, or by `OutOfMemory`; then
+    /// nothing changes, nor does the current row.
+    pub fn generate_row(&mut self, row: LineRow) -> ConvertResult<()>
+        ensures ok { OnOk result (self.new.conversion
+            ≡ with_program (behind_row row self.old.conversion.lists.program) self.old.conversion) }
+        ensures can { OnOk result (CanBuild self.old.conversion.lists.program.line_encoding
+            (previous_place self.old.conversion.lists.program.items) (BuiltItem.Row row)) }
+        ensures err { IfErr result (IsBuildRefusal (CanBuild self.old.conversion.lists.program.line_encoding
+            (previous_place self.old.conversion.lists.program.items) (BuiltItem.Row row))) }
+        ensures kept { OnErr result (self.new.conversion ≡ self.old.conversion) }
+        ensures line_strings { self.new.line_strings.now ≡ self.old.line_strings.now }
+        ensures strings { self.new.strings.now ≡ self.old.strings.now }
+        ensures same_line_strings { self.new.line_strings.ghost_name ≡ self.old.line_strings.ghost_name }
+        ensures same_strings { self.new.strings.ghost_name ≡ self.old.strings.ghost_name }
+    {
+        self.conversion.generate_row(row)
+    }
+
+    /// Ends a sequence of the program that is built, so many bytes behind the address that was last set. Refused as
+    /// `UnsupportedLineInstruction` where it can't end there, or by `OutOfMemory`; then nothing changes.
+    pub fn end_sequence(&mut self, address_offset: u64) -> ConvertResult<()>
+        ensures ok { OnOk result (self.new.conversion
+            ≡ with_program (behind_end address_offset self.old.conversion.lists.program) self.old.conversion) }
+        ensures can { OnOk result (CanEndSequence self.old.conversion.lists.program address_offset) }
+        ensures err { IfErr result (IsBuildRefusal (CanEndSequence self.old.conversion.lists.program address_offset)) }
+        ensures kept { OnErr result (self.new.conversion ≡ self.old.conversion) }
+        ensures line_strings { self.new.line_strings.now ≡ self.old.line_strings.now }
+        ensures strings { self.new.strings.now ≡ self.old.strings.now }
+        ensures same_line_strings { self.new.line_strings.ghost_name ≡ self.old.line_strings.ghost_name }
+        ensures same_strings { self.new.strings.ghost_name ≡ self.old.strings.ghost_name }
+    {
+        self.conversion.end_sequence(address_offset)
+    }
+
+    /// Whether a sequence has begun in the program that is built.
+    pub fn in_sequence(&self) -> bool
+        ensures { result ≡ self.now.conversion.lists.program.in_sequence }
+    {
+        self.conversion.in_sequence()
+    }
+
+    /// The program that was built so far, and for each file number of the source its id there; up to version 4 of the
+    /// source none has number 0.
+    pub fn program(self) -> (LineProgram, Vec<FileId>)
+        ensures program { result.0 ≡ self.entry.conversion.lists.program }
+        ensures files { result.1.items ≡ self.entry.conversion.lists.file_ids }
+        ensures line_strings { self.exit.0.now ≡ self.entry.line_strings.now }
+        ensures strings { self.exit.1.0.now ≡ self.entry.strings.now }
+    {
+        let ConvertLineProgram {
+            line_strings: _line_strings,
+            strings: _strings,
+            conversion,
+            reader: _reader,
+        } = self;
+        conversion.into_program()
+    }
+
+    /// Reads up to the next row, end, or address that one of these follows. An address that hides what follows it, and
+    /// what it hides, gives nothing. Files that are defined on the way are added to the program that is built. Refused
+    /// as `Read` for a fault of the source, as `InvalidFileIndex` for a row of no file, as a file that is defined is, or
+    /// by `OutOfMemory` where one is; every later read repeats the refusal. The tables keep their texts.
+    pub fn read_row(&mut self) -> ConvertResult<Option<ConvertLineRow>>
+        ensures ok { IfOk result (λ row. HandsOut (still_to_read self.old.conversion self.old.line_strings.now) row
+            (lists_of self.new.conversion self.new.line_strings.now)
+            (still_to_read self.new.conversion self.new.line_strings.now)) }
+        ensures err { IfErr result (IsReadRefusal (still_to_read self.old.conversion self.old.line_strings.now)
+            self.old.conversion.source) }
+        ensures repeats { (e : ConvertError) → self.old.conversion.failed ≡ Some e → result ≡ Err e }
+        ensures failed { IfErr result (λ e. self.new.conversion.failed ≡ Some e) }
+        ensures well { OnOk result (self.new.conversion.failed ≡ None) }
+        ensures adds { AddsFiles self.old.conversion.lists.program self.new.conversion.lists.program }
+        ensures stays { KeepsTexts self.old.line_strings.now self.new.line_strings.now }
+        ensures strings { self.new.strings.now ≡ self.old.strings.now }
+        ensures same_line_strings { self.new.line_strings.ghost_name ≡ self.old.line_strings.ghost_name }
+        ensures same_strings { self.new.strings.ghost_name ≡ self.old.strings.ghost_name }
+    {
+        self.conversion.read_row(self.line_strings)
+    }
+}
