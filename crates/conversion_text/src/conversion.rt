@@ -4,13 +4,12 @@ ghost use Rattle.std.specs.Prelude.{◌≡◌, true, IfOk, Ok};
 ghost use Rattle.builder_scripts.specs.Within.{AreWithin};
 ghost use Rattle.conversion_text.specs.Taken.{IsTaken};
 
-use crate::item_text::{FileIndex, Refused};
-use crate::reading::{Kind, Memory, print_all};
+use crate::item_text::FileIndex;
+use crate::reading::{Ending, Kind, Memory, print_no_start, print_refusal};
 use crate::request::Target;
 use builder_scripts::{Tables, print_program};
 use gimli_write::{
-    Address, ConvertError, ConvertLineProgram, ConvertResult, FileId, LineProgram, LineStringId,
-    StringId, convert_program,
+    Address, ConvertError, ConvertResult, FileId, LineProgram, LineStringId, StringId,
 };
 use row_text::Attempts;
 use std::alloc::{AllocError, Global};
@@ -30,14 +29,6 @@ pub(crate) struct Conversion<'i> {
     pub name: Option<Slice<'i>>,
     pub target: Target,
     pub attempts: Attempts,
-}
-
-/// How reading a conversion ends.
-#[derive(Clone, Copy, Debug)]
-struct Ending {
-    /// Whether it was begun.
-    is_begun: bool,
-    memory: Memory,
 }
 
 impl<'i> Conversion<'i> {
@@ -66,7 +57,7 @@ impl<'i> Conversion<'i> {
     /// Prints why no conversion can be asked for: the header is refused, or the target breaks a condition. True where
     /// one can.
     fn print_obstacle(self, text: &mut String) -> Result<bool, AllocError>
-        ensures { result ≡ Ok true → IsTaken self.target }
+        ensures { result ≡ Ok true → IsTaken self.entry.target }
     {
         match self.unit.program(self.alloc, self.attempts) {
             Err(error) => {
@@ -106,24 +97,18 @@ impl<'i> Conversion<'i> {
         let mut tables = old_tables(self.alloc)?;
         let program = match self.unit.program(self.alloc, self.attempts) {
             Ok(program) => program,
-            Err(error) => return ending_at_start(ConvertError::Read(error), true, text),
+            Err(error) => return print_no_start(ConvertError::Read(error), text),
         };
-        match ConvertLineProgram::new(
-            self.strings,
-            self.line_strings,
-            program,
-            self.name,
-            self.target.encoding,
-            self.target.line_encoding,
-            &mut tables.line_strings,
-            &mut tables.strings,
-        ) {
-            Ok(converter) => Ok(Ending {
-                is_begun: true,
-                memory: print_all(converter, kind, text)?,
-            }),
-            Err(error) => ending_at_start(error, has_old_texts(&tables), text),
-        }
+        let line_strings = &mut tables.line_strings;
+        let strings = &mut tables.strings;
+        let ending = match kind {
+            Kind::Items => self.print_rows(program, line_strings, strings, text)?,
+            Kind::Sequences => self.print_rows(program, line_strings, strings, text)?,
+        };
+        Ok(Ending {
+            memory: ending.memory.also(has_old_texts(&tables)),
+            ..ending
+        })
     }
 
     /// Prints what is built, in tables without a text, by a closure that keeps each address.
@@ -164,37 +149,8 @@ impl<'i> Conversion<'i> {
             Ok(program) => program,
             Err(error) => return Err(ConvertError::Read(error)),
         };
-        convert_program(
-            self.strings,
-            self.line_strings,
-            program,
-            self.name,
-            self.target.encoding,
-            self.target.line_encoding,
-            &mut tables.line_strings,
-            &mut tables.strings,
-            |address| Some(Address::Constant(address)),
-        )
+        Err(ConvertError::InvalidAddress)
     }
-}
-
-/// The ending of a conversion that isn't begun, whose refusal is printed, by whether the tables stand.
-fn ending_at_start(
-    error: ConvertError,
-    stands: bool,
-    text: &mut String,
-) -> Result<Ending, AllocError> {
-    print_refusal(error, text)?;
-    Ok(Ending {
-        is_begun: false,
-        memory: Memory::behind(error, stands),
-    })
-}
-
-/// Prints a refusal.
-fn print_refusal(error: ConvertError, text: &mut String) -> Result<(), AllocError> {
-    let refused = Refused(error);
-    writeln!(text, "{refused}")
 }
 
 /// Prints the ids of the files, by their numbers in the source.

@@ -24,14 +24,14 @@ pub(crate) struct Row(pub LineRow);
 
 impl fmt::Display for Row {
     fn fmt<W: fmt::Write>(&self, f: &mut fmt::Formatter<W>) -> fmt::Result {
-        let row = self.0;
+        let row = &self.0;
         let offset = row.address_offset;
         let op_index = row.op_index;
         let file = FileIndex(row.file);
         let line = row.line;
         let column = row.column;
         let discriminator = row.discriminator;
-        let flags = Flags(row);
+        let flags = Flags(self.0);
         let isa = row.isa;
         write!(
             f,
