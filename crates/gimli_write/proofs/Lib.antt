@@ -8,3 +8,4 @@ pub mod ConvertHeader
 pub mod SourceReadings
 pub mod SourceSteps
 pub mod Conversions
+pub mod Feedings

@@ -10,7 +10,7 @@ mod read_back;
 mod text;
 
 pub use convert::offer::ConvertLineRow;
-pub use convert::program::ConvertLineProgram;
+pub use convert::program::{ConvertLineProgram, convert_program};
 pub use convert_error::{ConvertError, ConvertResult};
 pub use gimli_build::{
     BuiltItem, BuiltItems, DirectoryId, FileId, FileInfo, Files, LineProgram, LineRow, LineString,

@@ -1,7 +1,9 @@
 -- A conversion, as far as it got, and what it has still to read.
-use Rattle.std.specs.Prelude.{◌≡◌, ◌⊎◌, ℕ, true, List, ◌++◌, Option, Some, None, option_map}
+use Rattle.std.specs.Prelude.{◌≡◌, ◌⊎◌, ℕ, true, List, ◌++◌, Option, Some, None, option_map, Result, Ok, Err, MatchResult}
 use Rattle.std.specs.Option.{option_to_list}
+use Rattle.gimli_core.specs.Notation.{Notation}
 use Rattle.gimli_bytes.specs.declared.address.Address.{Address}
+use Rattle.gimli_line.specs.header.Header.{Header}
 use Rattle.gimli_build.specs.Built.{Built}
 use Rattle.gimli_build.specs.Texts.{Sections}
 use Rattle.gimli_build.specs.declared.built.items.BuiltItem.TheVariants.{SetAddress}
@@ -10,9 +12,10 @@ use Rattle.gimli_write.specs.declared.convert_error.ConvertError.TheVariants.{Ou
 use Rattle.gimli_write.specs.declared.convert.run.SourceRow.{SourceRow}
 use Rattle.gimli_write.specs.declared.convert.offer.ConvertLineRow.{ConvertLineRow}
 use Rattle.gimli_write.specs.convert.Lists.{Converted, Lists, lists_with}
-use Rattle.gimli_write.specs.convert.Offers.{Reading, ends, stops, offers, address_offered, place_offered}
+use Rattle.gimli_write.specs.convert.Offers.{Reading, ends, stops, offers, address_offered, place_offered, Reads}
 use Rattle.gimli_write.specs.convert.SourceState.{SourceState, reading_left, defines_ahead}
-use Rattle.gimli_write.specs.convert.Feeding.{without_items}
+use Rattle.gimli_write.specs.convert.Feeding.{Conversion, converted, without_items}
+use Rattle.gimli_write.specs.convert.Preparation.{Handed, prepared}
 
 pub record ConversionState : Type 0 where
   pub sections : Sections
@@ -101,3 +104,13 @@ with_program p c = record c { lists = record c.lists { program = p } }
 -- the program behind `begin_sequence`
 abbrev pub begun : Option Address → Built → Built
 begun address p = record p { items = p.items ++ option_to_list (option_map SetAddress address); in_sequence = true }
+
+-- ---- a whole conversion
+
+-- what comes of a source with this header, where nothing is built before: the refusal of a step of its header, else what
+-- comes of reading its program
+abbrev pub IsConverted : (ℕ → Option Address) → Notation → Sections → Header → Handed → List (List ℕ) → Result Conversion ConvertError → Type 0
+IsConverted convert_address notation sections h given line_strings outcome =
+    (reading : Reading) × MatchResult (prepared sections h given line_strings)
+    (λ first. Reads notation sections h first h.program reading × (converted convert_address reading first.program ≡ outcome))
+    (λ e. outcome ≡ Err e)

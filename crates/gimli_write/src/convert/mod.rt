@@ -2,6 +2,7 @@
 
 pub(crate) mod building;
 pub(crate) mod conversion;
+pub(crate) mod feeding;
 pub(crate) mod header;
 pub(crate) mod lists;
 pub(crate) mod offer;

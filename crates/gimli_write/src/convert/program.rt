@@ -1,8 +1,9 @@
 //! The conversion of a line program, as its callers see it.
 
-ghost use Rattle.std.specs.Prelude.{◌≡◌, ◌⊎◌, false, Some, None, Ok, option_map, IfErr, IfOk, IfSome, IsTrue, OnErr, OnOk};
+ghost use Rattle.std.specs.Prelude.{◌≡◌, ◌⊎◌, ℕ, false, Option, Some, None, Ok, Err, option_map, IfErr, IfOk, IfSome, IsTrue, OnErr, OnOk};
 ghost use Rattle.gimli_core.specs.Numbers.{is_address_size};
 ghost use Rattle.gimli_bytes.specs.Texts.{KeepsTexts};
+ghost use Rattle.gimli_bytes.specs.declared.address.Address.{Address};
 ghost use Rattle.gimli_build.specs.Advance.{CanEncode};
 ghost use Rattle.gimli_build.specs.Built.{previous_place};
 ghost use Rattle.gimli_build.specs.Conditions.{CanBuild, CanEndSequence};
@@ -10,10 +11,11 @@ ghost use Rattle.gimli_write.specs.convert.Texts.{IsRefusedBy};
 ghost use Rattle.gimli_write.specs.convert.Lists.{lists_with};
 ghost use Rattle.gimli_write.specs.convert.Offers.{Reads};
 ghost use Rattle.gimli_write.specs.convert.Preparation.{handed, prepared};
-ghost use Rattle.gimli_write.specs.convert.Feeding.{behind_address, behind_row, behind_end};
-ghost use Rattle.gimli_write.specs.convert.ConversionState.{lists_of, still_to_read, HandsOut, IsReadRefusal, AddsFiles, IsBuildRefusal, begun, with_program};
+ghost use Rattle.gimli_write.specs.convert.Feeding.{behind_address, behind_row, behind_end, converted};
+ghost use Rattle.gimli_write.specs.convert.ConversionState.{lists_of, still_to_read, HandsOut, IsReadRefusal, AddsFiles, IsBuildRefusal, IsConverted, begun, with_program};
 
 use crate::convert::conversion::Conversion;
+use crate::convert::feeding::convert_all;
 use crate::convert::header::prepare;
 use crate::convert::lists::Lists;
 use crate::convert::offer::ConvertLineRow;
@@ -239,4 +241,74 @@ impl<'a, 'b, R: Reader> ConvertLineProgram<'a, 'b, R, Conversion<R>> {
     {
         self.conversion.read_row(self.line_strings)
     }
+    /// Reads and builds all that is still to be read: what `read_row` gives is handed to the builder, each before the next
+    /// is read. The map gives for each address of the source the one that is set in its place. Refused by the first of
+    /// these: an address that has no other, as `InvalidAddress`; what can't be built, as `UnsupportedLineInstruction`; a
+    /// refusal of reading; a sequence that is left open, as `MissingLineEndSequence`; or by `OutOfMemory`. The tables keep
+    /// their texts.
+    pub fn convert<F: Fn(u64) -> Option<Address>>(
+        self,
+        convert_address: F,
+    ) -> ConvertResult<(LineProgram, Vec<FileId>)>
+        requires { F.IsAlwaysCallable convert_address }
+        ensures ok { (g : ℕ → Option Address) → ((a : ℕ) (r : Option Address) → F.post convert_address a r → r ≡ g a)
+            → IfOk result (λ answer. converted g (still_to_read self.entry.conversion self.entry.line_strings.now)
+            self.entry.conversion.lists.program
+            ≡ Ok (record { program = answer.0; file_ids = answer.1.items; line_strings = self.exit.0.now })) }
+        ensures err { (g : ℕ → Option Address) → ((a : ℕ) (r : Option Address) → F.post convert_address a r → r ≡ g a)
+            → IfErr result (IsRefusedBy (converted g (still_to_read self.entry.conversion self.entry.line_strings.now)
+            self.entry.conversion.lists.program)) }
+        ensures stays { KeepsTexts self.entry.line_strings.now self.exit.0.now }
+        ensures strings { self.exit.1.0.now ≡ self.entry.strings.now }
+    {
+        let ConvertLineProgram {
+            line_strings,
+            strings: _strings,
+            conversion,
+            reader: _reader,
+        } = self;
+        convert_all(conversion, line_strings, convert_address)
+    }
+}
+
+/// A conversion that is begun and done in one call: `ConvertLineProgram::new`, and then its `convert`. Refused as these
+/// are. The tables keep their texts.
+pub fn convert_program<R: Reader, F: Fn(u64) -> Option<Address>>(
+    debug_str: R,
+    debug_line_str: R,
+    from_program: IncompleteLineProgram<R>,
+    from_comp_name: Option<R>,
+    encoding: Option<Encoding>,
+    line_encoding: Option<LineEncoding>,
+    line_strings: &mut LineStringTable,
+    strings: &mut StringTable,
+    convert_address: F,
+) -> ConvertResult<(LineProgram, Vec<FileId>)>
+    requires address_size { IfSome encoding (λ e. IsTrue (is_address_size e.address_size)) }
+    requires lines { IfSome line_encoding CanEncode }
+    requires callable { F.IsAlwaysCallable convert_address }
+    ensures ok { (g : ℕ → Option Address) → ((a : ℕ) (r : Option Address) → F.post convert_address a r → r ≡ g a)
+        → IfOk result (λ answer. IsConverted g from_program.notation
+        (record { strings = R.bytes debug_str; line_strings = R.bytes debug_line_str }) from_program.meaning
+        (handed encoding line_encoding (option_map R.bytes from_comp_name)) line_strings.old
+        (Ok (record { program = answer.0; file_ids = answer.1.items; line_strings = line_strings.new }))) }
+    ensures err { (g : ℕ → Option Address) → ((a : ℕ) (r : Option Address) → F.post convert_address a r → r ≡ g a)
+        → IfErr result (λ e. (e ≡ ConvertError.OutOfMemory) ⊎ IsConverted g from_program.notation
+        (record { strings = R.bytes debug_str; line_strings = R.bytes debug_line_str }) from_program.meaning
+        (handed encoding line_encoding (option_map R.bytes from_comp_name)) line_strings.old (Err e)) }
+    ensures stays { KeepsTexts line_strings.old line_strings.new }
+    ensures strings { strings.new ≡ strings.old }
+{
+    // The program names no text of this table.
+    let _strings = strings;
+    let conversion = started(
+        debug_str,
+        debug_line_str,
+        from_program,
+        from_comp_name,
+        encoding,
+        line_encoding,
+        line_strings,
+    )?;
+    convert_all(conversion, line_strings, convert_address)
 }

@@ -1,0 +1,105 @@
+-- What a conversion reads, handed to the builder.
+use Rattle.std.proofs.Common.{◌≡◌, ◌⊎◌, ℕ, suc, false, true, Bool, if◌then◌else◌, List, refl, sym, ap, ◌∙◌, subst, inl, inr}
+use Rattle.std.specs.Prelude.{Option, Some, None, Result, Ok, Err}
+use Rattle.gimli_core.specs.Notation.{Notation}
+use Rattle.gimli_bytes.specs.declared.address.Address.{Address}
+use Rattle.gimli_line.specs.header.Header.{Header}
+use Rattle.gimli_build.specs.Built.{Built}
+use Rattle.gimli_build.specs.LineText.{LineText}
+use Rattle.gimli_build.specs.Texts.{Sections}
+use Rattle.gimli_write.specs.declared.convert_error.ConvertError.{ConvertError}
+use Rattle.gimli_write.specs.declared.convert_error.ConvertError.TheVariants.{MissingLineEndSequence, OutOfMemory}
+use Rattle.gimli_write.specs.declared.convert.offer.ConvertLineRow.{ConvertLineRow}
+use Rattle.gimli_write.specs.convert.Texts.{◌>>=◌, IsRefusedBy}
+use Rattle.gimli_write.specs.convert.Lists.{Converted, Lists}
+use Rattle.gimli_write.specs.convert.Offers.{Reading, ends, stops, offers, address_offered, Reads}
+use Rattle.gimli_write.specs.convert.Preparation.{Handed, prepared}
+use Rattle.gimli_write.specs.convert.SourceState.{SourceState, reading_left}
+use Rattle.gimli_write.specs.convert.Feeding.{Conversion, fed, with_tables, ended, converted, without_items}
+use Rattle.gimli_write.specs.convert.ConversionState.{ConversionState, lists_of, version_of_source, held_first, unless_failed, still_to_read, HandsOut, AddsFiles, IsReadRefusal, IsConverted, with_program}
+use Rattle.gimli_write.proofs.ConvertSteps.{refused_first, refused_same}
+
+-- how much a reading hands out
+abbrev pub offer_count : Reading → ℕ
+offer_count (ends lists) = 0
+offer_count (stops e) = 0
+offer_count (offers item lists rest) = suc (offer_count rest)
+
+-- ---- what is built doesn't change what is read
+
+-- what is still to be read, by the program of its lists
+abbrev still_with : ConversionState → List (List ℕ) → Built → Reading
+still_with c line_strings p =
+    let lists : Lists = record { program = p; directory_ids = c.lists.directory_ids; file_ids = c.lists.file_ids; line_strings = line_strings } in
+    unless_failed c.failed (address_offered c.address lists
+    (held_first (version_of_source c) lists c.held (reading_left c.sections c.source lists)))
+
+pub same_left : (c d : ConversionState) (line_strings : List (List ℕ)) → d ≡ with_program d.lists.program c → without_items d.lists.program ≡ without_items c.lists.program
+    → still_to_read d line_strings ≡ still_to_read c line_strings
+same_left c d line_strings is items =
+    ap (λ (x : ConversionState). still_to_read x line_strings) is ∙ ap (still_with c line_strings) items
+
+-- ---- the tables that a reading finds
+
+-- they are those of the program behind the read
+tables_are : (old new : Built) → AddsFiles old new → record old { directories = new.directories; files = new.files } ≡ new
+tables_are old new adds =
+    ap (λ (texts : List LineText). let p : Built = record old { directories = texts; files = new.files } in p) (ap (λ (p : Built). p.directories) adds)
+    ∙ sym adds
+
+module _ (m : ℕ → Option Address) (old mid : ConversionState) (before after : List (List ℕ)) where
+  module _ (row : ConvertLineRow) (hands : still_to_read old before ≡ offers row (lists_of mid after) (still_to_read mid after)) (adds : AddsFiles old.lists.program mid.lists.program) where
+    handed_first : converted m (still_to_read old before) old.lists.program ≡ (fed m row mid.lists.program >>= λ next. converted m (still_to_read mid after) next)
+    handed_first =
+        ap (λ (r : Reading). converted m r old.lists.program) hands
+        ∙ ap (λ (p : Built). fed m row p >>= λ next. converted m (still_to_read mid after) next) (tables_are old.lists.program mid.lists.program adds)
+
+    pub fed_next : (new : ConversionState) → fed m row mid.lists.program ≡ Ok new.lists.program → new ≡ with_program new.lists.program mid
+        → without_items new.lists.program ≡ without_items mid.lists.program
+        → converted m (still_to_read new after) new.lists.program ≡ converted m (still_to_read old before) old.lists.program
+    fed_next new is kept items =
+        ap (λ (r : Reading). converted m r new.lists.program) (same_left mid new after kept items)
+        ∙ sym (handed_first ∙ ap (λ (r : Result Built ConvertError). r >>= λ next. converted m (still_to_read mid after) next) is)
+
+    pub feed_refused : (e : ConvertError) → IsRefusedBy (fed m row mid.lists.program) e → IsRefusedBy (converted m (still_to_read old before) old.lists.program) e
+    feed_refused e refused =
+        refused_same (fed m row mid.lists.program >>= λ next. converted m (still_to_read mid after) next) (converted m (still_to_read old before) old.lists.program) e
+        (sym handed_first) (refused_first (fed m row mid.lists.program) (λ next. converted m (still_to_read mid after) next) e refused)
+
+  pub read_refused : (e : ConvertError) (source : SourceState) → IsReadRefusal (still_to_read old before) source e → IsRefusedBy (converted m (still_to_read old before) old.lists.program) e
+  read_refused e source (inl is) = inr (ap (λ (r : Reading). converted m r old.lists.program) is)
+  read_refused e source (inr memory) = inl memory.0
+
+  module _ (end : still_to_read old before ≡ ends (lists_of mid after)) (adds : AddsFiles old.lists.program mid.lists.program) where
+    last : (unended : Bool) → mid.lists.program.in_sequence ≡ unended
+        → converted m (still_to_read old before) old.lists.program
+        ≡ (if unended then Err MissingLineEndSequence else Ok (record { program = mid.lists.program; file_ids = mid.lists.file_ids; line_strings = after }))
+    last unended is =
+        ap (λ (r : Reading). converted m r old.lists.program) end
+        ∙ ap (λ (b : Bool). let r : Result Conversion ConvertError = if b then Err MissingLineEndSequence else Ok (record { program = with_tables (lists_of mid after) old.lists.program; file_ids = mid.lists.file_ids; line_strings = after }) in r)
+        (sym (ap (λ (p : Built). p.in_sequence) adds) ∙ is)
+        ∙ ap (λ (p : Built). let r : Result Conversion ConvertError = if unended then Err MissingLineEndSequence else Ok (record { program = p; file_ids = mid.lists.file_ids; line_strings = after }) in r)
+        (tables_are old.lists.program mid.lists.program adds)
+
+    pub left_open : mid.lists.program.in_sequence ≡ true → converted m (still_to_read old before) old.lists.program ≡ Err MissingLineEndSequence
+    left_open is = last true is
+
+    pub converted_all : mid.lists.program.in_sequence ≡ false
+        → converted m (still_to_read old before) old.lists.program ≡ Ok (record { program = mid.lists.program; file_ids = mid.lists.file_ids; line_strings = after })
+    converted_all is = last false is
+
+-- ---- a whole conversion
+
+module _ (m : ℕ → Option Address) (notation : Notation) (sections : Sections) (h : Header) (given : Handed) (line_strings : List (List ℕ)) where
+  pub all_converted : (first : Lists) (reading : Reading) (outcome : Result Conversion ConvertError) → prepared sections h given line_strings ≡ Ok first
+      → Reads notation sections h first h.program reading → converted m reading first.program ≡ outcome → IsConverted m notation sections h given line_strings outcome
+  all_converted first reading outcome is reads comes = (reading, rw is (reads, comes))
+
+  pub header_refused : (e : ConvertError) → IsRefusedBy (prepared sections h given line_strings) e → (e ≡ OutOfMemory) ⊎ IsConverted m notation sections h given line_strings (Err e)
+  header_refused e (inl memory) = inl memory
+  header_refused e (inr is) = inr (stops e, rw is refl)
+
+  pub rows_refused : (first : Lists) (reading : Reading) (e : ConvertError) → prepared sections h given line_strings ≡ Ok first → Reads notation sections h first h.program reading
+      → IsRefusedBy (converted m reading first.program) e → (e ≡ OutOfMemory) ⊎ IsConverted m notation sections h given line_strings (Err e)
+  rows_refused first reading e is reads (inl memory) = inl memory
+  rows_refused first reading e is reads (inr refused) = inr (all_converted first reading (Err e) is reads refused)

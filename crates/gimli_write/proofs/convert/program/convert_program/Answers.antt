@@ -1,0 +1,43 @@
+use Rattle.std.proofs.lemmas.Result.{err_from_is_err_and, IfOk-weaker, IfErr-weaker}
+use Rattle.std.specs.Prelude.{option_map}
+use Rattle.gimli_build.specs.Texts.{Sections}
+use Rattle.gimli_write.specs.convert.Lists.{lists_with}
+use Rattle.gimli_write.specs.convert.Preparation.{handed}
+use Rattle.gimli_write.specs.convert.ConversionState.{still_to_read}
+use Rattle.gimli_write.proofs.ConvertSteps.{kept_then}
+use Rattle.gimli_write.proofs.Feedings.{all_converted, header_refused, rows_refused}
+use Rattle.gimli_write.proofs.convert.program.convert_program.Goals as goal
+
+pub returns-in_err-conversion-clause-err : goal.returns-in_err-conversion-clause-err
+returns-in_err-conversion-clause-err g c = λ m says.
+    let sections : Sections = record { strings = g.R.Reader.bytes c.args.debug_str; line_strings = g.R.Reader.bytes c.args.debug_line_str } in
+    let given = handed c.args.encoding c.args.line_encoding (option_map g.R.Reader.bytes c.args.from_comp_name) in
+    let p = err_from_is_err_and c.from_residual.result c.from_residual.ensures.1 in
+    rw (p.1, p.2)
+    (header_refused m c.args.from_program.notation sections c.args.from_program.meaning given c.args.line_strings.now c.in_err-conversion.field-0.0 c.in_err-conversion.ensures.err)
+
+pub returns-clause-ok : goal.returns-clause-ok
+returns-clause-ok g c = λ m says.
+    let sections : Sections = record { strings = g.R.Reader.bytes c.args.debug_str; line_strings = g.R.Reader.bytes c.args.debug_line_str } in
+    let given = handed c.args.encoding c.args.line_encoding (option_map g.R.Reader.bytes c.args.from_comp_name) in
+    let conversion = c.in_ok-conversion.conversion in
+    let line_strings = c.started.new.line_strings in
+    IfOk-weaker c.convert_all.result _ _
+    (λ answer comes. all_converted m c.args.from_program.notation sections c.args.from_program.meaning given c.args.line_strings.now (lists_with line_strings conversion.lists)
+    (still_to_read conversion line_strings) _ c.in_ok-conversion.ensures.ok c.in_ok-conversion.ensures.reads comes)
+    (c.convert_all.ensures.ok m says)
+
+pub returns-clause-err : goal.returns-clause-err
+returns-clause-err g c = λ m says.
+    let sections : Sections = record { strings = g.R.Reader.bytes c.args.debug_str; line_strings = g.R.Reader.bytes c.args.debug_line_str } in
+    let given = handed c.args.encoding c.args.line_encoding (option_map g.R.Reader.bytes c.args.from_comp_name) in
+    let conversion = c.in_ok-conversion.conversion in
+    let line_strings = c.started.new.line_strings in
+    IfErr-weaker c.convert_all.result _ _
+    (λ e refused. rows_refused m c.args.from_program.notation sections c.args.from_program.meaning given c.args.line_strings.now (lists_with line_strings conversion.lists)
+    (still_to_read conversion line_strings) e c.in_ok-conversion.ensures.ok c.in_ok-conversion.ensures.reads refused)
+    (c.convert_all.ensures.err m says)
+
+pub returns-clause-stays : goal.returns-clause-stays
+returns-clause-stays g c =
+    kept_then c.args.line_strings.now c.started.new.line_strings c.convert_all.new.line_strings c.in_ok-conversion.ensures.stays c.convert_all.ensures.stays

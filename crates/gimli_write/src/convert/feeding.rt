@@ -1,0 +1,69 @@
+//! What is read of a source, handed to the builder.
+
+ghost use Rattle.std.specs.Prelude.{◌≡◌, ℕ, Ok, Option, IfErr, IfOk, OnOk};
+ghost use Rattle.gimli_bytes.specs.Texts.{KeepsTexts};
+ghost use Rattle.gimli_bytes.specs.declared.address.Address.{Address};
+ghost use Rattle.gimli_write.specs.convert.Texts.{IsRefusedBy};
+ghost use Rattle.gimli_write.specs.convert.Feeding.{fed, converted, without_items};
+ghost use Rattle.gimli_write.specs.convert.ConversionState.{still_to_read, with_program};
+
+use crate::convert::conversion::Conversion;
+use crate::convert::offer::ConvertLineRow;
+use crate::convert_error::{ConvertError, ConvertResult};
+use gimli_build::{FileId, LineProgram};
+use gimli_bytes::{Address, LineStringTable};
+use gimli_core::Reader;
+use std::marker::Model;
+
+impl<R: Reader> Conversion<R> {
+    /// Builds what was read. Refused as `InvalidAddress` where there is no other address, as `UnsupportedLineInstruction`
+    /// where it can't be built, or by `OutOfMemory`.
+    fn feed<F: Fn(u64) -> Option<Address>>(
+        &mut self,
+        row: ConvertLineRow,
+        convert_address: &F,
+    ) -> ConvertResult<()>
+        requires { F.IsAlwaysCallable convert_address.now }
+        ensures ok { (g : ℕ → Option Address) → ((a : ℕ) (r : Option Address) → F.post convert_address.now a r → r ≡ g a)
+            → OnOk result (fed g row self.old.lists.program ≡ Ok self.new.lists.program) }
+        ensures err { (g : ℕ → Option Address) → ((a : ℕ) (r : Option Address) → F.post convert_address.now a r → r ≡ g a)
+            → IfErr result (IsRefusedBy (fed g row self.old.lists.program)) }
+        ensures kept { OnOk result (self.new ≡ with_program self.new.lists.program self.old) }
+        ensures items { OnOk result (without_items self.new.lists.program ≡ without_items self.old.lists.program) }
+    {
+        match row {
+            ConvertLineRow::SetAddress(address) => match convert_address(address) {
+                Some(address) => self.set_address(address),
+                None => Err(ConvertError::InvalidAddress),
+            },
+            ConvertLineRow::Row(row) => self.generate_row(row),
+            ConvertLineRow::EndSequence(address_offset) => self.end_sequence(address_offset),
+        }
+    }
+}
+
+/// Reads and builds all that is still to be read. Refused by the first of these: an address that has no other, as
+/// `InvalidAddress`; what can't be built, as `UnsupportedLineInstruction`; a refusal of reading; a sequence that is left
+/// open, as `MissingLineEndSequence`; or by `OutOfMemory`. The line strings keep their texts.
+pub(crate) fn convert_all<R: Reader, F: Fn(u64) -> Option<Address>>(
+    conversion: Conversion<R>,
+    line_strings: &mut LineStringTable,
+    convert_address: F,
+) -> ConvertResult<(LineProgram, Vec<FileId>)>
+    requires { F.IsAlwaysCallable convert_address }
+    ensures ok { (g : ℕ → Option Address) → ((a : ℕ) (r : Option Address) → F.post convert_address a r → r ≡ g a)
+        → IfOk result (λ answer. converted g (still_to_read conversion line_strings.old) conversion.lists.program
+        ≡ Ok (record { program = answer.0; file_ids = answer.1.items; line_strings = line_strings.new })) }
+    ensures err { (g : ℕ → Option Address) → ((a : ℕ) (r : Option Address) → F.post convert_address a r → r ≡ g a)
+        → IfErr result (IsRefusedBy (converted g (still_to_read conversion line_strings.old) conversion.lists.program)) }
+    ensures stays { KeepsTexts line_strings.old line_strings.new }
+{
+    let mut conversion = conversion;
+    'rows: loop {
+        match conversion.read_row(line_strings)? {
+            Some(row) => conversion.feed(row, &convert_address)?,
+            None if conversion.in_sequence() => return Err(ConvertError::MissingLineEndSequence),
+            None => return Ok(conversion.into_program()),
+        }
+    }
+}
