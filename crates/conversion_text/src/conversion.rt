@@ -10,6 +10,7 @@ use crate::request::Target;
 use builder_scripts::{Tables, print_program};
 use gimli_write::{
     Address, ConvertError, ConvertResult, FileId, LineProgram, LineStringId, StringId,
+    convert_program,
 };
 use row_text::Attempts;
 use std::alloc::{AllocError, Global};
@@ -149,7 +150,17 @@ impl<'i> Conversion<'i> {
             Ok(program) => program,
             Err(error) => return Err(ConvertError::Read(error)),
         };
-        Err(ConvertError::InvalidAddress)
+        convert_program(
+            self.strings,
+            self.line_strings,
+            program,
+            self.name,
+            self.target.encoding,
+            self.target.line_encoding,
+            &mut tables.line_strings,
+            &mut tables.strings,
+            |address| Some(Address::Constant(address)),
+        )
     }
 }
 
