@@ -9,3 +9,4 @@ pub mod SourceReadings
 pub mod SourceSteps
 pub mod Conversions
 pub mod Feedings
+pub mod Gathers

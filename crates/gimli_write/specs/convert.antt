@@ -6,3 +6,4 @@ pub mod Offers
 pub mod SourceState
 pub mod Feeding
 pub mod ConversionState
+pub mod Sequences

@@ -11,6 +11,7 @@ mod text;
 
 pub use convert::offer::ConvertLineRow;
 pub use convert::program::{ConvertLineProgram, convert_program};
+pub use convert::sequence::{ConvertLineSequence, ConvertLineSequenceEnd};
 pub use convert_error::{ConvertError, ConvertResult};
 pub use gimli_build::{
     BuiltItem, BuiltItems, DirectoryId, FileId, FileInfo, Files, LineProgram, LineRow, LineString,

@@ -8,4 +8,5 @@ pub(crate) mod lists;
 pub(crate) mod offer;
 pub(crate) mod program;
 pub(crate) mod run;
+pub(crate) mod sequence;
 pub(crate) mod texts;

@@ -1,6 +1,6 @@
 //! The conversion of a line program, as its callers see it.
 
-ghost use Rattle.std.specs.Prelude.{◌≡◌, ◌⊎◌, ℕ, false, Option, Some, None, Ok, Err, option_map, IfErr, IfOk, IfSome, IsTrue, OnErr, OnOk};
+ghost use Rattle.std.specs.Prelude.{◌≡◌, ◌⊎◌, ℕ, false, [], Option, Some, None, Ok, Err, option_map, IfErr, IfOk, IfSome, IsTrue, OnErr, OnOk};
 ghost use Rattle.gimli_core.specs.Numbers.{is_address_size};
 ghost use Rattle.gimli_bytes.specs.Texts.{KeepsTexts};
 ghost use Rattle.gimli_bytes.specs.declared.address.Address.{Address};
@@ -13,12 +13,14 @@ ghost use Rattle.gimli_write.specs.convert.Offers.{Reads};
 ghost use Rattle.gimli_write.specs.convert.Preparation.{handed, prepared};
 ghost use Rattle.gimli_write.specs.convert.Feeding.{behind_address, behind_row, behind_end, converted};
 ghost use Rattle.gimli_write.specs.convert.ConversionState.{lists_of, still_to_read, HandsOut, IsReadRefusal, AddsFiles, IsBuildRefusal, IsConverted, begun, with_program};
+ghost use Rattle.gimli_write.specs.convert.Sequences.{gathered, sequence_read};
 
 use crate::convert::conversion::Conversion;
 use crate::convert::feeding::convert_all;
 use crate::convert::header::prepare;
 use crate::convert::lists::Lists;
 use crate::convert::offer::ConvertLineRow;
+use crate::convert::sequence::ConvertLineSequence;
 use crate::convert_error::{ConvertError, ConvertResult};
 use crate::text::TextSections;
 use gimli_build::{BuiltItem, FileId, LineProgram, LineRow};
@@ -241,6 +243,27 @@ impl<'a, 'b, R: Reader> ConvertLineProgram<'a, 'b, R, Conversion<R>> {
     {
         self.conversion.read_row(self.line_strings)
     }
+    /// Reads up to the end of a sequence, or to an address that is set behind a row; the next read gives that address
+    /// first. Refused as `read_row` is, as `MissingLineEndSequence` for rows without an end, or by `OutOfMemory`; every
+    /// later read repeats the refusal. The tables keep their texts.
+    pub fn read_sequence(&mut self) -> ConvertResult<Option<ConvertLineSequence>>
+        ensures ok { IfOk result (λ sequence.
+            gathered None [] (still_to_read self.old.conversion self.old.line_strings.now)
+            ≡ Ok (option_map sequence_read sequence, still_to_read self.new.conversion self.new.line_strings.now)) }
+        ensures err { IfErr result (IsRefusedBy
+            (gathered None [] (still_to_read self.old.conversion self.old.line_strings.now))) }
+        ensures repeats { (e : ConvertError) → self.old.conversion.failed ≡ Some e → result ≡ Err e }
+        ensures failed { IfErr result (λ e. self.new.conversion.failed ≡ Some e) }
+        ensures well { OnOk result (self.new.conversion.failed ≡ None) }
+        ensures adds { AddsFiles self.old.conversion.lists.program self.new.conversion.lists.program }
+        ensures stays { KeepsTexts self.old.line_strings.now self.new.line_strings.now }
+        ensures strings { self.new.strings.now ≡ self.old.strings.now }
+        ensures same_line_strings { self.new.line_strings.ghost_name ≡ self.old.line_strings.ghost_name }
+        ensures same_strings { self.new.strings.ghost_name ≡ self.old.strings.ghost_name }
+    {
+        self.conversion.read_sequence(self.line_strings)
+    }
+
     /// Reads and builds all that is still to be read: what `read_row` gives is handed to the builder, each before the next
     /// is read. The map gives for each address of the source the one that is set in its place. Refused by the first of
     /// these: an address that has no other, as `InvalidAddress`; what can't be built, as `UnsupportedLineInstruction`; a

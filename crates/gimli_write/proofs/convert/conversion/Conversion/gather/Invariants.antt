@@ -1,0 +1,17 @@
+use Rattle.std.proofs.Common.{◌≡◌, []}
+use Rattle.std.specs.Prelude.{None}
+use Rattle.gimli_bytes.specs.Texts.{KeepsTexts}
+use Rattle.gimli_write.specs.convert.ConversionState.{still_to_read, AddsFiles}
+use Rattle.gimli_write.specs.convert.Sequences.{gathered}
+use Rattle.gimli_write.proofs.Feedings.{offer_count}
+use Rattle.gimli_write.proofs.convert.conversion.Conversion.gather.Given as goal
+
+abbrev pub invariant-rows : goal.invariant-rows
+invariant-rows g l = record {
+  same : gathered l.start l.rows.items (still_to_read l.self l.line_strings) ≡ gathered None [] (still_to_read l.fn.self l.fn.line_strings);
+  adds : AddsFiles l.fn.self.lists.program l.self.lists.program;
+  stays : KeepsTexts l.fn.line_strings l.line_strings;
+}
+
+abbrev pub decreases-rows : goal.decreases-rows
+decreases-rows g l = offer_count (still_to_read l.self l.line_strings)

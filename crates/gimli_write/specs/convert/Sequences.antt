@@ -1,0 +1,39 @@
+-- The sequences of what a conversion reads.
+use Rattle.std.specs.Prelude.{ℕ, List, [], ◌∷◌, ◌++◌, Option, Some, None, Result, Ok, Err}
+use Rattle.gimli_build.specs.declared.built.row.LineRow.{LineRow}
+use Rattle.gimli_write.specs.declared.convert_error.ConvertError.{ConvertError}
+use Rattle.gimli_write.specs.declared.convert_error.ConvertError.TheVariants.{MissingLineEndSequence}
+use Rattle.gimli_write.specs.declared.convert.offer.ConvertLineRow.TheVariants.{SetAddress, Row, EndSequence}
+use Rattle.gimli_write.specs.declared.convert.sequence.ConvertLineSequence.{ConvertLineSequence}
+use Rattle.gimli_write.specs.declared.convert.sequence.ConvertLineSequenceEnd.{ConvertLineSequenceEnd}
+use Rattle.gimli_write.specs.declared.convert.sequence.ConvertLineSequenceEnd.TheVariants.{Length, Address}
+use Rattle.gimli_write.specs.convert.Lists.{Lists}
+use Rattle.gimli_write.specs.convert.Offers.{Reading, ends, stops, offers}
+
+-- rows whose offsets count from one address
+pub record SequenceRead : Type 0 where
+  pub start : Option ℕ
+  pub rows : List LineRow
+  pub end : ConvertLineSequenceEnd
+
+abbrev pub sequence_with : Option ℕ → List LineRow → ConvertLineSequenceEnd → SequenceRead
+sequence_with start rows end = record { start = start; rows = rows; end = end }
+
+abbrev pub sequence_read : ConvertLineSequence → SequenceRead
+sequence_read s = sequence_with s.start s.rows.items s.end
+
+-- where nothing more is read no rows may be left without an end
+abbrev pub none_gathered : List LineRow → Lists → Result (Option SequenceRead × Reading) ConvertError
+none_gathered [] lists = Ok (None, ends lists)
+none_gathered (row ∷ rows) lists = Err MissingLineEndSequence
+
+-- the sequence that a reading begins with, behind this start and these rows, and what is read behind it: it goes up to
+-- its end, or to an address that is set behind a row, which is read again
+abbrev pub gathered : Option ℕ → List LineRow → Reading → Result (Option SequenceRead × Reading) ConvertError
+gathered start rows (ends lists) = none_gathered rows lists
+gathered start rows (stops e) = Err e
+gathered start rows (offers (Row row) lists rest) = gathered start (rows ++ row ∷ []) rest
+gathered start rows (offers (EndSequence length) lists rest) = Ok (Some (sequence_with start rows (Length length)), rest)
+gathered start [] (offers (SetAddress a) lists rest) = gathered (Some a) [] rest
+gathered start (row ∷ rows) (offers (SetAddress a) lists rest) =
+    Ok (Some (sequence_with start (row ∷ rows) (Address a)), offers (SetAddress a) lists rest)
