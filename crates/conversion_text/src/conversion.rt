@@ -101,11 +101,7 @@ impl<'i> Conversion<'i> {
             Err(error) => return print_no_start(ConvertError::Read(error), text),
         };
         let line_strings = &mut tables.line_strings;
-        let strings = &mut tables.strings;
-        let ending = match kind {
-            Kind::Items => self.print_rows(program, line_strings, strings, text)?,
-            Kind::Sequences => self.print_rows(program, line_strings, strings, text)?,
-        };
+        let ending = self.print_parts(kind, program, line_strings, &mut tables.strings, text)?;
         Ok(Ending {
             memory: ending.memory.also(has_old_texts(&tables)),
             ..ending

@@ -3,9 +3,12 @@
 ghost use Rattle.conversion_text.specs.Taken.{IsTaken};
 
 use crate::conversion::Conversion;
-use crate::item_text::{Item, Refused};
+use crate::item_text::{Item, Refused, Row};
 use gimli_line::IncompleteLineProgram;
-use gimli_write::{ConvertError, ConvertLineProgram, LineStringTable, StringTable};
+use gimli_write::{
+    ConvertError, ConvertLineProgram, ConvertLineRow, ConvertLineSequence, ConvertLineSequenceEnd,
+    ConvertResult, LineStringTable, StringTable,
+};
 use std::alloc::AllocError;
 use std::fmt::Write;
 use unit_text::Slice;
@@ -17,6 +20,62 @@ pub(crate) enum Kind {
     Items,
     /// By sequences.
     Sequences,
+}
+
+/// What one read gives.
+#[derive(Drop)]
+enum Part {
+    /// An item.
+    Item(ConvertLineRow),
+    /// A sequence.
+    Sequence(ConvertLineSequence),
+}
+
+impl Part {
+    /// The part of a read of items.
+    fn of_item(read: ConvertResult<Option<ConvertLineRow>>) -> ConvertResult<Option<Part>> {
+        match read? {
+            Some(item) => Ok(Some(Part::Item(item))),
+            None => Ok(None),
+        }
+    }
+
+    /// The part of a read of sequences.
+    fn of_sequence(
+        read: ConvertResult<Option<ConvertLineSequence>>,
+    ) -> ConvertResult<Option<Part>> {
+        match read? {
+            Some(sequence) => Ok(Some(Part::Sequence(sequence))),
+            None => Ok(None),
+        }
+    }
+
+    /// Prints it.
+    fn print(&self, text: &mut String) -> Result<(), AllocError> {
+        match self {
+            Part::Item(item) => {
+                let item = Item(*item);
+                writeln!(text, "{item}")
+            }
+            Part::Sequence(sequence) => print_sequence(sequence, text),
+        }
+    }
+}
+
+/// Prints a sequence: its start, its rows, and its end.
+fn print_sequence(sequence: &ConvertLineSequence, text: &mut String) -> Result<(), AllocError> {
+    match sequence.start {
+        Some(start) => writeln!(text, "sequence {start}")?,
+        None => text.push_str("sequence -\n")?,
+    }
+    for row in sequence.rows.as_slice() {
+        let row = Row(*row);
+        writeln!(text, "{row}")?;
+    }
+    match sequence.end {
+        ConvertLineSequenceEnd::Length(length) => writeln!(text, "length {length}"),
+        ConvertLineSequenceEnd::Address(address) => writeln!(text, "address {address}"),
+    }
 }
 
 /// Whether memory was refused, and what that left.
@@ -97,9 +156,10 @@ pub(crate) fn print_refusal(error: ConvertError, text: &mut String) -> Result<()
 }
 
 impl Conversion<'_> {
-    /// Prints the items that are read.
-    pub fn print_rows(
+    /// Prints what is read, up to its end or to the first refusal.
+    pub fn print_parts(
         self,
+        kind: Kind,
         program: IncompleteLineProgram<Slice<'_>>,
         line_strings: &mut LineStringTable,
         strings: &mut StringTable,
@@ -121,11 +181,12 @@ impl Conversion<'_> {
             Err(error) => return print_no_start(error, text),
         };
         for _turn in 0..u64::MAX {
-            match converter.read_row() {
-                Ok(Some(item)) => {
-                    let item = Item(item);
-                    writeln!(text, "{item}")?;
-                }
+            let part = match kind {
+                Kind::Items => Part::of_item(converter.read_row()),
+                Kind::Sequences => Part::of_sequence(converter.read_sequence()),
+            };
+            match part {
+                Ok(Some(part)) => part.print(text)?,
                 Ok(None) => return Ok(Ending::at_end()),
                 Err(error) => return print_no_more(error, converter.read_row().err(), text),
             }
