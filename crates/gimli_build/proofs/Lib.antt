@@ -19,7 +19,7 @@ pub mod UnitSizes
 pub mod NumberRefusals
 pub mod TableRefusals
 pub mod Causes
-mod TableLemmas
+pub mod TableLemmas
 mod BuiltLemmas
 pub mod Equality
 mod SourceLemmas

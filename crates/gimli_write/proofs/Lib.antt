@@ -7,6 +7,17 @@ pub mod ConvertSteps
 pub mod ConvertHeader
 pub mod SourceReadings
 pub mod SourceSteps
+pub mod MappedAddresses
+pub mod MappedRows
+pub mod MappedLists
+pub mod MappedPrograms
+pub mod MappedTexts
+pub mod MappedDirectories
+pub mod MappedFiles
+pub mod MappedNames
+pub mod FeedingLemmas
+pub mod MappedEnds
 pub mod Conversions
 pub mod Feedings
 pub mod Gathers
+pub mod MappedLaws

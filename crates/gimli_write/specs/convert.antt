@@ -5,5 +5,6 @@ pub mod Preparation
 pub mod Offers
 pub mod SourceState
 pub mod Feeding
+pub mod Mapped
 pub mod ConversionState
 pub mod Sequences

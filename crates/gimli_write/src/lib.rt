@@ -4,6 +4,7 @@
 //! the round trip.
 #![tactic(auto)]
 
+pub mod conversion_laws;
 mod convert;
 mod convert_error;
 mod read_back;

@@ -1,0 +1,210 @@
+-- What comes of a reading: the lists at its end, and the program that it was begun with.
+use Rattle.std.proofs.Common.{◌≡◌, ℕ, Bool, true, false, not, ◌&&◌, if◌then◌else◌, List, [], ◌∷◌, refl, sym, ap, subst, ◌∙◌}
+use Rattle.std.specs.Prelude.{Option, Some, None, ok_or, IfSome, Result, Ok, Err, All}
+use Rattle.std.proofs.lemmas.List.Elements.{All-weaker}
+use Rattle.std.proofs.lemmas.List.{append-nil}
+use Rattle.gimli_core.specs.Notation.{Notation}
+use Rattle.gimli_core.specs.Values.{Value}
+use Rattle.gimli_core.specs.declared.common.Encoding.{Encoding}
+use Rattle.gimli_core.specs.declared.error.Error.{Error}
+use Rattle.gimli_core.specs.declared.error.Error.TheVariants.{AddressOverflow}
+use Rattle.gimli_bytes.specs.declared.address.Address.{Address}
+use Rattle.gimli_line.specs.header.Header.{Header}
+use Rattle.gimli_line.specs.header.Parameters.{Parameters}
+use Rattle.gimli_line.specs.run.Events.{defined_files, behind}
+use Rattle.gimli_line.specs.run.Instruction.{Ins, makes_row}
+use Rattle.gimli_line.specs.run.OperationPointer.{is_hidden, overflows}
+use Rattle.gimli_build.specs.Built.{Built, previous_place}
+use Rattle.gimli_build.specs.Conditions.{CanWrite}
+use Rattle.gimli_build.specs.LineText.{LineText, IsWithin, HasNoZero}
+use Rattle.gimli_build.specs.Tables.{File as BuiltFile}
+use Rattle.gimli_build.specs.Texts.{Sections}
+use Rattle.gimli_build.specs.declared.built.row.LineRow.{LineRow}
+use Rattle.gimli_build.specs.declared.built.items.BuiltItem.TheVariants as item
+use Rattle.gimli_write.specs.declared.convert_error.ConvertError.{ConvertError}
+use Rattle.gimli_write.specs.declared.convert_error.ConvertError.TheVariants.{Read, InvalidAddress, MissingLineEndSequence, UnsupportedLineInstruction}
+use Rattle.gimli_write.specs.declared.convert.run.SourceRow.{SourceRow}
+use Rattle.gimli_write.specs.declared.convert.offer.ConvertLineRow.{ConvertLineRow}
+use Rattle.gimli_write.specs.declared.convert.offer.ConvertLineRow.TheVariants as offer
+use Rattle.gimli_write.specs.convert.Texts.{◌>>=◌, source_path}
+use Rattle.gimli_write.specs.convert.Lists.{Lists, version_of, with_path, directory_added, file_added}
+use Rattle.gimli_write.specs.convert.Preparation.{Handed, encoding_of, first_ids, prepared}
+use Rattle.gimli_write.specs.convert.Offers.{Reading, stops, offers, source_row, built_row, address_offered, row_offered, place_offered, offered, reading_at, end_reading, upon, lists_at, reading_behind, Reads}
+use Rattle.gimli_write.specs.convert.Mapped.{AreFilesMapped}
+use Rattle.gimli_write.specs.convert.Feeding.{Conversion, converted, with_tables, can_build, behind_address, behind_row, behind_end}
+use Rattle.gimli_write.proofs.MappedDirectories.{AreDirectories, directories_prepared, directories_stay}
+use Rattle.gimli_write.proofs.MappedFiles.{AreFiles, files_next, files_defined}
+use Rattle.gimli_write.proofs.MappedLists.{took, same_ok, is_prepared, all_added_keeps, CanKeep, IsReady, lists_at_keeps, file_ready, prepared_ready}
+use Rattle.gimli_write.proofs.MappedNames.{files_mapped}
+
+-- the lists at the end, which a conversion answers
+pub record Finished (sections : Sections) (first : Lists) (past : List Ins) (c : Conversion) : Type 0 where
+  pub lists : Lists
+  pub there : lists_at sections first past ≡ Ok lists
+  pub directories : c.program.directories ≡ lists.program.directories
+  pub files : c.program.files ≡ lists.program.files
+  pub file_ids : c.file_ids ≡ lists.file_ids
+  pub line_strings : c.line_strings ≡ lists.line_strings
+
+-- what a conversion keeps of the program that it was begun with
+pub record KeepsKind (p : Built) (c : Conversion) : Type 0 where
+  pub is_none : c.program.is_none ≡ p.is_none
+  pub encoding : c.program.encoding ≡ p.encoding
+  pub line_encoding : c.program.line_encoding ≡ p.line_encoding
+
+pub record Outcome (sections : Sections) (first : Lists) (past : List Ins) (p : Built) (c : Conversion) : Type 0 where
+  pub finished : Finished sections first past c
+  pub kind : KeepsKind p c
+
+module _ (convert_address : ℕ → Option Address) (c : Conversion) where
+  -- a conversion goes on with a rest, from a program of the same kind
+  record GoesOn (rest : Reading) (p : Built) : Type 0 where
+    next : Built
+    is : converted convert_address rest next ≡ Ok c
+    is_none : next.is_none ≡ p.is_none
+    encoding : next.encoding ≡ p.encoding
+    line_encoding : next.line_encoding ≡ p.line_encoding
+
+  item_goes : (o : ConvertLineRow) (lists : Lists) (rest : Reading) (p : Built) → converted convert_address (offers o lists rest) p ≡ Ok c → GoesOn rest p
+  item_goes (offer.SetAddress a) lists rest p is = by (convert_address a) is
+    where
+      by : (o : Option Address) → ((ok_or o InvalidAddress >>= λ m. Ok (behind_address m (with_tables lists p))) >>= λ n. converted convert_address rest n) ≡ Ok c → GoesOn rest p
+      by None so = absurd cc
+      by (Some m) so = record { next = behind_address m (with_tables lists p); is = so; is_none = refl; encoding = refl; line_encoding = refl }
+  item_goes (offer.Row r) lists rest p is = by (can_build p.line_encoding (previous_place p.items) (item.Row r)) is
+    where
+      by : (b : Bool) → ((if b then Ok (behind_row r (with_tables lists p)) else Err UnsupportedLineInstruction) >>= λ n. converted convert_address rest n) ≡ Ok c → GoesOn rest p
+      by false so = absurd cc
+      by true so = record { next = behind_row r (with_tables lists p); is = so; is_none = refl; encoding = refl; line_encoding = refl }
+  item_goes (offer.EndSequence offset) lists rest p is = by (can_build p.line_encoding (previous_place p.items) (item.End offset p.row.op_index)) is
+    where
+      by : (b : Bool) → ((if b then Ok (behind_end offset (with_tables lists p)) else Err UnsupportedLineInstruction) >>= λ n. converted convert_address rest n) ≡ Ok c → GoesOn rest p
+      by false so = absurd cc
+      by true so = record { next = behind_end offset (with_tables lists p); is = so; is_none = refl; encoding = refl; line_encoding = refl }
+
+  place_goes : (version : ℕ) (lists : Lists) (r : SourceRow) (rest : Reading) (p : Built) → converted convert_address (place_offered version lists r rest) p ≡ Ok c → GoesOn rest p
+  place_goes version lists r rest p is = by r.row.end_sequence is
+    where
+      built : (o : Result LineRow ConvertError) → converted convert_address (row_offered o lists rest) p ≡ Ok c → GoesOn rest p
+      built (Ok row) so = item_goes (offer.Row row) lists rest p so
+      built (Err e) so = absurd cc
+
+      by : (b : Bool) → converted convert_address (if b then offers (offer.EndSequence r.address_offset) lists rest else row_offered (built_row version lists r) lists rest) p ≡ Ok c → GoesOn rest p
+      by true so = item_goes (offer.EndSequence r.address_offset) lists rest p so
+      by false so = built (built_row version lists r) so
+
+  offered_goes : (version : ℕ) (lists : Lists) (r : SourceRow) (rest : Reading) (p : Built) → converted convert_address (offered version lists r rest) p ≡ Ok c → GoesOn rest p
+  offered_goes version lists r rest p is = by r.set_address is
+    where
+      by : (o : Option ℕ) → converted convert_address (address_offered o lists (place_offered version lists r rest)) p ≡ Ok c → GoesOn rest p
+      by None so = place_goes version lists r rest p so
+      by (Some a) so =
+          let first = item_goes (offer.SetAddress a) lists (place_offered version lists r rest) p so in
+          let second = place_goes version lists r rest first.next first.is in
+          record { next = second.next; is = second.is; is_none = second.is_none ∙ first.is_none; encoding = second.encoding ∙ first.encoding; line_encoding = second.line_encoding ∙ first.line_encoding }
+
+  at_goes : (parameters : Parameters) (lists : Lists) (past : List Ins) (i : Ins) (rest : Reading) (p : Built) → converted convert_address (reading_at parameters lists past i rest) p ≡ Ok c → GoesOn rest p
+  at_goes parameters lists past i rest p is = by (overflows parameters past i) (makes_row i && not (is_hidden parameters past)) is
+    where
+      by : (o m : Bool) → converted convert_address (if o then stops (Read AddressOverflow) else (if m then offered parameters.encoding.version lists (source_row parameters past i) rest else rest)) p ≡ Ok c → GoesOn rest p
+      by true m so = absurd cc
+      by false true so = offered_goes parameters.encoding.version lists (source_row parameters past i) rest p so
+      by false false so = record { next = p; is = so; is_none = refl; encoding = refl; line_encoding = refl }
+
+  nothing_goes : (sections : Sections) (first : Lists) (past : List Ins) (end : Option Error) (there : Result Lists ConvertError) (p : Built) → lists_at sections first past ≡ there
+      → converted convert_address (upon there (end_reading end)) p ≡ Ok c → Outcome sections first past p c
+  nothing_goes sections first past end (Err e) p at is = absurd cc
+  nothing_goes sections first past (Some e) (Ok lists) p at is = absurd cc
+  nothing_goes sections first past None (Ok lists) p at is = by p.in_sequence is
+    where
+      by : (b : Bool) → (if b then Err MissingLineEndSequence else Ok (record { program = with_tables lists p; file_ids = lists.file_ids; line_strings = lists.line_strings })) ≡ Ok c → Outcome sections first past p c
+      by true so = absurd cc
+      by false so =
+          let done : Conversion = record { program = with_tables lists p; file_ids = lists.file_ids; line_strings = lists.line_strings } in
+          let same : done ≡ c = cc in
+          subst (λ (c : Conversion). Outcome sections first past p c) same (record {
+            finished = record { lists = lists; there = at; directories = refl; files = refl; file_ids = refl; line_strings = refl };
+            kind = record { is_none = refl; encoding = refl; line_encoding = refl };
+          })
+
+  pub outcome : (sections : Sections) (parameters : Parameters) (first : Lists) (past list : List Ins) (end : Option Error) (p : Built)
+      → converted convert_address (reading_behind sections parameters first past list end) p ≡ Ok c → Outcome sections first (behind past list) p c
+  outcome sections parameters first past [] end p is = nothing_goes sections first past end (lists_at sections first past) p refl is
+  outcome sections parameters first past (i ∷ list) end p is = by (λ p so. outcome sections parameters first (i ∷ past) list end p so) (lists_at sections first past) is
+    where
+      by : ((p : Built) → converted convert_address (reading_behind sections parameters first (i ∷ past) list end) p ≡ Ok c → Outcome sections first (behind (i ∷ past) list) p c)
+          → (there : Result Lists ConvertError)
+          → converted convert_address (upon there (λ lists. reading_at parameters lists past i (reading_behind sections parameters first (i ∷ past) list end))) p ≡ Ok c
+          → Outcome sections first (behind (i ∷ past) list) p c
+      by rest (Err e) so = absurd cc
+      by rest (Ok lists) so =
+          let on = at_goes parameters lists past i (reading_behind sections parameters first (i ∷ past) list end) p so in
+          let after = rest on.next on.is in
+          record {
+            finished = after.finished;
+            kind = record { is_none = after.kind.is_none ∙ on.is_none; encoding = after.kind.encoding ∙ on.encoding; line_encoding = after.kind.line_encoding ∙ on.line_encoding };
+          }
+
+-- ---- directories have no files
+
+no_file : (sections : Sections) (lists next : Lists) (v : Value) → directory_added sections lists v ≡ Ok next → next.file_ids ≡ lists.file_ids
+no_file sections lists next v is =
+    let t = took (source_path (version_of lists) sections v) (λ path. Ok (with_path lists path)) next is in
+    sym (ap (λ (l : Lists). l.file_ids) (same_ok (with_path lists t.0) next t.2))
+
+-- ---- a program that was converted can be written
+
+module _ (notation : Notation) (sections : Sections) (h : Header) (given : Handed) (line_strings : List (List ℕ)) (first : Lists) (bytes : List ℕ) (reading : Reading)
+    (convert_address : ℕ → Option Address) (c : Conversion)
+    (ready : prepared sections h given line_strings ≡ Ok first) (reads : Reads notation sections h first bytes reading)
+    (is : converted convert_address reading first.program ≡ Ok c) where
+  pub comes : Outcome sections first (behind [] reads.list) first.program c
+  comes = outcome convert_address c sections h.parameters first [] reads.list reads.end first.program (ap (λ (r : Reading). converted convert_address r first.program) (sym reads.given) ∙ is)
+
+  pub encoding_kept : c.program.encoding ≡ encoding_of h given
+  encoding_kept = comes.kind.encoding ∙ (prepared_ready [] sections h given line_strings first ready).encoding_is
+
+  pub can_write : (strings : List (List ℕ)) → CanWrite c.program strings c.line_strings
+  can_write strings =
+      let f = comes.finished in
+      let encoding = encoding_of h given in
+      let start : IsReady strings encoding first = prepared_ready strings sections h given line_strings first ready in
+      let last : IsReady strings encoding f.lists =
+      lists_at_keeps (IsReady strings encoding) sections first (λ l n d a so. file_ready strings encoding sections l n d a so) (behind [] reads.list) f.lists f.there start in
+      let files : All (CanKeep strings c.line_strings c.program.encoding.version) c.program.files =
+      subst (λ (t : List (List ℕ)). All (CanKeep strings t c.program.encoding.version) c.program.files) (sym f.line_strings)
+      (subst (λ (files : List BuiltFile). All (CanKeep strings f.lists.line_strings c.program.encoding.version) files) (sym f.files)
+      (subst (λ (e : Encoding). All (CanKeep strings f.lists.line_strings e.version) f.lists.program.files) (last.encoding_is ∙ sym encoding_kept) last.files)) in
+      record {
+        program = comes.kind.is_none ∙ start.program;
+        directories =
+            subst (λ (t : List (List ℕ)). All (IsWithin strings t) c.program.directories) (sym f.line_strings)
+            (subst (λ (ds : List LineText). All (IsWithin strings f.lists.line_strings) ds) (sym f.directories) last.directories);
+        paths = All-weaker (CanKeep strings c.line_strings c.program.encoding.version) (λ f. IsWithin strings c.line_strings f.0.0) (λ f so. so.path) c.program.files files;
+        sources = All-weaker (CanKeep strings c.line_strings c.program.encoding.version) (λ f. IfSome f.1.source (IsWithin strings c.line_strings)) (λ f so. so.source) c.program.files files;
+        sources_end = λ new has. All-weaker (CanKeep strings c.line_strings c.program.encoding.version) (λ f. IfSome f.1.source HasNoZero) (λ f so. so.source_ends new) c.program.files files;
+      }
+
+  -- the files
+  files_are : AreFiles sections h first h.files
+  files_are =
+      let p = is_prepared sections h given line_strings first ready in
+      let version = h.parameters.encoding.version in
+      let none : p.with_directories.file_ids ≡ first_ids version =
+      all_added_keeps (λ l. l.file_ids ≡ first_ids version) (directory_added sections) (λ l n v a so. no_file sections l n v a ∙ so) h.directories _ p.with_directories p.directories refl in
+      files_next sections h [] h.files p.with_directories first p.files (record { ids = []; ids_are = none ∙ sym (append-nil (first_ids version)); each = tt })
+
+  directories_are : AreDirectories sections h first
+  directories_are =
+      let p = is_prepared sections h given line_strings first ready in
+      all_added_keeps (AreDirectories sections h) (file_added sections) (λ l n f a so. directories_stay sections h l n f a so) h.files p.with_directories first p.files
+      (directories_prepared sections h given line_strings first p)
+
+  pub files_same : (strings : List (List ℕ)) → AreFilesMapped sections h (defined_files h.files (behind [] reads.list)) strings c
+  files_same strings =
+      let f = comes.finished in
+      let past = behind [] reads.list in
+      files_mapped sections h strings f.lists (defined_files h.files past) c
+      (lists_at_keeps (AreDirectories sections h) sections first (λ l n d a so. directories_stay sections h l n d a so) past f.lists f.there directories_are)
+      (files_defined sections h first past f.lists f.there files_are)
+      f.directories f.files f.file_ids f.line_strings

@@ -1,0 +1,387 @@
+-- The files of a conversion: each id of a file of the source is that of its paths, with what is known of the last file
+-- that has them.
+use Rattle.std.proofs.Common.{◌≡◌, ◌≢◌, ℕ, zero, suc, ◌+◌, ◌<◌, Bool, true, false, not, cond, ◌||◌, if◌then◌else◌, List, [], ◌∷◌, ◌++◌, length, refl, sym, ap, subst, ◌∙◌, inl, inr, append_assoc}
+use Rattle.std.specs.Prelude.{◌⊎◌, nat_eq, Option, Some, None, option_map, slice_get, Ok, bytes_eq, IfSome}
+use Rattle.std.specs.List.{list_any, position_or_len, AllByRecursion}
+use Rattle.std.proofs.lemmas.Bool.{true≢false, eqb-true, eq-eqb}
+use Rattle.std.proofs.lemmas.List.{append-nil}
+use Rattle.std.proofs.lemmas.Option.{slice_get-map}
+use Rattle.std.proofs.lemmas.Slice.Eq.{bytes_eq-Decides}
+use Rattle.gimli_line.specs.declared.run.instruction.LineInstruction.TheVariants.{DefineFile}
+use Rattle.gimli_line.specs.header.File.{File}
+use Rattle.gimli_line.specs.header.Header.{Header}
+use Rattle.gimli_line.specs.run.Events.{defined_files}
+use Rattle.gimli_line.specs.run.Instruction.{Ins}
+use Rattle.gimli_build.specs.LineText.{LineText, made_text, made_table}
+use Rattle.gimli_build.specs.Tables.{FileKey, Details, File as BuiltFile, key_eq, has_file, place_of_file, with_details, with_file, keys_of}
+use Rattle.gimli_build.specs.Texts.{Sections, OneByOne}
+use Rattle.gimli_build.proofs.TableLemmas.{file_found_at, file_keeps, file_others, some_within}
+use Rattle.gimli_write.specs.convert.Lists.{Lists, version_of, FileParts, file_parts, with_parts, file_added, all_added}
+use Rattle.gimli_write.specs.convert.Offers.{defined, lists_at}
+use Rattle.gimli_write.specs.convert.Preparation.{first_ids}
+use Rattle.gimli_write.proofs.MappedLists.{took, same_ok, sources_table}
+use Rattle.gimli_write.proofs.MappedTexts.{place_stays, place_new, any_stays, any_new, place_none, last_element, same_key, IsMade, HasMade, has_then, is_made, is_same, table_has, made_apart}
+use Rattle.gimli_write.proofs.MappedDirectories.{sources_has}
+
+-- ---- elements one by one
+
+pub one_by_one_map : {A B : Type 0} (R S : A → B → Type 0) → ((x : A) (y : B) → R x y → S x y) → (xs : List A) (ys : List B) → OneByOne R xs ys → OneByOne S xs ys
+one_by_one_map R S f [] [] all = tt
+one_by_one_map R S f [] (y ∷ ys) all = elim all [ ]
+one_by_one_map R S f (x ∷ xs) [] all = elim all [ ]
+one_by_one_map R S f (x ∷ xs) (y ∷ ys) all = (f x y all.0, one_by_one_map R S f xs ys all.1)
+
+one_by_one_push : {A B : Type 0} (R : A → B → Type 0) (xs : List A) (ys : List B) (x : A) (y : B) → OneByOne R xs ys → R x y → OneByOne R (xs ++ x ∷ []) (ys ++ y ∷ [])
+one_by_one_push R [] [] x y all one = (one, tt)
+one_by_one_push R [] (b ∷ ys) x y all one = elim all [ ]
+one_by_one_push R (a ∷ xs) [] x y all one = elim all [ ]
+one_by_one_push R (a ∷ xs) (b ∷ ys) x y all one = (all.0, one_by_one_push R xs ys x y all.1 one)
+
+pub one_by_one_at : {A B : Type 0} (R : A → B → Type 0) (xs : List A) (ys : List B) (i : ℕ) (x : A) → OneByOne R xs ys → slice_get xs i ≡ Some x → (y : B) × (slice_get ys i ≡ Some y) × R x y
+one_by_one_at R [] ys i x all is = absurd cc
+one_by_one_at R (a ∷ xs) [] i x all is = elim all [ ]
+one_by_one_at {A = A} R (a ∷ xs) (b ∷ ys) zero x all is = let same : a ≡ x = cc in (b, refl, subst (λ (z : A). R z b) same all.0)
+one_by_one_at R (a ∷ xs) (b ∷ ys) (suc i) x all is = one_by_one_at R xs ys i x all.1 is
+
+pub one_by_one_back : {A B : Type 0} (R : A → B → Type 0) (xs : List A) (ys : List B) (i : ℕ) (y : B) → OneByOne R xs ys → slice_get ys i ≡ Some y → (x : A) × (slice_get xs i ≡ Some x)
+one_by_one_back R [] [] i y all is = absurd cc
+one_by_one_back R [] (b ∷ ys) i y all is = elim all [ ]
+one_by_one_back R (a ∷ xs) [] i y all is = elim all [ ]
+one_by_one_back R (a ∷ xs) (b ∷ ys) zero y all is = (a, refl)
+one_by_one_back R (a ∷ xs) (b ∷ ys) (suc i) y all is = one_by_one_back R xs ys i y all.1 is
+
+all_push : {A : Type 0} (P : A → Type 0) (xs : List A) (x : A) → AllByRecursion P xs → P x → AllByRecursion P (xs ++ x ∷ [])
+all_push P [] x all one = (one, tt)
+all_push P (y ∷ xs) x all one = (all.0, all_push P xs x all.1 one)
+
+-- ---- a file is added to a table
+
+module _ (q : FileKey → Bool) where
+  details_any : (files : List BuiltFile) (i : ℕ) (d : Details) → list_any (λ f. q f.0) (with_details files i d) ≡ list_any (λ f. q f.0) files
+  details_any [] i d = refl
+  details_any (f ∷ files) zero d = refl
+  details_any (f ∷ files) (suc i) d = ap (λ (b : Bool). q f.0 || b) (details_any files i d)
+
+  details_place : (files : List BuiltFile) (i : ℕ) (d : Details) → position_or_len (λ f. q f.0) (with_details files i d) ≡ position_or_len (λ f. q f.0) files
+  details_place [] i d = refl
+  details_place (f ∷ files) zero d = refl
+  details_place (f ∷ files) (suc i) d = ap (λ (n : ℕ). cond (not (q f.0)) (1 + n) 0) (details_place files i d)
+
+details_at : (files : List BuiltFile) (i : ℕ) (d : Details) → slice_get (with_details files i d) i ≡ option_map (λ f. (f.0, d)) (slice_get files i)
+details_at [] i d = refl
+details_at (f ∷ files) zero d = refl
+details_at (f ∷ files) (suc i) d = details_at files i d
+
+module _ (files : List BuiltFile) (k : FileKey) (d : Details) where
+  -- a file that was there keeps its place
+  old_any : (l : FileKey) → has_file files l ≡ true → has_file (with_file files k (Some d)) l ≡ true
+  old_any l is = by (has_file files k)
+    where
+      by : (b : Bool) → has_file (if b then with_details files (place_of_file files k) d else files ++ (k, d) ∷ []) l ≡ true
+      by true = details_any (key_eq l) files (place_of_file files k) d ∙ is
+      by false = any_stays (λ f. key_eq l f.0) files ((k, d) ∷ []) is
+
+  old_place : (l : FileKey) → has_file files l ≡ true → place_of_file (with_file files k (Some d)) l ≡ place_of_file files l
+  old_place l is = by (has_file files k)
+    where
+      by : (b : Bool) → place_of_file (if b then with_details files (place_of_file files k) d else files ++ (k, d) ∷ []) l ≡ place_of_file files l
+      by true = details_place (key_eq l) files (place_of_file files k) d
+      by false = place_stays (λ f. key_eq l f.0) files ((k, d) ∷ []) is
+
+  -- the one that is added is there, at its place
+  new_any : has_file (with_file files k (Some d)) k ≡ true
+  new_any = by (has_file files k) refl
+    where
+      by : (b : Bool) → has_file files k ≡ b → has_file (if b then with_details files (place_of_file files k) d else files ++ (k, d) ∷ []) k ≡ true
+      by true is = details_any (key_eq k) files (place_of_file files k) d ∙ is
+      by false is = any_new (λ f. key_eq k f.0) files (k, d) (same_key k)
+
+  new_place : place_of_file (with_file files k (Some d)) k ≡ place_of_file files k
+  new_place = by (has_file files k) refl
+    where
+      by : (b : Bool) → has_file files k ≡ b → place_of_file (if b then with_details files (place_of_file files k) d else files ++ (k, d) ∷ []) k ≡ place_of_file files k
+      by true is = details_place (key_eq k) files (place_of_file files k) d
+      by false is = place_new (λ f. key_eq k f.0) files (k, d) (same_key k) is
+
+  -- with the details that are handed
+  new_entry : slice_get (with_file files k (Some d)) (place_of_file files k) ≡ Some (k, d)
+  new_entry = by (has_file files k) refl (file_found_at files k (Some d))
+    where
+      there : (o : Option BuiltFile) → option_map (λ f. f.0) (option_map (λ f. let g : BuiltFile = (f.0, d) in g) o) ≡ Some k → option_map (λ f. let g : BuiltFile = (f.0, d) in g) o ≡ Some (k, d)
+      there (Some f) is = let same : f.0 ≡ k = cc in ap (λ (l : FileKey). let o : Option BuiltFile = Some (l, d) in o) same
+      there None is = absurd cc
+
+      by : (b : Bool) → has_file files k ≡ b → slice_get (keys_of (if b then with_details files (place_of_file files k) d else files ++ (k, d) ∷ [])) (place_of_file files k) ≡ Some k
+          → slice_get (if b then with_details files (place_of_file files k) d else files ++ (k, d) ∷ []) (place_of_file files k) ≡ Some (k, d)
+      by true is found =
+          let n = place_of_file files k in
+          details_at files n d
+          ∙ there (slice_get files n) (ap (option_map (λ f. f.0)) (sym (details_at files n d)) ∙ sym (slice_get-map (λ (f : BuiltFile). f.0) (with_details files n d) n) ∙ found)
+      by false is found = last_element files (k, d) (place_of_file files k) (place_none (λ f. key_eq k f.0) files is)
+
+  -- another file keeps its details
+  other_entry : (l : FileKey) (e : Details) (i : ℕ) → slice_get files i ≡ Some (l, e) → l ≢ k → slice_get (with_file files k (Some d)) i ≡ Some (l, e)
+  other_entry l e i is other =
+      let lt : i < length files = some_within files i (l, e) is in
+      let keys : slice_get (keys_of files) i ≡ Some l = slice_get-map (λ (f : BuiltFile). f.0) files i ∙ ap (option_map (λ f. f.0)) is in
+      let stays = (file_keeps files k (Some d)).stays i (some_within (keys_of files) i l keys) in
+      file_others files k (Some d) i lt (λ here.
+      let found = subst (λ (n : ℕ). slice_get (keys_of (with_file files k (Some d))) n ≡ Some k) (sym here) (file_found_at files k (Some d)) in
+      let same : l ≡ k = cc in
+      other same)
+      ∙ is
+
+-- ---- one file of a source
+
+-- two files have the same path and the same directory
+abbrev pub SamePaths : FileParts → FileParts → Type 0
+SamePaths a b = (a.path ≡ b.path) × (a.directory ≡ b.directory)
+
+same_paths : (a b : FileParts) → SamePaths a b ⊎ (SamePaths a b → ⊥)
+same_paths a b = by (bytes_eq a.path b.path) (nat_eq a.directory b.directory) refl refl
+  where
+    by : (p d : Bool) → bytes_eq a.path b.path ≡ p → nat_eq a.directory b.directory ≡ d → SamePaths a b ⊎ (SamePaths a b → ⊥)
+    by true true path directory = inl ((bytes_eq-Decides a.path b.path).0 path, eqb-true a.directory b.directory directory)
+    by true false path directory = inr (λ same. true≢false (sym (eq-eqb a.directory b.directory same.1) ∙ directory))
+    by false d path directory = inr (λ same. true≢false (sym ((bytes_eq-Decides a.path b.path).1 same.0) ∙ path))
+
+-- the parts of a file, in a program of this version with these ids of directories
+abbrev pub HasParts : Sections → ℕ → List ℕ → FileParts → File → Type 0
+HasParts sections version directory_ids parts f = file_parts version sections directory_ids f ≡ Ok parts
+
+-- what a built file has of a file of the source
+pub record IsKnown (version : ℕ) (line_strings : List (List ℕ)) (f : File) (source : Option (List ℕ)) (d : Details) : Type 0 where
+  pub timestamp : d.timestamp ≡ f.timestamp
+  pub size : d.size ≡ f.size
+  pub md5 : d.md5 ≡ f.md5
+  pub source_is : d.source ≡ option_map (made_text version line_strings) source
+  pub source_made : IfSome source (IsMade version line_strings)
+
+-- a file has other paths
+pub record HasOthers (sections : Sections) (version : ℕ) (directory_ids : List ℕ) (parts : FileParts) (g : File) : Type 0 where
+  pub own : FileParts
+  pub own_is : HasParts sections version directory_ids own g
+  pub other : SamePaths own parts → ⊥
+
+-- an id is that of the paths of a file; and what is known is of the last of these files that has them
+pub record IsFileOf (sections : Sections) (version : ℕ) (line_strings : List (List ℕ)) (directory_ids : List ℕ) (files : List BuiltFile) (source : List File) (f : File) (id : ℕ) : Type 0 where
+  pub parts : FileParts
+  pub parts_are : HasParts sections version directory_ids parts f
+  pub made : IsMade version line_strings parts.path
+  pub present : has_file files (made_text version line_strings parts.path, parts.directory) ≡ true
+  pub place : id ≡ place_of_file files (made_text version line_strings parts.path, parts.directory)
+  pub details : Details
+  pub entry : slice_get files id ≡ Some ((made_text version line_strings parts.path, parts.directory), details)
+  pub last : File
+  pub last_parts : FileParts
+  pub last_are : HasParts sections version directory_ids last_parts last
+  pub same : SamePaths last_parts parts
+  pub known : IsKnown version line_strings last last_parts.source details
+  pub before : List File
+  pub behind : List File
+  pub split : source ≡ before ++ last ∷ behind
+  pub none_behind : AllByRecursion (HasOthers sections version directory_ids parts) behind
+
+known_longer : (version : ℕ) (old new : List (List ℕ)) (f : File) (source : Option (List ℕ)) (d : Details) → HasMade version old new → IsKnown version old f source d → IsKnown version new f source d
+known_longer version old new f (Some text) d has so = record {
+  timestamp = so.timestamp;
+  size = so.size;
+  md5 = so.md5;
+  source_is = so.source_is ∙ ap Some (sym (has.same text so.source_made));
+  source_made = has.there text so.source_made;
+}
+known_longer version old new f None d has so = record { timestamp = so.timestamp; size = so.size; md5 = so.md5; source_is = so.source_is; source_made = tt }
+
+source_known : (version : ℕ) (paths : List (List ℕ)) (source : Option (List ℕ)) → option_map (made_text version paths) source ≡ option_map (made_text version (sources_table version paths source)) source
+source_known version paths (Some text) = ap Some (sym (is_same version paths text))
+source_known version paths None = refl
+
+source_there : (version : ℕ) (paths : List (List ℕ)) (source : Option (List ℕ)) → IfSome source (IsMade version (sources_table version paths source))
+source_there version paths (Some text) = is_made version paths text
+source_there version paths None = tt
+
+-- ---- one more file
+
+module _ (sections : Sections) (lists : Lists) (g : File) (added : FileParts) (added_are : HasParts sections (version_of lists) lists.directory_ids added g) where
+  abbrev paths_behind : List (List ℕ)
+  paths_behind = made_table (version_of lists) lists.line_strings added.path
+
+  abbrev texts_behind : List (List ℕ)
+  texts_behind = sources_table (version_of lists) (made_table (version_of lists) lists.line_strings added.path) added.source
+
+  abbrev key_of : FileKey
+  key_of = (made_text (version_of lists) lists.line_strings added.path, added.directory)
+
+  abbrev details_of : Details
+  details_of = record { timestamp = g.timestamp; size = g.size; md5 = g.md5; source = option_map (made_text (version_of lists) paths_behind) added.source }
+
+  abbrev files_behind_it : List BuiltFile
+  files_behind_it = with_file lists.program.files key_of (Some details_of)
+
+  texts_stay : HasMade (version_of lists) lists.line_strings texts_behind
+  texts_stay =
+      has_then (version_of lists) lists.line_strings paths_behind texts_behind (table_has (version_of lists) lists.line_strings added.path) (sources_has (version_of lists) paths_behind added.source)
+
+  own_made : IsMade (version_of lists) texts_behind added.path
+  own_made = (sources_has (version_of lists) paths_behind added.source).there added.path (is_made (version_of lists) lists.line_strings added.path)
+
+  own_same : made_text (version_of lists) texts_behind added.path ≡ made_text (version_of lists) lists.line_strings added.path
+  own_same = (sources_has (version_of lists) paths_behind added.source).same added.path (is_made (version_of lists) lists.line_strings added.path) ∙ is_same (version_of lists) lists.line_strings added.path
+
+  own_known : IsKnown (version_of lists) texts_behind g added.source details_of
+  own_known = record {
+    timestamp = refl;
+    size = refl;
+    md5 = refl;
+    source_is = source_known (version_of lists) paths_behind added.source;
+    source_made = source_there (version_of lists) paths_behind added.source;
+  }
+
+  -- the new file
+  file_new : (source : List File) → IsFileOf sections (version_of lists) texts_behind lists.directory_ids files_behind_it (source ++ g ∷ []) g (place_of_file lists.program.files key_of)
+  file_new source =
+      let to = λ (t : LineText). let k : FileKey = (t, added.directory) in k in
+      record {
+        parts = added;
+        parts_are = added_are;
+        made = own_made;
+        present = subst (λ (t : LineText). has_file files_behind_it (to t) ≡ true) (sym own_same) (new_any lists.program.files key_of details_of);
+        place = subst (λ (t : LineText). place_of_file lists.program.files key_of ≡ place_of_file files_behind_it (to t)) (sym own_same) (sym (new_place lists.program.files key_of details_of));
+        details = details_of;
+        entry = subst (λ (t : LineText). slice_get files_behind_it (place_of_file lists.program.files key_of) ≡ Some (to t, details_of)) (sym own_same) (new_entry lists.program.files key_of details_of);
+        last = g;
+        last_parts = added;
+        last_are = added_are;
+        same = (refl, refl);
+        known = own_known;
+        before = source;
+        behind = [];
+        split = refl;
+        none_behind = tt;
+      }
+
+  -- a file that was there
+  file_old : (source : List File) (f : File) (id : ℕ) → IsFileOf sections (version_of lists) lists.line_strings lists.directory_ids lists.program.files source f id
+      → IsFileOf sections (version_of lists) texts_behind lists.directory_ids files_behind_it (source ++ g ∷ []) f id
+  file_old source f id so = elim (same_paths added so.parts) [ inl same ↦ taken same | inr other ↦ left other ]
+    where
+      text_same : made_text (version_of lists) texts_behind so.parts.path ≡ made_text (version_of lists) lists.line_strings so.parts.path
+      text_same = texts_stay.same so.parts.path so.made
+
+      present : has_file files_behind_it (made_text (version_of lists) texts_behind so.parts.path, so.parts.directory) ≡ true
+      present =
+          subst (λ (t : LineText). has_file files_behind_it (t, so.parts.directory) ≡ true) (sym text_same)
+          (old_any lists.program.files key_of details_of (made_text (version_of lists) lists.line_strings so.parts.path, so.parts.directory) so.present)
+
+      place : id ≡ place_of_file files_behind_it (made_text (version_of lists) texts_behind so.parts.path, so.parts.directory)
+      place =
+          subst (λ (t : LineText). id ≡ place_of_file files_behind_it (t, so.parts.directory)) (sym text_same)
+          (so.place ∙ sym (old_place lists.program.files key_of details_of (made_text (version_of lists) lists.line_strings so.parts.path, so.parts.directory) so.present))
+
+      -- the added file has its paths
+      taken : SamePaths added so.parts → IsFileOf sections (version_of lists) texts_behind lists.directory_ids files_behind_it (source ++ g ∷ []) f id
+      taken same =
+          let text : made_text (version_of lists) lists.line_strings added.path ≡ made_text (version_of lists) lists.line_strings so.parts.path = ap (made_text (version_of lists) lists.line_strings) same.0 in
+          let key : key_of ≡ (made_text (version_of lists) texts_behind so.parts.path, so.parts.directory) =
+          ap (λ (t : LineText). let k : FileKey = (t, added.directory) in k) (text ∙ sym text_same) ∙ ap (λ (n : ℕ). let k : FileKey = (made_text (version_of lists) texts_behind so.parts.path, n) in k) same.1 in
+          let old_key : key_of ≡ (made_text (version_of lists) lists.line_strings so.parts.path, so.parts.directory) =
+          ap (λ (t : LineText). let k : FileKey = (t, added.directory) in k) text ∙ ap (λ (n : ℕ). let k : FileKey = (made_text (version_of lists) lists.line_strings so.parts.path, n) in k) same.1 in
+          let at : place_of_file lists.program.files key_of ≡ id = ap (place_of_file lists.program.files) old_key ∙ sym so.place in
+          record {
+            parts = so.parts;
+            parts_are = so.parts_are;
+            made = texts_stay.there so.parts.path so.made;
+            present = present;
+            place = place;
+            details = details_of;
+            entry =
+                subst (λ (n : ℕ). slice_get files_behind_it n ≡ Some ((made_text (version_of lists) texts_behind so.parts.path, so.parts.directory), details_of)) at
+                (subst (λ (k : FileKey). slice_get files_behind_it (place_of_file lists.program.files key_of) ≡ Some (k, details_of)) key (new_entry lists.program.files key_of details_of));
+            last = g;
+            last_parts = added;
+            last_are = added_are;
+            same = same;
+            known = own_known;
+            before = source;
+            behind = [];
+            split = refl;
+            none_behind = tt;
+          }
+
+      -- the added file has others
+      left : (SamePaths added so.parts → ⊥) → IsFileOf sections (version_of lists) texts_behind lists.directory_ids files_behind_it (source ++ g ∷ []) f id
+      left other =
+          let apart : (let k : FileKey = (made_text (version_of lists) lists.line_strings so.parts.path, so.parts.directory) in k) ≢ key_of = λ is.
+          let text : made_text (version_of lists) texts_behind so.parts.path ≡ made_text (version_of lists) texts_behind added.path = text_same ∙ ap (λ (k : FileKey). k.0) is ∙ sym own_same in
+          other (sym (made_apart (version_of lists) texts_behind so.parts.path added.path (texts_stay.there so.parts.path so.made) own_made text), sym (ap (λ (k : FileKey). k.1) is)) in
+          record {
+            parts = so.parts;
+            parts_are = so.parts_are;
+            made = texts_stay.there so.parts.path so.made;
+            present = present;
+            place = place;
+            details = so.details;
+            entry =
+                subst (λ (t : LineText). slice_get files_behind_it id ≡ Some ((t, so.parts.directory), so.details)) (sym text_same)
+                (other_entry lists.program.files key_of details_of (made_text (version_of lists) lists.line_strings so.parts.path, so.parts.directory) so.details id so.entry apart);
+            last = so.last;
+            last_parts = so.last_parts;
+            last_are = so.last_are;
+            same = so.same;
+            known = known_longer (version_of lists) lists.line_strings texts_behind so.last so.last_parts.source so.details texts_stay so.known;
+            before = so.before;
+            behind = so.behind ++ g ∷ [];
+            split = ap (λ (l : List File). l ++ g ∷ []) so.split ∙ append_assoc so.before (so.last ∷ so.behind) (g ∷ []);
+            none_behind = all_push (HasOthers sections (version_of lists) lists.directory_ids so.parts) so.behind g so.none_behind (record { own = added; own_is = added_are; other = other });
+          }
+
+-- ---- all files
+
+-- each id of a file of the source is that of its paths
+pub record AreFiles (sections : Sections) (h : Header) (lists : Lists) (source : List File) : Type 0 where
+  pub ids : List ℕ
+  pub ids_are : lists.file_ids ≡ first_ids h.parameters.encoding.version ++ ids
+  pub each : OneByOne (IsFileOf sections (version_of lists) lists.line_strings lists.directory_ids lists.program.files source) source ids
+
+pub file_next : (sections : Sections) (h : Header) (lists next : Lists) (g : File) (source : List File) → file_added sections lists g ≡ Ok next
+    → AreFiles sections h lists source → AreFiles sections h next (source ++ g ∷ [])
+file_next sections h lists next g source is so =
+    let version = version_of lists in
+    let t = took (file_parts version sections lists.directory_ids g) (λ parts. Ok (with_parts lists g parts)) next is in
+    let parts = t.0 in
+    let paths = made_table version lists.line_strings parts.path in
+    let after = sources_table version paths parts.source in
+    let k : FileKey = (made_text version lists.line_strings parts.path, parts.directory) in
+    let d : Details = record { timestamp = g.timestamp; size = g.size; md5 = g.md5; source = option_map (made_text version paths) parts.source } in
+    let R = IsFileOf sections version after lists.directory_ids (with_file lists.program.files k (Some d)) (source ++ g ∷ []) in
+    subst (λ (l : Lists). AreFiles sections h l (source ++ g ∷ [])) (same_ok (with_parts lists g parts) next t.2) (record {
+      ids = so.ids ++ place_of_file lists.program.files k ∷ [];
+      ids_are =
+          ap (λ (l : List ℕ). l ++ place_of_file lists.program.files k ∷ []) so.ids_are
+          ∙ append_assoc (first_ids h.parameters.encoding.version) so.ids (place_of_file lists.program.files k ∷ []);
+      each =
+          one_by_one_push R source so.ids g (place_of_file lists.program.files k)
+          (one_by_one_map (IsFileOf sections version lists.line_strings lists.directory_ids lists.program.files source) R (file_old sections lists g parts t.1 source) source so.ids so.each)
+          (file_new sections lists g parts t.1 source);
+    })
+
+-- those of a header
+pub files_next : (sections : Sections) (h : Header) (done rest : List File) (lists last : Lists) → all_added (file_added sections) rest lists ≡ Ok last
+    → AreFiles sections h lists done → AreFiles sections h last (done ++ rest)
+files_next sections h done [] lists last is so =
+    subst (AreFiles sections h last) (sym (append-nil done)) (subst (λ (l : Lists). AreFiles sections h l done) (same_ok lists last is) so)
+files_next sections h done (g ∷ rest) lists last is so =
+    let t = took (file_added sections lists g) (all_added (file_added sections) rest) last is in
+    subst (AreFiles sections h last) (append_assoc done (g ∷ []) rest) (files_next sections h (done ++ g ∷ []) rest t.0 last t.2 (file_next sections h lists t.0 g done t.1 so))
+
+-- and those that a program defines
+pub files_defined : (sections : Sections) (h : Header) (first : Lists) (past : List Ins) (lists : Lists) → lists_at sections first past ≡ Ok lists
+    → AreFiles sections h first h.files → AreFiles sections h lists (defined_files h.files past)
+files_defined sections h first [] lists is so = subst (λ (l : Lists). AreFiles sections h l h.files) (same_ok first lists is) so
+files_defined sections h first (i ∷ past) lists is so =
+    let t = took (lists_at sections first past) (λ l. defined sections l i) lists is in
+    one i t.0 t.2 (files_defined sections h first past t.0 t.1 so)
+  where
+    one : (i : Ins) (before : Lists) → defined sections before i ≡ Ok lists → AreFiles sections h before (defined_files h.files past) → AreFiles sections h lists (defined_files h.files (i ∷ past))
+    one (DefineFile f) before at q = file_next sections h before lists f (defined_files h.files past) at q
+    one i before at q = subst (λ (l : Lists). AreFiles sections h l (defined_files h.files past)) (same_ok before lists at) q

@@ -1,0 +1,153 @@
+-- What the laws of conversions say.
+use Rattle.std.proofs.Common.{◌≡◌, ℕ, Bool, true, false, ◌&&◌, if◌then◌else◌, List, [], ◌∷◌, map, refl, sym, ap, subst, ◌∙◌}
+use Rattle.std.specs.Prelude.{nat_eq, slice_get, Option, Some, unwrap_or, option_map, Result, Ok, Err, MatchResult, All}
+use Rattle.std.proofs.lemmas.Option.{slice_get-map, slice_get_within, get_or_from_slice_get}
+use Rattle.gimli_core.specs.Notation.{Notation}
+use Rattle.gimli_core.specs.declared.error.Error.{Error}
+use Rattle.gimli_bytes.specs.declared.address.Address.{Address}
+use Rattle.gimli_bytes.specs.Texts.{KeepsTexts, with_text}
+use Rattle.gimli_bytes.proofs.TextLemmas.{with_text-KeepsTexts}
+use Rattle.gimli_line.specs.declared.run.row.LineRow.{LineRow as ReadRow}
+use Rattle.gimli_line.specs.header.Header.{Header}
+use Rattle.gimli_line.specs.run.Events.{Event, row, Events, program_events, defined_files, behind}
+use Rattle.gimli_line.specs.run.EventsWithFiles.{FilesAtEnd}
+use Rattle.gimli_line.specs.header.File.{File}
+use Rattle.gimli_line.specs.run.Instruction.{Ins}
+use Rattle.gimli_line.proofs.InstructionLaws.{one_decoding}
+use Rattle.gimli_build.specs.Built.{Built}
+use Rattle.gimli_build.specs.Conditions.{CanWrite}
+use Rattle.gimli_build.specs.Items.{AddressesFit}
+use Rattle.gimli_build.specs.LineText.{LineText, Inline, InStrings, InLineStrings, IsWithin, bytes_in}
+use Rattle.gimli_build.specs.SameRow.{RowsMatch}
+use Rattle.gimli_build.specs.Texts.{Sections, OneByOne}
+use Rattle.gimli_build.specs.Version5Tables.{needs_empty, first_form, sources, line_strings_behind}
+use Rattle.gimli_write.specs.RoundTrip.{FileAnswer, built_file}
+use Rattle.gimli_write.specs.declared.convert_error.ConvertError.{ConvertError}
+use Rattle.gimli_write.specs.convert.ConversionState.{IsConverted}
+use Rattle.gimli_write.specs.convert.Feeding.{Conversion, converted}
+use Rattle.gimli_write.specs.convert.Lists.{Lists}
+use Rattle.gimli_write.specs.convert.Mapped.{CanBeFaithful, IsMapped, IsReadAs, AreRowsMapped, HasPaths, AreFilesMapped, AreFilesReadAs}
+use Rattle.gimli_write.specs.convert.Offers.{Reading, Reads}
+use Rattle.gimli_write.specs.convert.Preparation.{Handed, prepared}
+use Rattle.gimli_write.proofs.ConvertSteps.{kept_self}
+use Rattle.gimli_write.proofs.MappedEnds.{can_write, files_same}
+use Rattle.gimli_write.proofs.MappedPrograms.{is_mapped, addresses_fit, rows_again}
+
+-- the parts of a conversion that was done
+record WasConverted (convert_address : ℕ → Option Address) (notation : Notation) (sections : Sections) (h : Header) (given : Handed) (line_strings : List (List ℕ)) (c : Conversion) : Type 0 where
+  reading : Reading
+  first : Lists
+  ready : prepared sections h given line_strings ≡ Ok first
+  reads : Reads notation sections h first h.program reading
+  is : converted convert_address reading first.program ≡ Ok c
+
+was_converted : (convert_address : ℕ → Option Address) (notation : Notation) (sections : Sections) (h : Header) (given : Handed) (line_strings : List (List ℕ)) (c : Conversion)
+    → IsConverted convert_address notation sections h given line_strings (Ok c) → WasConverted convert_address notation sections h given line_strings c
+was_converted convert_address notation sections h given line_strings c so = by (prepared sections h given line_strings) refl so.1
+  where
+    by : (r : Result Lists ConvertError) → prepared sections h given line_strings ≡ r
+        → MatchResult r (λ first. Reads notation sections h first h.program so.0 × (converted convert_address so.0 first.program ≡ Ok c)) (λ e. (let o : Result Conversion ConvertError = Ok c in o) ≡ Err e)
+        → WasConverted convert_address notation sections h given line_strings c
+    by (Ok first) ready m = record { reading = so.0; first = first; ready = ready; reads = m.0; is = m.1 }
+    by (Err e) ready m = absurd cc
+
+-- a program gives its events once
+events_once : (notation : Notation) (h : Header) (bytes : List ℕ) (a b : List Event) → Events notation h bytes a → Events notation h bytes b → a ≡ b
+events_once notation h bytes a b x y =
+    let same = one_decoding notation h bytes x.list x.end x.decoding ∙ sym (one_decoding notation h bytes y.list y.end y.decoding) in
+    x.given ∙ ap (λ (p : List Ins × Option Error). program_events h.parameters p.0 p.1) same ∙ sym y.given
+
+same_rows : (a b : List ReadRow) → map row a ≡ map row b → a ≡ b
+same_rows [] [] is = refl
+same_rows [] (y ∷ b) is = absurd cc
+same_rows (x ∷ a) [] is = absurd cc
+same_rows (x ∷ a) (y ∷ b) is =
+    let rest : map row a ≡ map row b = cc in
+    let both : a ≡ b = same_rows a b rest in
+    cc
+
+-- ---- tables that gained a text
+
+-- a text that is within a table has the same bytes in a longer one
+bytes_longer : (strings old new : List (List ℕ)) (t : LineText) → KeepsTexts old new → IsWithin strings old t → bytes_in strings new t ≡ bytes_in strings old t
+bytes_longer strings old new (Inline bytes) keeps within = refl
+bytes_longer strings old new (InStrings i) keeps within = refl
+bytes_longer strings old new (InLineStrings i) keeps within = ap (λ (o : Option (List ℕ)). unwrap_or o []) (keeps.text i within)
+
+keeps_behind : (p : Built) (line_strings : List (List ℕ)) → KeepsTexts line_strings (line_strings_behind p line_strings)
+keeps_behind p line_strings = by (needs_empty p && nat_eq (first_form (sources p.files)) 0x1f)
+  where
+    by : (b : Bool) → KeepsTexts line_strings (if b then with_text line_strings [] else line_strings)
+    by true = with_text-KeepsTexts line_strings []
+    by false = kept_self line_strings
+
+element : {A : Type 0} (P : A → Type 0) (xs : List A) (i : ℕ) (x : A) → All P xs → slice_get xs i ≡ Some x → P x
+element P xs i x all is = subst P (get_or_from_slice_get xs i x x is) (all i x (slice_get_within xs i x is))
+
+-- ---- the laws
+
+module _ (convert_address : ℕ → Option Address) (notation : Notation) (sections : Sections) (h : Header) (given : Handed) (line_strings : List (List ℕ)) (c : Conversion)
+    (so : IsConverted convert_address notation sections h given line_strings (Ok c)) where
+  pub conversion_written : (strings : List (List ℕ)) → CanWrite c.program strings c.line_strings
+  conversion_written =
+      let w = was_converted convert_address notation sections h given line_strings c so in
+      can_write notation sections h given line_strings w.first h.program w.reading convert_address c w.ready w.reads w.is
+
+  module _ (can : CanBeFaithful convert_address notation h given) where
+    pub conversion_mapped : (strings : List (List ℕ)) → IsMapped notation sections h h.program strings c
+    conversion_mapped =
+        let w = was_converted convert_address notation sections h given line_strings c so in
+        is_mapped notation sections h given line_strings w.first h.program w.reading convert_address c w.ready w.reads can.itself can.wide can.ends_seen w.is
+
+    pub conversion_fits : AddressesFit c.program.encoding.address_size 0 (0, 0) c.program.items
+    conversion_fits =
+        let w = was_converted convert_address notation sections h given line_strings c so in
+        addresses_fit notation sections h given line_strings w.first h.program w.reading convert_address c w.ready w.reads can.itself can.wide can.ends_seen w.is
+
+    pub conversion_back : (rows back : List ReadRow) → Events notation h h.program (map row rows)
+        → (AddressesFit c.program.encoding.address_size 0 (0, 0) c.program.items → RowsMatch c.program.encoding.version [] c.program.items back)
+        → OneByOne (IsReadAs h.parameters.encoding.version c.program.encoding.version c.file_ids) rows back
+    conversion_back rows back events built =
+        let mapped : AreRowsMapped notation h h.program c = (conversion_mapped []).rows in
+        let same : mapped.rows ≡ rows = same_rows mapped.rows rows (events_once notation h h.program (map row mapped.rows) (map row rows) mapped.events events) in
+        subst (λ (source : List ReadRow). OneByOne (IsReadAs h.parameters.encoding.version c.program.encoding.version c.file_ids) source back) same
+        (rows_again h.parameters.encoding.version c.program.encoding.version c.file_ids [] c.program.items mapped.rows back mapped.mapped (built conversion_fits))
+
+  pub files_back : (strings : List (List ℕ)) (files : List File) (answers : List FileAnswer) (directories : List (List ℕ)) → FilesAtEnd notation true h h.program files
+      → answers ≡ map (built_file c.program strings (line_strings_behind c.program c.line_strings)) c.program.files
+      → directories ≡ map (bytes_in strings (line_strings_behind c.program c.line_strings)) c.program.directories
+      → AreFilesReadAs sections h files c.file_ids directories answers
+  files_back strings files answers directories at_end answered directories_answered =
+      let w = was_converted convert_address notation sections h given line_strings c so in
+      let once = one_decoding notation h h.program w.reads.list w.reads.end w.reads.decoding ∙ sym (one_decoding notation h h.program at_end.list at_end.end at_end.decoding) in
+      let same : defined_files h.files (behind [] w.reads.list) ≡ files = ap (λ (p : List Ins × Option Error). defined_files h.files (behind [] p.0)) once ∙ sym at_end.given in
+      let mapped : AreFilesMapped sections h files strings c =
+      subst (λ (files : List File). AreFilesMapped sections h files strings c) same
+      (files_same notation sections h given line_strings w.first h.program w.reading convert_address c w.ready w.reads w.is strings) in
+      let can : CanWrite c.program strings c.line_strings = conversion_written strings in
+      let after = line_strings_behind c.program c.line_strings in
+      let keeps : KeepsTexts c.line_strings after = keeps_behind c.program c.line_strings in
+      record {
+        each = λ n f at.
+            let found = mapped.each n f at in
+            let m = found.2 in
+            let built = built_file c.program strings after in
+            let answer : FileAnswer = built m.built in
+            let path : bytes_in strings after m.built.0.0 ≡ bytes_in strings c.line_strings m.built.0.0 =
+            bytes_longer strings c.line_strings after m.built.0.0 keeps (element (λ f. IsWithin strings c.line_strings f.0.0) c.program.files found.0 m.built can.paths m.there) in
+            let directory : bytes_in strings after m.directory ≡ bytes_in strings c.line_strings m.directory =
+            bytes_longer strings c.line_strings after m.directory keeps (element (IsWithin strings c.line_strings) c.program.directories m.built.0.1 m.directory can.directories m.directory_there) in (
+              found.0,
+              found.1,
+              (
+                answer,
+                ap (λ (l : List FileAnswer). slice_get l found.0) answered ∙ slice_get-map built c.program.files found.0 ∙ ap (option_map built) m.there,
+                record {
+                  directory = bytes_in strings after m.directory;
+                  directory_there = ap (λ (l : List (List ℕ)). slice_get l m.built.0.1) directories_answered ∙ slice_get-map (bytes_in strings after) c.program.directories m.built.0.1 ∙ ap (option_map (bytes_in strings after)) m.directory_there;
+                  has = subst (λ (path : List ℕ). HasPaths sections h path (bytes_in strings after m.directory) f) (sym path)
+                      (subst (λ (d : List ℕ). HasPaths sections h (bytes_in strings c.line_strings m.built.0.0) d f) (sym directory) m.has);
+                },
+              ),
+            );
+      }

@@ -1,0 +1,175 @@
+-- The files of a conversion are those of its source.
+use Rattle.std.proofs.Common.{◌≡◌, ℕ, zero, suc, Bool, true, false, if◌then◌else◌, List, [], ◌∷◌, ◌++◌, refl, sym, ap, subst, ◌∙◌, arith}
+use Rattle.std.specs.Prelude.{nat_le, Option, Some, None, option_map, ok_or, slice_get, Result, Ok, IfSome}
+use Rattle.std.specs.List.{AllByRecursion}
+use Rattle.std.proofs.lemmas.Bool.{leb-true, le-leb, true≢false}
+use Rattle.gimli_core.specs.Values.{Value}
+use Rattle.gimli_core.specs.declared.error.Error.{Error}
+use Rattle.gimli_line.specs.header.File.{File}
+use Rattle.gimli_line.specs.header.Header.{Header, directory_of, from_one}
+use Rattle.gimli_build.specs.LineText.{LineText, bytes_in, made_text}
+use Rattle.gimli_build.specs.Tables.{File as BuiltFile}
+use Rattle.gimli_build.specs.Texts.{Sections, IsText, IsOptionalText, OneByOne}
+use Rattle.gimli_write.specs.declared.convert_error.ConvertError.TheVariants.{InvalidDirectoryIndex}
+use Rattle.gimli_write.specs.convert.Texts.{if_there, source_text, source_path}
+use Rattle.gimli_write.specs.convert.Lists.{Lists, version_of, FileParts}
+use Rattle.gimli_write.specs.convert.Feeding.{Conversion}
+use Rattle.gimli_write.specs.convert.Mapped.{IsFileId, IsDirectoryPath, HasPaths, IsLastWithPaths, IsMappedFile, AreFilesMapped}
+use Rattle.gimli_write.proofs.ReadTexts.{text_read, text_there}
+use Rattle.gimli_write.proofs.MappedLists.{took, same_ok}
+use Rattle.gimli_write.proofs.MappedTexts.{IsMade, made_bytes}
+use Rattle.gimli_write.proofs.MappedDirectories.{source_text_of, source_path_of, IsDirectoryId, directory_there, one_path, AreDirectories}
+use Rattle.gimli_write.proofs.MappedFiles.{HasOthers, HasParts, IsFileOf, AreFiles, one_by_one_map, one_by_one_at, one_by_one_back}
+
+-- ---- one text
+
+same_read : (a b : List ℕ) → (let r : Result (List ℕ) Error = Ok a in r) ≡ Ok b → a ≡ b
+same_read a b is = cc
+
+-- a value stands for one text
+one_text : (sections : Sections) (v : Value) (a b : List ℕ) → IsText sections v a → IsText sections v b → a ≡ b
+one_text sections v a b x y = same_read a b (sym (text_there sections v a x) ∙ text_there sections v b y)
+
+one_directory : (sections : Sections) (o : Option Value) (a b : List ℕ) → IsDirectoryPath sections o a → IsDirectoryPath sections o b → a ≡ b
+one_directory sections (Some v) a b x y = one_text sections v a b x y
+one_directory sections None a b x y = x ∙ sym y
+
+there_ok : (o : Option ℕ) (id : ℕ) → ok_or o InvalidDirectoryIndex ≡ Ok id → o ≡ Some id
+there_ok (Some n) id is = ap Some (same_ok n id is)
+there_ok None id is = absurd cc
+
+-- ---- the parts of a file
+
+-- what they are read of
+record AreRead (sections : Sections) (directory_ids : List ℕ) (parts : FileParts) (f : File) : Type 0 where
+  path : IsText sections f.path_name parts.path
+  directory : slice_get directory_ids f.directory_index ≡ Some parts.directory
+  source : if_there (source_text sections) f.source ≡ Ok parts.source
+
+are_read : (sections : Sections) (version : ℕ) (directory_ids : List ℕ) (parts : FileParts) (f : File) → HasParts sections version directory_ids parts f → AreRead sections directory_ids parts f
+are_read sections version directory_ids parts f is =
+    let a = took (source_path version sections f.path_name) _ parts is in
+    let b = took (ok_or (slice_get directory_ids f.directory_index) InvalidDirectoryIndex) _ parts a.2 in
+    let c = took (if_there (source_text sections) f.source) _ parts b.2 in
+    let same = same_ok (let p : FileParts = record { path = a.0; directory = b.0; source = c.0 } in p) parts c.2 in
+    subst (λ (p : FileParts). AreRead sections directory_ids p f) same (record {
+      path = text_read sections f.path_name a.0 (source_path_of version sections f.path_name a.0 a.1);
+      directory = there_ok (slice_get directory_ids f.directory_index) b.0 b.1;
+      source = c.1;
+    })
+
+-- a source that is known stands for the text of the source
+source_is_text : (sections : Sections) (version : ℕ) (strings line_strings : List (List ℕ)) (o : Option Value) (source : Option (List ℕ))
+    → if_there (source_text sections) o ≡ Ok source → IfSome source (IsMade version line_strings)
+    → IsOptionalText sections o (option_map (bytes_in strings line_strings) (option_map (made_text version line_strings) source))
+source_is_text sections version strings line_strings (Some v) (Some text) is made =
+    let t = took (source_text sections v) _ (Some text) is in
+    let same : t.0 ≡ text = cc in
+    subst (IsText sections v) (same ∙ sym (made_bytes version strings line_strings text made)) (text_read sections v t.0 (source_text_of sections v t.0 t.1))
+source_is_text sections version strings line_strings (Some v) None is made = let t = took (source_text sections v) _ None is in absurd cc
+source_is_text sections version strings line_strings None (Some text) is made = absurd cc
+source_is_text sections version strings line_strings None None is made = tt
+
+-- ---- a file that is mapped
+
+module _ (sections : Sections) (h : Header) (strings : List (List ℕ)) (lists : Lists) (directories : AreDirectories sections h lists) where
+  -- the paths of a file by its parts
+  paths_of : (parts : FileParts) (f : File) (directory : List ℕ) → HasParts sections (version_of lists) lists.directory_ids parts f
+      → IsDirectoryId (version_of lists) lists.line_strings lists.program.directories directory parts.directory → HasPaths sections h parts.path directory f
+  paths_of parts f directory is at =
+      let read = are_read sections (version_of lists) lists.directory_ids parts f is in
+      let own = directories.each f.directory_index parts.directory read.directory in
+      let same : own.0 ≡ directory = one_path (version_of lists) lists.line_strings lists.program.directories own.0 directory parts.directory own.2 at in
+      record { own = read.path; of_directory = subst (IsDirectoryPath sections (directory_of h f.directory_index)) same own.1 }
+
+  -- so a file with these paths has these parts
+  parts_of : (parts own : FileParts) (g : File) (directory : List ℕ) → HasParts sections (version_of lists) lists.directory_ids own g
+      → IsDirectoryId (version_of lists) lists.line_strings lists.program.directories directory parts.directory → HasPaths sections h parts.path directory g
+      → (own.path ≡ parts.path) × (own.directory ≡ parts.directory)
+  parts_of parts own g directory is at has =
+      let read = are_read sections (version_of lists) lists.directory_ids own g is in
+      let there = directories.each g.directory_index own.directory read.directory in
+      let same : there.0 ≡ directory = one_directory sections (directory_of h g.directory_index) there.0 directory there.1 has.of_directory in
+      let moved : IsDirectoryId (version_of lists) lists.line_strings lists.program.directories directory own.directory =
+      subst (λ (path : List ℕ). IsDirectoryId (version_of lists) lists.line_strings lists.program.directories path own.directory) same there.2 in
+      (one_text sections g.path_name own.path parts.path read.path has.own, moved.place ∙ sym at.place)
+
+  others_behind : (parts : FileParts) (directory : List ℕ) → IsDirectoryId (version_of lists) lists.line_strings lists.program.directories directory parts.directory
+      → (behind : List File) → AllByRecursion (HasOthers sections (version_of lists) lists.directory_ids parts) behind
+      → AllByRecursion (λ g. HasPaths sections h parts.path directory g → ⊥) behind
+  others_behind parts directory at [] all = tt
+  others_behind parts directory at (g ∷ behind) all =
+      (λ has. all.0.other (parts_of parts all.0.own g directory all.0.own_is at has), others_behind parts directory at behind all.1)
+
+  file_mapped : (source : List File) (c : Conversion) (f : File) (id : ℕ) → c.program.directories ≡ lists.program.directories → c.program.files ≡ lists.program.files → c.line_strings ≡ lists.line_strings
+      → IsFileOf sections (version_of lists) lists.line_strings lists.directory_ids lists.program.files source f id → IsMappedFile sections h source strings c f id
+  file_mapped source c f id directories_same files_same texts_same so =
+      let version = version_of lists in
+      let read = are_read sections version lists.directory_ids so.parts f so.parts_are in
+      let d = directories.each f.directory_index so.parts.directory read.directory in
+      let text = made_text version lists.line_strings so.parts.path in
+      let directory = made_text version lists.line_strings d.0 in
+      let path_bytes : so.parts.path ≡ bytes_in strings c.line_strings text = sym (ap (λ (t : List (List ℕ)). bytes_in strings t text) texts_same ∙ made_bytes version strings lists.line_strings so.parts.path so.made) in
+      let directory_bytes : d.0 ≡ bytes_in strings c.line_strings directory = sym (ap (λ (t : List (List ℕ)). bytes_in strings t directory) texts_same ∙ made_bytes version strings lists.line_strings d.0 d.2.made) in
+      let to = λ (P : List ℕ → List ℕ → Type 0) (p : P so.parts.path d.0). subst (λ (x : List ℕ). P x (bytes_in strings c.line_strings directory)) path_bytes (subst (P so.parts.path) directory_bytes p) in
+      let last_read = are_read sections version lists.directory_ids so.last_parts so.last so.last_are in
+      let at_last : IsDirectoryId version lists.line_strings lists.program.directories d.0 so.last_parts.directory =
+      subst (IsDirectoryId version lists.line_strings lists.program.directories d.0) (sym so.same.1) d.2 in
+      let last_has : HasPaths sections h so.parts.path d.0 so.last = subst (λ (path : List ℕ). HasPaths sections h path d.0 so.last) so.same.0 (paths_of so.last_parts so.last d.0 so.last_are at_last) in
+      let is_last : IsLastWithPaths sections h so.parts.path d.0 source so.last = record {
+        before = so.before;
+        behind = so.behind;
+        parts = so.split;
+        has = last_has;
+        none_behind = others_behind so.parts d.0 d.2 so.behind so.none_behind;
+      } in
+      record {
+        built = ((text, so.parts.directory), so.details);
+        there = ap (λ (files : List BuiltFile). slice_get files id) files_same ∙ so.entry;
+        directory = directory;
+        directory_there = ap (λ (ds : List LineText). slice_get ds so.parts.directory) directories_same ∙ directory_there version lists.line_strings lists.program.directories d.0 so.parts.directory d.2;
+        has = to (λ path directory. HasPaths sections h path directory f) (paths_of so.parts f d.0 so.parts_are d.2);
+        last = so.last;
+        is_last = to (λ path directory. IsLastWithPaths sections h path directory source so.last) is_last;
+        timestamp = so.known.timestamp;
+        size = so.known.size;
+        md5 = so.known.md5;
+        source = subst (λ (t : List (List ℕ)). IsOptionalText sections so.last.source (option_map (bytes_in strings t) so.details.source)) (sym texts_same)
+            (subst (λ (o : Option LineText). IsOptionalText sections so.last.source (option_map (bytes_in strings lists.line_strings) o)) (sym so.known.source_is)
+            (source_is_text sections version strings lists.line_strings so.last.source so.last_parts.source last_read.source so.known.source_made));
+      }
+
+-- ---- file numbers
+
+module _ (version : ℕ) (R : File → ℕ → Type 0) (files : List File) (ids file_ids : List ℕ) (all : OneByOne R files ids) where
+  -- each number has an id
+  each_number : (old : Bool) → nat_le version 4 ≡ old → file_ids ≡ (if old then 0 ∷ [] else []) ++ ids
+      → (n : ℕ) (f : File) → (if old then from_one None files n else slice_get files n) ≡ Some f → (id : ℕ) × IsFileId version file_ids n id × R f id
+  each_number true is ids_are zero f at = absurd cc
+  each_number true is ids_are (suc i) f at =
+      let found = one_by_one_at R files ids i f all at in
+      (found.0, record { from_one = λ old zero. absurd (omega arith); there = ap (λ (l : List ℕ). slice_get l (suc i)) ids_are ∙ found.1 }, found.2)
+  each_number false is ids_are n f at =
+      let found = one_by_one_at R files ids n f all at in
+      (found.0, record { from_one = λ old. absurd (true≢false (sym (le-leb version 4 old) ∙ is)); there = ap (λ (l : List ℕ). slice_get l n) ids_are ∙ found.1 }, found.2)
+
+  -- and no other
+  only_number : (old : Bool) → nat_le version 4 ≡ old → file_ids ≡ (if old then 0 ∷ [] else []) ++ ids
+      → (n id : ℕ) → IsFileId version file_ids n id → (f : File) × ((if old then from_one None files n else slice_get files n) ≡ Some f)
+  only_number true is ids_are zero id so = absurd (so.from_one (leb-true version 4 is) refl)
+  only_number true is ids_are (suc i) id so = one_by_one_back R files ids i id all (sym (ap (λ (l : List ℕ). slice_get l (suc i)) ids_are) ∙ so.there)
+  only_number false is ids_are n id so = one_by_one_back R files ids n id all (sym (ap (λ (l : List ℕ). slice_get l n) ids_are) ∙ so.there)
+
+-- ---- all files
+
+pub files_mapped : (sections : Sections) (h : Header) (strings : List (List ℕ)) (lists : Lists) (source : List File) (c : Conversion) → AreDirectories sections h lists → AreFiles sections h lists source
+    → c.program.directories ≡ lists.program.directories → c.program.files ≡ lists.program.files → c.file_ids ≡ lists.file_ids → c.line_strings ≡ lists.line_strings
+    → AreFilesMapped sections h source strings c
+files_mapped sections h strings lists source c directories so directories_same files_same ids_same texts_same =
+    let version = h.parameters.encoding.version in
+    let all = one_by_one_map (IsFileOf sections (version_of lists) lists.line_strings lists.directory_ids lists.program.files source) (IsMappedFile sections h source strings c)
+    (λ f id is. file_mapped sections h strings lists directories source c f id directories_same files_same texts_same is) source so.ids so.each in
+    record {
+      each = each_number version (IsMappedFile sections h source strings c) source so.ids c.file_ids all (nat_le version 4) refl (ids_same ∙ so.ids_are);
+      only = only_number version (IsMappedFile sections h source strings c) source so.ids c.file_ids all (nat_le version 4) refl (ids_same ∙ so.ids_are);
+    }

@@ -1,0 +1,5 @@
+use Rattle.gimli_write.proofs.FeedingLemmas.{can_build-tells}
+use Rattle.gimli_write.proofs.conversion_laws.conversions_ask_what_the_builder_asks.Goals as goal
+
+pub returns : goal.returns
+returns c = λ e place item. can_build-tells e place item

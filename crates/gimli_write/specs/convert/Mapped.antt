@@ -1,0 +1,162 @@
+-- What it means that a converted program says what its source says, and what is asked of the source for it.
+use Rattle.std.specs.Prelude.{◌≡◌, ◌≢◌, ℕ, ◌+◌, ◌≤◌, Bool, true, false, not, ◌&&◌, ◌||◌, if◌then◌else◌, List, [], ◌∷◌, ◌++◌, map, slice_get, Option, Some, None, option_map}
+use Rattle.std.specs.List.{AllByRecursion}
+use Rattle.gimli_core.specs.Notation.{Notation}
+use Rattle.gimli_core.specs.Values.{Value}
+use Rattle.gimli_core.specs.declared.error.Error.{Error}
+use Rattle.gimli_bytes.specs.declared.address.Address.{Address}
+use Rattle.gimli_bytes.specs.declared.address.Address.TheVariants.{Constant}
+use Rattle.gimli_line.specs.declared.run.row.LineRow.{LineRow as ReadRow}
+use Rattle.gimli_line.specs.header.File.{File}
+use Rattle.gimli_line.specs.header.Header.{Header, directory_of, entry_of}
+use Rattle.gimli_line.specs.header.Parameters.{Parameters}
+use Rattle.gimli_line.specs.run.Events.{Events, row}
+use Rattle.gimli_line.specs.run.EventsWithFiles.{FilesAtEnd}
+use Rattle.gimli_line.specs.run.Instruction.{Ins, is_end, makes_row}
+use Rattle.gimli_line.specs.run.InstructionGrammar.{Decodes}
+use Rattle.gimli_line.specs.run.OperationPointer.{is_hidden}
+use Rattle.gimli_build.specs.Built.{address_value}
+use Rattle.gimli_build.specs.FileNumber.{file_number}
+use Rattle.gimli_build.specs.LineText.{LineText, bytes_in}
+use Rattle.gimli_build.specs.SameRow.{read_row}
+use Rattle.gimli_build.specs.Tables.{File as BuiltFile}
+use Rattle.gimli_build.specs.Texts.{Sections, IsText, IsOptionalText}
+use Rattle.gimli_build.specs.declared.built.row.LineRow.{LineRow}
+use Rattle.gimli_build.specs.declared.built.items.BuiltItem.{BuiltItem}
+use Rattle.gimli_build.specs.declared.built.items.BuiltItem.TheVariants.{SetAddress, Row, End}
+use Rattle.gimli_write.specs.RoundTrip.{FileAnswer}
+use Rattle.gimli_write.specs.convert.Feeding.{Conversion}
+use Rattle.gimli_write.specs.convert.Preparation.{Handed, encoding_of}
+
+-- ---- what is asked
+
+-- each address is mapped to itself
+abbrev pub MapsToItself : (ℕ → Option Address) → Type 0
+MapsToItself convert_address = (a : ℕ) → convert_address a ≡ Some (Constant a)
+
+-- a place of the sequence that ends this past made a row that isn't hidden
+abbrev pub gave_row : Parameters → List Ins → Bool
+gave_row parameters [] = false
+gave_row parameters (i ∷ past) = if is_end i then false else ((makes_row i && not (is_hidden parameters past)) || gave_row parameters past)
+
+-- none of these instructions behind a past ends a sequence hidden that gave a row
+abbrev pub SeesEndsBehind : Parameters → List Ins → List Ins → Type 0
+SeesEndsBehind parameters past [] = Unit {0}
+SeesEndsBehind parameters past (i ∷ list) =
+    (is_end i ≡ true → is_hidden parameters past ≡ true → gave_row parameters past ≡ false) × SeesEndsBehind parameters (i ∷ past) list
+
+-- no sequence of a program that gave a row ends hidden
+pub record SeesEnds (notation : Notation) (h : Header) (bytes : List ℕ) : Type 0 where
+  pub list : List Ins
+  pub end : Option Error
+  pub decoding : Decodes notation h bytes list end
+  pub seen : SeesEndsBehind h.parameters [] list
+
+-- what is asked of a source and of what is handed, so that a conversion is faithful
+pub record CanBeFaithful (convert_address : ℕ → Option Address) (notation : Notation) (h : Header) (given : Handed) : Type 0 where
+  pub itself : MapsToItself convert_address
+  pub wide : h.parameters.encoding.address_size ≤ (encoding_of h given).address_size
+  pub ends_seen : SeesEnds notation h h.program
+
+-- ---- rows and ends
+
+-- the id of a file number, in a source of this version; up to version 4 none has number 0
+pub record IsFileId (version : ℕ) (file_ids : List ℕ) (number id : ℕ) : Type 0 where
+  pub from_one : version ≤ 4 → number ≢ 0
+  pub there : slice_get file_ids number ≡ Some id
+
+-- a row of the source says what a built one says, where the address `base` was set before it; the built one has the id
+-- of its file
+pub record IsMappedRow (version : ℕ) (file_ids : List ℕ) (base : ℕ) (built : LineRow) (source : ReadRow) : Type 0 where
+  pub file : IsFileId version file_ids source.file built.file
+  pub others : source ≡ record (read_row version base built) { file = source.file }
+
+-- an end of the source has the address of the built one
+pub record IsMappedEnd (base offset : ℕ) (source : ReadRow) : Type 0 where
+  pub address : source.address ≡ base + offset
+  pub ends : source.end_sequence ≡ true
+
+-- the rows of a source are the built rows and ends one by one, where the address `base` was set before them
+abbrev pub RowsMapped : ℕ → List ℕ → ℕ → List BuiltItem → List ReadRow → Type 0
+RowsMapped version file_ids base [] rows = rows ≡ []
+RowsMapped version file_ids base (SetAddress a ∷ items) rows = RowsMapped version file_ids (address_value a) items rows
+RowsMapped version file_ids base (Row built ∷ items) (source ∷ rows) = IsMappedRow version file_ids base built source × RowsMapped version file_ids base items rows
+RowsMapped version file_ids base (End offset op_index ∷ items) (source ∷ rows) = IsMappedEnd base offset source × RowsMapped version file_ids 0 items rows
+RowsMapped version file_ids base (item ∷ items) [] = ⊥
+
+-- the events of a source are rows, and these are the built rows and ends
+pub record AreRowsMapped (notation : Notation) (h : Header) (bytes : List ℕ) (c : Conversion) : Type 0 where
+  pub rows : List ReadRow
+  pub events : Events notation h bytes (map row rows)
+  pub mapped : RowsMapped h.parameters.encoding.version c.file_ids 0 c.program.items rows
+
+-- ---- files
+
+-- a directory of a source has this path; one that isn't there has the empty one
+abbrev pub IsDirectoryPath : Sections → Option Value → List ℕ → Type 0
+IsDirectoryPath sections (Some v) path = IsText sections v path
+IsDirectoryPath sections None path = path ≡ []
+
+-- a file of a source has this path, and its directory has this one
+pub record HasPaths (sections : Sections) (h : Header) (path directory : List ℕ) (f : File) : Type 0 where
+  pub own : IsText sections f.path_name path
+  pub of_directory : IsDirectoryPath sections (directory_of h f.directory_index) directory
+
+-- it is the last of these files that has these paths
+pub record IsLastWithPaths (sections : Sections) (h : Header) (path directory : List ℕ) (files : List File) (f : File) : Type 0 where
+  pub before : List File
+  pub behind : List File
+  pub parts : files ≡ before ++ f ∷ behind
+  pub has : HasPaths sections h path directory f
+  pub none_behind : AllByRecursion (λ g. HasPaths sections h path directory g → ⊥) behind
+
+-- the file with this id has the paths of a file of the source, and what is known of the last one that has them
+pub record IsMappedFile (sections : Sections) (h : Header) (files : List File) (strings : List (List ℕ)) (c : Conversion) (f : File) (id : ℕ) : Type 0 where
+  pub built : BuiltFile
+  pub there : slice_get c.program.files id ≡ Some built
+  pub directory : LineText
+  pub directory_there : slice_get c.program.directories built.0.1 ≡ Some directory
+  pub has : HasPaths sections h (bytes_in strings c.line_strings built.0.0) (bytes_in strings c.line_strings directory) f
+  pub last : File
+  pub is_last : IsLastWithPaths sections h (bytes_in strings c.line_strings built.0.0) (bytes_in strings c.line_strings directory) files last
+  pub timestamp : built.1.timestamp ≡ last.timestamp
+  pub size : built.1.size ≡ last.size
+  pub md5 : built.1.md5 ≡ last.md5
+  pub source : IsOptionalText sections last.source (option_map (bytes_in strings c.line_strings) built.1.source)
+
+-- each file number of the source has an id, whose file is the one that it stands for; no other number has one
+pub record AreFilesMapped (sections : Sections) (h : Header) (files : List File) (strings : List (List ℕ)) (c : Conversion) : Type 0 where
+  pub each : (n : ℕ) (f : File) → entry_of h.parameters.encoding.version None files n ≡ Some f
+      → (id : ℕ) × IsFileId h.parameters.encoding.version c.file_ids n id × IsMappedFile sections h files strings c f id
+  pub only : (n id : ℕ) → IsFileId h.parameters.encoding.version c.file_ids n id → (f : File) × (entry_of h.parameters.encoding.version None files n ≡ Some f)
+
+-- ---- all of it
+
+-- a converted program says what its source says: its rows and ends, and its files, those that the program defines too
+pub record IsMapped (notation : Notation) (sections : Sections) (h : Header) (bytes : List ℕ) (strings : List (List ℕ)) (c : Conversion) : Type 0 where
+  pub rows : AreRowsMapped notation h bytes c
+  pub source_files : List File
+  pub at_end : FilesAtEnd notation true h bytes source_files
+  pub files : AreFilesMapped sections h source_files strings c
+
+-- ---- what is read back
+
+-- a row that is read back of a conversion in this version says what a row of the source in its version says: an end has
+-- its address, and any other row all its registers, with the number that its file has now
+pub record IsReadAs (source_version version : ℕ) (file_ids : List ℕ) (source back : ReadRow) : Type 0 where
+  pub address : back.address ≡ source.address
+  pub ends : back.end_sequence ≡ source.end_sequence
+  pub registers : source.end_sequence ≡ false → back ≡ record source { file = back.file }
+  pub file : source.end_sequence ≡ false → (id : ℕ) × IsFileId source_version file_ids source.file id × (back.file ≡ file_number version id)
+
+-- a file that is read back, beside these directories, has the paths of a file of the source
+pub record IsFileReadAs (sections : Sections) (h : Header) (directories : List (List ℕ)) (f : File) (answer : FileAnswer) : Type 0 where
+  pub directory : List ℕ
+  pub directory_there : slice_get directories answer.directory_index ≡ Some directory
+  pub has : HasPaths sections h answer.path directory f
+
+-- each file number of the source has an id, and the file with this index that is read back is the one that it stands for
+pub record AreFilesReadAs (sections : Sections) (h : Header) (files : List File) (file_ids : List ℕ) (directories : List (List ℕ)) (answers : List FileAnswer) : Type 0 where
+  pub each : (n : ℕ) (f : File) → entry_of h.parameters.encoding.version None files n ≡ Some f
+      → (id : ℕ) × IsFileId h.parameters.encoding.version file_ids n id
+      × ((answer : FileAnswer) × (slice_get answers id ≡ Some answer) × IsFileReadAs sections h directories f answer)
