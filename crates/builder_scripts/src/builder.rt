@@ -1,5 +1,7 @@
 //! A builder: a program, its tables, and the calls of a script.
 
+ghost use Rattle.builder_scripts.specs.Within.{AreWithin};
+
 use crate::calls::{Call, Details, Registers, Start, Text};
 use crate::digest::{TableMark, digest_of};
 use crate::fault::Stop;
@@ -9,7 +11,7 @@ use crate::unit::{read_program, write_program};
 use gimli_core::{Encoding, LittleEndian, RunTimeEndian};
 use gimli_write::{
     ConvertResult, DebugLine, DebugLineStr, DebugStr, DirectoryId, EndianVec, Error, FileId,
-    FileInfo, LineProgram, LineString, LineStringTable, RoundTrip, StringTable, Writer,
+    FileInfo, LineProgram, LineString, RoundTrip, Writer,
 };
 use row_text::Attempts;
 use std::alloc::Global;
@@ -46,10 +48,26 @@ impl Builder {
             alloc,
             attempts,
             program: LineProgram::none(alloc),
-            tables: Tables {
-                strings: StringTable::default(alloc),
-                line_strings: LineStringTable::default(alloc),
-            },
+            tables: Tables::new(alloc),
+            directories: Vec::new(alloc),
+            before: 0,
+        }
+    }
+
+    /// A builder of a program that stands. Asks directories that are in these tables.
+    pub fn of_program(
+        alloc: Global,
+        attempts: Attempts,
+        program: LineProgram,
+        tables: Tables,
+    ) -> Builder
+        requires { AreWithin program.directories tables.strings tables.line_strings }
+    {
+        Builder {
+            alloc,
+            attempts,
+            program,
+            tables,
             directories: Vec::new(alloc),
             before: 0,
         }

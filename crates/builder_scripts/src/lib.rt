@@ -1,4 +1,5 @@
-//! Builder scripts: line programs that are built by the calls that a text names, and written.
+//! Builder scripts: line programs that are built by the calls that a text names, and written; and what is printed of a
+//! program that stands.
 #![tactic(auto)]
 
 mod array_section;
@@ -13,4 +14,7 @@ mod run;
 mod script;
 mod unit;
 
-pub use run::write;
+pub use fault::Fault;
+pub use parse::{parse_encoding, parse_line_encoding};
+pub use programs::Tables;
+pub use run::{print_program, write};

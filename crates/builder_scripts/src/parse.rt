@@ -54,7 +54,7 @@ pub(crate) fn parse_bytes_of(alloc: Global, words: &[&str]) -> Result<Vec<u8>, F
 }
 
 /// What the numbers of a unit are encoded by.
-pub(crate) fn parse_encoding(version: &str, format: &str, size: &str) -> Result<Encoding, Fault> {
+pub fn parse_encoding(version: &str, format: &str, size: &str) -> Result<Encoding, Fault> {
     Ok(Encoding {
         address_size: small_number(size)?,
         format: parse_format(format)?,
@@ -177,7 +177,7 @@ fn parse_start(alloc: Global, words: &[&str]) -> Result<Start, Fault> {
 }
 
 /// What rows are encoded by.
-fn parse_line_encoding(
+pub fn parse_line_encoding(
     length: &str,
     operations: &str,
     is_stmt: &str,

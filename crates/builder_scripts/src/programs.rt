@@ -1,6 +1,6 @@
 //! Programs and texts, by calls whose conditions are tested first.
 
-ghost use Rattle.std.specs.Prelude.{◌≡◌, ◌≢◌, ◌<◌, ◌≤◌, length, false, IsTrue, IfOk, IfSome, All};
+ghost use Rattle.std.specs.Prelude.{◌≡◌, ◌≢◌, ◌<◌, ◌≤◌, [], length, false, IsTrue, IfOk, IfSome, All};
 ghost use Rattle.gimli_write.specs.LineText.{line_text, HasNoZero, IsNotEmpty, IsWithin};
 ghost use Rattle.builder_scripts.specs.Within.{AreWithin, AreIds};
 
@@ -14,9 +14,24 @@ use std::alloc::Global;
 
 /// The tables of texts.
 #[derive(Debug, Drop)]
-pub(crate) struct Tables {
+pub struct Tables {
+    /// The texts of the section `.debug_str`.
     pub strings: StringTable,
+    /// The texts of the section `.debug_line_str`.
     pub line_strings: LineStringTable,
+}
+
+impl Tables {
+    /// Tables without a text.
+    pub fn new(alloc: Global) -> Tables
+        ensures strings { result.strings ≡ [] }
+        ensures line_strings { result.line_strings ≡ [] }
+    {
+        Tables {
+            strings: StringTable::default(alloc),
+            line_strings: LineStringTable::default(alloc),
+        }
+    }
 }
 
 /// The names of a new program.
@@ -361,10 +376,7 @@ fn scratch_program(alloc: Global) -> Result<LineProgram, Stop> {
         format: Format::Dwarf32,
         version: 4,
     };
-    let tables = Tables {
-        strings: StringTable::default(alloc),
-        line_strings: LineStringTable::default(alloc),
-    };
+    let tables = Tables::new(alloc);
     let names = Names {
         working_dir: LineString::String(b"w".to_vec(alloc)?),
         source_dir: None,

@@ -1,14 +1,18 @@
 //! The command `write`.
 
+ghost use Rattle.builder_scripts.specs.Within.{AreWithin};
+
 use crate::array_section::ArraySection;
 use crate::builder::Builder;
 use crate::calls::{PieceSize, Target};
 use crate::fault::{Fault, Stop};
 use crate::output::{print_answer, print_refusal, print_section, print_table};
+use crate::programs::Tables;
 use crate::script::{Line, Script, parse_scripts};
 use gimli_core::{Encoding, RunTimeEndian};
 use gimli_write::{
-    ConvertError, ConvertResult, DebugLine, EndianVec, Error, PieceVec, RoundTrip, Writer,
+    ConvertError, ConvertResult, DebugLine, EndianVec, Error, LineProgram, PieceVec, RoundTrip,
+    Writer,
 };
 use row_text::Attempts;
 use std::alloc::{AllocError, Global};
@@ -59,6 +63,24 @@ pub fn write(
     let status = run_all(alloc, attempts, scripts.as_slice(), &mut text)?;
     out.extend_from_slice(text.as_bytes())?;
     Ok(status)
+}
+
+/// Prints what is written of a program in an order of bytes, the tables that aren't empty, and what is read back, as a
+/// script does. Asks directories that are in these tables.
+pub fn print_program(
+    alloc: Global,
+    program: LineProgram,
+    tables: Tables,
+    order: RunTimeEndian,
+    attempts: Attempts,
+    text: &mut String,
+) -> Result<(), AllocError>
+    requires { AreWithin program.directories tables.strings tables.line_strings }
+{
+    let mut builder = Builder::of_program(alloc, attempts, program, tables);
+    let script = Script::to_read_back(alloc, order);
+    write_script(alloc, &mut builder, attempts, &script, text)?;
+    Ok(())
 }
 
 /// Runs scripts one after the other, with a line between.

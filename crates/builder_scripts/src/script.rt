@@ -50,6 +50,15 @@ impl Script {
         }
     }
 
+    /// A script without a call, whose program is written into a vector in this order, and read back.
+    pub fn to_read_back(alloc: Global, order: RunTimeEndian) -> Script {
+        Script {
+            order,
+            reads_back: true,
+            ..Script::new(alloc)
+        }
+    }
+
     /// Takes the words of a line.
     fn take(&mut self, alloc: Global, number: u64, words: &[&str]) -> Result<(), Fault> {
         match words {

@@ -80,10 +80,13 @@ fn printed(outcome: io::Result<()>) -> Result<u8, AllocError>
 
 /// A unit of a section, with what is handed in with it.
 #[derive(Clone, Copy)]
-struct Unit<'i> {
-    section: &'i [u8],
-    place: Place,
-    handed: &'i Handed,
+pub struct Unit<'i> {
+    /// The bytes of the section.
+    pub section: &'i [u8],
+    /// Where the unit stands.
+    pub place: Place,
+    /// What is handed in.
+    pub handed: &'i Handed,
 }
 
 impl<'i> Unit<'i> {
@@ -109,7 +112,7 @@ impl<'i> Unit<'i> {
     }
 
     /// The program of the unit. Where memory was refused it is made once more, if that is asked for.
-    fn program(
+    pub fn program(
         self,
         alloc: Global,
         attempts: Attempts,
@@ -133,7 +136,7 @@ impl<'i> Unit<'i> {
     }
 
     /// A reader over a text that is handed in.
-    fn reader(self, text: &'i Option<Vec<u8>>) -> Option<Slice<'i>> {
+    pub fn reader(self, text: &'i Option<Vec<u8>>) -> Option<Slice<'i>> {
         match text {
             Some(text) => Some(EndianSlice::new(text, self.place.order)),
             None => None,

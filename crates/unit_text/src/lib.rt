@@ -39,4 +39,6 @@ mod instruction_text;
 mod request;
 mod value_text;
 
-pub use command::{header, instructions};
+pub use command::{Unit, header, instructions};
+pub use request::{AddressSize, Handed, Place, Word};
+pub use value_text::{Refusal, Slice};

@@ -38,7 +38,7 @@ pub struct Handed {
 
 /// A word that may stand for a text.
 #[derive(Drop)]
-enum Word {
+pub enum Word {
     /// No text.
     Nothing,
     /// A text.
@@ -122,7 +122,7 @@ impl Handed {
 
 impl Word {
     /// The text that a word stands for.
-    fn parse(alloc: Global, word: &str) -> Result<Word, AllocError> {
+    pub fn parse(alloc: Global, word: &str) -> Result<Word, AllocError> {
         if word == "-" {
             return Ok(Word::Nothing);
         }

@@ -7,6 +7,12 @@
 //! | `write` | reads builder scripts from standard input, and prints what each gives |
 //! | `header FILE little\|big SIZE OFFSET DIR NAME` | prints a header |
 //! | `instructions FILE little\|big SIZE OFFSET` | prints the instructions of a unit |
+//! | `convert FILE little\|big SIZE OFFSET DIR NAME COMP TARGET [STR [LINE_STR]]` | prints a conversion, as it is read and as it is built |
+//! | `convert_sequences`, the same words | prints a conversion as it is read, sequence by sequence |
+//!
+//! DIR and NAME are handed to the reader, COMP is the name of the unit: texts, or `-` for none. TARGET is `-`,
+//! `VERSION,32\|64,SIZE`, or that with `,MININST,MAXOPS,STMT,LINEBASE,LINERANGE`. STR and LINE_STR are files with the two
+//! sections of texts; in a row they are parts, as `@NAME`.
 //!
 //! Other words, a bad script and a file that isn't one of rows: status 2, with a line on standard error.
 //!
@@ -21,20 +27,22 @@
 //! 0000000000001000 0 1 1 0 0 0 s
 //! ```
 //!
-//! The commands are `write`, `read` and `bytes`, which take a script, `header`, `instructions`, and those of
-//! `linetool`. A line `:= NAME BYTES` defines a part, for which `@NAME` then stands; `unit(..)` puts a unit length
+//! The commands are `write`, `read` and `bytes`, which take a script, `header`, `instructions`, `convert`,
+//! `convert_sequences`, and those of `linetool`. A line `:= NAME BYTES` defines a part, for which `@NAME` then stands; `unit(..)` puts a unit length
 //! before its bytes, and `N*HH` is N times a byte. Blanks at the end of a line, and blank lines at the end of the
 //! output, don't count.
 #![tactic(auto)]
 
 mod again;
 mod check;
+mod files;
 mod output;
 mod parts;
 mod rows;
 mod run;
 
 use check::check_rows;
+use files::{SectionFiles, split_words};
 use row_text::Attempts;
 use rows::{Fault, parse_rows};
 use std::io::{BufWriter, ErrorKind, Write};
@@ -87,26 +95,43 @@ fn start(rt: &HostRuntime) -> io::Result<u8> {
             Ok(if status == NOT_AS_STATED { 0 } else { status })
         }
         ["write"] => print_scripts(rt),
-        ["header", file, rest @ ..] => {
-            let section = fs::read(rt, *file)?;
-            let mut out = Vec::new(rt.alloc());
-            let status = unit_text::header(rt.alloc(), rest, &section, Attempts::One, &mut out)?;
-            print_all(rt, &out, status)
-        }
-        ["instructions", file, rest @ ..] => {
-            let section = fs::read(rt, *file)?;
-            let mut out = Vec::new(rt.alloc());
-            let status = unit_text::instructions(
-                rt.alloc(),
-                rest,
-                &section,
-                Attempts::One,
-                &mut out,
-            )?;
-            print_all(rt, &out, status)
-        }
+        [command, file, rest @ ..] => print_unit(rt, command, file, rest),
         _ => Ok(tell(rt, "no such words", MALFORMED)),
     }
+}
+
+/// Prints what a command gives of a unit of a file.
+fn print_unit(rt: &HostRuntime, command: &str, file: &str, words: &[&str]) -> io::Result<u8> {
+    let alloc = rt.alloc();
+    let mut out = Vec::new(alloc);
+    let status = match command {
+        "header" => {
+            let section = fs::read(rt, file)?;
+            unit_text::header(alloc, words, &section, Attempts::One, &mut out)?
+        }
+        "instructions" => {
+            let section = fs::read(rt, file)?;
+            unit_text::instructions(alloc, words, &section, Attempts::One, &mut out)?
+        }
+        "convert" => {
+            let (words, texts) = split_words(words);
+            let files = SectionFiles::read(rt, file, texts)?;
+            conversion_text::convert(alloc, words, files.sections(), Attempts::One, &mut out)?
+        }
+        "convert_sequences" => {
+            let (words, texts) = split_words(words);
+            let files = SectionFiles::read(rt, file, texts)?;
+            conversion_text::convert_sequences(
+                alloc,
+                words,
+                files.sections(),
+                Attempts::One,
+                &mut out,
+            )?
+        }
+        _ => return Ok(tell(rt, "no such words", MALFORMED)),
+    };
+    print_all(rt, &out, status)
 }
 
 /// Runs the rows of files, prints how many of each are as stated, and answers the status of the program.

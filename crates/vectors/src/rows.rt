@@ -21,8 +21,8 @@ pub struct Row<'t> {
 pub enum Input {
     /// The text of a script.
     Script(String),
-    /// The bytes of a section.
-    Section(Vec<u8>),
+    /// The bytes of a section, and those of the parts that the words of the command name.
+    Section(Vec<u8>, Vec<Vec<u8>>),
 }
 
 /// Why a file of rows can't be read.
@@ -179,9 +179,11 @@ impl<'t> RowsReader<'t> {
             Input::Script(std::mem::replace(&mut draft.text, text))
         } else {
             let order = order_of(words);
-            match self.parts.expand(self.alloc, &draft.text, order)? {
-                Some(section) => Input::Section(section),
-                None => return Ok(false),
+            let section = self.parts.expand(self.alloc, &draft.text, order)?;
+            let named = named_parts(self.alloc, &self.parts, words, order)?;
+            match (section, named) {
+                (Some(section), Some(named)) => Input::Section(section, named),
+                _ => return Ok(false),
             }
         };
         draft.input = Some(input);
@@ -206,6 +208,25 @@ impl<'t> RowsReader<'t> {
         })?;
         Ok(true)
     }
+}
+
+/// The bytes of the parts that the words of a command name; None where there is no such part.
+fn named_parts(
+    alloc: Global,
+    parts: &Parts<'_>,
+    words: &str,
+    order: Order,
+) -> Result<Option<Vec<Vec<u8>>>, AllocError> {
+    let mut named = Vec::new(alloc);
+    for word in words.split_whitespace() {
+        if word.starts_with('@') {
+            match parts.expand(alloc, word, order)? {
+                Some(bytes) => named.push(bytes)?,
+                None => return Ok(None),
+            }
+        }
+    }
+    Ok(Some(named))
 }
 
 /// Adds a line to a text.

@@ -3,6 +3,7 @@
 use crate::again::watch_rows;
 use crate::output::print_line;
 use crate::rows::{Input, Row};
+use conversion_text::Sections;
 use line_commands::Command;
 use row_text::Attempts;
 use std::alloc::{AllocError, Global};
@@ -14,7 +15,10 @@ pub fn run_row(alloc: Global, row: &Row<'_>, attempts: Attempts) -> Result<Vec<u
     let mut out = Vec::new(alloc);
     let status = match &row.input {
         Input::Script(script) => run_script(alloc, &words, script, attempts, &mut out)?,
-        Input::Section(section) => run_over(alloc, &words, section, attempts, &mut out)?,
+        Input::Section(section, named) => match sections_of(section, named) {
+            Some(sections) => run_over(alloc, &words, sections, attempts, &mut out)?,
+            None => 2,
+        },
     };
     if status != 0 {
         print_line(&mut out, format_args!("status {status}"))?;
@@ -39,15 +43,39 @@ fn run_script(
     }
 }
 
-/// Runs a command over a section, and answers its status.
+/// The sections of a row: that of lines, and behind it those of texts, as far as they are named. None where more are.
+fn sections_of<'r>(lines: &'r [u8], named: &'r [Vec<u8>]) -> Option<Sections<'r>> {
+    let (strings, line_strings) = match named {
+        [] => ([].as_slice(), [].as_slice()),
+        [strings] => (strings.as_slice(), [].as_slice()),
+        [strings, line_strings] => (strings.as_slice(), line_strings.as_slice()),
+        _ => return None,
+    };
+    Some(Sections {
+        lines,
+        strings,
+        line_strings,
+    })
+}
+
+/// Runs a command over sections, and answers its status.
 fn run_over(
     alloc: Global,
     words: &[&str],
-    section: &[u8],
+    sections: Sections<'_>,
     attempts: Attempts,
     out: &mut Vec<u8>,
 ) -> Result<u8, AllocError> {
+    let section = sections.lines;
     match words {
+        ["convert", rest @ ..] => {
+            let rest = without_parts(alloc, rest)?;
+            conversion_text::convert(alloc, &rest, sections, attempts, out)
+        }
+        ["convert_sequences", rest @ ..] => {
+            let rest = without_parts(alloc, rest)?;
+            conversion_text::convert_sequences(alloc, &rest, sections, attempts, out)
+        }
         ["header", rest @ ..] => unit_text::header(alloc, rest, section, attempts, out),
         ["instructions", rest @ ..] => {
             unit_text::instructions(alloc, rest, section, attempts, out)
@@ -61,6 +89,17 @@ fn run_over(
             run_linetool(alloc, &all, section, attempts, out)
         }
     }
+}
+
+/// The words that name no part.
+fn without_parts<'w>(alloc: Global, words: &[&'w str]) -> Result<Vec<&'w str>, AllocError> {
+    let mut others = Vec::new(alloc);
+    for word in words {
+        if !word.starts_with('@') {
+            others.push(*word)?;
+        }
+    }
+    Ok(others)
 }
 
 /// Runs a command of `linetool`, a second time from the start where memory is refused it and attempts are two, and
