@@ -296,6 +296,7 @@ impl<R: Reader> LineInstructions<R> {
     /// Executes the next instruction on the registers, from its bytes, where it is one of those that are met most,
     /// and says whether it makes a row. None, and nothing is changed, where it is another one or isn't there as a
     /// whole. Refused by `AddressOverflow` as it is executed.
+    #[inline(always)]
     pub(crate) fn execute_common(
         &mut self,
         header: &LineProgramHeader<R>,

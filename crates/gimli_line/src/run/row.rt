@@ -277,6 +277,7 @@ impl LineRow {
 
     /// Executes one of the standard opcodes that are met most, from the bytes behind it, and says whether it makes a
     /// row. None at another opcode, or where its operand isn't short; no register changes then.
+    #[inline(always)]
     pub(crate) fn exec_common_opcode<R: Reader>(
         &mut self,
         opcode: DwLns,
@@ -416,6 +417,7 @@ impl LineRow {
     }
 
     /// Moves the line, the address and op_index at once.
+    #[inline(always)]
     pub(crate) fn exec_special_opcode(&mut self, opcode: u8, parameters: &Parameters) -> Result<()>
         requires { parameters.now.opcode_base ≤ opcode }
         ensures some { 0 < opcode }

@@ -136,6 +136,7 @@ impl<R: Reader, P: LineProgram<R>> LineRows<R, P> {
     }
 
     /// Executes instructions up to the next row that isn't hidden, and says whether there is one.
+    #[inline(always)]
     pub(crate) fn advance(&mut self) -> Result<bool>
         ensures row { IfOk result (λ found. MatchBool found
             (RowIs self.old self.new self.new.row self.new.files)
@@ -161,6 +162,7 @@ impl<R: Reader, P: LineProgram<R>> LineRows<R, P> {
     }
 
     /// Executes one instruction: one of those that are met most from its bytes, any other as it is parsed.
+    #[inline(always)]
     fn step(&mut self) -> Result<Step>
         ensures ok { IfOk result (StepIs self.old self.new) }
         ensures err { IfErr result (FaultIs self.old self.new) }
@@ -185,8 +187,7 @@ impl<R: Reader, P: LineProgram<R>> LineRows<R, P> {
         Ok(Step::More)
     }
 
-    /// Executes one instruction of any kind. Few are left to it, and so it stays out of line.
-    #[inline(never)]
+    /// Executes one instruction of any kind.
     fn step_any(&mut self) -> Result<Step>
         ensures ok { IfOk result (StepIs self.old self.new) }
         ensures err { IfErr result (FaultIs self.old self.new) }
