@@ -59,6 +59,17 @@ impl<E: Endianity> EndianVec<E> {
         std::mem::replace(&mut self.vec, Vec::new(alloc))
     }
 
+    /// Appends bytes. It stands apart, so that what appends one byte stays small.
+    #[inline(never)]
+    fn append(&mut self, bytes: &[u8]) -> Result<()>
+        ensures ok { OnOk result (self.new ≡ record self.old { bytes = self.old.bytes ++ bytes.now }) }
+        ensures err { OnErr result (self.new ≡ self.old) }
+        ensures memory { IfErr result (λ e. e ≡ Error.OutOfMemory) }
+    {
+        self.vec.extend_from_slice(bytes)?;
+        Ok(())
+    }
+
     /// A copy, which is equal to the section. Refused for want of memory alone.
     pub fn clone(&self) -> Result<EndianVec<E>>
         ensures { IfOk result (λ copy. copy ≡ self.now) }
@@ -98,10 +109,12 @@ impl<E: Endianity> Writer for EndianVec<E> {
         ensures memory { IfErr result (λ e. e ≡ Error.OutOfMemory) }
     {
         match bytes {
-            [byte] => self.vec.push(*byte)?,
-            _ => self.vec.extend_from_slice(bytes)?,
+            [byte] => {
+                self.vec.push(*byte)?;
+                Ok(())
+            }
+            _ => self.append(bytes),
         }
-        Ok(())
     }
 
     fn write_at(&mut self, offset: usize, bytes: &[u8]) -> Result<()> {
