@@ -1,3 +1,4 @@
 pub mod Places
+pub mod Arrays
 pub mod Runs
 pub mod Units

@@ -25,19 +25,7 @@ use Rattle.gimli_c.specs.Place.{Place, notation_at, HasUnit}
 use Rattle.gimli_c.specs.Run.{rows_of, fault_of, Copied, HasEvents}
 use Rattle.gimli_c.specs.Seen.{row_seen}
 use Rattle.gimli_c.specs.Written.{written}
-
--- ---- an array of the caller
-
-written_none : {A : Type 0} (old : List A) → written [] old ≡ old
-written_none [] = refl
-written_none (o ∷ old) = refl
-
--- one more, behind those that stand there
-written_more : {A : Type 0} (xs : List A) (x : A) (old : List A) → written (xs ++ x ∷ []) old ≡ set (written xs old) (length xs) x
-written_more [] x [] = refl
-written_more [] x (o ∷ old) = ap (λ (ys : List _). x ∷ ys) (written_none old)
-written_more (y ∷ ys) x [] = refl
-written_more (y ∷ ys) x (o ∷ old) = ap (λ (zs : List _). y ∷ zs) (written_more ys x old)
+use Rattle.gimli_c.proofs.Arrays.{written_none, written_more}
 
 -- ---- rows before a fault
 
