@@ -11,7 +11,7 @@ use std::alloc::Global;
 use std::marker::Model;
 
 /// The sections that hold texts.
-#[derive(Drop)]
+#[derive(Debug, Drop)]
 pub(crate) struct TextSections<R: Reader> {
     /// The section `.debug_str`.
     pub(crate) strings: R,

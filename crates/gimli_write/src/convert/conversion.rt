@@ -20,6 +20,7 @@ use std::marker::Model;
 
 /// A source, as far as it was read, and the program that is built of it.
 #[derive(Drop)]
+#[derive_where(Debug; R, R::Offset)]
 pub struct Conversion<R: Reader> {
     sections: TextSections<R>,
     source: SourceRun<R>,

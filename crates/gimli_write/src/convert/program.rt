@@ -33,7 +33,7 @@ use std::marker::PhantomData;
 ///
 /// It holds the tables of strings until it is dropped. What owns memory stands at the last type parameter, which is
 /// never written.
-#[derive(Drop)]
+#[derive(Debug, Drop)]
 pub struct ConvertLineProgram<'a, 'b, R: Reader, P = Conversion<R>> {
     line_strings: &'a mut LineStringTable,
     strings: &'b mut StringTable,

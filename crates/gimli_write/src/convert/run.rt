@@ -102,6 +102,7 @@ fn hidden_behind_row(hidden: bool, ends: bool) -> bool
 
 /// A source, as far as it was read.
 #[derive(Drop)]
+#[derive_where(Debug; R, R::Offset)]
 pub(crate) struct SourceRun<R: Reader> {
     program: IncompleteLineProgram<R>,
     /// The registers, ready for the next instruction.
