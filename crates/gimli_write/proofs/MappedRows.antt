@@ -8,7 +8,7 @@ use Rattle.gimli_core.specs.declared.error.Error.TheVariants.{AddressOverflow}
 use Rattle.gimli_bytes.specs.declared.address.Address.{Address}
 use Rattle.gimli_bytes.specs.declared.address.Address.TheVariants.{Constant}
 use Rattle.gimli_line.specs.declared.run.row.LineRow.{LineRow as ReadRow}
-use Rattle.gimli_line.specs.declared.run.instruction.LineInstruction.TheVariants.{EndSequence, DefineFile}
+use Rattle.gimli_line.specs.declared.run.instruction.LineInstruction.TheVariants.{DefineFile}
 use Rattle.gimli_line.specs.header.Parameters.{Parameters}
 use Rattle.gimli_line.specs.run.Events.{Event, row, fault, row_at, events_at, events_behind, end_events}
 use Rattle.gimli_line.specs.run.Instruction.{Ins, is_end, makes_row}
@@ -24,7 +24,7 @@ use Rattle.gimli_write.specs.declared.convert_error.ConvertError.TheVariants.{Re
 use Rattle.gimli_write.specs.declared.convert.offer.ConvertLineRow.TheVariants as offer
 use Rattle.gimli_write.specs.convert.Texts.{◌>>=◌}
 use Rattle.gimli_write.specs.convert.Lists.{Lists, FileParts, file_parts, with_parts, version_of}
-use Rattle.gimli_write.specs.convert.Offers.{Reading, ends, stops, offers, base_at, pending, source_row, file_id, row_in, built_row, address_offered, row_offered, place_offered, offered, reading_at, end_reading, upon, defined, lists_at, reading_behind}
+use Rattle.gimli_write.specs.convert.Offers.{Reading, stops, offers, base_at, pending, source_row, file_id, row_in, built_row, address_offered, row_offered, place_offered, offered, reading_at, end_reading, upon, defined, lists_at, reading_behind}
 use Rattle.gimli_write.specs.convert.Feeding.{Conversion, converted, with_tables, can_build, behind_address, behind_row, behind_end}
 use Rattle.gimli_write.specs.convert.Mapped.{MapsToItself, gave_row, SeesEndsBehind, IsFileId, RowsMapped}
 use Rattle.gimli_write.proofs.MappedAddresses.{address_within, base_below, base_below_row, pending_is_base, Follows, follows_end, follows_row, follows_quiet}

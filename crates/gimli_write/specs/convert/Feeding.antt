@@ -86,6 +86,6 @@ converted convert_address (offers item lists rest) p = fed convert_address item 
 -- ---- how contracts start it
 
 -- a program as it was made, with nothing built in it: so the lists of a reading have it, since what is read doesn't
--- hang on what is built
+-- depend on what is built
 abbrev pub without_items : Built → Built
 without_items p = record p { items = []; row = initial_row p.encoding.version p.line_encoding.default_is_stmt; in_sequence = false }
