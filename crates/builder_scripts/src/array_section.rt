@@ -9,7 +9,7 @@ use std::alloc::{AllocError, Global};
 
 /// A section in an array, which takes no memory: what passes its end is `LengthOutOfBounds`. That it keeps the bytes
 /// given to it isn't claimed.
-#[derive(Debug, Drop)]
+#[derive(Drop)]
 pub(crate) struct ArraySection {
     bytes: Vec<u8>,
     len: usize,

@@ -18,7 +18,7 @@ use std::alloc::Global;
 use std::marker::Model;
 
 /// A program that is built, and the tables that it is built with.
-#[derive(Debug, Drop)]
+#[derive(Drop)]
 pub(crate) struct Builder {
     alloc: Global,
     attempts: Attempts,

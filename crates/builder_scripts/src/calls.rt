@@ -4,7 +4,7 @@ use gimli_core::{Encoding, LineEncoding};
 use gimli_write::Address;
 
 /// What a program is written into.
-#[derive(Clone, Copy, Debug, PartialEq, Eq)]
+#[derive(Clone, Copy)]
 pub(crate) enum Target {
     /// A vector.
     Vector,
@@ -15,7 +15,7 @@ pub(crate) enum Target {
 }
 
 /// How many bytes a piece has.
-#[derive(Clone, Copy, Debug, PartialEq, Eq)]
+#[derive(Clone, Copy)]
 pub(crate) enum PieceSize {
     One,
     Four,
@@ -23,7 +23,7 @@ pub(crate) enum PieceSize {
 }
 
 /// Where a text is put.
-#[derive(Clone, Copy, Debug, PartialEq, Eq)]
+#[derive(Clone, Copy)]
 pub(crate) enum Form {
     /// Where `LineString::new` puts it.
     Usual,
@@ -36,14 +36,14 @@ pub(crate) enum Form {
 }
 
 /// A text, and where it is put.
-#[derive(Debug, Drop)]
+#[derive(Drop)]
 pub(crate) struct Text {
     pub form: Form,
     pub bytes: Vec<u8>,
 }
 
 /// What is known of a file.
-#[derive(Debug, Drop)]
+#[derive(Drop)]
 pub(crate) struct Details {
     pub timestamp: u64,
     pub size: u64,
@@ -52,7 +52,7 @@ pub(crate) struct Details {
 }
 
 /// What a program begins with.
-#[derive(Debug, Drop)]
+#[derive(Drop)]
 pub(crate) struct Start {
     pub encoding: Encoding,
     pub line_encoding: LineEncoding,
@@ -63,7 +63,7 @@ pub(crate) struct Start {
 }
 
 /// What is written of each file.
-#[derive(Clone, Copy, Debug)]
+#[derive(Clone, Copy)]
 pub(crate) struct Flags {
     pub timestamp: bool,
     pub size: bool,
@@ -72,7 +72,7 @@ pub(crate) struct Flags {
 }
 
 /// A row, with its file as a number from 0 on.
-#[derive(Clone, Copy, Debug)]
+#[derive(Clone, Copy)]
 pub(crate) struct Registers {
     pub address_offset: u64,
     pub op_index: u64,
@@ -88,7 +88,7 @@ pub(crate) struct Registers {
 }
 
 /// A call of a builder or of a table.
-#[derive(Debug, Drop)]
+#[derive(Drop)]
 pub(crate) enum Call {
     /// Adds a text to the table of line strings.
     LineStr(Vec<u8>),

@@ -5,7 +5,7 @@ use std::fmt;
 use std::fmt::{Display, Write};
 
 /// A digest of what was written to it.
-#[derive(Debug, Drop)]
+#[derive(Drop)]
 struct Digest(u64);
 
 impl Digest {
@@ -45,7 +45,7 @@ pub(crate) fn digest_of<D: Display + Drop>(value: D) -> u64 {
 }
 
 /// The texts of a table: how many they are, and their digest.
-#[derive(Clone, Copy, Debug, PartialEq, Eq)]
+#[derive(Clone, Copy, PartialEq)]
 pub(crate) struct TableMark {
     count: usize,
     digest: u64,

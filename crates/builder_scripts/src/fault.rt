@@ -4,7 +4,7 @@ use gimli_write::Error;
 use std::alloc::{AllocError, AllocFailed};
 
 /// Why the scripts of a text aren't read.
-#[derive(Clone, Copy, Debug, PartialEq, Eq)]
+#[derive(Clone, Copy)]
 pub enum Fault {
     /// A line is no call, or stands where it can't.
     Script,
@@ -25,7 +25,7 @@ impl<T: Drop> From<AllocFailed<T>> for Fault {
 }
 
 /// Why a call isn't made, or what it answers.
-#[derive(Clone, Copy, Debug, PartialEq, Eq)]
+#[derive(Clone, Copy)]
 pub(crate) enum Stop {
     /// A condition of the call isn't met.
     Condition,

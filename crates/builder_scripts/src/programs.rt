@@ -35,7 +35,7 @@ impl Tables {
 }
 
 /// The names of a new program.
-#[derive(Debug, Drop)]
+#[derive(Drop)]
 pub(crate) struct Names {
     pub working_dir: LineString,
     pub source_dir: Option<LineString>,
@@ -363,25 +363,26 @@ pub(crate) fn find_file(program: &LineProgram, number: u64) -> Option<FileId> {
 /// The id of the file with this number, in a program that has so many and is thrown away.
 pub(crate) fn scratch_file(alloc: Global, number: u64) -> Result<FileId, Stop> {
     let mut program = scratch_program(alloc)?;
-    for before in 0..number {
-        add_scratch_file(&mut program, alloc, before)?;
+    add_scratch_files(&mut program, alloc, number)
+}
+
+/// Adds so many files whose names are numbers, and another, whose id is answered.
+fn add_scratch_files(program: &mut LineProgram, alloc: Global, count: u64) -> Result<FileId, Stop> {
+    for number in 0..count {
+        add_scratch_file(program, alloc, number)?;
     }
-    add_scratch_file(&mut program, alloc, number)
+    add_scratch_file(program, alloc, count)
 }
 
 /// A program without a file.
 fn scratch_program(alloc: Global) -> Result<LineProgram, Stop> {
+    let names = scratch_names(alloc)?;
     let encoding = Encoding {
         address_size: 4,
         format: Format::Dwarf32,
         version: 4,
     };
     let tables = Tables::new(alloc);
-    let names = Names {
-        working_dir: LineString::String(b"w".to_vec(alloc)?),
-        source_dir: None,
-        source_file: LineString::String(b"s".to_vec(alloc)?),
-    };
     begin_program(
         alloc,
         &tables,
@@ -390,6 +391,17 @@ fn scratch_program(alloc: Global) -> Result<LineProgram, Stop> {
         names,
         None,
     )
+}
+
+/// Its names.
+fn scratch_names(alloc: Global) -> Result<Names, Stop> {
+    let working_dir = LineString::String(b"w".to_vec(alloc)?);
+    let source_file = LineString::String(b"s".to_vec(alloc)?);
+    Ok(Names {
+        working_dir,
+        source_dir: None,
+        source_file,
+    })
 }
 
 /// Adds a file whose name is a number.

@@ -19,7 +19,7 @@ use std::alloc::{AllocError, Global};
 use std::fmt::Write;
 
 /// How a call or a script ends.
-#[derive(Clone, Copy, Debug, PartialEq, Eq)]
+#[derive(Clone, Copy, PartialEq)]
 enum End {
     /// As it should.
     Done,
@@ -112,12 +112,23 @@ fn run_script(
     text: &mut String,
 ) -> Result<bool, AllocError> {
     let mut builder = Builder::new(alloc, attempts);
-    match build(&mut builder, attempts, script.lines.as_slice(), text)? {
-        End::Done => write_script(alloc, &mut builder, attempts, script, text),
+    run_with(alloc, &mut builder, attempts, script, text)
+}
+
+/// Runs a script with a builder that has no program.
+fn run_with(
+    alloc: Global,
+    builder: &mut Builder,
+    attempts: Attempts,
+    script: &Script,
+    text: &mut String,
+) -> Result<bool, AllocError> {
+    match build(builder, attempts, script.lines.as_slice(), text)? {
+        End::Done => write_script(alloc, builder, attempts, script, text),
         end => {
             print_end(end, text)?;
             if let End::Refused(_) = end {
-                print_tables(&builder, attempts, text)?;
+                print_tables(builder, attempts, text)?;
             }
             Ok(false)
         }
@@ -338,17 +349,26 @@ fn read_script(
     if is_unread(&answer) && attempts == Attempts::Two {
         answer = builder.read_back(script.order, encoding);
     }
+    print_read(&answer, script.end, text)
+}
+
+/// Prints what is read back; false where that is refused, or where a condition isn't met at this line.
+fn print_read(
+    answer: &Option<ConvertResult<RoundTrip>>,
+    number: u64,
+    text: &mut String,
+) -> Result<bool, AllocError> {
     match answer {
         Some(Ok(answer)) => {
-            print_answer(&answer, text)?;
+            print_answer(answer, text)?;
             Ok(true)
         }
         Some(Err(error)) => {
-            print_refusal(error, text)?;
+            print_refusal(*error, text)?;
             Ok(false)
         }
         None => {
-            print_end(End::Condition(script.end), text)?;
+            print_end(End::Condition(number), text)?;
             Ok(false)
         }
     }

@@ -8,14 +8,14 @@ use std::alloc::{AllocError, Global};
 use std::mem;
 
 /// A call, and the number of its line.
-#[derive(Debug, Drop)]
+#[derive(Drop)]
 pub(crate) struct Line {
     pub number: u64,
     pub call: Call,
 }
 
 /// A program, by its calls, and how it is written.
-#[derive(Debug, Drop)]
+#[derive(Drop)]
 pub(crate) struct Script {
     /// The order of bytes.
     pub order: RunTimeEndian,
