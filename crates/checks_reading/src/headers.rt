@@ -1,6 +1,7 @@
 //! Headers over a reader whose offsets have 32 bits, look-ups at the top of an index's range, sections over sections,
 //! and copies.
 
+use crate::equality::{check, check_equal};
 use crate::narrow::NarrowReader;
 use crate::units::{
     DEMO_UNIT, Slice, UNIT_OF_VERSION_4, UNIT_OF_VERSION_5, changed, is_directory, is_text,
@@ -92,7 +93,7 @@ fn values_that_offsets_do_not_hold(rt: HostRuntime) -> std::result::Result<(), F
     }
     let block = b"\x01\x01\x09\x01\x80\x80\x80\x80\x10";
     let unit = unit_of_directories(rt.alloc(), block)?;
-    assert!(rt; is_too_wide(rt.alloc(), &unit));
+    check(&rt, is_too_wide(rt.alloc(), &unit));
     Ok(())
 }
 
@@ -108,8 +109,12 @@ fn parts<R: Reader>(alloc: Global, unit: R) -> Result<(usize, u64, u8)> {
 #[test]
 fn headers_over_two_readers(rt: HostRuntime) {
     let narrow = NarrowReader::new(rt.alloc(), UNIT_OF_VERSION_4, RunTimeEndian::Little);
-    assert_eq!(rt; parts(rt.alloc(), narrow), Ok((2, 16, 0)));
-    assert_eq!(rt; parts(rt.alloc(), slice(UNIT_OF_VERSION_4)), Ok((2, 16, 0)));
+    check_equal(&rt, parts(rt.alloc(), narrow), Ok((2, 16, 0)));
+    check_equal(
+        &rt,
+        parts(rt.alloc(), slice(UNIT_OF_VERSION_4)),
+        Ok((2, 16, 0)),
+    );
 }
 
 // ---- how many bytes were left
@@ -199,11 +204,11 @@ fn check_directories<R: Reader>(
     directory: R,
 ) -> Result<()> {
     let named = named_program(alloc, unit, directory, directory)?;
-    assert!(rt; is_in_directory(named.header(), 1, b"/w"));
-    assert!(rt; is_in_directory(named.header(), 2, b"/inc"));
+    check(rt, is_in_directory(named.header(), 1, b"/w"));
+    check(rt, is_in_directory(named.header(), 2, b"/inc"));
     let unnamed = program(alloc, unit, 4)?;
-    assert!(rt; !is_in_directory(unnamed.header(), 1, b"/w"));
-    assert!(rt; is_in_directory(unnamed.header(), 2, b"/inc"));
+    check(rt, !is_in_directory(unnamed.header(), 1, b"/w"));
+    check(rt, is_in_directory(unnamed.header(), 2, b"/inc"));
     Ok(())
 }
 
@@ -228,14 +233,14 @@ fn has_two_names<R: Reader>(header: &LineProgramHeader<R>, file: u64, numbers: (
 fn check_numbers<R: Reader>(rt: &impl Abort, alloc: Global, unit: R) -> Result<()> {
     let program = program(alloc, unit, 4)?;
     let header = program.header();
-    assert!(rt; has_two_names(header, 1, (7, 9)));
+    check(rt, has_two_names(header, 1, (7, 9)));
     let encoding = Encoding {
         address_size: 4,
         format: Format::Dwarf32,
         version: 4,
     };
-    assert_eq!(rt; header.encoding(), encoding);
-    assert_eq!(rt; header.line_encoding(), LineEncoding::default());
+    check_equal(rt, header.encoding(), encoding);
+    check_equal(rt, header.line_encoding(), LineEncoding::default());
     Ok(())
 }
 
@@ -270,8 +275,11 @@ fn is_in_w<R: Reader>(alloc: Global, section: &DebugLine<R>) -> Result<bool> {
 /// A section over a reader.
 fn check_reader(rt: &impl Abort) {
     let section = DebugLine::from(slice(DEMO_UNIT));
-    assert_eq!(rt; section.reader().slice().len(), 51);
-    assert!(rt; <DebugLine<Slice<'_>> as Section<Slice<'_>>>::id() == SectionId::DebugLine);
+    check_equal(rt, section.reader().slice().len(), 51);
+    check(
+        rt,
+        <DebugLine<Slice<'_>> as Section<Slice<'_>>>::id() == SectionId::DebugLine,
+    );
 }
 
 #[test]
@@ -311,10 +319,13 @@ fn has_equal_copies<R: Reader + PartialEq>(alloc: Global, unit: R) -> Result<boo
 #[test]
 fn equal_and_copied_headers(rt: HostRuntime) -> std::result::Result<(), Fail> {
     let one = slice(UNIT_OF_VERSION_5);
-    assert!(rt; have_equal_headers(rt.alloc(), one, slice(UNIT_OF_VERSION_5))?);
-    assert!(rt; !have_equal_headers(rt.alloc(), one, slice(DEMO_UNIT))?);
-    assert!(rt; has_equal_copies(rt.alloc(), one)?);
-    assert!(rt; has_equal_copies(rt.alloc(), slice(DEMO_UNIT))?);
+    check(
+        &rt,
+        have_equal_headers(rt.alloc(), one, slice(UNIT_OF_VERSION_5))?,
+    );
+    check(&rt, !have_equal_headers(rt.alloc(), one, slice(DEMO_UNIT))?);
+    check(&rt, has_equal_copies(rt.alloc(), one)?);
+    check(&rt, has_equal_copies(rt.alloc(), slice(DEMO_UNIT))?);
     Ok(())
 }
 

@@ -1,5 +1,6 @@
 //! Instructions one by one: what comes behind the last and behind a refusal, and what each does to a row by itself.
 
+use crate::equality::{check, check_equal};
 use crate::units::{
     HEADER, HEADER_OF_RANGE_12, HEADER_OF_TWO_FILES, file_count, flags, is_text, numbers, program,
     slice, unit,
@@ -374,11 +375,11 @@ fn check_definition<R: Reader>(
     let mut row = LineRow::new(program.header());
     row.execute(SetFile(2), program)?;
     let before = row;
-    assert!(rt; row.file(program.header()).is_none());
-    assert_eq!(rt; row.execute(defines, program), Ok(false));
-    assert_eq!(rt; row, before);
-    assert!(rt; has_defined(program.header()));
-    assert!(rt; row.file(program.header()).is_some());
+    check(rt, row.file(program.header()).is_none());
+    check_equal(rt, row.execute(defines, program), Ok(false));
+    check_equal(rt, row, before);
+    check(rt, has_defined(program.header()));
+    check(rt, row.file(program.header()).is_some());
     Ok(())
 }
 
@@ -392,8 +393,8 @@ fn check_complete<R: Reader>(
     let defines = defines.ok_or("no instruction")?;
     let mut row = LineRow::new(program.header());
     let mut lent = program;
-    assert_eq!(rt; row.execute(defines, &mut lent), Ok(false));
-    assert!(rt; has_defined(program.header()));
+    check_equal(rt, row.execute(defines, &mut lent), Ok(false));
+    check(rt, has_defined(program.header()));
     Ok(())
 }
 
@@ -437,11 +438,11 @@ fn check_reset<R: Reader>(
 ) -> Result<()> {
     let mut instructions = program.header().instructions();
     execute_all(row, &mut instructions, program)?;
-    assert_eq!(rt; numbers(row), [42, 0, 1, 1, 0, 0, 9]);
-    assert_eq!(rt; flags(row), [false, true, false, true, true]);
+    check_equal(rt, numbers(row), [42, 0, 1, 1, 0, 0, 9]);
+    check_equal(rt, flags(row), [false, true, false, true, true]);
     row.reset(program.header());
-    assert_eq!(rt; numbers(row), [42, 0, 1, 1, 0, 0, 0]);
-    assert_eq!(rt; flags(row), [false, false, false, false, false]);
+    check_equal(rt, numbers(row), [42, 0, 1, 1, 0, 0, 0]);
+    check_equal(rt, flags(row), [false, false, false, false, false]);
     Ok(())
 }
 
@@ -476,9 +477,9 @@ fn check_ended<R: Reader>(
     program: &mut IncompleteLineProgram<R>,
 ) -> Result<()> {
     row.execute(EndSequence, program)?;
-    assert!(rt; row.end_sequence());
+    check(rt, row.end_sequence());
     row.reset(program.header());
-    assert_eq!(rt; *row, LineRow::new(program.header()));
+    check_equal(rt, *row, LineRow::new(program.header()));
     Ok(())
 }
 

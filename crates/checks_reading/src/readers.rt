@@ -1,5 +1,6 @@
 //! Each call of a reader, over a slice and over a reader of one's own, which has the default bodies alone.
 
+use crate::equality::check_equal;
 use crate::narrow::{Narrow, NarrowReader};
 use gimli_core::RunTimeEndian::{Big, Little};
 use gimli_core::{EndianSlice, Error, Format, Reader, ReaderOffset, ReaderOffsetId, Result};
@@ -46,13 +47,18 @@ fn numbers_in_both_orders(rt: HostRuntime) {
         0x0102_0304_0506_0788,
         0x33_2211,
     ));
-    assert_eq!(rt; numbers(EndianSlice::new(NUMBERS, Little)), little);
-    assert_eq!(rt;
+    check_equal(&rt, numbers(EndianSlice::new(NUMBERS, Little)), little);
+    check_equal(
+        &rt,
         numbers(NarrowReader::new(rt.alloc(), NUMBERS, Little)),
-        little
+        little,
     );
-    assert_eq!(rt; numbers(EndianSlice::new(NUMBERS, Big)), big);
-    assert_eq!(rt; numbers(NarrowReader::new(rt.alloc(), NUMBERS, Big)), big);
+    check_equal(&rt, numbers(EndianSlice::new(NUMBERS, Big)), big);
+    check_equal(
+        &rt,
+        numbers(NarrowReader::new(rt.alloc(), NUMBERS, Big)),
+        big,
+    );
 }
 
 /// Numbers of LEB128, an address and its size.
@@ -73,8 +79,12 @@ const LEBS: &[u8] = &[0xb9, 0x64, 0x81, 0x02, 0x80, 0x7f, 4, 0x10, 0x20];
 #[test]
 fn numbers_of_any_size(rt: HostRuntime) {
     let answer = Ok((12857, 257, -128, 4, 0x2010));
-    assert_eq!(rt; lebs(EndianSlice::new(LEBS, Little)), answer);
-    assert_eq!(rt; lebs(NarrowReader::new(rt.alloc(), LEBS, Little)), answer);
+    check_equal(&rt, lebs(EndianSlice::new(LEBS, Little)), answer);
+    check_equal(
+        &rt,
+        lebs(NarrowReader::new(rt.alloc(), LEBS, Little)),
+        answer,
+    );
 }
 
 /// A digest, a text's length, and two words.
@@ -102,8 +112,12 @@ const TEXTS: &[u8] = &[
 fn texts_and_words(rt: HostRuntime) {
     let digest = [0, 1, 2, 3, 4, 5, 6, 7, 8, 9, 10, 11, 12, 13, 14, 15];
     let answer = Ok((digest, 3, 0xffff_ffff, 0xffff_ffff));
-    assert_eq!(rt; texts(EndianSlice::new(TEXTS, Little)), answer);
-    assert_eq!(rt; texts(NarrowReader::new(rt.alloc(), TEXTS, Little)), answer);
+    check_equal(&rt, texts(EndianSlice::new(TEXTS, Little)), answer);
+    check_equal(
+        &rt,
+        texts(NarrowReader::new(rt.alloc(), TEXTS, Little)),
+        answer,
+    );
 }
 
 // ---- words that depend on the width of offsets
@@ -131,19 +145,24 @@ const LARGE_WORD: &[u8] = &[0, 0, 0, 1, 0, 0, 0, 0, 9];
 
 fn check_large_length(rt: &impl Abort, alloc: Global) {
     let slice = EndianSlice::new(LARGE_LENGTH, Little);
-    assert_eq!(rt;
+    check_equal(
+        rt,
         initial_length(slice),
-        (Ok((0x1_0000_0000, Format::Dwarf64)), 1)
+        (Ok((0x1_0000_0000, Format::Dwarf64)), 1),
     );
     let narrow = NarrowReader::new(alloc, LARGE_LENGTH, Little);
-    assert_eq!(rt; initial_length(narrow), (Err(Error::UnsupportedOffset), 1));
+    check_equal(
+        rt,
+        initial_length(narrow),
+        (Err(Error::UnsupportedOffset), 1),
+    );
 }
 
 fn check_large_word(rt: &impl Abort, alloc: Global) {
     let slice = EndianSlice::new(LARGE_WORD, Big);
-    assert_eq!(rt; long_word(slice), (Ok(0x1_0000_0000), 1));
+    check_equal(rt, long_word(slice), (Ok(0x1_0000_0000), 1));
     let narrow = NarrowReader::new(alloc, LARGE_WORD, Big);
-    assert_eq!(rt; long_word(narrow), (Err(Error::UnsupportedOffset), 1));
+    check_equal(rt, long_word(narrow), (Err(Error::UnsupportedOffset), 1));
 }
 
 #[test]
@@ -167,17 +186,20 @@ fn parts<R: Reader>(mut reader: R, two: R::Offset) -> Result<(u16, u64, u64, boo
 #[test]
 fn readers_of_parts_keep_the_order(rt: HostRuntime) {
     let bytes: &[u8] = &[0x12, 0x34, b'x', b'y', 0, 9];
-    assert_eq!(rt;
+    check_equal(
+        &rt,
         parts(EndianSlice::new(bytes, Big), 2),
-        Ok((0x1234, 2, 1, true))
+        Ok((0x1234, 2, 1, true)),
     );
-    assert_eq!(rt;
+    check_equal(
+        &rt,
         parts(NarrowReader::new(rt.alloc(), bytes, Big), Narrow(2)),
-        Ok((0x1234, 2, 1, true))
+        Ok((0x1234, 2, 1, true)),
     );
-    assert_eq!(rt;
+    check_equal(
+        &rt,
         parts(EndianSlice::new(bytes, Little), 2),
-        Ok((0x3412, 2, 1, true))
+        Ok((0x3412, 2, 1, true)),
     );
 }
 
@@ -196,13 +218,15 @@ fn refusals<R: Reader>(mut reader: R, too_far: R::Offset) -> ([bool; 4], bool, u
 #[test]
 fn refused_calls_leave_the_reader(rt: HostRuntime) {
     let bytes: &[u8] = &[1, 2];
-    assert_eq!(rt;
+    check_equal(
+        &rt,
         refusals(EndianSlice::new(bytes, Little), 3),
-        ([true; 4], true, 2)
+        ([true; 4], true, 2),
     );
-    assert_eq!(rt;
+    check_equal(
+        &rt,
         refusals(NarrowReader::new(rt.alloc(), bytes, Little), Narrow(3)),
-        ([true; 4], true, 2)
+        ([true; 4], true, 2),
     );
 }
 
@@ -226,25 +250,29 @@ fn places<R: Reader>(reader: R, one: R::Offset, two: R::Offset) -> Result<(u64, 
 #[test]
 fn places_in_a_reader(rt: HostRuntime) -> Result<()> {
     let bytes: &[u8] = &[5, 6, 7, 0, 8];
-    assert_eq!(rt;
+    check_equal(
+        &rt,
         places(EndianSlice::new(bytes, Little), 1, 2),
-        Ok((3, 6, 2, 1))
+        Ok((3, 6, 2, 1)),
     );
-    assert_eq!(rt;
+    check_equal(
+        &rt,
         places(
             NarrowReader::new(rt.alloc(), bytes, Little),
             Narrow(1),
-            Narrow(2)
+            Narrow(2),
         ),
-        Ok((3, 6, 2, 1))
+        Ok((3, 6, 2, 1)),
     );
-    assert_eq!(rt;
+    check_equal(
+        &rt,
         EndianSlice::new(bytes, Little).find(9),
-        Err(Error::UnexpectedEof(ReaderOffsetId(5)))
+        Err(Error::UnexpectedEof(ReaderOffsetId(5))),
     );
-    assert_eq!(rt;
+    check_equal(
+        &rt,
         NarrowReader::new(rt.alloc(), bytes, Little).find(9),
-        Err(Error::UnexpectedEof(ReaderOffsetId(5)))
+        Err(Error::UnexpectedEof(ReaderOffsetId(5))),
     );
     Ok(())
 }
@@ -256,18 +284,22 @@ fn slices_are_lent_or_copied(rt: HostRuntime) -> std::result::Result<(), Fail> {
     let CowSlice::Borrowed(lent) = reader.to_slice()? else {
         return Err(Fail::from("copied"));
     };
-    assert_eq!(rt; lent, bytes);
-    assert_eq!(rt; reader.slice(), bytes);
+    check_equal(&rt, lent, bytes);
+    check_equal(&rt, reader.slice(), bytes);
     let narrow = NarrowReader::new(rt.alloc(), bytes, Little);
     let CowSlice::Owned(copied) = narrow.to_slice()? else {
         return Err(Fail::from("lent"));
     };
-    assert_eq!(rt; copied.as_slice(), bytes);
+    check_equal(&rt, copied.as_slice(), bytes);
     Ok(())
 }
 
 #[test]
 fn orders_of_readers(rt: HostRuntime) {
-    assert_eq!(rt; EndianSlice::new(&[], Big).endian(), Big);
-    assert_eq!(rt; NarrowReader::new(rt.alloc(), &[], Little).endian(), Little);
+    check_equal(&rt, EndianSlice::new(&[], Big).endian(), Big);
+    check_equal(
+        &rt,
+        NarrowReader::new(rt.alloc(), &[], Little).endian(),
+        Little,
+    );
 }

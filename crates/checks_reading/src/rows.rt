@@ -1,5 +1,6 @@
 //! The rows of a run, one by one: what comes behind the last row and behind a refusal, and the files at a row.
 
+use crate::equality::{check, check_equal};
 use crate::units::{HEADER, file_count, is_text, program, slice, unit};
 use gimli_core::{Error, Reader, ReaderOffsetId};
 use gimli_line::{LineProgramHeader, LineRow, OneShotLineRows, ResumedLineRows};
@@ -161,11 +162,11 @@ fn is_in_file<R: Reader>(header: &LineProgramHeader<R>, row: &LineRow, path: &[u
 /// The header of a run has the files that were defined so far.
 fn check_files<R: Reader>(rt: &impl Abort, alloc: Global, unit: R) -> gimli_core::Result<()> {
     let mut rows = program(alloc, unit, 4)?.rows();
-    assert_eq!(rt; file_count(rows.header()), 1);
+    check_equal(rt, file_count(rows.header()), 1);
     for expected in [(1, false), (2, true), (2, true), (0, false)] {
-        assert_eq!(rt; file_of_next(&mut rows), expected);
+        check_equal(rt, file_of_next(&mut rows), expected);
     }
-    assert_eq!(rt; file_count(rows.header()), 2);
+    check_equal(rt, file_count(rows.header()), 2);
     Ok(())
 }
 
@@ -192,8 +193,8 @@ fn check_files_of_sequence<R: Reader>(
     unit: R,
 ) -> gimli_core::Result<()> {
     let (program, sequences) = program(alloc, unit, 4)?.sequences()?;
-    assert_eq!(rt; file_count(program.header()), 2);
-    assert_eq!(rt; sequences.len(), 1);
+    check_equal(rt, file_count(program.header()), 2);
+    check_equal(rt, sequences.len(), 1);
     for sequence in &sequences {
         check_rows_of_sequence(rt, program.resume_from(sequence))?;
     }
@@ -231,10 +232,10 @@ fn check_resumed_copies<R: Reader>(
     rows: ResumedLineRows<'_, R>,
 ) -> gimli_core::Result<()> {
     let mut rows = rows;
-    assert!(rt; resumed_gives(rows.clone(), &DEMO_ROWS));
+    check(rt, resumed_gives(rows.clone(), &DEMO_ROWS));
     rows.next_row()?;
-    assert!(rt; resumed_gives(rows.clone(), &DEMO_ROWS[1..]));
-    assert!(rt; resumed_gives(rows, &DEMO_ROWS[1..]));
+    check(rt, resumed_gives(rows.clone(), &DEMO_ROWS[1..]));
+    check(rt, resumed_gives(rows, &DEMO_ROWS[1..]));
     Ok(())
 }
 
@@ -245,14 +246,14 @@ fn check_copied_sequences<R: Reader>(
     unit: R,
 ) -> gimli_core::Result<()> {
     let (program, sequences) = program(alloc, unit, 4)?.sequences()?;
-    assert_eq!(rt; sequences.len(), 1);
+    check_equal(rt, sequences.len(), 1);
     for sequence in &sequences {
         let copy = sequence.clone();
-        assert_eq!(rt; (copy.start, copy.end), (0x1000, 0x1008));
-        assert!(rt; resumed_gives(program.resume_from(&copy), &DEMO_ROWS));
+        check_equal(rt, (copy.start, copy.end), (0x1000, 0x1008));
+        check(rt, resumed_gives(program.resume_from(&copy), &DEMO_ROWS));
         check_resumed_copies(rt, program.resume_from(sequence))?;
         let other = program.clone()?;
-        assert!(rt; resumed_gives(other.resume_from(sequence), &DEMO_ROWS));
+        check(rt, resumed_gives(other.resume_from(sequence), &DEMO_ROWS));
     }
     Ok(())
 }
@@ -261,12 +262,12 @@ fn check_copied_sequences<R: Reader>(
 fn check_copied_run<R: Reader>(rt: &impl Abort, alloc: Global, unit: R) -> Result<(), Fail> {
     let program = program(alloc, unit, 4)?;
     let mut copy = program.clone()?.rows();
-    assert!(rt; gives(&mut copy, &DEMO_ROWS));
+    check(rt, gives(&mut copy, &DEMO_ROWS));
     let mut rows = program.rows();
-    assert_eq!(rt; next(&mut rows), Row(0x1000, 0, 1));
+    check_equal(rt, next(&mut rows), Row(0x1000, 0, 1));
     let mut copy = rows.clone()?;
-    assert!(rt; gives(&mut copy, &DEMO_ROWS[1..]));
-    assert!(rt; gives(&mut rows, &DEMO_ROWS[1..]));
+    check(rt, gives(&mut copy, &DEMO_ROWS[1..]));
+    check(rt, gives(&mut rows, &DEMO_ROWS[1..]));
     Ok(())
 }
 

@@ -1,5 +1,6 @@
 //! Offsets of two widths, and orders as types.
 
+use crate::equality::{check, check_equal};
 use crate::narrow::Narrow;
 use gimli_core::{
     BigEndian, Endianity, Error, LineEncoding, LittleEndian, ReaderOffset, Result, RunTimeEndian,
@@ -23,13 +24,14 @@ fn offset<O: ReaderOffset>(n: u64) -> Result<u64> {
 
 #[test]
 fn offsets_of_two_widths(rt: HostRuntime) {
-    assert_eq!(rt; offsets::<usize>(), [0xff, 0xffff, 0xffff_ffff]);
-    assert_eq!(rt; offsets::<Narrow>(), [0xff, 0xffff, 0xffff_ffff]);
-    assert_eq!(rt; offset::<usize>(u64::MAX), Ok(u64::MAX));
-    assert_eq!(rt; offset::<Narrow>(0xffff_ffff), Ok(0xffff_ffff));
-    assert_eq!(rt;
+    check_equal(&rt, offsets::<usize>(), [0xff, 0xffff, 0xffff_ffff]);
+    check_equal(&rt, offsets::<Narrow>(), [0xff, 0xffff, 0xffff_ffff]);
+    check_equal(&rt, offset::<usize>(u64::MAX), Ok(u64::MAX));
+    check_equal(&rt, offset::<Narrow>(0xffff_ffff), Ok(0xffff_ffff));
+    check_equal(
+        &rt,
         offset::<Narrow>(0x1_0000_0000),
-        Err(Error::UnsupportedOffset)
+        Err(Error::UnsupportedOffset),
     );
 }
 
@@ -71,18 +73,24 @@ fn numbers_of_slices(rt: HostRuntime) {
         0x0102_0304_0506_0708_090a_0b0c_0d0e_0f10,
         written,
     );
-    assert_eq!(rt; round(LittleEndian, bytes), little);
-    assert_eq!(rt; round(BigEndian, bytes), big);
-    assert_eq!(rt; round(RunTimeEndian::Little, bytes), little);
-    assert_eq!(rt; round(RunTimeEndian::Big, bytes), big);
+    check_equal(&rt, round(LittleEndian, bytes), little);
+    check_equal(&rt, round(BigEndian, bytes), big);
+    check_equal(&rt, round(RunTimeEndian::Little, bytes), little);
+    check_equal(&rt, round(RunTimeEndian::Big, bytes), big);
 }
 
 #[test]
 fn orders_and_encodings(rt: HostRuntime) {
-    assert!(rt; LittleEndian.is_little_endian() && !LittleEndian.is_big_endian());
-    assert!(rt; BigEndian.is_big_endian() && !BigEndian.is_little_endian());
-    assert_eq!(rt; LittleEndian::default(), LittleEndian);
-    assert_eq!(rt; BigEndian::default(), BigEndian);
+    check(
+        &rt,
+        LittleEndian.is_little_endian() && !LittleEndian.is_big_endian(),
+    );
+    check(
+        &rt,
+        BigEndian.is_big_endian() && !BigEndian.is_little_endian(),
+    );
+    check_equal(&rt, LittleEndian::default(), LittleEndian);
+    check_equal(&rt, BigEndian::default(), BigEndian);
     let encoding = LineEncoding {
         minimum_instruction_length: 1,
         maximum_operations_per_instruction: 1,
@@ -90,5 +98,5 @@ fn orders_and_encodings(rt: HostRuntime) {
         line_base: -5,
         line_range: 14,
     };
-    assert_eq!(rt; LineEncoding::default(), encoding);
+    check_equal(&rt, LineEncoding::default(), encoding);
 }

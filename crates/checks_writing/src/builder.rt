@@ -3,7 +3,7 @@
 ghost use Rattle.std.specs.Prelude.{◌≡◌, ◌<◌, length, false, IfOk, OnOk};
 ghost use Rattle.gimli_write.specs.LineText.{line_text, HasNoZero, IsNotEmpty};
 
-use crate::equality::{check_alike, check_distinct};
+use crate::equality::{check, check_alike, check_distinct, check_equal};
 use gimli_core::{
     DW_FORM_line_strp, DW_FORM_string, DW_FORM_strp, DwForm, Encoding, Format, LineEncoding,
 };
@@ -84,26 +84,36 @@ fn put_file(
     program.add_file(text(alloc, name)?, working, info)
 }
 
+/// Adds a file of which nothing else is known.
+fn put_name(program: &mut LineProgram, alloc: Global, name: u8) -> Result<FileId>
+    requires program { program.old.is_none ≡ false }
+    requires name { 0 < name }
+    ensures program { program.new.is_none ≡ false }
+    ensures within { IfOk result (λ id. id < length program.new.files) }
+{
+    put_file(program, alloc, name, None)
+}
+
 #[test]
 fn accessors(rt: HostRuntime) -> std::result::Result<(), Fail> {
     let program = program(rt.alloc())?;
-    assert!(rt; !program.is_none());
-    assert_eq!(rt; program.version(), 4);
-    assert_eq!(rt; program.address_size(), 4);
-    assert_eq!(rt; program.format(), Format::Dwarf32);
-    assert_eq!(rt; program.encoding().version, 4);
-    assert!(rt; !program.file_has_md5);
+    check(&rt, !program.is_none());
+    check_equal(&rt, program.version(), 4);
+    check_equal(&rt, program.address_size(), 4);
+    check_equal(&rt, program.format(), Format::Dwarf32);
+    check_equal(&rt, program.encoding().version, 4);
+    check(&rt, !program.file_has_md5);
     let working = program.get_directory(program.default_directory());
-    assert_eq!(rt; first_byte(working), b'w');
+    check_equal(&rt, first_byte(working), b'w');
     Ok(())
 }
 
 #[test]
 fn no_program(rt: HostRuntime) {
     let none = LineProgram::none(rt.alloc());
-    assert!(rt; none.is_none());
-    assert_eq!(rt; none.address_size(), 0);
-    assert!(rt; none.is_empty());
+    check(&rt, none.is_none());
+    check_equal(&rt, none.address_size(), 0);
+    check(&rt, none.is_empty());
 }
 
 #[test]
@@ -111,11 +121,11 @@ fn directories_twice(rt: HostRuntime) -> std::result::Result<(), Fail> {
     let mut program = program(rt.alloc())?;
     let first = put_directory(&mut program, rt.alloc(), b'i')?;
     let again = put_directory(&mut program, rt.alloc(), b'i')?;
-    assert_eq!(rt; first, again);
+    check_equal(&rt, first, again);
     let working = put_directory(&mut program, rt.alloc(), b'w')?;
-    assert_eq!(rt; working, program.default_directory());
-    assert!(rt; first != working);
-    assert_eq!(rt; first_byte(program.get_directory(working)), b'w');
+    check_equal(&rt, working, program.default_directory());
+    check(&rt, first != working);
+    check_equal(&rt, first_byte(program.get_directory(working)), b'w');
     Ok(())
 }
 
@@ -132,9 +142,9 @@ fn put_behind(
     requires name { 0 < name }
 {
     let new = program.add_directory(text(alloc, name)?)?;
-    assert!(rt; new != old);
-    assert_eq!(rt; first_byte(program.get_directory(old)), b'i');
-    assert_eq!(rt; first_byte(program.get_directory(new)), name);
+    check(rt, new != old);
+    check_equal(rt, first_byte(program.get_directory(old)), b'i');
+    check_equal(rt, first_byte(program.get_directory(new)), name);
     Ok(())
 }
 
@@ -154,15 +164,15 @@ fn put_two_files(program: &mut LineProgram, alloc: Global) -> Result<(FileId, Fi
     requires { program.old.is_none ≡ false }
     ensures { program.new.is_none ≡ false }
 {
-    let first = put_file(program, alloc, b'a', None)?;
-    let second = put_file(program, alloc, b'b', None)?;
+    let first = put_name(program, alloc, b'a')?;
+    let second = put_name(program, alloc, b'b')?;
     Ok((first, second))
 }
 
 fn check_numbers(rt: &impl Abort, first: FileId, second: FileId) {
-    assert_eq!(rt; first.raw(4), 1);
-    assert_eq!(rt; second.raw(4), 2);
-    assert_eq!(rt; second.raw(5), 1);
+    check_equal(rt, first.raw(4), 1);
+    check_equal(rt, second.raw(4), 2);
+    check_equal(rt, second.raw(5), 1);
 }
 
 fn put_first_again(
@@ -173,11 +183,11 @@ fn put_first_again(
 ) -> Result<()>
     requires { program.old.is_none ≡ false }
 {
-    let again = put_file(program, alloc, b'a', None)?;
-    assert_eq!(rt; first, again);
+    let again = put_name(program, alloc, b'a')?;
+    check_equal(rt, first, again);
     let (path, directory) = program.get_file(again);
-    assert_eq!(rt; first_byte(path), b'a');
-    assert_eq!(rt; directory, program.default_directory());
+    check_equal(rt, first_byte(path), b'a');
+    check_equal(rt, directory, program.default_directory());
     Ok(())
 }
 
@@ -200,9 +210,9 @@ fn next_name(files: &mut Files<'_>) -> u8 {
 
 fn check_names(rt: &impl Abort, program: &LineProgram) {
     let mut files = program.files();
-    assert_eq!(rt; next_name(&mut files), b'a');
-    assert_eq!(rt; next_name(&mut files), b'b');
-    assert_eq!(rt; next_name(&mut files), 0);
+    check_equal(rt, next_name(&mut files), b'a');
+    check_equal(rt, next_name(&mut files), b'b');
+    check_equal(rt, next_name(&mut files), 0);
 }
 
 #[test]
@@ -213,10 +223,15 @@ fn files_in_order(rt: HostRuntime) -> std::result::Result<(), Fail> {
     Ok(())
 }
 
-fn info_of_size(size: u64) -> FileInfo {
+/// Adds the file `a`, of this size.
+fn put_sized(program: &mut LineProgram, alloc: Global, size: u64) -> Result<FileId>
+    requires { program.old.is_none ≡ false }
+    ensures program { program.new.is_none ≡ false }
+    ensures within { IfOk result (λ id. id < length program.new.files) }
+{
     let mut info = FileInfo::default();
     info.size = size;
-    info
+    put_file(program, alloc, b'a', Some(info))
 }
 
 fn set_size(program: &mut LineProgram, file: FileId, size: u64)
@@ -229,15 +244,15 @@ fn set_size(program: &mut LineProgram, file: FileId, size: u64)
 #[test]
 fn details(rt: HostRuntime) -> std::result::Result<(), Fail> {
     let mut program = program(rt.alloc())?;
-    let file = put_file(&mut program, rt.alloc(), b'a', Some(info_of_size(2)))?;
-    assert_eq!(rt; program.get_file_info(file).size, 2);
+    let file = put_sized(&mut program, rt.alloc(), 2)?;
+    check_equal(&rt, program.get_file_info(file).size, 2);
     set_size(&mut program, file, 3);
-    let again = put_file(&mut program, rt.alloc(), b'a', None)?;
-    assert_eq!(rt; again, file);
-    assert_eq!(rt; program.get_file_info(again).size, 3);
-    let again = put_file(&mut program, rt.alloc(), b'a', Some(info_of_size(2)))?;
-    assert_eq!(rt; again, file);
-    assert_eq!(rt; program.get_file_info(again).size, 2);
+    let again = put_name(&mut program, rt.alloc(), b'a')?;
+    check_equal(&rt, again, file);
+    check_equal(&rt, program.get_file_info(again).size, 3);
+    let again = put_sized(&mut program, rt.alloc(), 2)?;
+    check_equal(&rt, again, file);
+    check_equal(&rt, program.get_file_info(again).size, 2);
     Ok(())
 }
 
@@ -386,17 +401,17 @@ fn put_two_rows(rt: &impl Abort, program: &mut LineProgram) -> Result<()>
     requires { program.old.is_none ≡ false }
     ensures { OnOk result (program.new.is_none ≡ false) }
 {
-    assert!(rt; put_row(program, 0, 1)?);
-    assert!(rt; put_row(program, 4, 3)?);
-    assert!(rt; program.in_sequence());
+    check(rt, put_row(program, 0, 1)?);
+    check(rt, put_row(program, 4, 3)?);
+    check(rt, program.in_sequence());
     Ok(())
 }
 
 fn put_last_end(rt: &impl Abort, program: &mut LineProgram) -> Result<()>
     requires { program.old.is_none ≡ false }
 {
-    assert!(rt; put_end(program, 8)?);
-    assert!(rt; !program.in_sequence());
+    check(rt, put_end(program, 8)?);
+    check(rt, !program.in_sequence());
     Ok(())
 }
 
@@ -404,8 +419,8 @@ fn check_items(rt: &impl Abort, program: &LineProgram) {
     let mut items = program.items();
     for wanted in [(1, 0x1000), (2, 0), (2, 4), (3, 8), (0, 0)] {
         let (kind, number) = item_number(items.next());
-        assert_eq!(rt; kind, wanted.0);
-        assert_eq!(rt; number, wanted.1);
+        check_equal(rt, kind, wanted.0);
+        check_equal(rt, number, wanted.1);
     }
 }
 
@@ -424,11 +439,11 @@ fn items_in_order(rt: HostRuntime) -> std::result::Result<(), Fail> {
 fn cleared_registers(rt: HostRuntime) -> std::result::Result<(), Fail> {
     let mut program = program(rt.alloc())?;
     program.row().discriminator = 5;
-    assert!(rt; put_row(&mut program, 4, 3)?);
-    assert_eq!(rt; program.row().discriminator, 0);
-    assert_eq!(rt; program.row().line, 3);
-    assert!(rt; put_end(&mut program, 8)?);
-    assert_eq!(rt; program.row().line, 1);
+    check(&rt, put_row(&mut program, 4, 3)?);
+    check_equal(&rt, program.row().discriminator, 0);
+    check_equal(&rt, program.row().line, 3);
+    check(&rt, put_end(&mut program, 8)?);
+    check_equal(&rt, program.row().line, 1);
     Ok(())
 }
 
@@ -444,25 +459,25 @@ fn address_in_mid_sequence(rt: HostRuntime) -> std::result::Result<(), Fail> {
     let mut program = program(rt.alloc())?;
     set_row(&mut program, 7, 1);
     set_address(&mut program, 16)?;
-    assert_eq!(rt; program.row().address_offset, 7);
-    assert!(rt; put_row(&mut program, 7, 1)?);
+    check_equal(&rt, program.row().address_offset, 7);
+    check(&rt, put_row(&mut program, 7, 1)?);
     set_address(&mut program, 32)?;
-    assert_eq!(rt; program.row().address_offset, 0);
-    assert!(rt; put_row(&mut program, 0, 1)?);
+    check_equal(&rt, program.row().address_offset, 0);
+    check(&rt, put_row(&mut program, 0, 1)?);
     Ok(())
 }
 
 #[test]
 fn copies(rt: HostRuntime) -> std::result::Result<(), Fail> {
     let mut program = program(rt.alloc())?;
-    put_file(&mut program, rt.alloc(), b'a', None)?;
+    put_name(&mut program, rt.alloc(), b'a')?;
     set_address(&mut program, 16)?;
     let copy = program.clone()?;
-    assert!(rt; copy.in_sequence());
+    check(&rt, copy.in_sequence());
     let (kind, number) = item_number(copy.items().next());
-    assert_eq!(rt; kind, 1);
-    assert_eq!(rt; number, 16);
-    assert_eq!(rt; next_name(&mut copy.files()), b'a');
+    check_equal(&rt, kind, 1);
+    check_equal(&rt, number, 16);
+    check_equal(&rt, next_name(&mut copy.files()), b'a');
     Ok(())
 }
 
@@ -471,11 +486,11 @@ fn copies(rt: HostRuntime) -> std::result::Result<(), Fail> {
 fn sequence_without_an_address(rt: HostRuntime) -> std::result::Result<(), Fail> {
     let mut program = program(rt.alloc())?;
     program.begin_sequence(None)?;
-    assert!(rt; program.is_empty());
-    assert!(rt; program.in_sequence());
-    assert!(rt; put_end(&mut program, 0)?);
-    assert!(rt; !program.is_empty());
-    assert!(rt; !program.in_sequence());
+    check(&rt, program.is_empty());
+    check(&rt, program.in_sequence());
+    check(&rt, put_end(&mut program, 0)?);
+    check(&rt, !program.is_empty());
+    check(&rt, !program.in_sequence());
     Ok(())
 }
 
@@ -495,8 +510,8 @@ fn check_new_text(
         version,
     };
     let text = LineString::new(b"a.c", encoding, line_strings)?;
-    assert_eq!(rt; text.form(), form);
-    assert_eq!(rt; line_strings.count(), count);
+    check_equal(rt, text.form(), form);
+    check_equal(rt, line_strings.count(), count);
     Ok(())
 }
 
@@ -518,9 +533,9 @@ fn bytes_of_texts(rt: HostRuntime) -> std::result::Result<(), Fail> {
     let one = LineString::StringRef(strings.add(b"one")?);
     let two = LineString::LineStringRef(line_strings.add(b"two")?);
     let three = LineString::String(b"three".to_vec(rt.alloc())?);
-    assert_eq!(rt; one.get(&strings, &line_strings), b"one".as_slice());
-    assert_eq!(rt; two.get(&strings, &line_strings), b"two".as_slice());
-    assert_eq!(rt; three.get(&strings, &line_strings), b"three".as_slice());
+    check_equal(&rt, one.get(&strings, &line_strings), b"one".as_slice());
+    check_equal(&rt, two.get(&strings, &line_strings), b"two".as_slice());
+    check_equal(&rt, three.get(&strings, &line_strings), b"three".as_slice());
     Ok(())
 }
 
@@ -605,8 +620,11 @@ fn equal_rows_and_items(rt: HostRuntime) -> std::result::Result<(), Fail> {
     let mut program = program(rt.alloc())?;
     let (first, second) = put_two_files(&mut program, rt.alloc())?;
     let row = *program.row();
-    assert_eq!(rt; row.file, first);
-    assert!(rt; row.is_statement && row.line == 1 && row.address_offset == 0);
+    check_equal(&rt, row.file, first);
+    check(
+        &rt,
+        row.is_statement && row.line == 1 && row.address_offset == 0,
+    );
     check_distinct(&rt, "row", &rows_of(row, second));
     check_distinct(&rt, "item", &items_of(row, second));
     Ok(())

@@ -1,5 +1,6 @@
 //! The texts of the errors of writing and converting, and how one error becomes another.
 
+use crate::equality::check_equal;
 use gimli_core::{DwEhPe, Error as ReadError};
 use gimli_write::{ConvertError, ConvertResult, Error, Result};
 use std::alloc::AllocError;
@@ -7,76 +8,78 @@ use std::test::Fail;
 
 // ---- texts
 
+/// Errors of writing, and their texts.
+const TEXTS_OF_WRITING: [(Error, &str); 20] = [
+    (
+        Error::OffsetOutOfBounds,
+        "The given offset is out of bounds.",
+    ),
+    (
+        Error::LengthOutOfBounds,
+        "The given length is out of bounds.",
+    ),
+    (
+        Error::InvalidAttributeValue,
+        "The attribute value is an invalid for writing.",
+    ),
+    (
+        Error::ValueTooLarge,
+        "The value is too large for the encoding form.",
+    ),
+    (Error::UnsupportedWordSize(5), "Unsupported word size: 5"),
+    (Error::UnsupportedVersion(6), "Unsupported DWARF version: 6"),
+    (
+        Error::InitialLengthOverflow,
+        "The unit length is too large for the requested DWARF format.",
+    ),
+    (Error::InvalidAddress, "The address is invalid."),
+    (Error::InvalidReference, "The reference is invalid."),
+    (
+        Error::NeedVersion(4),
+        "A requested feature requires a DWARF version 4.",
+    ),
+    (
+        Error::LineStringFormMismatch,
+        "Strings in line number program have mismatched forms.",
+    ),
+    (
+        Error::InvalidRange,
+        "The range is empty or otherwise invalid.",
+    ),
+    (
+        Error::IncompatibleLineProgramEncoding,
+        "The line number program encoding is incompatible with the unit encoding.",
+    ),
+    (
+        Error::InvalidFrameCodeOffset(70000),
+        "Could not encode code offset (70000) for a frame instruction.",
+    ),
+    (
+        Error::InvalidFrameDataOffset(-7),
+        "Could not encode data offset (-7) for a frame instruction.",
+    ),
+    (
+        Error::UnsupportedCfiExpressionReference,
+        "Unsupported reference in CFI expression.",
+    ),
+    (
+        Error::UnsupportedExpressionForwardReference,
+        "Unsupported forward reference in expression.",
+    ),
+    (
+        Error::UnexpectedBaseAddress,
+        "Range or location entry is an address pair, but base address is set.",
+    ),
+    (
+        Error::MissingBaseAddress,
+        "Range or location entry is an offset pair, but base address is not set.",
+    ),
+    (Error::OutOfMemory, "Not enough memory."),
+];
+
 #[test]
 fn texts_of_writing(rt: HostRuntime) -> std::result::Result<(), Fail> {
-    let rows = [
-        (
-            Error::OffsetOutOfBounds,
-            "The given offset is out of bounds.",
-        ),
-        (
-            Error::LengthOutOfBounds,
-            "The given length is out of bounds.",
-        ),
-        (
-            Error::InvalidAttributeValue,
-            "The attribute value is an invalid for writing.",
-        ),
-        (
-            Error::ValueTooLarge,
-            "The value is too large for the encoding form.",
-        ),
-        (Error::UnsupportedWordSize(5), "Unsupported word size: 5"),
-        (Error::UnsupportedVersion(6), "Unsupported DWARF version: 6"),
-        (
-            Error::InitialLengthOverflow,
-            "The unit length is too large for the requested DWARF format.",
-        ),
-        (Error::InvalidAddress, "The address is invalid."),
-        (Error::InvalidReference, "The reference is invalid."),
-        (
-            Error::NeedVersion(4),
-            "A requested feature requires a DWARF version 4.",
-        ),
-        (
-            Error::LineStringFormMismatch,
-            "Strings in line number program have mismatched forms.",
-        ),
-        (
-            Error::InvalidRange,
-            "The range is empty or otherwise invalid.",
-        ),
-        (
-            Error::IncompatibleLineProgramEncoding,
-            "The line number program encoding is incompatible with the unit encoding.",
-        ),
-        (
-            Error::InvalidFrameCodeOffset(70000),
-            "Could not encode code offset (70000) for a frame instruction.",
-        ),
-        (
-            Error::InvalidFrameDataOffset(-7),
-            "Could not encode data offset (-7) for a frame instruction.",
-        ),
-        (
-            Error::UnsupportedCfiExpressionReference,
-            "Unsupported reference in CFI expression.",
-        ),
-        (
-            Error::UnsupportedExpressionForwardReference,
-            "Unsupported forward reference in expression.",
-        ),
-        (
-            Error::UnexpectedBaseAddress,
-            "Range or location entry is an address pair, but base address is set.",
-        ),
-        (
-            Error::MissingBaseAddress,
-            "Range or location entry is an offset pair, but base address is not set.",
-        ),
-        (Error::OutOfMemory, "Not enough memory."),
-    ];
-    for (error, text) in rows {
+    for (error, text) in TEXTS_OF_WRITING {
         assert_eq!(rt; error.to_string(rt.alloc())?.as_str(), text);
     }
     Ok(())
@@ -92,96 +95,98 @@ fn text_of_a_pointer_encoding(rt: HostRuntime) -> std::result::Result<(), Fail> 
     Ok(())
 }
 
+/// Errors of conversion, and their texts.
+const TEXTS_OF_CONVERSION: [(ConvertError, &str); 22] = [
+    (
+        ConvertError::UnsupportedAttributeValue,
+        "Writing of this attribute value is not implemented yet.",
+    ),
+    (
+        ConvertError::InvalidAttributeValue,
+        "This attribute value is an invalid name/form combination.",
+    ),
+    (
+        ConvertError::InvalidDebugInfoOffset,
+        "A `.debug_info` reference does not refer to a valid entry.",
+    ),
+    (
+        ConvertError::InvalidAddress,
+        "An address could not be converted.",
+    ),
+    (
+        ConvertError::UnsupportedLineInstruction,
+        "Writing this line number instruction is not implemented yet.",
+    ),
+    (
+        ConvertError::UnsupportedLineStringForm,
+        "Writing this form of line string is not implemented yet.",
+    ),
+    (
+        ConvertError::MissingLineEndSequence,
+        "A `DW_LNE_end_sequence` instruction was missing at the end of a sequence.",
+    ),
+    (
+        ConvertError::MissingCompilationName,
+        "The name of the compilation unit is missing.",
+    ),
+    (
+        ConvertError::MissingCompilationDirectory,
+        "The path of the compilation directory is missing.",
+    ),
+    (
+        ConvertError::InvalidFileIndex,
+        "A `.debug_line` file index is invalid.",
+    ),
+    (
+        ConvertError::InvalidDirectoryIndex,
+        "A `.debug_line` directory index is invalid.",
+    ),
+    (
+        ConvertError::InvalidLineBase,
+        "A `.debug_line` line base is invalid.",
+    ),
+    (
+        ConvertError::InvalidLineRef,
+        "A `.debug_line` reference is invalid.",
+    ),
+    (
+        ConvertError::InvalidUnitRef,
+        "A `.debug_info` unit entry reference is invalid.",
+    ),
+    (
+        ConvertError::InvalidDebugInfoRef,
+        "A `.debug_info` reference is invalid.",
+    ),
+    (
+        ConvertError::InvalidRangeRelativeAddress,
+        "Invalid relative address in a range list.",
+    ),
+    (
+        ConvertError::UnsupportedCfiInstruction,
+        "Writing this CFI instruction is not implemented yet.",
+    ),
+    (
+        ConvertError::UnsupportedIndirectAddress,
+        "Writing indirect pointers is not implemented yet.",
+    ),
+    (
+        ConvertError::UnsupportedOperation,
+        "Writing this expression operation is not implemented yet.",
+    ),
+    (
+        ConvertError::InvalidBranchTarget,
+        "Operation branch target is invalid.",
+    ),
+    (
+        ConvertError::UnsupportedUnitType,
+        "Writing this unit type is not supported yet.",
+    ),
+    (ConvertError::OutOfMemory, "Not enough memory."),
+];
+
 #[test]
 fn texts_of_conversion(rt: HostRuntime) -> std::result::Result<(), Fail> {
-    let rows = [
-        (
-            ConvertError::UnsupportedAttributeValue,
-            "Writing of this attribute value is not implemented yet.",
-        ),
-        (
-            ConvertError::InvalidAttributeValue,
-            "This attribute value is an invalid name/form combination.",
-        ),
-        (
-            ConvertError::InvalidDebugInfoOffset,
-            "A `.debug_info` reference does not refer to a valid entry.",
-        ),
-        (
-            ConvertError::InvalidAddress,
-            "An address could not be converted.",
-        ),
-        (
-            ConvertError::UnsupportedLineInstruction,
-            "Writing this line number instruction is not implemented yet.",
-        ),
-        (
-            ConvertError::UnsupportedLineStringForm,
-            "Writing this form of line string is not implemented yet.",
-        ),
-        (
-            ConvertError::MissingLineEndSequence,
-            "A `DW_LNE_end_sequence` instruction was missing at the end of a sequence.",
-        ),
-        (
-            ConvertError::MissingCompilationName,
-            "The name of the compilation unit is missing.",
-        ),
-        (
-            ConvertError::MissingCompilationDirectory,
-            "The path of the compilation directory is missing.",
-        ),
-        (
-            ConvertError::InvalidFileIndex,
-            "A `.debug_line` file index is invalid.",
-        ),
-        (
-            ConvertError::InvalidDirectoryIndex,
-            "A `.debug_line` directory index is invalid.",
-        ),
-        (
-            ConvertError::InvalidLineBase,
-            "A `.debug_line` line base is invalid.",
-        ),
-        (
-            ConvertError::InvalidLineRef,
-            "A `.debug_line` reference is invalid.",
-        ),
-        (
-            ConvertError::InvalidUnitRef,
-            "A `.debug_info` unit entry reference is invalid.",
-        ),
-        (
-            ConvertError::InvalidDebugInfoRef,
-            "A `.debug_info` reference is invalid.",
-        ),
-        (
-            ConvertError::InvalidRangeRelativeAddress,
-            "Invalid relative address in a range list.",
-        ),
-        (
-            ConvertError::UnsupportedCfiInstruction,
-            "Writing this CFI instruction is not implemented yet.",
-        ),
-        (
-            ConvertError::UnsupportedIndirectAddress,
-            "Writing indirect pointers is not implemented yet.",
-        ),
-        (
-            ConvertError::UnsupportedOperation,
-            "Writing this expression operation is not implemented yet.",
-        ),
-        (
-            ConvertError::InvalidBranchTarget,
-            "Operation branch target is invalid.",
-        ),
-        (
-            ConvertError::UnsupportedUnitType,
-            "Writing this unit type is not supported yet.",
-        ),
-        (ConvertError::OutOfMemory, "Not enough memory."),
-    ];
-    for (error, text) in rows {
+    for (error, text) in TEXTS_OF_CONVERSION {
         assert_eq!(rt; error.to_string(rt.alloc())?.as_str(), text);
     }
     Ok(())
@@ -193,11 +198,12 @@ fn texts_of_others(rt: HostRuntime) -> std::result::Result<(), Fail> {
     let read = ReadError::AddressOverflow;
     let want = read.to_string(rt.alloc())?;
     let text = ConvertError::Read(read).to_string(rt.alloc())?;
-    assert_eq!(rt; text.as_str(), want.as_str());
+    check_equal(&rt, text.as_str(), want.as_str());
     let text = ConvertError::Write(Error::NeedVersion(4)).to_string(rt.alloc())?;
-    assert_eq!(rt;
+    check_equal(
+        &rt,
         text.as_str(),
-        "A requested feature requires a DWARF version 4."
+        "A requested feature requires a DWARF version 4.",
     );
     Ok(())
 }
@@ -220,11 +226,15 @@ fn of_write(error: Error) -> ConvertResult<()> {
 #[test]
 fn errors_of_errors(rt: HostRuntime) {
     let read = ReadError::LineRangeZero;
-    assert_eq!(rt; of_read(read), Err(ConvertError::Read(read)));
-    assert_eq!(rt; ConvertError::from(read), ConvertError::Read(read));
+    check_equal(&rt, of_read(read), Err(ConvertError::Read(read)));
+    check_equal(&rt, ConvertError::from(read), ConvertError::Read(read));
     let write = Error::UnsupportedVersion(6);
-    assert_eq!(rt; of_write(write), Err(ConvertError::Write(write)));
-    assert_eq!(rt; ConvertError::from(write), ConvertError::Write(write));
-    assert_eq!(rt; Error::from(AllocError), Error::OutOfMemory);
-    assert_eq!(rt; ConvertError::from(AllocError), ConvertError::OutOfMemory);
+    check_equal(&rt, of_write(write), Err(ConvertError::Write(write)));
+    check_equal(&rt, ConvertError::from(write), ConvertError::Write(write));
+    check_equal(&rt, Error::from(AllocError), Error::OutOfMemory);
+    check_equal(
+        &rt,
+        ConvertError::from(AllocError),
+        ConvertError::OutOfMemory,
+    );
 }

@@ -4,6 +4,7 @@ ghost use Rattle.std.specs.Prelude.{[]};
 ghost use Rattle.gimli_write.specs.Conditions.{CanWrite};
 
 use crate::built::{DEMO_UNIT, demo, demo_at, write};
+use crate::equality::{check, check_equal};
 use gimli_core::{
     BigEndian, DebugLineOffset, DebugLineStrOffset, DebugStrOffset, Encoding, LittleEndian,
 };
@@ -23,16 +24,16 @@ use std::test::Fail;
 fn check_copy(rt: &impl Abort, w: &EndianVec<BigEndian>) -> Result<()> {
     let mut copy = w.clone()?;
     copy.write(b"d")?;
-    assert_eq!(rt; copy.into_vec().as_slice(), b"abcd".as_slice());
-    assert_eq!(rt; w.slice(), b"abc".as_slice());
+    check_equal(rt, copy.into_vec().as_slice(), b"abcd".as_slice());
+    check_equal(rt, w.slice(), b"abc".as_slice());
     Ok(())
 }
 
 fn check_take(rt: &impl Abort, w: &mut EndianVec<BigEndian>) -> Result<()> {
-    assert_eq!(rt; w.take().as_slice(), b"abc".as_slice());
-    assert_eq!(rt; w.slice(), b"".as_slice());
+    check_equal(rt, w.take().as_slice(), b"abc".as_slice());
+    check_equal(rt, w.slice(), b"".as_slice());
     w.write_u16(1)?;
-    assert_eq!(rt; w.slice(), [0, 1].as_slice());
+    check_equal(rt, w.slice(), [0, 1].as_slice());
     Ok(())
 }
 
@@ -65,13 +66,13 @@ fn offsets_of_sections(rt: HostRuntime) -> std::result::Result<(), Fail> {
     let mut lines = DebugLine::from(EndianVec::new(rt.alloc(), LittleEndian));
     let mut strings = DebugStr::from(EndianVec::new(rt.alloc(), BigEndian));
     let mut line_strings = DebugLineStr::from(EndianVec::new(rt.alloc(), BigEndian));
-    assert_eq!(rt; lines.offset(), DebugLineOffset(0));
+    check_equal(&rt, lines.offset(), DebugLineOffset(0));
     lines.0.write(b"abc")?;
     strings.0.write(b"ab")?;
     line_strings.0.write(b"a")?;
-    assert_eq!(rt; lines.offset(), DebugLineOffset(3));
-    assert_eq!(rt; strings.offset(), DebugStrOffset(2));
-    assert_eq!(rt; line_strings.offset(), DebugLineStrOffset(1));
+    check_equal(&rt, lines.offset(), DebugLineOffset(3));
+    check_equal(&rt, strings.offset(), DebugStrOffset(2));
+    check_equal(&rt, line_strings.offset(), DebugLineStrOffset(1));
     Ok(())
 }
 
@@ -81,15 +82,15 @@ fn tables_of_texts(rt: HostRuntime) -> std::result::Result<(), Fail> {
     let mut table = LineStringTable::default(rt.alloc());
     let directory = table.add(b"/w")?;
     let file = table.add(b"a.c")?;
-    assert!(rt; table.add(b"/w")? == directory && directory != file);
-    assert!(rt; directory.0 < table.count() && file.0 < table.count());
-    assert_eq!(rt; table.get(file), b"a.c".as_slice());
-    assert_eq!(rt; table.offset(file), DebugLineStrOffset(3));
-    assert_eq!(rt; table.count(), 2);
+    check(&rt, table.add(b"/w")? == directory && directory != file);
+    check(&rt, directory.0 < table.count() && file.0 < table.count());
+    check_equal(&rt, table.get(file), b"a.c".as_slice());
+    check_equal(&rt, table.offset(file), DebugLineStrOffset(3));
+    check_equal(&rt, table.count(), 2);
     let mut section = DebugLineStr::from(EndianVec::new(*table.allocator(), BigEndian));
     section.0.write(b"..")?;
     table.write(&mut section)?;
-    assert_eq!(rt; section.0.slice(), b"../w\0a.c\0".as_slice());
+    check_equal(&rt, section.0.slice(), b"../w\0a.c\0".as_slice());
     Ok(())
 }
 
@@ -111,8 +112,8 @@ fn check_refused(rt: &impl Abort, alloc: Global) -> Result<()> {
     let program = demo_at(alloc, symbol)?;
     let mut section = section_of_three(alloc)?;
     let answer = write(alloc, &program, &mut section);
-    assert_eq!(rt; answer, Err(Error::InvalidAddress));
-    assert!(rt; section.0.slice().starts_with(b"\xaa\xbb\xcc"));
+    check_equal(rt, answer, Err(Error::InvalidAddress));
+    check(rt, section.0.slice().starts_with(b"\xaa\xbb\xcc"));
     Ok(())
 }
 
@@ -128,8 +129,8 @@ fn check_incompatible(rt: &impl Abort, alloc: Global, program: &LineProgram) -> 
         ..program.encoding()
     };
     let answer = program.write(&mut section, encoding, &mut line_strings, &mut strings);
-    assert_eq!(rt; answer, Err(Error::IncompatibleLineProgramEncoding));
-    assert_eq!(rt; section.0.slice(), b"\xaa\xbb\xcc".as_slice());
+    check_equal(rt, answer, Err(Error::IncompatibleLineProgramEncoding));
+    check_equal(rt, section.0.slice(), b"\xaa\xbb\xcc".as_slice());
     Ok(())
 }
 
@@ -138,10 +139,10 @@ fn check_written(rt: &impl Abort, alloc: Global, program: &LineProgram) -> Resul
     requires { CanWrite program.now [] [] }
 {
     let mut section = section_of_three(alloc)?;
-    assert_eq!(rt; write(alloc, program, &mut section)?, DebugLineOffset(3));
-    assert!(rt; section.0.slice().starts_with(b"\xaa\xbb\xcc"));
-    assert!(rt; section.0.slice().ends_with(DEMO_UNIT));
-    assert_eq!(rt; section.0.len(), 54);
+    check_equal(rt, write(alloc, program, &mut section)?, DebugLineOffset(3));
+    check(rt, section.0.slice().starts_with(b"\xaa\xbb\xcc"));
+    check(rt, section.0.slice().ends_with(DEMO_UNIT));
+    check_equal(rt, section.0.len(), 54);
     Ok(())
 }
 
@@ -156,18 +157,22 @@ fn units_behind_other_bytes(rt: HostRuntime) -> std::result::Result<(), Fail> {
 
 /// A row of the first file has this address and this line, and its other numbers are those of a new row.
 fn check_row(rt: &impl Abort, row: &LineRow, address: u64, line: u64) {
-    assert_eq!(rt; (row.address(), row.op_index()), (address, 0));
-    assert_eq!(rt; (row.file_index(), row.line()), (1, NonZeroU64::new(line)));
-    assert_eq!(rt; row.column(), ColumnType::LeftEdge);
-    assert_eq!(rt; (row.isa(), row.discriminator()), (0, 0));
+    check_equal(rt, (row.address(), row.op_index()), (address, 0));
+    check_equal(
+        rt,
+        (row.file_index(), row.line()),
+        (1, NonZeroU64::new(line)),
+    );
+    check_equal(rt, row.column(), ColumnType::LeftEdge);
+    check_equal(rt, (row.isa(), row.discriminator()), (0, 0));
 }
 
 /// What is read of the demo unit, wherever it stands.
 fn check_read(rt: &impl Abort, answer: &RoundTrip) {
-    assert_eq!(rt; answer.offset, DebugLineOffset(3));
-    assert_eq!(rt; answer.directories.len(), 1);
-    assert_eq!(rt; answer.files.len(), 1);
-    assert_eq!(rt; answer.rows.len(), 3);
+    check_equal(rt, answer.offset, DebugLineOffset(3));
+    check_equal(rt, answer.directories.len(), 1);
+    check_equal(rt, answer.files.len(), 1);
+    check_equal(rt, answer.rows.len(), 3);
     for (row, (address, line)) in answer
         .rows
         .iter()
@@ -197,8 +202,8 @@ fn check_round_trip(
         &mut strings,
     )?;
     check_read(rt, &answer);
-    assert!(rt; section.0.slice().starts_with(b"\xaa\xbb\xcc"));
-    assert!(rt; section.0.slice().ends_with(DEMO_UNIT));
+    check(rt, section.0.slice().starts_with(b"\xaa\xbb\xcc"));
+    check(rt, section.0.slice().ends_with(DEMO_UNIT));
     Ok(())
 }
 

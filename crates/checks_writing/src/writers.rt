@@ -5,6 +5,7 @@ ghost use Rattle.gimli_write.specs.Conditions.{CanWrite};
 ghost use Rattle.gimli_write.specs.LineText.{line_text, HasNoZero, IsWithin};
 
 use crate::built::{DEMO_UNIT, demo, demo_at, write};
+use crate::equality::{check, check_equal};
 use gimli_core::{
     DebugLineOffset, Encoding, Endianity, Format, LineEncoding, LittleEndian, SectionId,
 };
@@ -101,8 +102,8 @@ fn check_array(rt: &impl Abort, alloc: Global, program: &LineProgram, len: usize
     let before = section.0.bytes.get(..len).unwrap_or(&[]);
     assert!(rt; before.iter().all(|byte| *byte == 0xaa), "at {len}");
     if len <= 13 {
-        assert_eq!(rt; answer, Ok(DebugLineOffset(len)));
-        assert_eq!(rt; section.0.bytes.get(len..section.0.len), Some(DEMO_UNIT));
+        check_equal(rt, answer, Ok(DebugLineOffset(len)));
+        check_equal(rt, section.0.bytes.get(len..section.0.len), Some(DEMO_UNIT));
     } else {
         assert_eq!(rt; answer, Err(Error::LengthOutOfBounds), "at {len}");
     }
@@ -226,8 +227,11 @@ const SYMBOL: Address = Address::Symbol {
 /// An address is written by `write_address`, with the size of addresses, also where it is a symbol.
 #[test]
 fn addresses_by_their_own_call(rt: HostRuntime) -> std::result::Result<(), Fail> {
-    assert!(rt; is_noted(rt.alloc(), Address::Constant(0x1000), 0x2d, b"C\x04")?);
-    assert!(rt; is_noted(rt.alloc(), SYMBOL, 0x2e, b"Y\x04\x07")?);
+    check(
+        &rt,
+        is_noted(rt.alloc(), Address::Constant(0x1000), 0x2d, b"C\x04")?,
+    );
+    check(&rt, is_noted(rt.alloc(), SYMBOL, 0x2e, b"Y\x04\x07")?);
     Ok(())
 }
 
@@ -378,8 +382,8 @@ fn check_fresh(rt: &impl Abort, alloc: Global, program: &LineProgram) -> Result<
     requires { CanWrite program.now [] [] }
 {
     let mut section = DebugLine::from(EndianVec::new(alloc, LittleEndian));
-    assert_eq!(rt; write(alloc, program, &mut section)?, DebugLineOffset(0));
-    assert_eq!(rt; section.0.slice(), DEMO_UNIT);
+    check_equal(rt, write(alloc, program, &mut section)?, DebugLineOffset(0));
+    check_equal(rt, section.0.slice(), DEMO_UNIT);
     Ok(())
 }
 
