@@ -26,6 +26,14 @@ def end_of(text, start, opening, closing):
     raise ValueError("no end")
 
 
+def end_of_generics(text, start):
+    depth = 0
+    for i in range(start, len(text)):
+        depth += (text[i] == "<") - (text[i] == ">" and text[i - 1] != "-")
+        if depth == 0:
+            return i
+
+
 def owner_of(header):
     """The name of the type or trait that an `impl` or `trait` line is about."""
     if header.startswith("<"):
@@ -80,7 +88,7 @@ def functions(crate):
             in_trait = bool(inside) and inside[-1][2] == "trait"
             if not m.group(1) and not in_trait:
                 continue
-            opening = text.index("(", m.end())
+            opening = text.index("(", end_of_generics(text, m.end()))
             closing = end_of(text, opening, "(", ")")
             arguments = squeezed(text[opening + 1 : closing - 1]).rstrip(",")
             arrow = re.match(r"\s*->\s*", text[closing:])
