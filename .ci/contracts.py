@@ -94,7 +94,7 @@ def functions(crate):
             arrow = re.match(r"\s*->\s*", text[closing:])
             answer, i = answer_type(text, closing + arrow.end()) if arrow else ("", closing)
             answer = " -> " + answer if answer else ""
-            owner = owner_of(inside[-1][3]) + "::" if inside else ("laws::" if module == "laws" else "")
+            owner = owner_of(inside[-1][3]) + "::" if inside else (module + "::" if module.endswith("laws") else "")
             generics = squeezed(text[m.end() : opening])
             lines.append(f"fn {owner}{m.group(2)}{generics}({arguments}){answer}")
             lines += clauses_at(text, i)
