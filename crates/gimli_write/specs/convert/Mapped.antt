@@ -18,9 +18,11 @@ use Rattle.gimli_line.specs.run.OperationPointer.{is_hidden}
 use Rattle.gimli_build.specs.Built.{address_value}
 use Rattle.gimli_build.specs.FileNumber.{file_number}
 use Rattle.gimli_build.specs.LineText.{LineText, bytes_in}
-use Rattle.gimli_build.specs.SameRow.{read_row}
+use Rattle.gimli_build.specs.Conditions.{CanWrite}
+use Rattle.gimli_build.specs.Items.{AddressesFit}
+use Rattle.gimli_build.specs.SameRow.{read_row, RowsMatch}
 use Rattle.gimli_build.specs.Tables.{File as BuiltFile}
-use Rattle.gimli_build.specs.Texts.{Sections, IsText, IsOptionalText}
+use Rattle.gimli_build.specs.Texts.{Sections, IsText, IsOptionalText, OneByOne}
 use Rattle.gimli_build.specs.declared.built.row.LineRow.{LineRow}
 use Rattle.gimli_build.specs.declared.built.items.BuiltItem.{BuiltItem}
 use Rattle.gimli_build.specs.declared.built.items.BuiltItem.TheVariants.{SetAddress, Row, End}
@@ -160,3 +162,15 @@ pub record AreFilesReadAs (sections : Sections) (h : Header) (files : List File)
   pub each : (n : ℕ) (f : File) → entry_of h.parameters.encoding.version None files n ≡ Some f
       → (id : ℕ) × IsFileId h.parameters.encoding.version file_ids n id
       × ((answer : FileAnswer) × (slice_get answers id ≡ Some answer) × IsFileReadAs sections h directories f answer)
+
+-- ---- what a caller knows
+
+-- a converted program can be written; it says what its source says, in addresses that fit and hide nothing; and rows that
+-- are read back as it was built say what the rows of the source say
+pub record IsFaithful (notation : Notation) (sections : Sections) (h : Header) (strings : List (List ℕ)) (c : Conversion) : Type 0 where
+  pub can_write : CanWrite c.program strings c.line_strings
+  pub mapped : IsMapped notation sections h h.program strings c
+  pub addresses : AddressesFit c.program.encoding.address_size 0 (0, 0) c.program.items
+  pub read_back : (rows back : List ReadRow) → Events notation h h.program (map row rows)
+      → RowsMatch c.program.encoding.version [] c.program.items back
+      → OneByOne (IsReadAs h.parameters.encoding.version c.program.encoding.version c.file_ids) rows back

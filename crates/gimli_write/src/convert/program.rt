@@ -10,6 +10,7 @@ ghost use Rattle.gimli_build.specs.Conditions.{CanBuild, CanEndSequence};
 ghost use Rattle.gimli_write.specs.convert.Texts.{IsRefusedBy};
 ghost use Rattle.gimli_write.specs.convert.Lists.{lists_with};
 ghost use Rattle.gimli_write.specs.convert.Offers.{Reads};
+ghost use Rattle.gimli_write.specs.convert.Mapped.{CanBeFaithful, IsFaithful};
 ghost use Rattle.gimli_write.specs.convert.Preparation.{handed, prepared};
 ghost use Rattle.gimli_write.specs.convert.Feeding.{behind_address, behind_row, behind_end, converted};
 ghost use Rattle.gimli_write.specs.convert.ConversionState.{lists_of, still_to_read, HandsOut, IsReadRefusal, AddsFiles, IsBuildRefusal, IsConverted, begun, with_program};
@@ -295,7 +296,9 @@ impl<'a, 'b, R: Reader> ConvertLineProgram<'a, 'b, R, Conversion<R>> {
 }
 
 /// A conversion that is begun and done in one call: `ConvertLineProgram::new`, and then its `convert`. Refused as these
-/// are. The tables keep their texts.
+/// are. The tables keep their texts. Where each address is mapped to itself, addresses are at least as wide as the
+/// source's, and no sequence that gave a row ends hidden, the program says what its source says, and so do the rows that
+/// are read back of it.
 pub fn convert_program<R: Reader, F: Fn(u64) -> Option<Address>>(
     debug_str: R,
     debug_line_str: R,
@@ -319,6 +322,12 @@ pub fn convert_program<R: Reader, F: Fn(u64) -> Option<Address>>(
         → IfErr result (λ e. (e ≡ ConvertError.OutOfMemory) ⊎ IsConverted g from_program.notation
         (record { strings = R.bytes debug_str; line_strings = R.bytes debug_line_str }) from_program.meaning
         (handed encoding line_encoding (option_map R.bytes from_comp_name)) line_strings.old (Err e)) }
+    ensures faithful { (g : ℕ → Option Address) → ((a : ℕ) (r : Option Address) → F.post convert_address a r → r ≡ g a)
+        → CanBeFaithful g from_program.notation from_program.meaning
+        (handed encoding line_encoding (option_map R.bytes from_comp_name))
+        → IfOk result (λ answer. IsFaithful from_program.notation
+        (record { strings = R.bytes debug_str; line_strings = R.bytes debug_line_str }) from_program.meaning strings.new
+        (record { program = answer.0; file_ids = answer.1.items; line_strings = line_strings.new })) }
     ensures stays { KeepsTexts line_strings.old line_strings.new }
     ensures strings { strings.new ≡ strings.old }
 {

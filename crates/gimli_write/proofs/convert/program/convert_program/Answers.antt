@@ -6,6 +6,7 @@ use Rattle.gimli_write.specs.convert.Preparation.{handed}
 use Rattle.gimli_write.specs.convert.ConversionState.{still_to_read}
 use Rattle.gimli_write.proofs.ConvertSteps.{kept_then}
 use Rattle.gimli_write.proofs.Feedings.{all_converted, header_refused, rows_refused}
+use Rattle.gimli_write.proofs.MappedLaws.{conversion_mapped, conversion_fits, conversion_written, conversion_back}
 use Rattle.gimli_write.proofs.convert.program.convert_program.Goals as goal
 
 pub returns-in_err-conversion-clause-err : goal.returns-in_err-conversion-clause-err
@@ -41,3 +42,18 @@ returns-clause-err g c = λ m says.
 pub returns-clause-stays : goal.returns-clause-stays
 returns-clause-stays g c =
     kept_then c.args.line_strings.now c.started.new.line_strings c.convert_all.new.line_strings c.in_ok-conversion.ensures.stays c.convert_all.ensures.stays
+
+pub returns-clause-faithful : goal.returns-clause-faithful
+returns-clause-faithful g c = λ m says can.
+    let sections : Sections = record { strings = g.R.Reader.bytes c.args.debug_str; line_strings = g.R.Reader.bytes c.args.debug_line_str } in
+    let given = handed c.args.encoding c.args.line_encoding (option_map g.R.Reader.bytes c.args.from_comp_name) in
+    let h = c.args.from_program.meaning in
+    let n = c.args.from_program.notation in
+    IfOk-weaker c.convert_all.result _ _
+    (λ answer made. record {
+      can_write = conversion_written m n sections h given c.args.line_strings.now _ made c.args.strings.now;
+      mapped = conversion_mapped m n sections h given c.args.line_strings.now _ made can c.args.strings.now;
+      addresses = conversion_fits m n sections h given c.args.line_strings.now _ made can;
+      read_back = λ rows back events built. conversion_back m n sections h given c.args.line_strings.now _ made can rows back events (λ fits. built);
+    })
+    (returns-clause-ok g c m says)
