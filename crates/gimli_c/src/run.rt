@@ -21,6 +21,7 @@ pub(crate) fn advance<R: Reader>(rows: &mut OneShotLineRows<R>) -> Result<Option
     ensures end { IfOk result (λ found. IfNone found ((events_left rows.old ≡ []) × (rows.new.files ≡ files_at_end rows.old))) }
     ensures fault { IfErr result (λ e. e ≢ Error.OutOfMemory →
         events_of (events_left rows.old) ≡ fault e ∷ events_of (events_left rows.new)) }
+    ensures fixed { rows.new.fixed ≡ rows.old.fixed }
     ensures files { OnOk result (files_at_end rows.new ≡ files_at_end rows.old) }
     ensures files_behind { IfErr result (λ e. e ≢ Error.OutOfMemory → files_at_end rows.new ≡ files_at_end rows.old) }
 {
@@ -104,6 +105,7 @@ pub(crate) fn rows_fit<R: Reader>(program: &IncompleteLineProgram<R>)
 /// Goes on to the end of a program, past its faults. Refused by `OutOfMemory` alone.
 pub(crate) fn run_on<R: Reader>(rows: &mut OneShotLineRows<R>) -> Result<()>
     ensures files { OnOk result (rows.new.files ≡ files_at_end rows.old) }
+    ensures fixed { rows.new.fixed ≡ rows.old.fixed }
     ensures err { IfErr result (λ e. e ≡ Error.OutOfMemory) }
 {
     'rows: loop {
