@@ -76,6 +76,42 @@ typedef struct gimli_row {
     uint64_t flags;         /* the sum of those of gimli_row_flag that hold */
 } gimli_row;
 
+/* Where a text stands. */
+enum gimli_text_kind {
+    GIMLI_TEXT_NONE = 0,           /* no text */
+    GIMLI_TEXT_HERE = 1,           /* in the section itself */
+    GIMLI_TEXT_DEBUG_LINE_STR = 2, /* in .debug_line_str, at an offset, up to a zero byte */
+    GIMLI_TEXT_DEBUG_STR = 3,      /* in .debug_str, likewise */
+    GIMLI_TEXT_DEBUG_STR_SUP = 4,  /* in .debug_str of the supplementary file, likewise */
+    GIMLI_TEXT_INDEX = 5           /* by an index into the string offsets of the unit */
+};
+
+typedef struct gimli_text {
+    uint64_t kind;  /* one of gimli_text_kind */
+    uint64_t place; /* the offset in another section, or the index */
+    uint64_t size;  /* the number of bytes of a text that stands in the section itself */
+} gimli_text;
+
+/* Which details the files of a unit have. */
+enum gimli_file_detail {
+    GIMLI_HAS_TIMESTAMP = 1,
+    GIMLI_HAS_SIZE = 2,
+    GIMLI_HAS_MD5 = 4,
+    GIMLI_HAS_SOURCE = 8
+};
+
+/* A source file. */
+typedef struct gimli_file {
+    gimli_text path;          /* full, or from the directory on */
+    gimli_text directory;     /* none where its index is that of no directory, as index 0 is up to version 4: that is DW_AT_comp_dir */
+    gimli_text source;        /* the text of the file; none where it isn't known */
+    uint64_t directory_index;
+    uint64_t timestamp;       /* when the file was last changed, in a measure of the producer's own; 0 where it isn't known */
+    uint64_t size;            /* in bytes; 0 where it isn't known */
+    uint64_t details;         /* the sum of those of gimli_file_detail that hold */
+    uint8_t md5[16];          /* zeros where it isn't known */
+} gimli_file;
+
 /* All calls begin alike. `section` has the `length` bytes of .debug_line. `big` says that the most significant byte of a
  * number comes first. `address_size` is that of the compilation unit: it counts up to version 4, and has to be 1, 2, 4 or 8
  * in any version. `offset` is the value of the compilation unit's DW_AT_stmt_list; or begin with 0, and go on with `next`
@@ -91,6 +127,15 @@ uint32_t gimli_line_unit(const uint8_t *section, size_t length, bool big, uint8_
  * written. */
 uint32_t gimli_line_rows(const uint8_t *section, size_t length, bool big, uint8_t address_size, size_t offset,
                          uint64_t skip, gimli_row *rows, size_t room, uint64_t *count);
+
+/* Reads the file of an index, as rows have it: up to version 4 from 1 on, in version 5 from 0 on. The program is run to its
+ * end, past its faults, for the files that it defines. The bytes of the path and of the directory go into `path` and
+ * `directory`, as far as they stand in the section itself and there is room; file->path.size and file->directory.size say
+ * how many there are. GIMLI_NOT_FOUND where there is no such file. Where another number than 0 is answered, nothing is
+ * written. */
+uint32_t gimli_line_file(const uint8_t *section, size_t length, bool big, uint8_t address_size, size_t offset,
+                         uint64_t index, gimli_file *file, uint8_t *path, size_t path_room, uint8_t *directory,
+                         size_t directory_room);
 
 /* Looks an address up in the unit at an offset: *first is the row that it belongs to, *second the next row, up to whose
  * address that holds. They are the first two adjacent rows of one sequence of which the first has an address at most the

@@ -1,4 +1,5 @@
 pub mod Places
 pub mod Arrays
+pub mod Files
 pub mod Runs
 pub mod Units

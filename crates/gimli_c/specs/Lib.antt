@@ -5,3 +5,4 @@ pub mod Seen
 pub mod Written
 pub mod Unit
 pub mod Found
+pub mod FileSeen

@@ -29,7 +29,8 @@ pub extern "C" fn gimli_line_find(
     ensures found { result ≡ OK → GivesPair (place section.now big address_size offset) address first.new second.new }
     ensures none { result ≡ NOT_FOUND → GivesNoPair (place section.now big address_size offset) address }
     ensures refused { result ≢ OK → result ≢ NOT_FOUND → result ≢ OUT_OF_MEMORY →
-        HasNoUnit (place section.now big address_size offset) result ⊎ HasFault (place section.now big address_size offset) result }
+        HasNoUnit (place section.now big address_size offset) result
+        ⊎ HasFault (place section.now big address_size offset) result }
     ensures kept { result ≢ OK → (first.new ≡ first.old) × (second.new ≡ second.old) }
 {
     let program = match program_at(alloc, section, big, address_size, offset) {

@@ -4,6 +4,7 @@
 //! of the caller. Nothing of the caller is kept behind a call. `include/gimli_line.h` declares all of it.
 #![tactic(auto)]
 
+mod file;
 mod find;
 mod place;
 mod row;
@@ -12,6 +13,7 @@ mod run;
 pub mod status;
 mod unit;
 
+pub use file::{GimliFile, GimliText, gimli_line_file};
 pub use find::gimli_line_find;
 pub use row::GimliRow;
 pub use rows::gimli_line_rows;

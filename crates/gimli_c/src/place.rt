@@ -18,8 +18,10 @@ pub(crate) fn program_at<'s>(
     offset: usize,
 ) -> Result<IncompleteLineProgram<EndianSlice<'s, RunTimeEndian>>, u32>
     ensures unit { IfOk result (λ program. HasUnit (place section.now big address_size offset) program.meaning) }
-    ensures notation { IfOk result (λ program. program.notation ≡ notation_at (place section.now big address_size offset)) }
-    ensures refused { IfErr result (λ status. status ≢ 17 → HasNoUnit (place section.now big address_size offset) status) }
+    ensures notation { IfOk result (λ program.
+        program.notation ≡ notation_at (place section.now big address_size offset)) }
+    ensures refused { IfErr result (λ status. status ≢ 17 →
+        HasNoUnit (place section.now big address_size offset) status) }
 {
     if !matches!(address_size, 1 | 2 | 4 | 8) {
         return Err(UNSUPPORTED_ADDRESS_SIZE);

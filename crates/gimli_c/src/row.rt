@@ -89,7 +89,7 @@ fn flags(row: &LineRow) -> u64
 }
 
 /// A flag, where it holds.
-fn flag(holds: bool, bit: u64) -> u64
+pub(crate) fn flag(holds: bool, bit: u64) -> u64
     ensures flag { result ≡ flag holds bit }
     ensures at_most { result ≤ bit }
 {

@@ -18,9 +18,11 @@ use gimli_line::{IncompleteLineProgram, LineRow, OneShotLineRows, laws};
 pub(crate) fn advance<R: Reader>(rows: &mut OneShotLineRows<R>) -> Result<Option<LineRow>>
     ensures row { IfOk result (λ found. IfSome found (λ r.
         events_of (events_left rows.old) ≡ row r ∷ events_of (events_left rows.new))) }
-    ensures end { IfOk result (λ found. IfNone found ((events_left rows.old ≡ []) × (rows.new.files ≡ files_at_end rows.old))) }
+    ensures end { IfOk result (λ found. IfNone found
+        ((events_left rows.old ≡ []) × (rows.new.files ≡ files_at_end rows.old))) }
     ensures fault { IfErr result (λ e. e ≢ Error.OutOfMemory →
         events_of (events_left rows.old) ≡ fault e ∷ events_of (events_left rows.new)) }
+    ensures fixed { rows.new.fixed ≡ rows.old.fixed }
     ensures files { OnOk result (files_at_end rows.new ≡ files_at_end rows.old) }
     ensures files_behind { IfErr result (λ e. e ≢ Error.OutOfMemory → files_at_end rows.new ≡ files_at_end rows.old) }
 {
@@ -46,7 +48,8 @@ pub(crate) fn copy_rows<R: Reader>(
     room: &mut [GimliRow],
 ) -> Result<Run>
     requires { length (rows_of (events_of (events_left rows.old))) < 2 ^ 64 }
-    ensures ok { IfOk result (λ run. Copied (events_of (events_left rows.old)) skip room.old room.new run.count run.fault) }
+    ensures ok { IfOk result (λ run.
+        Copied (events_of (events_left rows.old)) skip room.old room.new run.count run.fault) }
     ensures files { OnOk result (files_at_end rows.new ≡ files_at_end rows.old) }
     ensures err { IfErr result (λ e. e ≡ Error.OutOfMemory) }
 {
@@ -104,6 +107,7 @@ pub(crate) fn rows_fit<R: Reader>(program: &IncompleteLineProgram<R>)
 /// Goes on to the end of a program, past its faults. Refused by `OutOfMemory` alone.
 pub(crate) fn run_on<R: Reader>(rows: &mut OneShotLineRows<R>) -> Result<()>
     ensures files { OnOk result (rows.new.files ≡ files_at_end rows.old) }
+    ensures fixed { rows.new.fixed ≡ rows.old.fixed }
     ensures err { IfErr result (λ e. e ≡ Error.OutOfMemory) }
 {
     'rows: loop {

@@ -49,7 +49,8 @@ pub extern "C" fn gimli_line_unit(
     unit: &mut GimliUnit,
 ) -> u32
     ensures ok { result ≡ OK → GivesUnit (place section.now big address_size offset) unit.new }
-    ensures refused { result ≢ OK → result ≢ OUT_OF_MEMORY → HasNoUnit (place section.now big address_size offset) result }
+    ensures refused { result ≢ OK → result ≢ OUT_OF_MEMORY →
+        HasNoUnit (place section.now big address_size offset) result }
     ensures kept { result ≢ OK → unit.new ≡ unit.old }
 {
     let program = match program_at(alloc, section, big, address_size, offset) {

@@ -4,7 +4,10 @@ use Rattle.gimli_line.specs.run.Sequences.{events_of}
 use Rattle.gimli_c.proofs.run.run_on.Given as goal
 
 abbrev pub invariant-rows : goal.invariant-rows
-invariant-rows g l = files_at_end l.rows ≡ files_at_end l.initial.rows
+invariant-rows g l = record {
+  files : files_at_end l.rows ≡ files_at_end l.initial.rows;
+  fixed : l.rows.fixed ≡ l.initial.rows.fixed;
+}
 
 abbrev pub decreases-rows : goal.decreases-rows
 decreases-rows g l = length (events_of (events_left l.rows))

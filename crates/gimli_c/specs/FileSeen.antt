@@ -1,0 +1,81 @@
+-- What C sees of a file.
+use Rattle.std.specs.Prelude.{◌≡◌, ◌+◌, ◌||◌, ℕ, true, List, [], Option, Some, None, length, nat_le, unwrap_or}
+use Rattle.gimli_core.specs.Values.{Value}
+use Rattle.gimli_core.specs.declared.attribute_value.AttributeValue.TheVariants.{String, DebugStrRef, DebugStrRefSup, DebugLineStrRef, DebugStrOffsetsIndex}
+use Rattle.gimli_line.specs.header.File.{File}
+use Rattle.gimli_line.specs.header.Header.{Header, directory_of, file_of, has_content}
+use Rattle.gimli_line.specs.run.EventsWithFiles.{FilesAtEnd}
+use Rattle.gimli_c.specs.declared.file.GimliText.{GimliText}
+use Rattle.gimli_c.specs.declared.file.GimliFile.{GimliFile}
+use Rattle.gimli_c.specs.Place.{Place, notation_at, HasUnit}
+use Rattle.gimli_c.specs.Seen.{flag}
+use Rattle.gimli_c.specs.Written.{written}
+
+abbrev pub text_at : ℕ → ℕ → ℕ → GimliText
+text_at kind place size = record { kind = kind; place = place; size = size }
+
+-- a text: 1 in the section itself, 2 to 4 in another one, 5 by an index; 0 is none
+abbrev pub text_seen : Value → GimliText
+text_seen (String bytes) = text_at 1 0 (length bytes)
+text_seen (DebugLineStrRef o) = text_at 2 o.0 0
+text_seen (DebugStrRef o) = text_at 3 o.0 0
+text_seen (DebugStrRefSup o) = text_at 4 o.0 0
+text_seen (DebugStrOffsetsIndex i) = text_at 5 i.0 0
+text_seen v = text_at 0 0 0
+
+abbrev pub optional_text_seen : Option Value → GimliText
+optional_text_seen None = text_at 0 0 0
+optional_text_seen (Some v) = text_seen v
+
+-- a text that stands in the section itself
+abbrev pub text_here : Option Value → Option (List ℕ)
+text_here (Some (String bytes)) = Some bytes
+text_here v = None
+
+-- its bytes, none where it doesn't stand there
+abbrev pub bytes_here : Option Value → List ℕ
+bytes_here v = unwrap_or (text_here v) []
+
+-- which details the files of a header have, each a bit of its own
+abbrev pub details_of : Header → ℕ
+details_of h =
+    flag (nat_le h.parameters.encoding.version 4 || has_content 0x0003 h.file_formats) 1
+    + flag (nat_le h.parameters.encoding.version 4 || has_content 0x0004 h.file_formats) 2
+    + flag (has_content 0x0005 h.file_formats) 4
+    + flag (has_content 0x2001 h.file_formats) 8
+
+abbrev pub file_seen_by_c : Header → File → GimliFile
+file_seen_by_c h f = record {
+  path = text_seen f.path_name;
+  directory = optional_text_seen (directory_of h f.directory_index);
+  source = optional_text_seen f.source;
+  directory_index = f.directory_index;
+  timestamp = f.timestamp;
+  size = f.size;
+  details = details_of h;
+  md5 = f.md5;
+}
+
+-- the header of the unit at the place, with the files that its program has at its end
+pub record HasFiles (p : Place) (complete : Header) : Type 0 where
+  pub header : Header
+  pub unit : HasUnit p header
+  pub files : List File
+  pub at_end : FilesAtEnd (notation_at p) true header header.program files
+  pub complete_is : complete ≡ record header { files = files }
+
+-- the file of an index of the unit at the place, and the bytes of its path and directory where they stand there
+pub record GivesFile (p : Place) (index : ℕ) (seen : GimliFile) (path_old path_new directory_old directory_new : List ℕ) : Type 0 where
+  pub header : Header
+  pub unit : HasFiles p header
+  pub file : File
+  pub is_file : file_of header index ≡ Some file
+  pub seen_is : seen ≡ file_seen_by_c header file
+  pub path_is : path_new ≡ written (bytes_here (Some file.path_name)) path_old
+  pub directory_is : directory_new ≡ written (bytes_here (directory_of header file.directory_index)) directory_old
+
+-- the unit at the place has no file of the index
+pub record GivesNoFile (p : Place) (index : ℕ) : Type 0 where
+  pub header : Header
+  pub unit : HasFiles p header
+  pub none : file_of header index ≡ None

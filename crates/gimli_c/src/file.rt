@@ -1,0 +1,194 @@
+//! The files of a unit.
+
+ghost use Rattle.std.specs.Prelude.{◌≡◌, ◌≢◌, option_map};
+ghost use Rattle.gimli_core.specs.Values.{value_seen};
+ghost use Rattle.gimli_line.specs.header.File.{file_seen};
+ghost use Rattle.gimli_c.specs.FileSeen.{details_of, file_seen_by_c, optional_text_seen, text_here, GivesFile, GivesNoFile};
+ghost use Rattle.gimli_c.specs.Place.{place, HasNoUnit};
+ghost use Rattle.gimli_c.specs.Written.{written};
+
+use crate::place::program_at;
+use crate::row::flag;
+use crate::run::run_on;
+use crate::status::{NOT_FOUND, OK, OUT_OF_MEMORY, error_status};
+use gimli_core::{AttributeValue, Reader, ReaderOffset};
+use gimli_line::{FileEntry, LineProgramHeader};
+use std::alloc::Global;
+
+/// Where a text stands.
+#[repr(C)]
+#[derive(Clone, Copy, Debug, PartialEq, Eq)]
+pub struct GimliText {
+    /// `TEXT_NONE`, `TEXT_HERE`, `TEXT_DEBUG_LINE_STR`, `TEXT_DEBUG_STR`, `TEXT_DEBUG_STR_SUP` or `TEXT_INDEX`.
+    pub kind: u64,
+    /// The offset in another section, or the index.
+    pub place: u64,
+    /// The number of bytes of a text that stands in the section itself.
+    pub size: u64,
+}
+
+/// No text.
+pub const TEXT_NONE: u64 = 0;
+/// A text in the section itself.
+pub const TEXT_HERE: u64 = 1;
+/// A text in the section `.debug_line_str`, at an offset, up to a zero byte.
+pub const TEXT_DEBUG_LINE_STR: u64 = 2;
+/// A text in the section `.debug_str`, at an offset, up to a zero byte.
+pub const TEXT_DEBUG_STR: u64 = 3;
+/// A text in the section `.debug_str` of the supplementary file, at an offset, up to a zero byte.
+pub const TEXT_DEBUG_STR_SUP: u64 = 4;
+/// A text by its index into the string offsets of the unit.
+pub const TEXT_INDEX: u64 = 5;
+
+/// A source file.
+#[repr(C)]
+#[derive(Clone, Copy, Debug, PartialEq, Eq)]
+pub struct GimliFile {
+    /// The path, which is full or starts at the directory.
+    pub path: GimliText,
+    /// The directory; none where its index is that of no directory, as index 0 is up to version 4.
+    pub directory: GimliText,
+    /// The text of the file; none where it isn't known.
+    pub source: GimliText,
+    /// The index of the directory.
+    pub directory_index: u64,
+    /// When the file was last changed, in a measure of the producer's own; 0 where it isn't known.
+    pub timestamp: u64,
+    /// The size in bytes; 0 where it isn't known.
+    pub size: u64,
+    /// The sum of `HAS_TIMESTAMP`, `HAS_SIZE`, `HAS_MD5` and `HAS_SOURCE`, each where the unit's files have that detail.
+    pub details: u64,
+    /// The MD5 digest; zeros where it isn't known.
+    pub md5: [u8; 16],
+}
+
+/// The files have a timestamp.
+pub const HAS_TIMESTAMP: u64 = 1;
+/// The files have a size.
+pub const HAS_SIZE: u64 = 2;
+/// The files have an MD5 digest.
+pub const HAS_MD5: u64 = 4;
+/// The files have a source text.
+pub const HAS_SOURCE: u64 = 8;
+
+/// Reads the file of an index, as rows have it: up to version 4 from 1 on, in version 5 from 0 on. The program is run to
+/// its end, past its faults, for the files that it defines. The bytes of the path and of the directory go into `path` and
+/// `directory`, as far as they stand in the section itself, and there is room. `NOT_FOUND` where there is no such file.
+/// Where another number than 0 is answered, nothing is written. For `address_size` and the order see `gimli_line_unit`.
+#[unsafe(no_mangle)]
+pub extern "C" fn gimli_line_file(
+    alloc: Global,
+    section: &[u8],
+    big: bool,
+    address_size: u8,
+    offset: usize,
+    index: u64,
+    file: &mut GimliFile,
+    path: &mut [u8],
+    directory: &mut [u8],
+) -> u32
+    ensures found { result ≡ OK → GivesFile (place section.now big address_size offset) index file.new
+        path.old path.new directory.old directory.new }
+    ensures none { result ≡ NOT_FOUND → GivesNoFile (place section.now big address_size offset) index }
+    ensures refused { result ≢ OK → result ≢ NOT_FOUND → result ≢ OUT_OF_MEMORY →
+        HasNoUnit (place section.now big address_size offset) result }
+    ensures kept { result ≢ OK → (file.new ≡ file.old) × (path.new ≡ path.old) × (directory.new ≡ directory.old) }
+{
+    let program = match program_at(alloc, section, big, address_size, offset) {
+        Ok(program) => program,
+        Err(status) => return status,
+    };
+    let mut rows = program.rows();
+    match run_on(&mut rows) {
+        Ok(()) => {}
+        Err(e) => return error_status(e),
+    }
+    let header = rows.header();
+    let entry = match header.file(index) {
+        Some(entry) => entry,
+        None => return NOT_FOUND,
+    };
+    *file = GimliFile::new(header, entry);
+    if let Some(text) = text_here(Some(entry.path_name())) {
+        copy_bytes(text.slice(), path);
+    }
+    if let Some(text) = text_here(entry.directory(header)) {
+        copy_bytes(text.slice(), directory);
+    }
+    OK
+}
+
+impl GimliFile {
+    /// What is said of a file of a header.
+    fn new<R: Reader>(header: &LineProgramHeader<R>, file: &FileEntry<R>) -> Self
+        ensures { result ≡ file_seen_by_c header.now.meaning (file_seen R.bytes R.Offset.number file.now) }
+    {
+        GimliFile {
+            path: GimliText::new(Some(file.path_name())),
+            directory: GimliText::new(file.directory(header)),
+            source: GimliText::new(file.source()),
+            directory_index: file.directory_index(),
+            timestamp: file.timestamp(),
+            size: file.size(),
+            details: details(header),
+            md5: *file.md5(),
+        }
+    }
+}
+
+impl GimliText {
+    /// Where the text of a value stands.
+    fn new<R: Reader>(value: Option<AttributeValue<R>>) -> Self
+        ensures { result ≡ optional_text_seen (option_map (value_seen R.bytes R.Offset.number) value) }
+    {
+        let (kind, place, size) = match value {
+            Some(AttributeValue::String(text)) => (TEXT_HERE, 0, text.len().into_u64()),
+            Some(AttributeValue::DebugLineStrRef(offset)) => {
+                (TEXT_DEBUG_LINE_STR, offset.0.into_u64(), 0)
+            }
+            Some(AttributeValue::DebugStrRef(offset)) => (TEXT_DEBUG_STR, offset.0.into_u64(), 0),
+            Some(AttributeValue::DebugStrRefSup(offset)) => {
+                (TEXT_DEBUG_STR_SUP, offset.0.into_u64(), 0)
+            }
+            Some(AttributeValue::DebugStrOffsetsIndex(index)) => (
+                TEXT_INDEX,
+                index.0.into_u64(),
+                0,
+            ),
+            _ => (TEXT_NONE, 0, 0),
+        };
+        GimliText { kind, place, size }
+    }
+}
+
+/// Which details the files of a header have.
+fn details<R: Reader>(header: &LineProgramHeader<R>) -> u64
+    ensures { result ≡ details_of header.now.meaning }
+{
+    flag(header.file_has_timestamp(), HAS_TIMESTAMP)
+        + flag(header.file_has_size(), HAS_SIZE)
+        + flag(header.file_has_md5(), HAS_MD5)
+        + flag(header.file_has_source(), HAS_SOURCE)
+}
+
+/// The text of a value, where it stands in the section itself.
+fn text_here<R: Reader>(value: Option<AttributeValue<R>>) -> Option<R>
+    ensures { option_map R.bytes result ≡ text_here (option_map (value_seen R.bytes R.Offset.number) value) }
+{
+    match value {
+        Some(AttributeValue::String(text)) => Some(text),
+        _ => None,
+    }
+}
+
+/// Puts bytes into a place, as far as there is room.
+fn copy_bytes(bytes: &[u8], room: &mut [u8])
+    ensures { room.new ≡ written bytes.now room.old }
+{
+    for (place, byte) in bytes.iter().enumerate() {
+        if place >= room.len() {
+            return;
+        }
+        room[place] = *byte;
+    }
+}
