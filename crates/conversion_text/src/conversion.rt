@@ -8,6 +8,7 @@ use crate::item_text::FileIndex;
 use crate::reading::{Ending, Kind, Memory, print_no_start, print_refusal};
 use crate::request::Target;
 use builder_scripts::{Tables, print_program};
+use gimli_write::conversion_laws::converted_programs_can_be_written;
 use gimli_write::{
     Address, ConvertError, ConvertResult, FileId, LineProgram, LineStringId, StringId,
     convert_program,
@@ -146,7 +147,7 @@ impl<'i> Conversion<'i> {
             Ok(program) => program,
             Err(error) => return Err(ConvertError::Read(error)),
         };
-        convert_program(
+        let built = convert_program(
             self.strings,
             self.line_strings,
             program,
@@ -156,7 +157,9 @@ impl<'i> Conversion<'i> {
             &mut tables.line_strings,
             &mut tables.strings,
             |address| Some(Address::Constant(address)),
-        )
+        )?;
+        converted_programs_can_be_written();
+        Ok(built)
     }
 }
 
