@@ -81,6 +81,11 @@ pub fn written(alloc: Global, program: &LineProgram) -> Result<EndianVec<LittleE
     let mut section = DebugLine::from(EndianVec::new(alloc, LittleEndian));
     let mut strings = StringTable::default(alloc);
     let mut line_strings = LineStringTable::default(alloc);
-    program.write(&mut section, program.encoding(), &mut line_strings, &mut strings)?;
+    program.write(
+        &mut section,
+        program.encoding(),
+        &mut line_strings,
+        &mut strings,
+    )?;
     Ok(section.0)
 }
