@@ -3,6 +3,7 @@ use Rattle.std.proofs.Common.{◌<◌, ◌≡◌, ℕ, ◌-◌, Bool, true, fals
 use Rattle.std.specs.List.{AllByRecursion, list_any, flat_map}
 use Rattle.std.specs.Option.{unwrap_or}
 use Rattle.std.proofs.lemmas.List.{length-append, append-nil, map-append, take_at}
+use Rattle.std.proofs.lemmas.Simd.{map-map}
 use Rattle.gimli_core.specs.Notation.{Notation}
 use Rattle.gimli_core.specs.Production.{Each}
 use Rattle.gimli_core.specs.declared.error.Error.{Error}
@@ -23,7 +24,7 @@ use Rattle.gimli_line.specs.run.RunState.{RunState}
 use Rattle.gimli_line.specs.run.Progress.{Progress, ready, events_from, registers_behind}
 use Rattle.gimli_line.specs.run.Rows.{live_events, events_left, started, event_of}
 use Rattle.gimli_line.specs.run.Sequences.{Part, events_of, resumed, first_address, IsSequence, AreSequences, HasFirstFault}
-use Rattle.gimli_line.specs.run.SequenceSplit.{SequenceSplit, with_row}
+use Rattle.gimli_line.specs.run.SequenceSplit.{SequenceSplit, with_row, RowSplit, with_kept_row}
 use Rattle.gimli_line.proofs.Backwards.{registers}
 use Rattle.gimli_line.proofs.EventsWithFilesLaws.{gives, goes, files_from_start}
 use Rattle.gimli_line.proofs.InstructionLaws.{is_decoded, one_decoding, takes_bytes}
@@ -85,7 +86,7 @@ through_one (r ∷ rows) last behind closed =
 -- ---- sequences that are closed
 
 -- a sequence whose instructions give these events
-record Closed (h : Header) (s : Part) (events : List Event) : Type 0 where
+pub record Closed (h : Header) (s : Part) (events : List Event) : Type 0 where
   list : List Ins
   decoding : decoded_at s.unread.notation (bare h) s.unread.bytes ≡ (list, None)
   given : events_from h.parameters (initial h.parameters) list ≡ events
@@ -100,6 +101,17 @@ closed_push : (h : Header) (parts : List Part) (joined : List Event) (s : Part) 
 closed_push h [] joined s events all one = (events, [], rw all (sym (append-nil events)), one, refl)
 closed_push h (t ∷ parts) joined s events all one =
     (all.0, all.1 ++ events, ap (λ (xs : List Event). xs ++ events) all.2 ∙ append_assoc all.0 all.1 events, all.3, closed_push h parts all.1 s events all.4 one)
+
+-- each sequence gives its rows
+abbrev pub AllKept : Header → List Part → List (List LineRow) → Type 0
+AllKept h [] kept = kept ≡ []
+AllKept h (s ∷ parts) kept = (rows : List LineRow) × (rest : List (List LineRow)) × (kept ≡ rows ∷ rest) × Closed h s (map row rows) × AllKept h parts rest
+
+kept_push : (h : Header) (parts : List Part) (kept : List (List LineRow)) (s : Part) (rows : List LineRow) → AllKept h parts kept → Closed h s (map row rows)
+    → AllKept h (parts ++ s ∷ []) (kept ++ rows ∷ [])
+kept_push h [] kept s rows all one = (rows, [], ap (λ (xs : List (List LineRow)). xs ++ rows ∷ []) all, one, refl)
+kept_push h (t ∷ parts) kept s rows all one =
+    (all.0, all.1 ++ rows ∷ [], ap (λ (xs : List (List LineRow)). xs ++ rows ∷ []) all.2, all.3, kept_push h parts all.1 s rows all.4 one)
 
 through_events : (events : List Event) (start end : ℕ) → IsSequence events start end → (behind : List Event) → through_last_end (events ++ behind) ≡ events ++ through_last_end behind
 through_events events start end is behind = rw is.given (through_one is.rows is.last behind is.ended)
@@ -129,6 +141,19 @@ module _ (h c : Header) (files : List File) (c_is : c ≡ record h { files = fil
   all_joined : (parts : List Part) (joined : List Event) → AllClosed h parts joined → flat_map (resumed c) parts ≡ joined
   all_joined [] joined all = sym all
   all_joined (s ∷ parts) joined all = rw (resumed_is s all.0 all.3, all_joined parts all.1 all.4) (sym all.2)
+
+  all_kept : (parts : List Part) (rows : List (List LineRow)) → AllKept h parts rows → map (map row) rows ≡ map (resumed c) parts
+  all_kept [] rows all = rw all refl
+  all_kept (s ∷ parts) rows all = rw (all.2, resumed_is s (map row all.0) all.3, all_kept parts all.1 all.4) refl
+
+-- the rows of each sequence, where it gives them, are what it gives when it is resumed
+pub rows_are_kept : (n : Notation) (h c : Header) (parts : List Part) (rows : List (List LineRow)) → AreSequences n h c parts → AllKept h parts rows
+    → map (map row) rows ≡ map (resumed c) parts
+rows_are_kept n h c parts rows are all = all_kept h c (defined_files h.files (behind [] are.list)) are.files parts rows all
+
+pub each_is_kept : {A : Type 0} (rows_in : A → List LineRow) (items : List A) (kept : List (List LineRow)) (events : List (List Event))
+    → map rows_in items ≡ kept → map (map row) kept ≡ events → map (λ (x : A). map row (rows_in x)) items ≡ events
+each_is_kept rows_in items kept events are same = sym (map-map (map row) rows_in items) ∙ ap (map (map row)) are ∙ same
 
 -- ---- the state of the split behind some rows
 
@@ -164,6 +189,17 @@ starts_splitting h o n unread = record {
   start_is = refl;
   passes = passes_none (began h o n h.files unread) (ready (started true h o n unread)) refl;
 }
+
+-- the same, with the rows of each sequence
+pub record Keeping (h : Header) (k : SequenceSplit) (kept : RowSplit) (done : List LineRow) (place : RunState) : Type 0 where
+  pub splitting : Splitting h k done place
+  pub unended : splitting.rows ≡ kept.unended
+  pub closed : AllKept h k.parts kept.closed
+
+pub starts_keeping : (h : Header) (o : Notation) (n : ℕ) (unread : Unread)
+    → Keeping h (record { parts = []; unread = unread; start = None }) (record { closed = []; unended = [] }) [] (ready (started true h o n unread))
+unfolding starts_splitting
+starts_keeping h o n unread = record { splitting = starts_splitting h o n unread; unended = refl; closed = refl }
 
 open_push : (rows : List LineRow) (r : LineRow) → AreOpen rows → r.end_sequence ≡ false → AreOpen (rows ++ r ∷ [])
 open_push [] r o e = (e, tt)
@@ -251,6 +287,31 @@ module _ (h : Header) (k : SequenceSplit) (done : List LineRow) (place next : Ru
           else record k { start = Some (unwrap_or k.start next.row.address) }) (done ++ next.row ∷ []) (ready next)
       at_test true e = goes_closed e
       at_test false e = goes_open e
+
+  pub goes_keeping : (kept : RowSplit) → c.rows ≡ kept.unended → AllKept h k.parts kept.closed
+      → Keeping h (with_row next.row next.unread k) (with_kept_row next.row kept) (done ++ next.row ∷ []) (ready next)
+  unfolding goes_open goes_closed
+  goes_keeping kept same all = at_test next.row.end_sequence refl
+    where
+      whole_rows : List LineRow
+      whole_rows = kept.unended ++ next.row ∷ []
+
+      whole_same : map row c.rows ++ row next.row ∷ [] ≡ map row whole_rows
+      whole_same = sym (map-append row c.rows (next.row ∷ [])) ∙ ap (λ (xs : List LineRow). map row (xs ++ next.row ∷ [])) same
+
+      at_test : (b : Bool) → next.row.end_sequence ≡ b
+          → Keeping h (if b then record { parts = k.parts ++ ended ∷ []; unread = next.unread; start = None } else record k { start = Some (unwrap_or k.start next.row.address) })
+          (if b then record { closed = kept.closed ++ whole_rows ∷ []; unended = [] } else record kept { unended = whole_rows }) (done ++ next.row ∷ []) (ready next)
+      at_test true e = record {
+        splitting = goes_closed e;
+        unended = refl;
+        closed = kept_push h k.parts kept.closed ended whole_rows all (subst (λ (es : List Event). Closed h ended es) whole_same (closes e));
+      }
+      at_test false e = record {
+        splitting = goes_open e;
+        unended = ap (λ (xs : List LineRow). xs ++ next.row ∷ []) same;
+        closed = all;
+      }
 
   -- what is split off stands in front of the rest
   pub has_front : (front : List ℕ) × (k.unread.bytes ≡ front ++ next.unread.bytes)

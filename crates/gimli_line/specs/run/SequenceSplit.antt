@@ -21,3 +21,15 @@ with_row r rest k =
       start = None;
     }
     else record k { start = Some (unwrap_or k.start r.address) }
+
+-- the rows of each sequence so far, and those of the one that is open
+pub record RowSplit : Type 0 where
+  pub closed : List (List LineRow)
+  pub unended : List LineRow
+
+-- a row more
+abbrev pub with_kept_row : LineRow → RowSplit → RowSplit
+with_kept_row r k =
+    if r.end_sequence
+    then record { closed = k.closed ++ (k.unended ++ r ∷ []) ∷ []; unended = [] }
+    else record k { unended = k.unended ++ r ∷ [] }

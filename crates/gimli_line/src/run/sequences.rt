@@ -8,6 +8,7 @@ use crate::run::rows::{LineRows, ResumedLineRows};
 use gimli_core::{Error, Reader, ReaderOffset, Result};
 use std::alloc::Global;
 use std::marker::Model;
+use std::mem;
 
 /// A sequence of a line program: rows of which the last one is an end row, and no other.
 #[derive(Clone, Debug, Drop)]
@@ -100,9 +101,61 @@ impl<R: Reader> SequenceSplit<R> {
     }
 }
 
+/// The rows of each sequence found so far, and those of the one that is open.
+#[derive(Drop)]
+struct RowSplit {
+    closed: Vec<Vec<LineRow>>,
+    unended: Vec<LineRow>,
+}
+
+impl Model for RowSplit {
+    ghost use Rattle.std.specs.Prelude.{map};
+    ghost use Rattle.gimli_line.specs.run.SequenceSplit.{RowSplit};
+
+    ghost Value = { RowSplit };
+
+    ghost view = { λ a. record { closed = map (λ rows. rows.items) a.closed.items; unended = a.unended.items } };
+}
+
+impl RowSplit {
+    ghost use Rattle.std.specs.Prelude.{◌≡◌, [], map, IfErr, OnOk};
+    ghost use Rattle.gimli_line.specs.run.SequenceSplit.{with_kept_row};
+
+    /// No rows yet.
+    fn new(alloc: Global) -> Self
+        ensures { result ≡ record { closed = []; unended = [] } }
+    {
+        RowSplit {
+            closed: Vec::new(alloc),
+            unended: Vec::new(alloc),
+        }
+    }
+
+    /// Keeps the next row. Refused by `OutOfMemory` alone.
+    fn keep(&mut self, row: &LineRow) -> Result<()>
+        ensures ok { OnOk result (self.new ≡ with_kept_row row.now self.old) }
+        ensures err { IfErr result (λ e. e ≡ Error.OutOfMemory) }
+    {
+        push(&mut self.unended, *row)?;
+        if !row.end_sequence() {
+            return Ok(());
+        }
+        let none = Vec::new(*self.unended.allocator());
+        push(&mut self.closed, mem::replace(&mut self.unended, none))
+    }
+
+    /// The rows of each sequence that was found.
+    fn into_rows(self) -> Vec<Vec<LineRow>>
+        ensures { map (λ rows. rows.items) result.items ≡ self.closed }
+    {
+        self.closed
+    }
+}
+
 impl<R: Reader> IncompleteLineProgram<R> {
     ghost use Rattle.std.specs.Prelude.{◌≡◌, ◌≢◌, map, IfErr, IfOk};
-    ghost use Rattle.gimli_line.specs.run.Sequences.{part_of, AreSequences, HasFirstFault};
+    ghost use Rattle.gimli_line.specs.run.Events.{row};
+    ghost use Rattle.gimli_line.specs.run.Sequences.{part_of, resumed, AreSequences, HasFirstFault};
 
     /// Runs the whole program, and splits it into its sequences, so that each can be run by itself. Rows behind the
     /// last end row are in no sequence. Refused by the first fault of the run, wherever it stands, or by
@@ -121,6 +174,42 @@ impl<R: Reader> IncompleteLineProgram<R> {
         }
         let header = rows.into_program().header;
         Ok((CompleteLineProgram { header }, split.into_sequences()))
+    }
+
+    /// What `sequences` answers, and the rows of each of these sequences in a list of its own. They come from the same
+    /// run, so that no sequence has to be run again for them. Refused as `sequences` is.
+    pub fn sequences_with_rows(
+        self,
+    ) -> Result<
+        (
+            CompleteLineProgram<R>,
+            Vec<LineSequence<R>>,
+            Vec<Vec<LineRow>>,
+        ),
+    >
+        ensures ok { IfOk result (λ found.
+            AreSequences self.notation self.meaning found.0.meaning (map part_of found.1.items)) }
+        ensures each { IfOk result (λ found. map (λ rows. map row rows.items) found.2.items
+            ≡ map (resumed found.0.meaning) (map part_of found.1.items)) }
+        ensures notation { IfOk result (λ found. found.0.notation ≡ self.notation) }
+        ensures offset { IfOk result (λ found. R.Offset.number found.0.offset.0 ≡ R.Offset.number self.offset.0) }
+        ensures err { IfErr result (λ e. e ≢ Error.OutOfMemory → HasFirstFault self.notation self.meaning e) }
+    {
+        let alloc = *self.header.file_names.allocator();
+        let mut run = self.rows();
+        let mut split = SequenceSplit::new(alloc, run.instructions().clone());
+        let mut kept = RowSplit::new(alloc);
+        'run: while run.advance()? {
+            let row = run.row();
+            kept.keep(row)?;
+            split.row(row, run.instructions())?;
+        }
+        let header = run.into_program().header;
+        Ok((
+            CompleteLineProgram { header },
+            split.into_sequences(),
+            kept.into_rows(),
+        ))
     }
 }
 

@@ -1,0 +1,105 @@
+use Rattle.std.proofs.Common.{[], ◌∷◌, ◌++◌, true, map, List, Vec, Global, refl, sym, ap, subst, ◌∙◌, inl, inr}
+use Rattle.std.proofs.lemmas.List.{map-append, append-nil}
+use Rattle.std.proofs.lemmas.Result.{err_from_is_err_and}
+use Rattle.gimli_line.specs.declared.run.row.LineRow.{LineRow}
+use Rattle.gimli_line.specs.run.Events.{Event, row}
+use Rattle.gimli_line.specs.header.Header.{bare}
+use Rattle.gimli_line.specs.run.Unread.{Unread}
+use Rattle.gimli_line.specs.run.Progress.{Progress, ready}
+use Rattle.gimli_line.specs.run.Rows.{started}
+use Rattle.gimli_line.specs.run.Sequences.{Part, part_of, resumed}
+use Rattle.gimli_line.proofs.Runs.{passes_none, passes_both}
+use Rattle.gimli_line.proofs.SequenceLaws.{starts_keeping, goes_keeping, has_front, row_takes, are_sequences, has_first_fault, rows_are_kept, each_is_kept, AllKept}
+use Rattle.gimli_line.proofs.run.sequences.IncompleteLineProgram+R.sequences_with_rows.Goals as goal
+
+pub run-init : goal.run-init
+run-init g c =
+    let h = c.args.self.meaning in
+    let at_offset = g.R.Offset.ReaderOffset.number c.args.self.offset.0 in
+    let unread : Unread = record { bytes = h.program; notation = c.args.self.notation } in
+    let first = ready (started true h c.args.self.notation at_offset unread) in
+    record {
+      behind = (
+        [],
+        rw (c.new-split.ensures, c.clone.ensures ∙ c.instructions.ensures, c.rows-run.ensures.start, c.new-kept.ensures) (starts_keeping h c.args.self.notation at_offset unread),
+        rw c.rows-run.ensures.start (passes_none first first refl),
+      );
+      notation = rw c.rows-run.ensures.start refl;
+      offset = rw c.rows-run.ensures.start refl;
+    }
+
+pub returns-in_err-advance-clause-err : goal.returns-in_err-advance-clause-err
+returns-in_err-advance-clause-err g c =
+    let p = err_from_is_err_and c.from_residual.result c.from_residual.ensures.1 in
+    let b = c.run.invariant.behind in
+    rw (p.1, p.2) (λ other. elim c.in_err-advance.ensures.err [
+      | inl m ↦ absurd (other m.0)
+      | inr f ↦ has_first_fault c.args.self.notation (g.R.Offset.ReaderOffset.number c.args.self.offset.0) c.args.self.meaning b.0 c.run.run c.advance.new.self _ b.2 f.0
+    ])
+
+pub returns-in_err-keep-clause-err : goal.returns-in_err-keep-clause-err
+returns-in_err-keep-clause-err g c =
+    let p = err_from_is_err_and c.from_residual-in_err-keep.result c.from_residual-in_err-keep.ensures.1 in
+    rw (p.1, p.2) (λ other. absurd (other c.in_err-keep.ensures.err))
+
+pub returns-in_err-row-clause-err : goal.returns-in_err-row-clause-err
+returns-in_err-row-clause-err g c =
+    let p = err_from_is_err_and c.from_residual-in_err-row.result c.from_residual-in_err-row.ensures.1 in
+    rw (p.1, p.2) (λ other. absurd (other c.in_err-row.ensures.err))
+
+pub row-requires : goal.row-requires
+row-requires g c =
+    let m = rw c.if-branch.true at c.in_ok-advance.ensures.passes in
+    let b = c.run.invariant.behind in
+    rw c.instructions-in-run.ensures (has_front c.args.self.meaning c.run.split b.0 (ready c.run.run) c.advance.new.self b.1.splitting m)
+
+pub run-smaller : goal.run-smaller
+run-smaller g c =
+    let m = rw c.if-branch.true at c.in_ok-advance.ensures.passes in
+    row_takes (ready c.run.run) (ready c.advance.new.self) (row c.advance.new.self.row) [] m
+
+pub run-preserved : goal.run-preserved
+run-preserved g c =
+    let h = c.args.self.meaning in
+    let at_offset = g.R.Offset.ReaderOffset.number c.args.self.offset.0 in
+    let unread : Unread = record { bytes = h.program; notation = c.args.self.notation } in
+    let m = rw c.if-branch.true at c.in_ok-advance.ensures.passes in
+    let b = c.run.invariant.behind in
+    let next = c.advance.new.self in
+    record {
+      behind = (
+        b.0 ++ next.row ∷ [],
+        rw (c.in_ok-row.ensures.ok, c.in_ok-keep.ensures.ok, c.row-row.ensures, c.instructions-in-run.ensures) (goes_keeping h c.run.split b.0 (ready c.run.run) next b.1.splitting m c.run.kept b.1.unended b.1.closed),
+        subst (λ (es : List Event). Progress (ready (started true h c.args.self.notation at_offset unread)) (ready next) es) (sym (map-append row b.0 (next.row ∷ [])))
+            (passes_both (ready (started true h c.args.self.notation at_offset unread)) (ready c.run.run) (ready next) (map row b.0) (row next.row ∷ []) b.2 m),
+      );
+      notation = c.in_ok-advance.ensures.notation ∙ c.run.invariant.notation;
+      offset = c.in_ok-advance.ensures.offset ∙ c.run.invariant.offset;
+    }
+
+pub returns-clause-ok : goal.returns-clause-ok
+returns-clause-ok g c =
+    let h = c.args.self.meaning in
+    let at_offset = g.R.Offset.ReaderOffset.number c.args.self.offset.0 in
+    let unread : Unread = record { bytes = h.program; notation = c.args.self.notation } in
+    let m = rw c.if-branch.false at c.in_ok-advance.ensures.passes in
+    let b = c.run.invariant.behind in
+    let last = c.advance.new.self in
+    let whole = subst (λ (es : List Event). Progress (ready (started true h c.args.self.notation at_offset unread)) last es) (append-nil (map row b.0))
+    (passes_both (ready (started true h c.args.self.notation at_offset unread)) (ready c.run.run) last (map row b.0) [] b.2 m.1) in
+    rw c.into_sequences.ensures (are_sequences c.args.self.notation at_offset h c.header.inside.header.meaning c.run.split b.0 (ready c.run.run) last b.1.splitting whole m.0
+    (ap (λ v. bare v.meaning) c.header.view_is ∙ c.into_program.ensures.header) (ap (λ v. v.meaning.files) c.header.view_is ∙ c.into_program.ensures.files))
+
+pub returns-clause-each : goal.returns-clause-each
+returns-clause-each g c =
+    let parts = map part_of c.into_sequences.result.items in
+    let all = subst (λ (xs : List Part). AllKept c.args.self.meaning xs c.run.kept.closed) (sym c.into_sequences.ensures) c.run.invariant.behind.1.closed in
+    each_is_kept (λ (rows : Vec LineRow Global). rows.items) c.into_rows.result.items c.run.kept.closed (map (resumed c.header.inside.header.meaning) parts) c.into_rows.ensures
+    (rows_are_kept c.args.self.notation c.args.self.meaning c.header.inside.header.meaning parts c.run.kept.closed (returns-clause-ok g c) all)
+
+pub returns-clause-notation : goal.returns-clause-notation
+returns-clause-notation g c = ap (λ v. v.notation) c.header.view_is ∙ c.into_program.ensures.notation ∙ c.in_ok-advance.ensures.notation ∙ c.run.invariant.notation
+
+pub returns-clause-offset : goal.returns-clause-offset
+returns-clause-offset g c =
+    ap (λ v. g.R.Offset.ReaderOffset.number v.offset.0) c.header.view_is ∙ c.into_program.ensures.offset ∙ c.in_ok-advance.ensures.offset ∙ c.run.invariant.offset
