@@ -1,14 +1,14 @@
 -- Rows that are kept: they are what the sequences give, and no more than the program has instructions.
-use Rattle.std.proofs.Common.{◌≡◌, ℕ, zero, suc, ◌+◌, ◌<◌, ◌≤◌, ◌^◌, Bool, true, false, not, ◌&&◌, if◌then◌else◌, List, [], ◌∷◌, ◌++◌, length, map, take, refl, sym, ap, subst, ◌∙◌, inl, inr, arith}
-use Rattle.std.specs.Prelude.{Option, None, slice_index_or, sum_by, flat_map}
-use Rattle.std.specs.List.{AllByRecursion, list_any, fold}
-use Rattle.std.proofs.lemmas.Bool.{true≢false}
-use Rattle.std.proofs.lemmas.List.{map-append, length-append, length-map, append-nil, map_more}
+use Rattle.std.proofs.Common.{◌≡◌, ℕ, ◌+◌, ◌<◌, ◌≤◌, ◌^◌, Bool, true, false, not, ◌&&◌, if◌then◌else◌, List, [], ◌∷◌, length, map, refl, sym, ap, ◌∙◌, arith}
+use Rattle.std.specs.Prelude.{Option, None, sum_by, flat_map}
+use Rattle.std.specs.List.{list_any, fold}
+use Rattle.std.proofs.lemmas.List.{length-append, length-map, append-nil}
 use Rattle.std.proofs.lemmas.List.Concat.{length-flat_map}
 use Rattle.std.proofs.lemmas.List.Folds.{flat_map-map}
+use Rattle.std.proofs.lemmas.Simd.{map-map}
 use Rattle.gimli_core.specs.Notation.{Notation}
 use Rattle.gimli_core.specs.declared.error.Error.{Error}
-use Rattle.gimli_core.specs.declared.error.Error.TheVariants.{OutOfMemory, AddressOverflow}
+use Rattle.gimli_core.specs.declared.error.Error.TheVariants.{AddressOverflow}
 use Rattle.gimli_line.specs.declared.run.row.LineRow.{LineRow}
 use Rattle.gimli_line.specs.header.Header.{Header}
 use Rattle.gimli_line.specs.header.Parameters.{Parameters}
@@ -16,56 +16,13 @@ use Rattle.gimli_line.specs.run.Instruction.{Ins, makes_row}
 use Rattle.gimli_line.specs.run.InstructionGrammar.{Decodes}
 use Rattle.gimli_line.specs.run.OperationPointer.{is_hidden, overflows}
 use Rattle.gimli_line.specs.run.Events.{Event, row, fault, row_at, events_at, events_behind, ends_sequence, through_last_end, program_events}
-use Rattle.gimli_line.specs.run.RunState.{RunState}
-use Rattle.gimli_line.specs.run.Progress.{ready}
-use Rattle.gimli_line.specs.run.Rows.{FaultIs, events_left}
-use Rattle.gimli_line.specs.run.Sequences.{Part, events_of, resumed, AreSequences}
+use Rattle.gimli_line.specs.run.Sequences.{Part, resumed, AreSequences}
 use Rattle.gimli_lookup.specs.Kept.{AreRowsThroughLastEnd}
 
--- ---- rows are no fault
-
-abbrev has_fault : List Event → Bool
-has_fault [] = false
-has_fault (row r ∷ events) = has_fault events
-has_fault (fault e ∷ events) = true
-
-rows_have_none : (rows : List LineRow) → has_fault (map row rows) ≡ false
-rows_have_none [] = refl
-rows_have_none (r ∷ rows) = rows_have_none rows
-
-fault_behind : (rows : List LineRow) (e : Error) (rest : List Event) → has_fault (map row rows ++ fault e ∷ rest) ≡ true
-fault_behind [] e rest = refl
-fault_behind (r ∷ rows) e rest = fault_behind rows e rest
-
--- a run that gives rows alone is refused for memory alone
-pub memory_alone : (rows kept : List LineRow) (events : List Event) (old new : RunState) (e : Error) → events ≡ map row rows
-    → events ≡ map row kept ++ events_of (events_left old) → FaultIs (ready old) new e → e ≡ OutOfMemory
-memory_alone rows kept events old new e rows_are so_far (inl memory) = memory.0
-memory_alone rows kept events old new e rows_are so_far (inr next) =
-    absurd (true≢false (sym (fault_behind kept e (events_of (events_left new)))
-    ∙ ap has_fault (sym (so_far ∙ ap (λ events. map row kept ++ events_of events) next.0) ∙ rows_are) ∙ rows_have_none rows))
-
--- ---- each sequence
-
-pub each_at : {X : Type 0} (P : Part → Type 0) (f : X → Part) (xs : List X) (i : ℕ) (x : X) → i < length xs → x ≡ slice_index_or xs i x
-    → AllByRecursion P (map f xs) → P (f x)
-each_at {X} P f xs i x lt is all = subst (λ (y : X). P (f y)) (sym is) (at_index xs i lt all)
-  where
-    at_index : (ys : List X) (j : ℕ) → j < length ys → AllByRecursion P (map f ys) → P (f (slice_index_or ys j x))
-    at_index [] j lt all = absurd (omega arith)
-    at_index (y ∷ ys) zero lt all = all.0
-    at_index (y ∷ ys) (suc j) lt all = at_index ys j (omega arith) all.1
-
-pub each_more : {X : Type 0} (h : Header) (f : X → Part) (xs : List X) (rows : List (List LineRow)) (i : ℕ) (x : X) (more : List LineRow)
-    → i < length xs → x ≡ slice_index_or xs i x → map (map row) rows ≡ map (resumed h) (map f (take i xs)) → map row more ≡ resumed h (f x)
-    → map (map row) (rows ++ more ∷ []) ≡ map (resumed h) (map f (take (i + 1) xs))
-each_more {X} h f xs rows i x more lt is before this =
-    map-append (map row) rows (more ∷ [])
-    ∙ ap (λ (s : List (List Event)). s ++ map row more ∷ []) before
-    ∙ ap (λ (es : List Event). map (resumed h) (map f (take i xs)) ++ es ∷ []) (this ∙ ap (λ (y : X). resumed h (f y)) is)
-    ∙ sym (ap (map (resumed h)) (map_more f xs i x lt) ∙ map-append (resumed h) (map f (take i xs)) (f (slice_index_or xs i x) ∷ []))
-
--- ---- all of them
+-- lists whose rows are these events, kept
+pub same_rows : {A : Type 0} (rows_in : A → List LineRow) (given : List A) (kept : List (List LineRow)) (events : List (List Event))
+    → kept ≡ map rows_in given → map (λ (x : A). map row (rows_in x)) given ≡ events → map (map row) kept ≡ events
+same_rows rows_in given kept events is each = ap (map (map row)) is ∙ map-map (map row) rows_in given ∙ each
 
 -- lists that are the same, joined
 joined_same : (h : Header) (rows : List (List LineRow)) (parts : List Part) → map (map row) rows ≡ map (resumed h) parts

@@ -1,12 +1,11 @@
 //! The rows of a program, kept so that those that cover an address are found.
 
 ghost use Rattle.std.specs.Prelude.{◌≡◌, ◌≢◌, ◌≤◌, ◌<◌, ◌^◌, List, Option, length, map, sum_by, All, Any, IfErr, IfOk, MatchOption};
-ghost use Rattle.std.specs.List.{AllByRecursion};
 ghost use Rattle.gimli_core.specs.declared.error.Error.{Error};
 ghost use Rattle.gimli_line.specs.run.Events.{row};
 ghost use Rattle.gimli_line.specs.run.Instruction.{Ins};
 ghost use Rattle.gimli_line.specs.run.InstructionGrammar.{Decodes};
-ghost use Rattle.gimli_line.specs.run.Sequences.{part_of, resumed, IsSequence, AreSequences, HasFirstFault};
+ghost use Rattle.gimli_line.specs.run.Sequences.{part_of, resumed, AreSequences, HasFirstFault};
 ghost use Rattle.gimli_lookup.specs.FirstPair.{HasNoPair, IsFirstPair};
 ghost use Rattle.gimli_lookup.specs.Kept.{AreRowsThroughLastEnd};
 ghost use Rattle.gimli_lookup.specs.Probes.{most_probes};
@@ -30,51 +29,18 @@ fn instructions_fit<R: Reader>(program: &IncompleteLineProgram<R>)
     let _bytes = program.header().raw_program_buf().len().into_u64();
 }
 
-/// The rows of a sequence. Refused by `OutOfMemory` alone.
-fn rows_of<R: Reader>(
-    alloc: Global,
-    program: &CompleteLineProgram<R>,
-    sequence: &LineSequence<R>,
-) -> Result<KeptRows>
-    requires { IsSequence (resumed program.now.meaning (part_of sequence.now))
-        sequence.now.start sequence.now.end }
-    ensures ok { IfOk result (λ rows. map row rows ≡ resumed program.now.meaning (part_of sequence.now)) }
+/// Keeps the rows of each sequence. Refused by `OutOfMemory` alone.
+fn keep_each(alloc: Global, rows: Vec<Vec<LineRow>>) -> Result<Vec<KeptRows>>
+    ensures ok { IfOk result (λ kept. kept.items ≡ map (λ each. each.items) rows.items) }
     ensures err { IfErr result (λ e. e ≡ Error.OutOfMemory) }
 {
-    let mut rows = program.resume_from(sequence);
     let mut kept = Vec::new(alloc);
-    'rows: loop {
-        let row = match rows.next_row() {
-            Ok(Some((_, row))) => *row,
-            Ok(None) => return Ok(KeptRows::new(kept)),
-            Err(e) => return Err(e),
-        };
-        if kept.push(row).is_err() {
+    for of_sequence in rows {
+        if kept.push(KeptRows::new(of_sequence)).is_err() {
             return Err(Error::OutOfMemory);
         }
     }
-}
-
-/// The rows of each sequence. Refused by `OutOfMemory` alone.
-fn rows_of_each<R: Reader>(
-    alloc: Global,
-    program: &CompleteLineProgram<R>,
-    sequences: &[LineSequence<R>],
-) -> Result<Vec<KeptRows>>
-    requires { AllByRecursion (λ s. IsSequence (resumed program.now.meaning s) s.start s.end)
-        (map part_of sequences.now) }
-    ensures ok { IfOk result (λ rows.
-        map (map row) rows.items ≡ map (resumed program.now.meaning) (map part_of sequences.now)) }
-    ensures err { IfErr result (λ e. e ≡ Error.OutOfMemory) }
-{
-    let mut rows = Vec::new(alloc);
-    for sequence in sequences {
-        let kept = rows_of(alloc, program, sequence)?;
-        if rows.push(kept).is_err() {
-            return Err(Error::OutOfMemory);
-        }
-    }
-    Ok(rows)
+    Ok(kept)
 }
 
 /// The rows of a line program, kept so that those that cover an address are found.
@@ -118,9 +84,8 @@ impl<R: Reader> Lookup<R> {
         ensures err { IfErr result (λ e. e ≢ Error.OutOfMemory → HasFirstFault program.notation program.meaning e) }
     {
         instructions_fit(&program);
-        let (program, sequences) = program.sequences()?;
-        let alloc = *sequences.allocator();
-        let rows = rows_of_each(alloc, &program, sequences.as_slice())?;
+        let (program, sequences, rows) = program.sequences_with_rows()?;
+        let rows = keep_each(*sequences.allocator(), rows)?;
         Ok(Lookup {
             program,
             sequences,
