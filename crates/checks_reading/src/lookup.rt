@@ -1,5 +1,6 @@
 //! Lookups, compared with a plain scan over the resumed rows of each sequence, for every address of a few hundred.
 
+use crate::equality::{check, check_equal};
 use crate::units::{DEMO_PROGRAM, HEADER, changed, file_count, program, slice, unit};
 use gimli_core::{Reader, Result};
 use gimli_line::{CompleteLineProgram, LineRow, LineSequence, ResumedLineRows};
@@ -213,6 +214,47 @@ fn each_address_of_small_programs(rt: HostRuntime) -> std::result::Result<(), Fa
     for case in &CASES {
         let unit = unit(rt.alloc(), HEADER, case.program)?;
         check_case(&rt, rt.alloc(), slice(&unit), case)?;
+    }
+    Ok(())
+}
+
+// ---- the rows that one run keeps
+
+/// A resumed sequence gives these rows, and no more.
+fn check_rows<R: Reader>(
+    rt: &impl Abort,
+    resumed: ResumedLineRows<'_, R>,
+    kept: &[LineRow],
+) -> Result<()> {
+    let mut resumed = resumed;
+    for row in kept {
+        let found = resumed.next_row()?.map(|(_, row)| *row);
+        check_equal(rt, found, Some(*row));
+    }
+    check(rt, resumed.next_row()?.is_none());
+    Ok(())
+}
+
+/// `sequences_with_rows` answers what `sequences` does, and the rows that each sequence gives when it is resumed.
+fn check_kept<R: Reader>(rt: &impl Abort, alloc: Global, unit: R, case: &Case) -> Result<()> {
+    let (complete, sequences) = program(alloc, unit, 4)?.sequences()?;
+    let (with_rows, same, rows) = program(alloc, unit, 4)?.sequences_with_rows()?;
+    check_equal(rt, same.len(), case.sequences);
+    check_equal(rt, rows.len(), case.sequences);
+    check_equal(rt, file_count(with_rows.header()), file_count(complete.header()));
+    for ((sequence, other), kept) in sequences.iter().zip(&same).zip(&rows) {
+        check_equal(rt, (other.start, other.end), (sequence.start, sequence.end));
+        check_rows(rt, complete.resume_from(sequence), kept)?;
+        check_rows(rt, with_rows.resume_from(other), kept)?;
+    }
+    Ok(())
+}
+
+#[test]
+fn rows_of_one_run(rt: HostRuntime) -> std::result::Result<(), Fail> {
+    for case in &CASES {
+        let unit = unit(rt.alloc(), HEADER, case.program)?;
+        check_kept(&rt, rt.alloc(), slice(&unit), case)?;
     }
     Ok(())
 }

@@ -114,6 +114,14 @@ fn refusal<R: Reader>(alloc: Global, unit: R, size: u8) -> Option<Error> {
     }
 }
 
+/// The same where the rows are kept.
+fn refusal_with_rows<R: Reader>(alloc: Global, unit: R, size: u8) -> Option<Error> {
+    match program(alloc, unit, size) {
+        Ok(program) => program.sequences_with_rows().err(),
+        Err(e) => Some(e),
+    }
+}
+
 /// Programs, the size of their addresses, and what refuses to cut them: a fault behind the last end too, and of two
 /// faults the first.
 const UNCUT: [(&[u8], u8, Option<Error>); 4] = [
@@ -137,6 +145,7 @@ fn first_fault_of_cutting(rt: HostRuntime) -> Result<(), Fail> {
         let unit = unit(rt.alloc(), HEADER, bytes)?;
         let found = refusal(rt.alloc(), slice(&unit), size);
         assert_eq!(rt; found, refused, "at {bytes:?}");
+        check_equal(&rt, refusal_with_rows(rt.alloc(), slice(&unit), size), refused);
     }
     Ok(())
 }
