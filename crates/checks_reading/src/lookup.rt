@@ -241,7 +241,11 @@ fn check_kept<R: Reader>(rt: &impl Abort, alloc: Global, unit: R, case: &Case) -
     let (with_rows, same, rows) = program(alloc, unit, 4)?.sequences_with_rows()?;
     check_equal(rt, same.len(), case.sequences);
     check_equal(rt, rows.len(), case.sequences);
-    check_equal(rt, file_count(with_rows.header()), file_count(complete.header()));
+    check_equal(
+        rt,
+        file_count(with_rows.header()),
+        file_count(complete.header()),
+    );
     for ((sequence, other), kept) in sequences.iter().zip(&same).zip(&rows) {
         check_equal(rt, (other.start, other.end), (sequence.start, sequence.end));
         check_rows(rt, complete.resume_from(sequence), kept)?;

@@ -145,7 +145,11 @@ fn first_fault_of_cutting(rt: HostRuntime) -> Result<(), Fail> {
         let unit = unit(rt.alloc(), HEADER, bytes)?;
         let found = refusal(rt.alloc(), slice(&unit), size);
         assert_eq!(rt; found, refused, "at {bytes:?}");
-        check_equal(&rt, refusal_with_rows(rt.alloc(), slice(&unit), size), refused);
+        check_equal(
+            &rt,
+            refusal_with_rows(rt.alloc(), slice(&unit), size),
+            refused,
+        );
     }
     Ok(())
 }
