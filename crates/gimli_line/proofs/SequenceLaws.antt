@@ -155,7 +155,7 @@ pub each_is_kept : {A : Type 0} (rows_in : A → List LineRow) (items : List A) 
     → map rows_in items ≡ kept → map (map row) kept ≡ events → map (λ (x : A). map row (rows_in x)) items ≡ events
 each_is_kept rows_in items kept events are same = sym (map-map (map row) rows_in items) ∙ ap (map (map row)) are ∙ same
 
--- ---- the state of the split behind some rows
+-- ---- the state of the split after some rows
 
 abbrev pub first_of : List LineRow → Option ℕ
 first_of [] = None
