@@ -25,7 +25,7 @@ fn main(rt: HostRuntime) -> ExitCode {
     ExitCode::from(start(&rt).unwrap_or(1))
 }
 
-/// Measures so many sequences as the word behind the program's name says, and answers the status of the program.
+/// Measures so many sequences as the word after the program's name says, and answers the status of the program.
 fn start(rt: &HostRuntime) -> io::Result<u8> {
     let arguments: Vec<String> = env::args(rt)?.collect(rt.alloc())?;
     let sequences = match arguments.get(1) {

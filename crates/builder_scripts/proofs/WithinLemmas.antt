@@ -74,7 +74,7 @@ within_first s l version w d there so = by (nat_le version 4) d so
 pub ids_more : (ids : List ℕ) (old new : List LineText) → length old ≤ length new → AreIds ids old → AreIds ids new
 ids_more ids old new h are = λ k d short. let below = are k d short in omega (arith, below, h)
 
--- ---- tables behind a unit
+-- ---- tables after a unit
 
 kept-longer : (old new behind : List (List ℕ)) → length old ≤ length behind → (new ≡ old) ⊎ (new ≡ behind) → length old ≤ length new
 kept-longer old new behind h (inl e) = subst (λ (t : List (List ℕ)). length old ≤ length t) (sym e) (omega arith)

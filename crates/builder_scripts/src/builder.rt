@@ -24,7 +24,7 @@ pub(crate) struct Builder {
     attempts: Attempts,
     program: LineProgram,
     tables: Tables,
-    /// The directory that each call added, behind the working directory.
+    /// The directory that each call added, after the working directory.
     directories: Vec<DirectoryId>,
     /// The digest of all before the last call.
     before: u64,
@@ -54,7 +54,7 @@ impl Builder {
         }
     }
 
-    /// A builder of a program that stands. Asks directories that are in these tables.
+    /// A builder of a program that stands. Requires directories that are in these tables.
     pub fn of_program(
         alloc: Global,
         attempts: Attempts,

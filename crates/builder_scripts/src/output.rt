@@ -16,7 +16,7 @@ pub(crate) fn print_section(bytes: &[u8], text: &mut String) -> Result<(), Alloc
     Ok(())
 }
 
-/// Prints the bytes of a table behind its word, if it has any.
+/// Prints the bytes of a table after its word, if it has any.
 pub(crate) fn print_table(word: &str, bytes: &[u8], text: &mut String) -> Result<(), AllocError> {
     if bytes.is_empty() {
         return Ok(());

@@ -248,7 +248,7 @@ pub(crate) fn directory_id(
     }
 }
 
-/// Adds a file. Asks a directory that is there.
+/// Adds a file. Requires a directory that is there.
 pub(crate) fn add_file(
     program: &mut LineProgram,
     file: LineString,

@@ -43,7 +43,7 @@ impl End {
 
 /// Builds the programs of a text's scripts and writes them; appends what is printed, and answers the status: 1 where
 /// a program is refused or a condition isn't met, 2 where a script can't be read or there are words. Refused where
-/// memory is wanting that no call of a script asks for.
+/// memory is missing that no call of a script asks for.
 pub fn write(
     alloc: Global,
     words: &[&str],
@@ -66,7 +66,7 @@ pub fn write(
 }
 
 /// Prints what is written of a program in an order of bytes, the tables that aren't empty, and what is read back, as a
-/// script does. Asks directories that are in these tables.
+/// script does. Requires directories that are in these tables.
 pub fn print_program(
     alloc: Global,
     program: LineProgram,
@@ -326,7 +326,7 @@ fn write_pieces<const N: usize>(
     }
 }
 
-/// Writes a built program behind the bytes that the section holds before.
+/// Writes a built program after the bytes that the section holds before.
 fn write_behind<W: Writer>(
     builder: &mut Builder,
     script: &Script,
@@ -374,7 +374,7 @@ fn print_read(
     }
 }
 
-/// Whether memory was wanting.
+/// Whether memory was missing.
 fn is_unread(answer: &Option<ConvertResult<RoundTrip>>) -> bool {
     matches!(answer, Some(Err(ConvertError::OutOfMemory)))
 }

@@ -14,7 +14,7 @@ use gimli_write::{
 };
 use std::alloc::Global;
 
-/// Writes a program. Asks directories that are in these tables.
+/// Writes a program. Requires directories that are in these tables.
 pub(crate) fn write_program<W: Writer>(
     program: &LineProgram,
     tables: &mut Tables,
@@ -37,7 +37,7 @@ pub(crate) fn write_program<W: Writer>(
     Ok(())
 }
 
-/// What is read of a program's unit, in an empty section; None where it can't be written. Asks directories that are in
+/// What is read of a program's unit, in an empty section; None where it can't be written. Requires directories that are in
 /// these tables.
 pub(crate) fn read_program(
     alloc: Global,
@@ -63,7 +63,7 @@ pub(crate) fn read_program(
     ))
 }
 
-/// Whether a program can be written with these tables. Asks directories that are in them.
+/// Whether a program can be written with these tables. Requires directories that are in them.
 fn can_be_written(program: &LineProgram, tables: &Tables) -> bool
     requires { AreWithin program.now.directories tables.now.strings tables.now.line_strings }
     ensures { IsTrue result → CanWrite program.now tables.now.strings tables.now.line_strings }

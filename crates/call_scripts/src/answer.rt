@@ -12,7 +12,7 @@ pub type Slice<'a> = EndianSlice<'a, RunTimeEndian>;
 pub enum Answer<'a> {
     /// A word.
     Word(&'static str),
-    /// A number, behind its type.
+    /// A number, after its type.
     Number(&'static str, i128),
     /// A number of 128 bits.
     Wide(u128),
@@ -88,7 +88,7 @@ fn write_sixteen<W: fmt::Write>(f: &mut fmt::Formatter<W>, bytes: [u8; 16]) -> f
     write_bytes(f, "bytes", &bytes)
 }
 
-/// Bytes, behind a word.
+/// Bytes, after a word.
 pub fn write_bytes<W: fmt::Write>(
     f: &mut fmt::Formatter<W>,
     word: &str,

@@ -6,7 +6,7 @@ use gimli_core::{DwEhPe, Format, RunTimeEndian, SectionId};
 use row_text::{parse_bytes, parse_number, parse_signed, parse_text};
 use std::alloc::Global;
 
-/// What stands in a line behind the words that were taken.
+/// What stands in a line after the words that were taken.
 #[derive(Clone, Copy)]
 pub struct Arguments<'a> {
     rest: &'a str,

@@ -131,7 +131,7 @@ impl InPieces {
         Ok(())
     }
 
-    /// Looks whether the bytes of before a refused call are still a beginning, or behind a refused `write` all there are,
+    /// Looks whether the bytes of before a refused call are still a beginning, or after a refused `write` all there are,
     /// and makes the section anew with them.
     fn restore(&mut self, number: u64, name: &str, out: &mut Vec<u8>) -> Result<(), AllocError> {
         let now = self.joined()?;

@@ -1,14 +1,14 @@
 //! Scripts of calls: the commands `read`, `bytes` and `pieces` of `vectors`, each with the word `little` or `big`.
 //!
 //! A script has a call a line, by the call's own name and its arguments. A `#` begins a comment, and a line without words
-//! says nothing. Numbers are decimal or hexadecimal behind `0x`, formats are `32` and `64`, a pointer encoding is its
+//! says nothing. Numbers are decimal or hexadecimal after `0x`, formats are `32` and `64`, a pointer encoding is its
 //! number, a section is `debug_info`, `debug_line`, `debug_str` or `debug_line_str`. A line that is no call is a bad script:
 //! then nothing is printed, and the status is 2. A call whose conditions aren't met isn't made: in the place of its answer
 //! stands a line `condition N`, N the number of the line, and the status is 1. Else it is 0, whatever the calls answer.
 //!
 //! | Line of `read` | Does | Prints |
 //! |---|---|---|
-//! | bytes in hexadecimal, `-` for none | makes a reader of them; lines one behind the other make one | |
+//! | bytes in hexadecimal, `-` for none | makes a reader of them; lines one after the other make one | |
 //! | `read_u8`, `split 3`, `find 0`, .. | the call of the reader | `u8 5, 3 left`, `bytes 01 02, 3 left`, `error UnexpectedEof(1), 1 left`, .. |
 //! | `part read_u16`, .. | the call of the part that the reader answered last | the same, of the part |
 //! | `read_slice 3` | reads into three bytes 07 | the answer, and a line `buffer` |

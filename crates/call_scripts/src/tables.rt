@@ -29,7 +29,7 @@ pub struct Tables {
 /// What a call of a table answers.
 #[derive(Clone, Copy)]
 pub enum Answer<'a> {
-    /// A number, behind a word.
+    /// A number, after a word.
     Number(&'static str, usize),
     /// A text.
     Text(&'a [u8]),

@@ -195,7 +195,7 @@ const CHANGES: [&[u8]; 13] = [
     &[0, 5, 2, 0xff, 0xff, 0xff, 0xff],
 ];
 
-/// The row behind each of them.
+/// The row after each of them.
 fn changed_rows(alloc: Global) -> std::result::Result<Vec<LineRow>, Fail> {
     let mut rows = Vec::new(alloc);
     for bytes in CHANGES {

@@ -29,7 +29,7 @@ fn narrow_refusal(alloc: Global, unit: &[u8]) -> Option<Error> {
     refusal(alloc, NarrowReader::new(alloc, unit, RunTimeEndian::Little))
 }
 
-/// Whether offsets of 32 bits are too narrow for a unit, and wider ones find that bytes are wanting.
+/// Whether offsets of 32 bits are too narrow for a unit, and wider ones find that bytes are missing.
 fn is_too_wide(alloc: Global, unit: &[u8]) -> bool {
     narrow_refusal(alloc, unit) == Some(UnsupportedOffset)
         && matches!(refusal(alloc, slice(unit)), Some(UnexpectedEof(_)))
@@ -119,7 +119,7 @@ fn headers_over_two_readers(rt: HostRuntime) {
 
 // ---- how many bytes were left
 
-/// Units with other bytes at some places, and how many bytes were left where more are wanting: in the section, in
+/// Units with other bytes at some places, and how many bytes were left where more are needed: in the section, in
 /// the unit, in the header.
 const LEFT: [(&[u8], &[(usize, u8)], u64); 11] = [
     (DEMO_UNIT, &[(0, 0x30)], 47),

@@ -1,4 +1,4 @@
-//! Instructions one by one: what comes behind the last and behind a refusal, and what each does to a row by itself.
+//! Instructions one by one: what comes after the last and after a refusal, and what each does to a row by itself.
 
 use crate::equality::{check, check_equal};
 use crate::units::{
@@ -40,7 +40,7 @@ fn refuses<R: Reader>(program: &IncompleteLineProgram<R>, error: Error) -> bool 
     }
 }
 
-/// Whether nothing stands behind the first instruction of a program, or behind its refusal, however often it is
+/// Whether nothing stands after the first instruction of a program, or after its refusal, however often it is
 /// asked; nor does it in a copy.
 fn ends_behind_first<R: Reader>(program: &IncompleteLineProgram<R>) -> bool {
     let mut instructions = program.header().instructions();
@@ -51,7 +51,7 @@ fn ends_behind_first<R: Reader>(program: &IncompleteLineProgram<R>) -> bool {
         && matches!(instructions.next_instruction(program.header()), Ok(None))
 }
 
-/// Whether a unit's only instruction is this, and nothing stands behind it.
+/// Whether a unit's only instruction is this, and nothing stands after it.
 fn is_only<R: Reader + PartialEq>(
     alloc: Global,
     unit: R,
@@ -61,7 +61,7 @@ fn is_only<R: Reader + PartialEq>(
     Ok(begins_with(&program, only) && ends_behind_first(&program))
 }
 
-/// Whether a unit's first instruction is refused so, and nothing stands behind it.
+/// Whether a unit's first instruction is refused so, and nothing stands after it.
 fn is_refused<R: Reader>(alloc: Global, unit: R, error: Error) -> Result<bool> {
     let program = program(alloc, unit, 8)?;
     Ok(refuses(&program, error) && ends_behind_first(&program))
@@ -149,7 +149,7 @@ fn execute_all<R: Reader>(
     last
 }
 
-/// The last answer of a program, and the row behind it.
+/// The last answer of a program, and the row after it.
 fn executed_by<R: Reader>(program: &mut IncompleteLineProgram<R>) -> (Result<bool>, LineRow) {
     let mut instructions = program.header().instructions();
     let mut row = LineRow::new(program.header());
@@ -174,7 +174,7 @@ const NEW: [u64; 7] = [0, 0, 1, 1, 0, 0, 0];
 const STATEMENT: [bool; 5] = [true, false, false, false, false];
 
 /// A program with line base -3 and line range 12, the size of an address, the last answer, and the numbers
-/// and the flags behind it.
+/// and the flags after it.
 const EXECUTED: [(&[u8], u8, Result<bool>, [u64; 7], [bool; 5]); 37] = [
     (&[], 8, Ok(false), NEW, STATEMENT),
     (&[16], 8, Ok(true), NEW, STATEMENT),
@@ -322,7 +322,7 @@ fn one_instruction_executed(rt: HostRuntime) -> std::result::Result<(), Fail> {
 
 // ---- files
 
-/// Whether the row behind a program is in a file of this path, or in none that the header has.
+/// Whether the row after a program is in a file of this path, or in none that the header has.
 fn is_in_path<R: Reader>(alloc: Global, unit: R, path: Option<&[u8]>) -> Result<bool> {
     let mut program = program(alloc, unit, 8)?;
     let (last, row) = executed_by(&mut program);
@@ -428,9 +428,9 @@ fn file_defined_by_an_instruction(rt: HostRuntime) -> std::result::Result<(), Fa
     check_definition_of_unit(&rt, rt.alloc(), slice(&unit))
 }
 
-// ---- behind a row
+// ---- after a row
 
-/// A row behind a program, before and behind a reset.
+/// A row after a program, before and after a reset.
 fn check_reset<R: Reader>(
     rt: &impl Abort,
     row: &mut LineRow,
@@ -470,7 +470,7 @@ fn check_rebased<R: Reader>(
     Ok(())
 }
 
-/// An end, and a reset behind it.
+/// An end, and a reset after it.
 fn check_ended<R: Reader>(
     rt: &impl Abort,
     row: &mut LineRow,
@@ -491,7 +491,7 @@ fn registers_reset_and_rebased(rt: HostRuntime) -> std::result::Result<(), Fail>
     Ok(())
 }
 
-/// The registers of a row of one-byte addresses behind each of these steps.
+/// The registers of a row of one-byte addresses after each of these steps.
 fn check_registers<R: Reader>(rt: &impl Abort, alloc: Global, unit: R) -> Result<()> {
     let mut program = program(alloc, unit, 1)?;
     let mut row = LineRow::new(program.header());

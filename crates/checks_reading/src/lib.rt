@@ -1,5 +1,5 @@
 //! Checks in code, of what no row of input and output can say of reading: a reader of one's own, equality and order,
-//! copies, and what comes behind an end or a refusal.
+//! copies, and what comes after an end or a refusal.
 //!
 //! They use public names alone. Each step is a function of its own, so that a proof stays short.
 #![tactic(auto)]

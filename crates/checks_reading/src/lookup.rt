@@ -234,7 +234,7 @@ fn addresses(pair: Option<Pair>) -> Option<(u64, u64)> {
     pair.map(|(first, second)| (first.address(), second.address()))
 }
 
-/// The row at each address is found, and the one behind it, with at most ten probes.
+/// The row at each address is found, and the one after it, with at most ten probes.
 #[test]
 fn each_address_of_a_thousand_rows(rt: HostRuntime) -> std::result::Result<(), Fail> {
     let bytes = program_of_a_thousand_rows(rt.alloc())?;

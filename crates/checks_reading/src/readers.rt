@@ -230,7 +230,7 @@ fn refused_calls_leave_the_reader(rt: HostRuntime) {
     );
 }
 
-/// Where the first zero byte stands, the byte behind a skip of one, and how many bytes a front of two has.
+/// Where the first zero byte stands, the byte after a skip of one, and how many bytes a front of two has.
 fn places<R: Reader>(reader: R, one: R::Offset, two: R::Offset) -> Result<(u64, u8, u64, u64)> {
     let found = reader.find(0)?;
     let mut behind = reader;

@@ -1,4 +1,4 @@
-//! The rows of a run, one by one: what comes behind the last row and behind a refusal, and the files at a row.
+//! The rows of a run, one by one: what comes after the last row and after a refusal, and the files at a row.
 
 use crate::equality::{check, check_equal};
 use crate::units::{HEADER, file_count, is_text, program, slice, unit};
@@ -17,7 +17,7 @@ pub enum Event {
     End(u64, u64, u64),
     /// The address overflows.
     Overflow,
-    /// Bytes are wanting.
+    /// Bytes are missing.
     Eof,
     /// Any other refusal.
     Other,
@@ -51,7 +51,7 @@ pub fn next<R: Reader>(rows: &mut OneShotLineRows<R>) -> Event {
     }
 }
 
-/// Whether a run gives these events, and nothing behind them, however often it is asked.
+/// Whether a run gives these events, and nothing after them, however often it is asked.
 pub fn gives<R: Reader>(rows: &mut OneShotLineRows<R>, events: &[Event]) -> bool {
     for event in events {
         if next(rows) != *event {
@@ -72,8 +72,8 @@ fn unit_gives<R: Reader>(
     Ok(gives(&mut rows, events))
 }
 
-/// Programs, the size of their addresses, and the events. Behind an instruction that isn't there nothing comes;
-/// behind an address that overflows the run goes on.
+/// Programs, the size of their addresses, and the events. After an instruction that isn't there nothing comes;
+/// after an address that overflows the run goes on.
 const RUNS: [(&[u8], u8, &[Event]); 7] = [
     (&[], 4, &[]),
     (&[1], 4, &[Row(0, 0, 1)]),
@@ -114,7 +114,7 @@ fn refusal<R: Reader>(alloc: Global, unit: R, size: u8) -> Option<Error> {
     }
 }
 
-/// Programs, the size of their addresses, and what refuses to cut them: a fault behind the last end too, and of two
+/// Programs, the size of their addresses, and what refuses to cut them: a fault after the last end too, and of two
 /// faults the first.
 const UNCUT: [(&[u8], u8, Option<Error>); 4] = [
     (

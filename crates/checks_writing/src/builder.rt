@@ -129,7 +129,7 @@ fn directories_twice(rt: HostRuntime) -> std::result::Result<(), Fail> {
     Ok(())
 }
 
-/// Adds another directory, behind which the old id still has its own.
+/// Adds another directory, after which the old id still has its own.
 fn put_behind(
     rt: &impl Abort,
     alloc: Global,
@@ -424,8 +424,8 @@ fn check_items(rt: &impl Abort, program: &LineProgram) {
     }
 }
 
-/// A row at the set address, and one four bytes behind it. A body of `generate_row` that always answers that
-/// memory is wanting fails here.
+/// A row at the set address, and one four bytes after it. A body of `generate_row` that always answers that
+/// memory is missing fails here.
 #[test]
 fn items_in_order(rt: HostRuntime) -> std::result::Result<(), Fail> {
     let mut program = begun(&rt, rt.alloc())?;

@@ -1,5 +1,5 @@
 //! Checks in code, of what no row of input and output can say of writing: writers of one's own, a builder's calls one
-//! by one, equality and hashes, copies, and what must stand behind a refusal.
+//! by one, equality and hashes, copies, and what must stand after a refusal.
 //!
 //! They use public names alone. Each step is a function of its own, so that a proof stays short.
 #![tactic(auto)]

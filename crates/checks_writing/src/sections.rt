@@ -76,7 +76,7 @@ fn offsets_of_sections(rt: HostRuntime) -> std::result::Result<(), Fail> {
     Ok(())
 }
 
-/// The tables of a section hold ids, texts and offsets, and are written behind what is there.
+/// The tables of a section hold ids, texts and offsets, and are written after what is there.
 #[test]
 fn tables_of_texts(rt: HostRuntime) -> std::result::Result<(), Fail> {
     let mut table = LineStringTable::default(rt.alloc());
@@ -94,7 +94,7 @@ fn tables_of_texts(rt: HostRuntime) -> std::result::Result<(), Fail> {
     Ok(())
 }
 
-// ---- units behind other bytes
+// ---- units after other bytes
 
 /// A section of three bytes.
 fn section_of_three(alloc: Global) -> Result<DebugLine<EndianVec<LittleEndian>>> {
@@ -134,7 +134,7 @@ fn check_incompatible(rt: &impl Abort, alloc: Global, program: &LineProgram) -> 
     Ok(())
 }
 
-/// A unit stands behind the old bytes, at the offset that is answered.
+/// A unit stands after the old bytes, at the offset that is answered.
 fn check_written(rt: &impl Abort, alloc: Global, program: &LineProgram) -> Result<()>
     requires { CanWrite program.now [] [] }
 {
@@ -182,7 +182,7 @@ fn check_read(rt: &impl Abort, answer: &RoundTrip) {
     }
 }
 
-/// A round trip behind three bytes.
+/// A round trip after three bytes.
 fn check_round_trip(
     rt: &impl Abort,
     alloc: Global,

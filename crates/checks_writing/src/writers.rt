@@ -91,7 +91,7 @@ fn overwrite(section: &mut [u8], offset: usize, bytes: &[u8])
     section[offset..offset + bytes.len()].copy_from_slice(bytes);
 }
 
-/// The demo unit behind the first `len` bytes of an array: the last place where it fits, and others where it
+/// The demo unit after the first `len` bytes of an array: the last place where it fits, and others where it
 /// doesn't. What stood there before stands.
 fn check_array(rt: &impl Abort, alloc: Global, program: &LineProgram, len: usize)
     requires program { CanWrite program.now [] [] }
@@ -357,7 +357,7 @@ fn tired_after(alloc: Global, calls: usize) -> Result<Tired<LittleEndian>> {
     Ok(Tired { section, calls })
 }
 
-/// What `write` answers behind so many calls: whether it is written whole. A refusal is the writer's own, and the
+/// What `write` answers after so many calls: whether it is written whole. A refusal is the writer's own, and the
 /// old bytes stand as a beginning.
 fn check_tired(rt: &impl Abort, alloc: Global, program: &LineProgram, calls: usize) -> Result<bool>
     requires { CanWrite program.now [] [] }

@@ -34,7 +34,7 @@ pub(crate) struct Conversion<'i> {
 }
 
 impl<'i> Conversion<'i> {
-    /// Prints the items that are read, and behind a line `==` what is built of them.
+    /// Prints the items that are read, and after a line `==` what is built of them.
     pub fn print_items(self, text: &mut String) -> Result<(), AllocError> {
         if !self.print_obstacle(text)? {
             return Ok(());

@@ -5,11 +5,11 @@
 //! ```text
 //! set 16                                     an address is set
 //! row 4 0 0 3 0 0 s 0                        a row: offset, operation, file, line, column, discriminator, flags, isa
-//! end 8                                      a sequence ends, so many bytes behind the last address
+//! end 8                                      a sequence ends, so many bytes after the last address
 //! ```
 //!
 //! A file is its index in the program that is built, and flags are those of `sbpq` that hold, or `-`. A refusal is a line
-//! `refused InvalidFileIndex` or `refused Read UnexpectedEof`, and the last one. Behind a line `==` follows what a second
+//! `refused InvalidFileIndex` or `refused Read UnexpectedEof`, and the last one. After a line `==` follows what a second
 //! conversion builds, whose closure keeps each address: a refusal, or the ids of the files by their numbers in the source,
 //! and then what is printed of a script's program that is read back:
 //!
@@ -27,7 +27,7 @@
 //! ```text
 //! sequence 16                                the address of its start, or `-` for none
 //! row 0 0 0 1 0 0 s 0
-//! address 32                                 the address that is set behind it, or `length 4` where it ends
+//! address 32                                 the address that is set after it, or `length 4` where it ends
 //! ```
 #![tactic(auto)]
 

@@ -90,7 +90,7 @@ pub(crate) enum Memory {
 }
 
 impl Memory {
-    /// Whether this refusal is for memory, by whether what must stand behind it does.
+    /// Whether this refusal is for memory, by whether what must stand after it does.
     fn behind(error: ConvertError, stands: bool) -> Memory {
         match error {
             ConvertError::OutOfMemory if stands => Memory::Wanting,
@@ -135,7 +135,7 @@ pub(crate) fn print_no_start(error: ConvertError, text: &mut String) -> Result<E
     })
 }
 
-/// Prints why a read is refused, which is how the conversion ends. Behind a refusal for memory the next read must be
+/// Prints why a read is refused, which is how the conversion ends. After a refusal for memory the next read must be
 /// refused for it too.
 fn print_no_more(
     error: ConvertError,

@@ -1,4 +1,4 @@
-//! What the words behind a command's name ask for.
+//! What the words after a command's name ask for.
 
 use builder_scripts::{Fault, parse_encoding, parse_line_encoding};
 use gimli_core::{Encoding, LineEncoding};
@@ -63,7 +63,7 @@ impl Target {
     ghost use Rattle.conversion_text.specs.Taken.{IsTaken};
 
     /// The target that a word names: `-` for the source's own, or the version, the format and the size of an address, and
-    /// behind them what lines are encoded by, if it isn't as in the source. All are numbers with commas between.
+    /// after them what lines are encoded by, if it isn't as in the source. All are numbers with commas between.
     fn parse(alloc: Global, word: &str) -> Result<Target, Fault> {
         if word == "-" {
             return Ok(Target {

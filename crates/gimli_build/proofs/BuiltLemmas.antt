@@ -37,7 +37,7 @@ unfolding reached
 push_reached e place [] item so can = (can, tt)
 push_reached e place (first ∷ items) item so can = (so.0, push_reached e (place_after first) items item so.1 can)
 
--- an item is built behind others
+-- an item is built after others
 pub item_pushed : {is_none : Bool} {encoding : Encoding} {e : LineEncoding} {directories : List LineText} {keys : List FileKey} (items : List BuiltItem) (item : BuiltItem)
     → IsProgram is_none encoding e directories keys items → CanBuild e (previous_place items) item → IsProgram is_none encoding e directories keys (items ++ item ∷ [])
 item_pushed {e = e} items item so can = record {

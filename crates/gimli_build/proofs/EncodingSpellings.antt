@@ -52,7 +52,7 @@ base_read : (base : ℤ) → FitsSigned w8 base → cast_signed w8 (base_byte ba
 unfolding base_byte
 base_read base fits = to_z-of_z w8 base fits
 
--- behind the operations
+-- after the operations
 abbrev rest_line : ℕ → ℕ → Production LineEncoding
 rest_line minimum maximum = do
   statement ← byte
@@ -159,7 +159,7 @@ version-spelled big version bytes is =
 
 -- ---- the size of an address
 
--- up to version 4 no byte says it, and it is the one that is handed; in version 5 a byte does, and a 0 stands behind it
+-- up to version 4 no byte says it, and it is the one that is handed; in version 5 a byte does, and a 0 stands after it
 pub address-spelled : (version handed size : ℕ) → handed ≡ size → IsTrue (is_address_size size)
     → (address_size_production version handed).Spells (if nat_le version 4 then [] else size ∷ 0 ∷ []) size
 address-spelled version handed size same known = by (nat_le version 4)

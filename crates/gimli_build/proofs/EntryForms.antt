@@ -74,7 +74,7 @@ module _ (notation : Notation) (format : Format) where
   abbrev pub IsSpelled : List (ℕ × ℕ) → List ℕ → Entry → Type 0
   IsSpelled formats bytes entry = (entry_production notation format (map read_format formats)).Spells bytes entry
 
-  -- a value, and the values behind it
+  -- a value, and the values after it
   pub value-spelled : (content form : ℕ) (bytes : List ℕ) (v : Value) (formats : List (ℕ × ℕ)) (rest : List ℕ) (entry : Entry)
       → SpellsForm notation format form bytes v → IsSpelled formats rest entry → IsSpelled ((content, form) ∷ formats) (bytes ++ rest) ((content, v) ∷ entry)
   value-spelled content form bytes v formats rest entry own behind = (v, bytes, rest, refl, own, (entry, rest, [], sym (append-nil rest), behind, (refl, refl)))

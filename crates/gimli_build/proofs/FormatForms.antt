@@ -62,7 +62,7 @@ last_spelled : (due : Bool) (f : ℕ × ℕ) → IsFormat f → AreSpelled (when
 last_spelled true f is = more_spelled f [] is (refl, refl)
 last_spelled false f is = (refl, refl)
 
--- formats one of which is a path, behind their number
+-- formats one of which is a path, after their number
 formats_spelled : (formats : List (ℕ × ℕ)) → AreSpelled formats → count_by (is_content 0x0001) (map read_format formats) ≡ 1 → SpellsFormats (formats_bytes formats) (map read_format formats)
 formats_spelled formats spelled one =
     let bytes = flat_map one_bytes formats in
@@ -93,7 +93,7 @@ abbrev pub formats_of : (time size digest source : Bool) (path_form source_form 
 formats_of time size digest source path_form source_form =
     (0x0001, path_form) ∷ (0x0002, 0x0f) ∷ (when time (0x0003, 0x0f) ++ (when size (0x0004, 0x0f) ++ (when digest (0x0005, 0x1e) ++ when source (0x2001, source_form))))
 
--- four parts one behind the other
+-- four parts one after the other
 pub nested : {A : Type 0} (a b c d : List A) → a ++ b ++ c ++ d ≡ a ++ (b ++ (c ++ d))
 nested a b c d = append_assoc (a ++ b) c d ∙ append_assoc a b (c ++ d)
 

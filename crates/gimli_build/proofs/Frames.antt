@@ -27,7 +27,7 @@ patched_middle a b other c at same place =
 same_ok : (xs ys : List ℕ) → (let r : Result (List ℕ) Error = Ok xs in r) ≡ Ok ys → xs ≡ ys
 same_ok xs ys h = cc
 
--- the word of a length, which stands behind `escape` and is blank at first, once more
+-- the word of a length, which stands after `escape` and is blank at first, once more
 module _ (full length_of : ℕ → Result (List ℕ) Error) (escape blank old c1 c2 new : List ℕ) (place n : ℕ) (body : Result (List ℕ) Error)
     (is_full : (n : ℕ) → full n ≡ joined (Ok escape) (length_of n))
     (opened : c1 ≡ old ++ escape ++ blank) (at : place ≡ length old + length escape) (written : Appends body c1 c2) (counted : n ≡ length c2 - length c1)

@@ -119,7 +119,7 @@ begins_then a b c first second =
     let le : length a ≤ length b = omega (arith, size) in
     sym (take-take (length a) (length b) c le) ∙ ap (λ (l : List ℕ). take (length a) l) second ∙ first
 
--- a beginning stays where bytes behind it change
+-- a beginning stays where bytes after it change
 pub begins_before : (old bytes new : List ℕ) (at : ℕ) → Begins old bytes → length old ≤ at → take at new ≡ take at bytes → Begins old new
 begins_before old bytes new at first le same =
     sym (take-take (length old) at new le) ∙ ap (take (length old)) same ∙ take-take (length old) at bytes le ∙ first

@@ -124,7 +124,7 @@ module _ (notation : Notation) (h : Header) where
   each_joined front behind (i ∷ list) more s t =
       (s.0, s.1 ++ behind, ap (λ (xs : List ℕ). xs ++ behind) s.2 ∙ append_assoc s.0 s.1 behind, s.3, each_joined s.1 behind list more s.4 t)
 
-  -- what stands behind whole instructions of a program is the rest of it
+  -- what stands after whole instructions of a program is the rest of it
   pub rest_decoded : (bytes front rest : List ℕ) (list passed : List Ins) → Decodes notation h bytes list None → bytes ≡ front ++ rest → Spelled front passed
       → (more : List Ins) × (list ≡ passed ++ more) × Decodes notation h rest more None
   rest_decoded bytes front rest list passed all parts spelled =

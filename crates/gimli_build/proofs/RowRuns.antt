@@ -368,7 +368,7 @@ module _ (encoding : Encoding) (e : LineEncoding) where
         there = λ x. record { address = a x; op_index = w x };
       }
 
-  -- the instructions of a row make the row, from the registers behind the row before it
+  -- the instructions of a row make the row, from the registers after the row before it
   pub row-runs : (base : ℕ) (previous built : LineRow) → IsTrue (is_address_size encoding.address_size) → CanEncode e → IsPlace e previous.address_offset previous.op_index
       → CanFollow e previous.address_offset previous.op_index built.address_offset built.op_index → previous.line < 2 ^ 63 → built.line < 2 ^ 63 → base + built.address_offset < 2 ^ (8 * encoding.address_size)
       → Makes (behind_row encoding.version base previous) (row_instructions encoding.version e previous built) (read_row encoding.version base built)
@@ -415,7 +415,7 @@ module _ (encoding : Encoding) (e : LineEncoding) where
       let from : a ≡ a + 0 = sym (add-zero a) in
       rw (low, high) (ap (λ (x : ℕ). run parameters (at_pointer (record { address = x; op_index = 0 }) (behind_row encoding.version base previous)) list) from)
 
-  -- a sequence starts behind its initial row
+  -- a sequence starts after its initial row
   pub start-is : encoding.version ≤ 5 → initial parameters ≡ behind_row encoding.version 0 (initial_row encoding.version e.default_is_stmt)
   start-is le = by (nat_eq encoding.version 5) refl
     where

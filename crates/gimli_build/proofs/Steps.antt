@@ -1,4 +1,4 @@
--- How many operations one place is behind another.
+-- How many operations one place is after another.
 use Rattle.std.proofs.Common.{◌≡◌, ℕ, zero, suc, ◌+◌, ◌-◌, ◌*◌, ◌/◌, ◌%◌, ◌<◌, ◌≤◌, arith, ap, ◌∙◌, inl, inr, refl}
 use Rattle.std.proofs.Math.Nat.{mul-le-mul_right, mod-eq_of_lt, div-eq_of_lt, mul-div_cancel, add-mul-div_right, add-mul-mod_self_right, add-mul, mul_comm, div-mul-le_self}
 use Rattle.std.proofs.lemmas.Nat.{div-add-mod', le-div}

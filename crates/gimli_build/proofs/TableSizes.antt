@@ -79,7 +79,7 @@ module _ (big : Bool) (format : Format) (strings line_strings : List (List ℕ))
 
 -- ---- tables of version 5
 
--- formats and a number, and what stands behind them
+-- formats and a number, and what stands after them
 prefixed_size : (formats number : List ℕ) (rest : Result (List ℕ) Error) (n : ℕ) → HasSize rest n
     → HasSize (joined (Ok (formats ++ number)) rest) (length formats + length number + n)
 prefixed_size formats number rest n size =

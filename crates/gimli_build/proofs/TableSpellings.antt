@@ -44,7 +44,7 @@ module _ (strings line_strings : List (List ℕ)) where
 
   -- ---- files
 
-  -- a path, and what stands behind it
+  -- a path, and what stands after it
   abbrev entry_production : Production ReadFile
   entry_production = name >>= file_production
 

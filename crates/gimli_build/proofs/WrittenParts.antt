@@ -21,7 +21,7 @@ both_written (Ok a) (Ok b) bytes e = let p : a ++ b ≡ bytes = cc in record { f
 both_written (Ok a) (Err d) bytes e = absurd cc
 both_written (Err d) s bytes e = absurd cc
 
--- bytes that can't be refused, and what was written behind them
+-- bytes that can't be refused, and what was written after them
 pub record Behind (first : List ℕ) (s : Result (List ℕ) Error) (bytes : List ℕ) : Type 0 where
   pub rest : List ℕ
   pub rest_is : s ≡ Ok rest
@@ -31,7 +31,7 @@ pub behind_written : (first : List ℕ) (s : Result (List ℕ) Error) (bytes : L
 behind_written first (Ok b) bytes e = let p : first ++ b ≡ bytes = cc in record { rest = b; rest_is = refl; whole = sym p }
 behind_written first (Err d) bytes e = absurd cc
 
--- what was written, and bytes behind it that can't be refused
+-- what was written, and bytes after it that can't be refused
 pub record Before (r : Result (List ℕ) Error) (last : List ℕ) (bytes : List ℕ) : Type 0 where
   pub front : List ℕ
   pub front_is : r ≡ Ok front

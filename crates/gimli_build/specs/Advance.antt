@@ -1,4 +1,4 @@
--- Places of rows, and how far one is behind another (DWARF 5, sections 6.2.2 and 6.2.5.1). A place is an offset in
+-- Places of rows, and how far one is past another (DWARF 5, sections 6.2.2 and 6.2.5.1). A place is an offset in
 -- bytes, and which operation of the machine instruction there.
 use Rattle.std.specs.Prelude.{◌≡◌, ℕ, ◌+◌, ◌-◌, ◌*◌, ◌/◌, ◌%◌, ◌^◌, ◌<◌, ◌≤◌, pos, ◌+ℤ◌, ◌≤ℤ◌, ◌<ℤ◌}
 use Rattle.gimli_core.specs.declared.common.LineEncoding.{LineEncoding}
@@ -24,6 +24,6 @@ pub record CanFollow (e : LineEncoding) (p j o i : ℕ) : Type 0 where
   pub later : o ≡ p → j ≤ i
   pub fits : (o - p) / e.minimum_instruction_length * e.maximum_operations_per_instruction + i < 2 ^ 64
 
--- how many operations it is behind that row
+-- how many operations it is after that row
 abbrev pub operations : LineEncoding → ℕ → ℕ → ℕ → ℕ → ℕ
 operations e p j o i = (o - p) / e.minimum_instruction_length * e.maximum_operations_per_instruction + i - j

@@ -56,14 +56,14 @@ no_program =
 
 -- ---- places and addresses
 
--- the offset and the operation that an item leaves off at: the sequence begins, or counts anew, behind an end and a
+-- the offset and the operation that an item leaves off at: the sequence begins, or counts anew, after an end and a
 -- set address
 abbrev pub place_after : BuiltItem → ℕ × ℕ
 place_after (Row r) = (r.address_offset, r.op_index)
 place_after (SetAddress a) = (0, 0)
 place_after (End offset op_index) = (0, 0)
 
--- the place of the previous row, which the next one is behind
+-- the place of the previous row, which the next one is after
 abbrev pub previous_place : List BuiltItem → ℕ × ℕ
 previous_place items = option_map_or place_after (slice_get items (length items - 1)) (0, 0)
 
@@ -72,7 +72,7 @@ abbrev pub address_value : Address → ℕ
 address_value (Constant a) = a
 address_value (Symbol symbol addend) = 0
 
--- the address that offsets count from behind these items, the nearest first: the last that was set in the sequence,
+-- the address that offsets count from after these items, the nearest first: the last that was set in the sequence,
 -- else 0
 abbrev pub base_of : List BuiltItem → ℕ
 base_of [] = 0

@@ -16,7 +16,7 @@ use Rattle.gimli_build.specs.InstructionBytes.{instructions_bytes, set_address_b
 use Rattle.gimli_build.specs.SameRow.{read_row, read_end}
 use Rattle.gimli_build.specs.Joined.{joined}
 
--- the row that the next item follows: behind a set address offsets count anew, behind an end a sequence starts
+-- the row that the next item follows: after a set address offsets count anew, after an end a sequence starts
 abbrev pub next_previous : ℕ → Bool → LineRow → BuiltItem → LineRow
 next_previous version is_stmt previous (SetAddress a) = record previous { address_offset = 0; op_index = 0 }
 next_previous version is_stmt previous (Row r) = r

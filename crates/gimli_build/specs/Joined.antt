@@ -14,7 +14,7 @@ abbrev pub joined_parts : {A : Type 0} → (A → Result (List ℕ) Error) → L
 joined_parts part [] = Ok []
 joined_parts part (x ∷ xs) = joined (part x) (joined_parts part xs)
 
--- bytes behind their length; the length is refused last, since it is known last
+-- bytes after their length; the length is refused last, since it is known last
 abbrev pub behind_length : (ℕ → Result (List ℕ) Error) → Result (List ℕ) Error → Result (List ℕ) Error
 behind_length length_of (Ok bytes) = joined (length_of (length bytes)) (Ok bytes)
 behind_length length_of (Err e) = Err e

@@ -25,7 +25,7 @@ use Rattle.gimli_build.specs.Built.{Built}
 use Rattle.gimli_build.specs.Unit.{operand_counts}
 use Rattle.gimli_build.specs.Cause.{emitted_texts}
 
--- the bytes are a unit with this header and nothing behind it, and between the tables and the program there is nothing
+-- the bytes are a unit with this header and nothing after it, and between the tables and the program there is nothing
 pub record IsUnit (notation : Notation) (unit_entry : UnitEntry) (unit : List ℕ) (h : Header) : Type 0 where
   pub spelled : (header_production notation unit_entry).Spells unit h
   -- the version, the header length and so on; its `fields` are the bytes that the header length counts
@@ -92,7 +92,7 @@ pub record IsReadWell (notation : Notation) (unit_entry : UnitEntry) (sections :
   pub directory : p.encoding.version ≤ 4 → unit_entry.directory ≡ option_map (bytes_in strings line_strings) (slice_get p.directories 0)
   pub strings_are : sections.strings ≡ table_bytes strings
   pub line_strings_are : sections.line_strings ≡ table_bytes line_strings
-  -- an extended instruction has at most 11 bytes behind its length
+  -- an extended instruction has at most 11 bytes after its length
   pub instructions_held : 11 < notation.limit
   -- any offset holds a word of the 32-bit format; in the 64-bit format the unit length counts all but the first 12 bytes
   pub length_held : p.encoding.format ≡ Dwarf64 → length unit - 12 < notation.limit

@@ -32,11 +32,11 @@ read_row version base row = record {
   discriminator = row.discriminator;
 }
 
--- the registers behind it
+-- the registers after it
 abbrev pub behind_row : ℕ → ℕ → LineRow → ReadRow
 behind_row version base row = record (read_row version base row) { basic_block = false; prologue_end = false; epilogue_begin = false; discriminator = 0 }
 
--- an end at an offset and an operation, behind a row
+-- an end at an offset and an operation, after a row
 abbrev pub read_end : ℕ → ℕ → LineRow → ℕ → ℕ → ReadRow
 read_end version base previous offset op_index = record (behind_row version base previous) { address = base + offset; op_index = op_index; end_sequence = true }
 
@@ -50,7 +50,7 @@ pub record IsSameEnd (base offset op_index : ℕ) (read : ReadRow) : Type 0 wher
   pub operation : read.op_index ≡ op_index
   pub ends : read.end_sequence ≡ true
 
--- the rows are the built rows and ends one by one, behind items, the nearest first
+-- the rows are the built rows and ends one by one, after items, the nearest first
 abbrev pub RowsMatch : ℕ → List BuiltItem → List BuiltItem → List ReadRow → Type 0
 RowsMatch version past [] rows = rows ≡ []
 RowsMatch version past (SetAddress a ∷ items) rows = RowsMatch version (SetAddress a ∷ past) items rows

@@ -98,7 +98,7 @@ module _ (big : Bool) (format : Format) (strings line_strings : List (List ℕ))
   abbrev pub text_in_form : ℕ → LineText → Result (List ℕ) Error
   text_in_form form t = if nat_eq (text_form t) form then text_bytes t else Err LineStringFormMismatch
 
-  -- the directories, behind their formats and their number
+  -- the directories, after their formats and their number
   abbrev pub directory_table_bytes : Built → Result (List ℕ) Error
   directory_table_bytes p =
       joined (Ok (formats_bytes (directory_formats p) ++ uleb (length p.directories)))
@@ -116,7 +116,7 @@ module _ (big : Bool) (format : Format) (strings line_strings : List (List ℕ))
       joined (text_in_form (first_form (path_texts p.files)) f.0.0)
       (joined (Ok (detail_bytes p f)) (source_bytes p f))
 
-  -- the files, behind their formats and their number
+  -- the files, after their formats and their number
   abbrev pub file_table_bytes : Built → Result (List ℕ) Error
   file_table_bytes p =
       joined (Ok (formats_bytes (file_formats p) ++ uleb (length p.files)))

@@ -50,25 +50,31 @@ pub use gimli_bytes::laws::{
 };
 use std::hash::Hash;
 
-/// The instructions of a row, run from the registers behind the row before it, make one row, which is the
-/// built one, and leave the registers behind it; whatever instructions follow.
+/// The instructions of a row, run from the registers after the row before it, make one row, which is the
+/// built one, and leave the registers after it; whatever instructions follow.
 pub fn row_runs()
     ensures { (encoding : Encoding) (e : LineEncoding) (base : ℕ) (previous built : LineRow) (list : List Ins) →
-        IsTrue (is_address_size encoding.address_size) → CanEncode e → IsPlace e previous.address_offset previous.op_index →
+        IsTrue (is_address_size encoding.address_size) → CanEncode e
+        → IsPlace e previous.address_offset previous.op_index →
         CanFollow e previous.address_offset previous.op_index built.address_offset built.op_index →
         previous.line < 2 ^ 63 → built.line < 2 ^ 63 → base + built.address_offset < 2 ^ (8 * encoding.address_size) →
         run (built_rules encoding e) (behind_row encoding.version base previous) (row_instructions encoding.version e previous built ++ list)
-        ≡ row (read_row encoding.version base built) ∷ run (built_rules encoding e) (behind_row encoding.version base built) list }
+        ≡ row (read_row encoding.version base built) ∷ run (built_rules encoding e)
+        (behind_row encoding.version base built) list }
 {}
 
-/// The instructions of an end, run from the registers behind the row before it, make one row, which ends the
+/// The instructions of an end, run from the registers after the row before it, make one row, which ends the
 /// sequence at its offset and operation, and leave the registers of a start.
 pub fn end_runs()
-    ensures { (encoding : Encoding) (e : LineEncoding) (base : ℕ) (previous : LineRow) (offset op_index : ℕ) (list : List Ins) →
-        IsTrue (is_address_size encoding.address_size) → CanEncode e → IsPlace e previous.address_offset previous.op_index →
-        CanFollow e previous.address_offset previous.op_index offset op_index → base + offset < 2 ^ (8 * encoding.address_size) →
+    ensures { (encoding : Encoding) (e : LineEncoding) (base : ℕ) (previous : LineRow)
+        (offset op_index : ℕ) (list : List Ins) →
+        IsTrue (is_address_size encoding.address_size) → CanEncode e
+        → IsPlace e previous.address_offset previous.op_index →
+        CanFollow e previous.address_offset previous.op_index offset op_index
+        → base + offset < 2 ^ (8 * encoding.address_size) →
         run (built_rules encoding e) (behind_row encoding.version base previous) (end_instructions e previous offset op_index ++ list)
-        ≡ row (read_end encoding.version base previous offset op_index) ∷ run (built_rules encoding e) (initial (built_rules encoding e)) list }
+        ≡ row (read_end encoding.version base previous offset op_index) ∷ run (built_rules encoding e)
+        (initial (built_rules encoding e)) list }
 {}
 
 /// A set address that isn't below the address reached, and isn't one of the two greatest, which stand for
@@ -77,25 +83,29 @@ pub fn set_address_runs()
     ensures { (encoding : Encoding) (e : LineEncoding) (base address : ℕ) (previous : LineRow) (list : List Ins) →
         base + previous.address_offset ≤ address → address < 2 ^ (8 * encoding.address_size) - 2 →
         run (built_rules encoding e) (behind_row encoding.version base previous) (SetAddress address ∷ list)
-        ≡ run (built_rules encoding e) (behind_row encoding.version address (record previous { address_offset = 0; op_index = 0 })) list }
+        ≡ run (built_rules encoding e) (behind_row encoding.version address
+        (record previous { address_offset = 0; op_index = 0 })) list }
 {}
 
-/// A sequence starts with the registers behind its initial row, whose file has the number 1.
+/// A sequence starts with the registers after its initial row, whose file has the number 1.
 pub fn start_is_initial()
     ensures { (encoding : Encoding) (e : LineEncoding) → encoding.version ≤ 5 →
-        initial (built_rules encoding e) ≡ behind_row encoding.version 0 (initial_row encoding.version e.default_is_stmt) }
+        initial (built_rules encoding e) ≡ behind_row encoding.version 0
+        (initial_row encoding.version e.default_is_stmt) }
 {}
 
 /// The bytes of an instruction of a row or an end spell it, in each unit with the opcode base 13 whose reader
 /// has offsets that hold the length of the longest.
 pub fn instruction_is_spelled()
-    ensures { (notation : Notation) (h : Header) (i : Ins) → h.parameters.opcode_base ≡ 13 → 11 < notation.limit → IsWritten i →
+    ensures { (notation : Notation) (h : Header) (i : Ins) → h.parameters.opcode_base ≡ 13
+        → 11 < notation.limit → IsWritten i →
         SpellsInstruction notation h (instruction_bytes i) i }
 {}
 
 /// So do those of a set address, whose size is the unit's.
 pub fn set_address_is_spelled()
-    ensures { (notation : Notation) (h : Header) (address : ℕ) (bytes : List ℕ) → h.parameters.opcode_base ≡ 13 → 11 < notation.limit →
+    ensures { (notation : Notation) (h : Header) (address : ℕ) (bytes : List ℕ)
+        → h.parameters.opcode_base ≡ 13 → 11 < notation.limit →
         set_address_bytes notation.big (Constant address) h.parameters.encoding.address_size ≡ Ok bytes →
         SpellsInstruction notation h bytes (SetAddress address) }
 {}
@@ -112,31 +122,35 @@ pub fn row_is_spelled()
 /// So are those of an end.
 pub fn end_is_spelled()
     ensures { (notation : Notation) (h : Header) (e : LineEncoding) (previous : LineRow) (offset op_index : ℕ) →
-        h.parameters.opcode_base ≡ 13 → 11 < notation.limit → CanFollow e previous.address_offset previous.op_index offset op_index →
+        h.parameters.opcode_base ≡ 13 → 11 < notation.limit
+        → CanFollow e previous.address_offset previous.op_index offset op_index →
         Each (SpellsInstruction notation h) (instructions_bytes (end_instructions e previous offset op_index)) (end_instructions e previous offset op_index) }
 {}
 
 /// A row is written as at most eleven instructions.
 pub fn rows_are_short()
-    ensures { (version : ℕ) (e : LineEncoding) (previous built : LineRow) → length (row_instructions version e previous built) ≤ 11 }
+    ensures { (version : ℕ) (e : LineEncoding) (previous built : LineRow)
+        → length (row_instructions version e previous built) ≤ 11 }
 {}
 
 /// A row that differs from the one before it in its place and its line alone is one byte, where a special opcode
 /// has both its line advance and its operation advance; and two bytes at most, where a special opcode has them
 /// with the advance of const_add_pc taken off.
 pub fn moving_rows_are_short()
-    ensures one { (encoding : Encoding) (e : LineEncoding) (previous built : LineRow) → CanEncode e → OnlyMoves previous built →
+    ensures one { (encoding : Encoding) (e : LineEncoding) (previous built : LineRow)
+        → CanEncode e → OnlyMoves previous built →
         HasSpecial (built_rules encoding e) (pos built.line -ℤ pos previous.line)
         (operations e previous.address_offset previous.op_index built.address_offset built.op_index) →
         length (instructions_bytes (row_instructions encoding.version e previous built)) ≡ 1 }
-    ensures two { (encoding : Encoding) (e : LineEncoding) (previous built : LineRow) (constant : ℕ) → CanEncode e → OnlyMoves previous built →
+    ensures two { (encoding : Encoding) (e : LineEncoding) (previous built : LineRow) (constant : ℕ)
+        → CanEncode e → OnlyMoves previous built →
         operation_advance (built_rules encoding e) ConstAddPc ≡ Some constant →
         HasSpecial (built_rules encoding e) (pos built.line -ℤ pos previous.line)
         (operations e previous.address_offset previous.op_index built.address_offset built.op_index - constant) →
         length (instructions_bytes (row_instructions encoding.version e previous built)) ≤ 2 }
 {}
 
-/// The instructions of built items, run from the registers behind the row before them, give one row for each row
+/// The instructions of built items, run from the registers after the row before them, give one row for each row
 /// and each end, in order, and no fault, where addresses hold them and no set address hides.
 pub fn items_run()
     ensures { (encoding : Encoding) (e : LineEncoding) (base : ℕ) (previous : LineRow) (items : List BuiltItem) →
@@ -160,7 +174,8 @@ pub fn program_runs()
 
 /// The bytes of built items, where they are written, are the spellings of their instructions, one after the other.
 pub fn items_are_spelled()
-    ensures { (notation : Notation) (h : Header) (e : LineEncoding) (previous : LineRow) (items : List BuiltItem) (bytes : List ℕ) →
+    ensures { (notation : Notation) (h : Header) (e : LineEncoding) (previous : LineRow)
+        (items : List BuiltItem) (bytes : List ℕ) →
         h.parameters.opcode_base ≡ 13 → 11 < notation.limit → CanEncode e → previous.line < 2 ^ 63 →
         AreBuilt e (previous.address_offset, previous.op_index) items → AreFit h.parameters.encoding.version items →
         items_bytes notation.big h.parameters.encoding e previous items ≡ Ok bytes →
@@ -179,9 +194,12 @@ pub fn written_rows_take_no_memory()
     ensures start { (notation : Notation) (unit_entry : UnitEntry) (sections : Sections) (p : Built)
         (strings line_strings : List (List ℕ)) (unit : List ℕ)
         (back : ReadsBack notation unit_entry sections p strings line_strings unit) (appends : Bool) (offset : ℕ) →
-        DefinesNoFile (started appends back.header notation offset (record { bytes = back.header.program; notation = notation })) }
-    ensures goes { (old new : RunState) (events : List Event) → DefinesNoFile old → Progress old new events → DefinesNoFile new }
-    ensures refused { (old new : RunState) (e : Error) → DefinesNoFile old → FaultIs (ready old) new e → e ≡ AddressOverflow }
+        DefinesNoFile (started appends back.header notation offset
+        (record { bytes = back.header.program; notation = notation })) }
+    ensures goes { (old new : RunState) (events : List Event) → DefinesNoFile old
+        → Progress old new events → DefinesNoFile new }
+    ensures refused { (old new : RunState) (e : Error) → DefinesNoFile old → FaultIs (ready old) new e
+        → e ≡ AddressOverflow }
 {}
 
 /// `==` holds of two texts, and of two ids, exactly where they are the same text and the same index; and of what is

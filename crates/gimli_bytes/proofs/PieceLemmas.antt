@@ -37,14 +37,14 @@ put_over-nothing old at = grind (arith, common_steps)
 pub put_over-front : (p c : List ℕ) (at : ℕ) (bytes : List ℕ) → at + length bytes ≤ length p → put_over p at bytes ++ c ≡ put_over (p ++ c) at bytes
 put_over-front p c at bytes h = grind (arith, common_steps)
 
--- behind other bytes
+-- after other bytes
 pub put_over-behind : (p c : List ℕ) (at : ℕ) (bytes : List ℕ) → put_over (p ++ c) (length p + at) bytes ≡ p ++ put_over c at bytes
 put_over-behind p c at bytes =
     let place : length p + at + length bytes ≡ length p + (at + length bytes) = omega arith in
     let back : drop (length p + at + length bytes) (p ++ c) ≡ drop (at + length bytes) c = rw place (drop-append-add p c (at + length bytes)) in
     rw (take-append-add p c at, back) (simp append_assoc)
 
--- two parts, one behind the other
+-- two parts, one after the other
 pub put_over-twice : (old : List ℕ) (at : ℕ) (a b : List ℕ) → at + length a ≤ length old → put_over (put_over old at a) (at + length a) b ≡ put_over old at (a ++ b)
 put_over-twice old at a b h =
     let front : length (take at old ++ a) ≡ at + length a = omega (arith, length-append (take at old) a, length-take at old) in
@@ -60,7 +60,7 @@ pub take-put_over : (old : List ℕ) (at : ℕ) (bytes : List ℕ) → at ≤ le
 take-put_over old at bytes h =
     take_at (take at old ++ bytes) (drop (at + length bytes) old) (at + length bytes) (omega (arith, length-append (take at old) bytes, length-take at old))
 
--- what ends behind them
+-- what ends after them
 pub put_over-take : (old : List ℕ) (len at : ℕ) (bytes : List ℕ) → at + length bytes ≤ len → len ≤ length old → take len (put_over old at bytes) ≡ put_over (take len old) at bytes
 put_over-take old len at bytes h k =
     let parts = put_over-front (take len old) (drop len old) at bytes (omega (arith, length-take len old)) in
@@ -192,7 +192,7 @@ HoldPieces-grown n len more d k ps qs all h is s count ceil size =
     let counted : length qs ≡ div_ceil (len + more) n - length ps = count ∙ ap (λ i. i - k) ceil ∙ ap (λ i. div_ceil (len + more) n - i) size in
     rw is (HoldPieces-more n len more ps qs h s counted)
 
--- bytes put behind those in use
+-- bytes put after those in use
 pub bytes-more : (n len : ℕ) (ps qs all rs : List (List ℕ)) (bytes : List ℕ) → HoldPieces n len ps → all ≡ ps ++ qs → concat rs ≡ put_over (concat all) len bytes
     → take (len + length bytes) (concat rs) ≡ take len (concat ps) ++ bytes
 bytes-more n len ps qs all rs bytes h is e =

@@ -2,7 +2,7 @@
 use Rattle.std.specs.Prelude.{◌≡◌, ℕ, ◌+◌, ◌-◌, ◌*◌, ◌<◌, ◌≤◌, List, [], ◌∷◌, ◌++◌, All, length, take, drop}
 use Rattle.std.specs.List.{concat}
 
--- each piece has from 1 to n bytes, and one with another behind it has n
+-- each piece has from 1 to n bytes, and one with another after it has n
 abbrev pub HaveSizes : ℕ → List (List ℕ) → Type 0
 HaveSizes n [] = Unit {0}
 HaveSizes n (piece ∷ []) = (1 ≤ length piece) × (length piece ≤ n)

@@ -8,7 +8,7 @@ use Rattle.gimli_bytes.specs.declared.error.Error.TheVariants.{OutOfMemory, Offs
 abbrev pub Begins : List ℕ → List ℕ → Type 0
 Begins old new = take (length old) new ≡ old
 
--- what an append that answered Ok leaves: the wanted bytes behind the old ones
+-- what an append that answered Ok leaves: the wanted bytes after the old ones
 abbrev pub Appends : Result (List ℕ) Error → List ℕ → List ℕ → Type 0
 Appends (Ok bytes) old new = new ≡ old ++ bytes
 Appends (Err e) old new = ⊥

@@ -32,10 +32,11 @@ pub fn sleb_is_shortest()
 
 /// A text that is added to texts leaves texts.
 pub fn with_text_are_texts()
-    ensures { (texts : List (List ℕ)) (t : List ℕ) → AreTexts texts → All (λ b. b ≢ 0) t → AreTexts (with_text texts t) }
+    ensures { (texts : List (List ℕ)) (t : List ℕ) → AreTexts texts → All (λ b. b ≢ 0) t
+        → AreTexts (with_text texts t) }
 {}
 
-/// Where a text begins, it stands in the bytes of its table, and a zero byte behind it.
+/// Where a text begins, it stands in the bytes of its table, and a zero byte after it.
 pub fn text_at_offset()
     ensures { (texts : List (List ℕ)) (i : ℕ) (t : List ℕ) → slice_get texts i ≡ Some t →
         drop (offset_of texts i) (table_bytes texts) ≡ t ++ 0 ∷ table_bytes (drop (i + 1) texts) }

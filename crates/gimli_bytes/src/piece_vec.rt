@@ -107,7 +107,7 @@ impl<E: Endianity, const N: usize> Model for PieceVec<E, N> {
 }
 
 impl<E: Endianity, const N: usize> PieceVec<E, N> {
-    /// An empty section, which has no piece and takes no memory. Asks for pieces of at least one byte.
+    /// An empty section, which has no piece and takes no memory. Requires pieces of at least one byte.
     pub fn new(alloc: Global, endian: E) -> PieceVec<E, N>
         requires { 1 ≤ N }
         ensures { result ≡ record { bytes = []; endian = endian } }

@@ -1,4 +1,4 @@
--- Arrays of the caller: what stands in them behind a call.
+-- Arrays of the caller: what stands in them after a call.
 use Rattle.std.proofs.Common.{◌≡◌, ◌⊎◌, ℕ, zero, suc, ◌+◌, ◌<◌, ◌≤◌, List, [], ◌∷◌, ◌++◌, length, take, set, get_or, refl, sym, ap, ◌∙◌, inl, inr, arith}
 use Rattle.std.proofs.lemmas.List.{length-take-le, take_more}
 use Rattle.gimli_c.specs.Written.{written}
@@ -11,7 +11,7 @@ pub written_none : {A : Type 0} (old : List A) → written [] old ≡ old
 written_none [] = refl
 written_none (o ∷ old) = refl
 
--- one more, behind those that stand there
+-- one more, after those that stand there
 pub written_more : {A : Type 0} (xs : List A) (x : A) (old : List A) → written (xs ++ x ∷ []) old ≡ set (written xs old) (length xs) x
 written_more [] x [] = refl
 written_more [] x (o ∷ old) = ap (λ (ys : List _). x ∷ ys) (written_none old)

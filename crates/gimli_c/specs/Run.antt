@@ -23,7 +23,7 @@ fault_of (row r ∷ events) = fault_of events
 fault_of (fault e ∷ events) = Some e
 
 -- these rows from the skip-th on stand in an array that held others, as far as it has room; this is how many there are in
--- all, and the fault behind them
+-- all, and the fault after them
 pub record Copied (events : List Event) (skip : ℕ) (old new : List GimliRow) (count : ℕ) (end : Option Error) : Type 0 where
   pub count_is : count ≡ length (rows_of events)
   pub end_is : end ≡ fault_of events

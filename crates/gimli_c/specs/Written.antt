@@ -1,4 +1,4 @@
--- What stands in an array of the caller behind a call.
+-- What stands in an array of the caller after a call.
 use Rattle.std.specs.Prelude.{List, [], ◌∷◌}
 
 -- the first places hold these, as far as there is room; the others hold what they held

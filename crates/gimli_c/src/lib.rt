@@ -1,7 +1,7 @@
 //! Line number programs of DWARF, versions 2 to 5, for programs in C and in Rust.
 //!
 //! Each call takes the bytes of a section and numbers, and answers a number of [`status`]; what it found goes into places
-//! of the caller. Nothing of the caller is kept behind a call. `include/gimli_line.h` declares all of it.
+//! of the caller. Nothing of the caller is kept after a call. `include/gimli_line.h` declares all of it.
 #![tactic(auto)]
 
 mod file;

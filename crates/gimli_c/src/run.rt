@@ -41,7 +41,7 @@ pub(crate) struct Run {
 }
 
 /// Goes over the rows of a run up to its first fault. Those from the `skip`-th on go into `room`, as far as there is some.
-/// Asks a number of rows that can be counted. Refused by `OutOfMemory` alone.
+/// Requires a number of rows that can be counted. Refused by `OutOfMemory` alone.
 pub(crate) fn copy_rows<R: Reader>(
     rows: &mut OneShotLineRows<R>,
     skip: u64,
@@ -80,7 +80,7 @@ fn is_memory(error: Error) -> bool
     matches!(error, Error::OutOfMemory)
 }
 
-/// Puts the row of this number, from 0 on, where it belongs behind the first `skip` ones, if there is room for it.
+/// Puts the row of this number, from 0 on, where it belongs after the first `skip` ones, if there is room for it.
 fn put_row(room: &mut [GimliRow], skip: u64, number: u64, row: &LineRow)
     ensures skipped { number < skip → room.new ≡ room.old }
     ensures put { skip ≤ number → room.new ≡ set room.old (number - skip) (row_seen row.now) }

@@ -18,7 +18,7 @@ use Rattle.gimli_core.proofs.Padded.{split_ok}
 
 -- ---- bytes
 
--- what is behind a front of known length
+-- what is after a front of known length
 front_split : (n : ℕ) (front rest : List ℕ) → length front ≡ n → (n ≤ length (front ++ rest)) × (take n (front ++ rest) ≡ front) × (drop n (front ++ rest) ≡ rest)
 front_split n front rest is = (omega (arith, length-append front rest), take_at front rest n is, drop_at front rest n is)
 
@@ -214,7 +214,7 @@ reads_offset_word notation Dwarf64 =
 
 -- ---- initial lengths
 
--- behind the first word
+-- after the first word
 abbrev behind_first : Bool → ℕ → List ℕ → Read (ℕ × Format)
 behind_first big n rest =
     if nat_lt n 0xffff_fff0 then (Ok (n, Dwarf32), rest)

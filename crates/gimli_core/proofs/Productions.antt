@@ -24,7 +24,7 @@ bind_refused (Err d, left) f e is = let p : d ≡ e = cc in rw p refl
 pub ok_parts : {A : Type 0} (x y : A) (a b : List ℕ) → ◌≡◌ {A = Read A} (Ok x, a) (Ok y, b) → (x ≡ y) × (a ≡ b)
 ok_parts {A} x y a b e = let p = ap (λ (r : Read A). r.0) e in let q = ap (λ (r : Read A). r.1) e in (cc, q)
 
--- ---- a production, and behind it the next
+-- ---- a production, and after it the next
 
 module _ {A B : Type 0} (l : Production A) (next : A → Production B) (read : List ℕ → Read A) (after : A → List ℕ → Read B) (first : Reads l read) (second : (x : A) → Reads (next x) (after x)) where
   abbrev both : List ℕ → Read B

@@ -77,7 +77,7 @@ uleb_only (suc more) top (b ∷ c ∷ bs) n rest groups short fits =
 
 -- ---- refusals
 
--- a fault behind a byte whose high bit is set
+-- a fault after a byte whose high bit is set
 pub longer : (IsRefused : ℕ → Type 0) (bad : Error) (b : ℕ) → 128 ≤ b → (most : ℕ) (bytes : List ℕ) (e : Error) → IsLebFault most IsRefused bad bytes e → IsLebFault (suc most) IsRefused bad (b ∷ bytes) e
 longer IsRefused bad b le most bytes e (inl f) = inl (omega (arith, f.0), (le, f.1), f.2)
 longer IsRefused bad b le most bytes e (inr f) = inr (b ∷ f.0, f.1, f.2, ap (λ (xs : List ℕ). b ∷ xs) f.3, omega (arith, f.4), (le, f.5), f.6, f.7)
@@ -106,7 +106,7 @@ pub only_last : (front : List ℕ) (last : ℕ) (rest : List ℕ) (b : ℕ) (byt
 only_last [] last rest b bytes e n = cc
 only_last (x ∷ front) last rest b bytes e n = absurd (omega (arith, n))
 
--- the fault behind a first byte
+-- the fault after a first byte
 pub record Behind (IsRefused : ℕ → Type 0) (bad : Error) (most b : ℕ) (bytes : List ℕ) (e : Error) : Type 0 where
   pub high : 128 ≤ b
   pub fault : IsLebFault most IsRefused bad bytes e

@@ -1,5 +1,5 @@
 -- Productions of a format. A production says what spells a value, and which refusal it is where nothing does. Productions are put
--- together by concatenation: behind the bytes of one come those of the next.
+-- together by concatenation: after the bytes of one come those of the next.
 use Rattle.std.specs.Prelude.{◌≡◌, ◌≢◌, ◌⊎◌, ℕ, zero, suc, ◌+◌, ◌<◌, ◌≤◌, List, [], ◌∷◌, ◌++◌, length, Bool, true, false, IsTrue, IsFalse, Ok, Err, ℤ, nat_lt}
 use Rattle.std.specs.List.{AllByRecursion}
 use Rattle.gimli_core.specs.Numbers.{SpellsNumber, SpellsUleb128, SpellsSleb128, SpellsInitialLength, word_size}
@@ -22,7 +22,7 @@ pub record Production (A : Type 0) : Type 1 where
 abbrev pub done : {A : Type 0} → A → Production A
 done x = record { Spells = λ bytes y. (bytes ≡ []) × (y ≡ x); Fault = λ bytes e. ⊥ }
 
--- a production, and behind it the production that its value asks for
+-- a production, and after it the production that its value asks for
 infixl 10 ◌>>=◌
 abbrev pub ◌>>=◌ : {A B : Type 0} → Production A → (A → Production B) → Production B
 l >>= next = record {
@@ -77,7 +77,7 @@ within inside l = record {
 
 -- ---- bytes and numbers
 
--- bytes are wanting: fewer than so many are there
+-- bytes are missing: fewer than so many are there
 abbrev pub IsWanting : ℕ → List ℕ → Error → Type 0
 IsWanting n bytes e = (length bytes < n) × (e ≡ eof bytes)
 

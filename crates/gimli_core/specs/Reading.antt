@@ -41,11 +41,11 @@ seen view (Err e) = Err e
 
 -- ---- bytes
 
--- bytes are wanting
+-- bytes are missing
 abbrev pub eof : List ℕ → Error
 eof bytes = UnexpectedEof (record { 0 = length bytes })
 
--- the first n bytes, and those behind them
+-- the first n bytes, and those after them
 abbrev pub split_at : ℕ → List ℕ → Read (List ℕ)
 split_at n bytes = if nat_lt (length bytes) n then (Err (eof bytes), bytes) else (Ok (take n bytes), drop n bytes)
 

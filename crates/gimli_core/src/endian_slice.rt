@@ -32,7 +32,7 @@ impl<'i, E: Endianity> EndianSlice<'i, E> {
         self.slice
     }
 
-    /// The refusal where bytes are wanting.
+    /// The refusal where bytes are missing.
     fn eof(&self) -> Error
         ensures { result ≡ eof self.now.slice.now }
     {

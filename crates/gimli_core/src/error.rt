@@ -10,7 +10,7 @@ pub struct ReaderOffsetId(pub u64);
 /// Why bytes could not be read.
 #[derive(Clone, Copy, Debug, PartialEq, Eq)]
 pub enum Error {
-    /// Bytes are wanting. It holds the number of bytes that were left where they were looked for.
+    /// Bytes are missing. It holds the number of bytes that were left where they were looked for.
     UnexpectedEof(ReaderOffsetId),
     /// An unsigned LEB128 number doesn't fit its width, or is spelled too long.
     BadUnsignedLeb128,

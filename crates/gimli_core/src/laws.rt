@@ -51,7 +51,8 @@ pub fn single_bytes()
 /// `read_length` and `read_offset` take a word of the format that an offset holds, and each that is there,
 /// whatever follows.
 pub fn words()
-    ensures { (notation : Notation) (format : Format) → Reads (offset_word notation format) (word_at notation.big notation.limit format) }
+    ensures { (notation : Notation) (format : Format)
+        → Reads (offset_word notation format) (word_at notation.big notation.limit format) }
 {}
 
 /// `read_initial_length` takes the length of a unit that an offset holds, and each that is there, whatever

@@ -14,7 +14,7 @@ use std::borrow::CowSlice;
 
 /// Bytes that are read from the front, and an order of bytes for the numbers among them.
 ///
-/// A copy reads on by itself. Where bytes are wanting, the refusal is `UnexpectedEof`. What a refused
+/// A copy reads on by itself. Where bytes are missing, the refusal is `UnexpectedEof`. What a refused
 /// call leaves is said at each; where nothing is said, the reader stays as it was.
 pub trait Reader: Copy {
     /// The order of bytes.
@@ -73,7 +73,7 @@ pub trait Reader: Copy {
         ensures ok { IfOk result (λ slice. cow_slice_items slice ≡ bytes self.now) }
         ensures err { IfErr result (λ e. e ≡ Error.OutOfMemory) };
 
-    /// Takes as many bytes as the buffer has, into the buffer. Where they are wanting, the buffer stays as
+    /// Takes as many bytes as the buffer has, into the buffer. Where they are missing, the buffer stays as
     /// it was too.
     fn read_slice(&mut self, buf: &mut [u8]) -> Result<()>
         ensures read { (seen (λ _. buf.new) result, bytes self.new) ≡ split_at (length buf.old) (bytes self.old) }
@@ -296,7 +296,8 @@ pub trait Reader: Copy {
     /// too narrow; the word is taken then.
     #[tactic(auto, unfolding(crate::specs::Reading::word_at))]
     fn read_length(&mut self, format: Format) -> Result<Self::Offset>
-        ensures read { (seen Self.Offset.number result, bytes self.new) ≡ word_at (big self.old) Self.Offset.limit format (bytes self.old) }
+        ensures read { (seen Self.Offset.number result, bytes self.new)
+            ≡ word_at (big self.old) Self.Offset.limit format (bytes self.old) }
         ensures order { big self.new ≡ big self.old }
     {
         match format {
@@ -314,7 +315,8 @@ pub trait Reader: Copy {
     /// Takes an offset of one word of the format. Refused by `UnsupportedOffset` where the offset type is
     /// too narrow; the word is taken then.
     fn read_offset(&mut self, format: Format) -> Result<Self::Offset>
-        ensures read { (seen Self.Offset.number result, bytes self.new) ≡ word_at (big self.old) Self.Offset.limit format (bytes self.old) }
+        ensures read { (seen Self.Offset.number result, bytes self.new)
+            ≡ word_at (big self.old) Self.Offset.limit format (bytes self.old) }
         ensures order { big self.new ≡ big self.old }
     {
         self.read_length(format)

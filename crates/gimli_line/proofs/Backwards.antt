@@ -102,6 +102,6 @@ run_is h past (i ∷ list) = run_at h past i list (run_is h (i ∷ past) list) (
 pub starts : (h : Parameters) (list : List Ins) → run h (reset_row h (initial h)) list ≡ events_behind h [] list
 starts h list = run_is h [] list
 
--- behind an end everything starts anew, whatever came before it
+-- after an end everything starts anew, whatever came before it
 pub anew : (h : Parameters) (past list : List Ins) → events_behind h (EndSequence ∷ past) list ≡ events_behind h [] list
 anew h past list = sym (run_is h (EndSequence ∷ past) list) ∙ run_is h [] list

@@ -1,4 +1,4 @@
--- A table of version 5 has no more entries than bytes stand behind their count, and the tables of a header have no more
+-- A table of version 5 has no more entries than bytes stand after their count, and the tables of a header have no more
 -- than it has bytes.
 use Rattle.std.proofs.Common.{◌≡◌, ◌≢◌, ℕ, zero, suc, ◌+◌, ◌<◌, ◌≤◌, Bool, true, false, List, [], ◌∷◌, length, Option, Some, None, refl, sym, ap, subst, ◌∙◌, arith, inl, inr, IsTrue}
 use Rattle.std.specs.List.{AllByRecursion}
@@ -110,7 +110,7 @@ module _ (notation : Notation) (format : Format) where
   entry_some [] some bytes entry s = absurd (some refl)
   entry_some (f ∷ formats) some bytes entry s = omega (arith, length-append s.1 s.2, ap length s.3, form_some f.form.0 s.1 s.0 s.4)
 
-  -- a table's entries are as many as their count says, and no more than the bytes behind it
+  -- a table's entries are as many as their count says, and no more than the bytes after it
   pub entries_bounded : (formats : List FileEntryFormat) → formats ≢ [] → (bytes : List ℕ) (entries : List Entry) → (entries_production notation format formats).Spells bytes entries → HoldsCount bytes (length entries)
   entries_bounded formats some bytes entries s =
       let l = entry_production notation format formats in

@@ -47,7 +47,7 @@ reads_name = record {
   refused = λ bytes e clear f. reads_text.refused bytes e f;
 }
 
--- ---- a production, and behind it the next
+-- ---- a production, and after it the next
 
 module _ {A B : Type 0} (l : Production A) (next : A → Production B) (read : List ℕ → Read A) (after : A → List ℕ → Read B) (first : ReadsOpen l read) (second : (x : A) → Reads (next x) (after x)) where
   abbrev both : List ℕ → Read B

@@ -33,7 +33,7 @@ gives h past i true m large loud = rw large refl
 gives h past i false true fits loud = rw (fits, loud) (given_row h past i loud (is_hidden h past) refl)
 gives h past i false false fits quiet = rw (fits, quiet) refl
 
--- and the registers behind it
+-- and the registers after it
 goes_to : (h : Parameters) (i : Ins) (r : LineRow) (b : Bool) → (is_refused h i r || makes_row i) ≡ b → next_registers h i r ≡ (if b then reset_row h (stepped h i r) else stepped h i r)
 goes_to h i r b is = ap (λ (b : Bool). if b then reset_row h (stepped h i r) else stepped h i r) is
 
@@ -81,7 +81,7 @@ module _ (a : Bool) (h : Header) (o : Notation) (offset : ℕ) (s : Unread) wher
   pub started_files : FilesAtEnd s.notation a h s.bytes (files_at_end (started a h o offset s))
   started_files = record { list = parts.0; end = parts.1; decoding = decoding; given = files_from_start a h.files parts.0 }
 
--- ---- the registers behind a past
+-- ---- the registers after a past
 
 -- they are those that are found by looking back
 looked_back : (h : Parameters) (past : List Ins) → registers_after h past ≡ registers h past

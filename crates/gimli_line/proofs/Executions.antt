@@ -21,7 +21,7 @@ use Rattle.gimli_line.specs.run.Unread.{Unread}
 use Rattle.gimli_line.proofs.InstructionLaws.{reads_instruction}
 use Rattle.gimli_line.proofs.Runs.{state, after_quiet, after_hidden, after_seen, after_overflow, is_shorter, passes_quiet, passes_hidden, passes_seen}
 
--- ---- the standard opcodes that are executed so, from the bytes behind them
+-- ---- the standard opcodes that are executed so, from the bytes after them
 
 module _ (notation : Notation) (h : Header) (bytes : List ℕ) (r : LineRow) (opcode : ℕ) where
   pub copies : opcode ≡ 1 → ExecutedWell h.parameters (standard_at notation h opcode bytes) bytes r r true

@@ -24,7 +24,7 @@ use Rattle.gimli_line.specs.header.HeaderReading.{positive_at, paths_at, plain_f
 use Rattle.gimli_line.specs.declared.header.file_entry.FileEntryFormat.{FileEntryFormat}
 use Rattle.gimli_line.proofs.Closed.{ReadsOpen, reads_name, reads_open_both, reads_closed}
 
--- ---- a test, and behind it a production
+-- ---- a test, and after it a production
 
 pub reads_guard : {A : Type 0} (b : Bool) (d : Error) (m : Production A) (after : List ℕ → Read A) → Reads m after → Reads (check b d >>> λ ok. m) (λ bytes. if b then after bytes else (Err d, bytes))
 reads_guard true d m after r = reads_both (check true d) (λ ok. m) (check_at true d) (λ ok. after) (reads_check true d) (λ ok. r)
@@ -70,7 +70,7 @@ unfolding plain_file_at
 reads_file path =
     reads_both unsigned _ _ _ reads_unsigned (λ directory. reads_both unsigned _ _ _ reads_unsigned (λ time. reads_both unsigned _ _ _ reads_unsigned (λ size. reads_done (plain_file path directory time size))))
 
--- a path that isn't empty, and what stands behind it
+-- a path that isn't empty, and what stands after it
 abbrev pub named_file : Production File
 named_file = name >>> file_production
 
@@ -204,7 +204,7 @@ module _ (notation : Notation) (unit_entry : UnitEntry) where
   pub unit_found : (bytes : List ℕ) (h : Header) (rest : List ℕ) → header_at notation unit_entry bytes ≡ (Ok h, rest) → SpellsUnit notation unit_entry bytes h
   unit_found bytes h rest e = let f = (reads_header notation unit_entry).found bytes h rest e in (f.0, rest, f.1, f.2)
 
-  -- the same where the bytes behind it aren't named
+  -- the same where the bytes after it aren't named
   pub unit_answered : (bytes : List ℕ) (h : Header) → (header_at notation unit_entry bytes).0 ≡ Ok h → SpellsUnit notation unit_entry bytes h
   unit_answered bytes h is = at_rest (header_at notation unit_entry bytes) refl is
     where

@@ -105,7 +105,7 @@ record WholeUnit : Type 0 where
   given : UnitEntry
   bytes : List ℕ
   header : Header
-  -- the bytes behind the unit
+  -- the bytes after the unit
   rest : List ℕ
 
 abbrev IsUnit : WholeUnit → Type 0
@@ -141,7 +141,7 @@ version_4_tables = record {
   rest = replicate 16 0;
 }
 
--- bytes behind the tables that the header length counts
+-- bytes after the tables that the header length counts
 abbrev slack : WholeUnit
 slack = record {
   notation = little;
@@ -219,7 +219,7 @@ negative_directory = record {
   rest = [];
 }
 
--- all parts of a file, and bytes behind the unit
+-- all parts of a file, and bytes after the unit
 abbrev digests_and_sources : WholeUnit
 digests_and_sources = record {
   notation = little;
@@ -368,7 +368,7 @@ twelve_ones = record {
   refusal = UnexpectedEof (record { 0 = 0 });
 }
 
--- a byte of the unit is wanting
+-- a byte of the unit is missing
 abbrev unit_too_long : Refused
 unit_too_long = record {
   given = handed 4;
@@ -399,7 +399,7 @@ version_6 = record {
   refusal = UnknownVersion 6;
 }
 
--- a byte of the header is wanting
+-- a byte of the header is missing
 abbrev header_too_long : Refused
 header_too_long = record {
   given = handed 4;

@@ -20,9 +20,9 @@ use Rattle.gimli_line.specs.header.HeaderReading.{plain_file_at, named_file_at, 
 use Rattle.gimli_line.specs.declared.header.file_entry.FileEntryFormat.{FileEntryFormat}
 use Rattle.gimli_line.proofs.Closed.{ReadsOpen}
 
--- ---- items before, and those that are read behind them
+-- ---- items before, and those that are read after them
 
--- the items that were read before, and behind them those that reading gives, each seen by f
+-- the items that were read before, and after them those that reading gives, each seen by f
 abbrev pub collected : {A B : Type 0} → List B → (A → B) → Read (List A) → Read (List B)
 collected xs f r = r >>= λ ys rest. (Ok (xs ++ map f ys), rest)
 

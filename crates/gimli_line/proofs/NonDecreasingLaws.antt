@@ -58,7 +58,7 @@ weaker low high le (row r ∷ events) n = (omega (arith, n.0), n.1)
 weaker low high le (fault e ∷ events) n = weaker low high le events n
 
 module _ (parameters : Parameters) where
-  -- what stands behind a place that gives these events
+  -- what stands after a place that gives these events
   behind_place : (past : List Ins) (i : Ins) (rest : List Event) → is_end i ≡ false → NeverBelow (pointer_at parameters (i ∷ past)).address rest
       → (o m : Bool) → NeverBelow (pointer_at parameters past).address
       ((if o then fault AddressOverflow ∷ [] else (if m then row (row_at parameters past i) ∷ [] else [])) ++ rest)

@@ -182,7 +182,7 @@ tombstone_between_sequences = record {
   events = at 1 0 1 false ∷ at 2 0 1 false ∷ at 4 0 1 true ∷ at 11 0 1 false ∷ at 12 0 1 false ∷ at 14 0 1 true ∷ [];
 }
 
--- (an address of one byte) the run goes on behind an overflow
+-- (an address of one byte) the run goes on after an overflow
 abbrev overflow_at_one_byte : Program
 overflow_at_one_byte = record {
   given = handed 1;
@@ -283,7 +283,7 @@ empty_extended_instruction = record {
   events = fault (UnexpectedEof (record { 0 = 0 })) ∷ [];
 }
 
--- a file is defined behind a row that names it
+-- a file is defined after a row that names it
 abbrev file_defined_midway : Program
 file_defined_midway = record {
   given = handed 4;

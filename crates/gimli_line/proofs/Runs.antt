@@ -245,7 +245,7 @@ passes_both a b c es fs p q = record {
   files = rw (p.appends, p.files) at q.files ∙ sym (files_joined a.appends a.files p.list q.list);
 }
 
--- the files at the end are the same behind what was passed over
+-- the files at the end are the same after what was passed over
 pub same_end : (a b : RunState) (es : List Event) → Progress a b es → files_at_end b ≡ files_at_end a
 same_end a b es p =
     let behind = (decoded_at a.unread.notation a.fixed b.unread.bytes).0 in
@@ -255,7 +255,7 @@ same_end a b es p =
 
 -- ---- refusals
 
--- memory is wanting for the file that an instruction defines
+-- memory is missing for the file that an instruction defines
 pub wants : (a : Bool) (h k : Header) → k ≡ h → (o o2 : Notation) (n n2 : ℕ) (r : LineRow) (s : Unread) (i : Ins) (front rest : List ℕ) → s.bytes ≡ front ++ rest
     → SpellsInstruction s.notation k front i → defines_file i ≡ true → (h2 : Header) (r2 : LineRow) (s2 : Unread) → s2.bytes ≡ [] → h2 ≡ h → a ≡ true
     → WantsMemory (state a h o n r s) (state a h2 o2 n2 r2 s2)
@@ -274,7 +274,7 @@ wants a h k same o o2 n n2 r s i front rest parts spelled defines h2 r2 s2 empty
   empty = empty;
 }
 
--- a refusal behind instructions that give nothing
+-- a refusal after instructions that give nothing
 pub refused_behind : (a b c : RunState) (e : Error) → live_events a ≡ live_events b → Progress a b [] → FaultIs b c e → FaultIs a c e
 refused_behind a b c e events passed (inl m) = inl (
   m.0,

@@ -130,7 +130,7 @@ module _ (h c : Header) (files : List File) (c_is : c ≡ record h { files = fil
   all_joined [] joined all = sym all
   all_joined (s ∷ parts) joined all = rw (resumed_is s all.0 all.3, all_joined parts all.1 all.4) (sym all.2)
 
--- ---- the state of the split behind some rows
+-- ---- the state of the split after some rows
 
 abbrev pub first_of : List LineRow → Option ℕ
 first_of [] = None

@@ -62,7 +62,7 @@ pub tombstone_between_sequences : program_events rules_3 three_sequences None
     ≡ at 1 0 1 false ∷ at 2 0 1 false ∷ at 4 0 1 true ∷ at 11 0 1 false ∷ at 12 0 1 false ∷ at 14 0 1 true ∷ []
 tombstone_between_sequences = refl
 
--- the last row but one is behind the last end
+-- the last row but one is after the last end
 pub through_the_last_end : through_last_end (program_events (rules_13 4 1) (Copy ∷ EndSequence ∷ Copy ∷ []) None)
     ≡ at 0 0 1 false ∷ at 0 0 1 true ∷ []
 through_the_last_end = refl
@@ -102,7 +102,7 @@ pub least_tombstone : program_events (rules_13 4 1) (SetAddress 0xffff_fffe ∷ 
     ≡ at 0xffff_fffd 0 1 false ∷ at 0xffff_fffd 0 1 true ∷ []
 least_tombstone = refl
 
--- a hidden part stands still: its advances move nothing, so the set address behind it doesn't go back
+-- a hidden part stands still: its advances move nothing, so the set address after it doesn't go back
 pub hidden_part_stands_still : program_events (rules_13 4 1) (SetAddress 0x10 ∷ Copy ∷ SetAddress 8 ∷ AdvancePc 0x30 ∷ SetAddress 0x20 ∷ Copy ∷ EndSequence ∷ []) None
     ≡ at 0x10 0 1 false ∷ at 0x20 0 1 false ∷ at 0x20 0 1 true ∷ []
 hidden_part_stands_still = refl
@@ -151,7 +151,7 @@ pub same_address : program_events (rules_13 4 1) (SetAddress 0x10 ∷ Copy ∷ S
     ≡ at 0x10 0 1 false ∷ at 0x10 0 1 true ∷ []
 same_address = refl
 
--- the registers of a sequence start anew behind its end, and marks behind each row
+-- the registers of a sequence start anew after its end, and marks after each row
 pub registers_start_anew : program_events (rules_13 4 1) (SetDiscriminator 5 ∷ SetBasicBlock ∷ SetColumn 7 ∷ SetFile 2 ∷ NegateStatement ∷ AdvanceLine (pos 3) ∷ Copy ∷ EndSequence ∷ Copy ∷ []) None
     ≡ row (record (blank 0 0 4) { file = 2; column = 7; is_stmt = false; basic_block = true; discriminator = 5 })
     ∷ row (record (blank 0 0 4) { file = 2; column = 7; is_stmt = false; end_sequence = true })

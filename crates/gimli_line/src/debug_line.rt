@@ -56,13 +56,15 @@ impl<R: Reader> DebugLine<R> {
         ensures unit { IfOk result (λ program. SpellsUnit (noted (R.big self.now) R.Offset.limit)
             (unit_entry R.bytes address_size comp_dir comp_name)
             (drop (R.Offset.number offset.0) (R.bytes self.now)) program.meaning) }
-        ensures refusal { IfErr result (λ e. e ≢ Error.OutOfMemory → HasHeaderFault (noted (R.big self.now) R.Offset.limit)
+        ensures refusal { IfErr result (λ e. e ≢ Error.OutOfMemory
+            → HasHeaderFault (noted (R.big self.now) R.Offset.limit)
             (unit_entry R.bytes address_size comp_dir comp_name)
             (drop (R.Offset.number offset.0) (R.bytes self.now)) e) }
         ensures notation { IfOk result (λ program. program.notation ≡ noted (R.big self.now) R.Offset.limit) }
         ensures offset { IfOk result (λ program. program.offset ≡ offset) }
         ensures order { IfOk result (HasOneOrder R.big) }
-        ensures directory { IfOk result (λ program. program.comp_dir ≡ taken program.meaning.parameters.encoding comp_dir) }
+        ensures directory { IfOk result (λ program. program.comp_dir
+            ≡ taken program.meaning.parameters.encoding comp_dir) }
         ensures name { IfOk result (λ program. option_map (λ file. file.path_name) program.comp_file
             ≡ taken program.meaning.parameters.encoding (option_map String comp_name)) }
     {

@@ -33,7 +33,8 @@ use gimli_core::{AttributeValue, Reader};
 /// Bytes begin with a unit, or they have a refusal.
 pub fn unit_or_refusal()
     ensures { (notation : Notation) (unit_entry : UnitEntry) (bytes : List ℕ) →
-        ((h : Header) × SpellsUnit notation unit_entry bytes h) ⊎ ((e : Error) × HasHeaderFault notation unit_entry bytes e) }
+        ((h : Header) × SpellsUnit notation unit_entry bytes h)
+        ⊎ ((e : Error) × HasHeaderFault notation unit_entry bytes e) }
 {}
 
 /// They don't have both, the header is one, and so is the refusal.
@@ -50,7 +51,8 @@ pub fn one_unit_or_refusal()
 pub fn one_decoding()
     ensures some { (notation : Notation) (h : Header) (bytes : List ℕ) →
         (list : List Ins) × (end : Option Error) × Decodes notation h bytes list end }
-    ensures one { (notation : Notation) (h : Header) (bytes : List ℕ) (list other : List Ins) (end finish : Option Error) →
+    ensures one { (notation : Notation) (h : Header) (bytes : List ℕ) (list other : List Ins)
+        (end finish : Option Error) →
         Decodes notation h bytes list end → Decodes notation h bytes other finish → (list ≡ other) × (end ≡ finish) }
 {}
 
@@ -61,7 +63,7 @@ pub fn instructions_are_bounded()
 {}
 
 /// The entries of a table of version 5 begin with their count, which says how many they are, and no fewer bytes than
-/// that stand behind it: each entry has a byte at least, since some format is there.
+/// that stand after it: each entry has a byte at least, since some format is there.
 pub fn entries_are_bounded()
     ensures { (notation : Notation) (format : Format) (formats : List FileEntryFormat) → formats ≢ [] →
         (bytes : List ℕ) (entries : List Entry) → SpellsEntries notation format formats bytes entries →
@@ -85,7 +87,8 @@ pub fn machine_gives_events()
     ensures without_files { (parameters : Parameters) (list : List Ins) →
         run parameters (initial parameters) list ≡ events_behind parameters [] list }
     ensures machine { (appends : Bool) (h : Header) (list : List Ins) (end : Option Error) →
-        events_with_files_from appends h.parameters (initial h.parameters) h.files list end ≡ events_with_files_behind appends h [] list end }
+        events_with_files_from appends h.parameters (initial h.parameters) h.files list end
+        ≡ events_with_files_behind appends h [] list end }
     ensures started { (appends : Bool) (h : Header) (notation : Notation) (offset : ℕ) (unread : Unread) →
         EventsWithFiles unread.notation appends h unread.bytes (events_left (started appends h notation offset unread)) }
     ensures files { (appends : Bool) (h : Header) (notation : Notation) (offset : ℕ) (unread : Unread) →
@@ -95,7 +98,8 @@ pub fn machine_gives_events()
 /// Between two ends of sequences, whether their rows are hidden or not, and from the start to the first, the addresses
 /// of rows never go down.
 pub fn addresses_never_go_down()
-    ensures { (parameters : Parameters) (past list : List Ins) → AreOneSequence list → NeverBelow 0 (events_behind parameters past list) }
+    ensures { (parameters : Parameters) (past list : List Ins) → AreOneSequence list
+        → NeverBelow 0 (events_behind parameters past list) }
 {}
 
 /// Columns are ordered by their numbers; the left edge, which stands for 0, is below them all.
@@ -162,13 +166,14 @@ pub fn instructions_are_taken()
         Decodes notation h bytes (decoded_at notation h bytes).0 (decoded_at notation h bytes).1 }
 {}
 
-/// The registers that the machine has behind a past are what looking back says: which instruction is refused, what is
+/// The registers that the machine has after a past are what looking back says: which instruction is refused, what is
 /// hidden, and which row a place makes that isn't hidden.
 pub fn registers_look_back()
     ensures refused { (parameters : Parameters) (past : List Ins) (i : Ins) →
         is_refused parameters i (registers_after parameters past) ≡ overflows parameters past i }
     ensures hidden { (parameters : Parameters) (past : List Ins) →
         (registers_after parameters past).hidden ≡ is_hidden parameters past }
-    ensures row { (parameters : Parameters) (past : List Ins) (i : Ins) → makes_row i ≡ true → is_hidden parameters past ≡ false →
+    ensures row { (parameters : Parameters) (past : List Ins) (i : Ins) → makes_row i ≡ true
+        → is_hidden parameters past ≡ false →
         stepped parameters i (registers_after parameters past) ≡ row_at parameters past i }
 {}

@@ -3,7 +3,7 @@
 use Rattle.std.specs.Prelude.{◌≡◌, ◌≤◌, ◌<◌, ◌+◌, ℕ, List, ◌∷◌, ◌++◌, Some, slice_get, All}
 use Rattle.gimli_line.specs.declared.run.row.LineRow.{LineRow}
 
--- x stands at a place among the rows of a sequence and y right behind it, x's address is at most a, and y's above a
+-- x stands at a place among the rows of a sequence and y right after it, x's address is at most a, and y's above a
 pub record IsPairAt (a : ℕ) (rows : List LineRow) (place : ℕ) (x y : LineRow) : Type 0 where
   pub first : slice_get rows place ≡ Some x
   pub second : slice_get rows (place + 1) ≡ Some y

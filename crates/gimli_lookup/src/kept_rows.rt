@@ -63,7 +63,7 @@ impl KeptRows {
         self.rows.len()
     }
 
-    /// The address of the row at a place, which is a probe. Asks a place of a row, and that the count can grow.
+    /// The address of the row at a place, which is a probe. Requires a place of a row, and that the count can grow.
     pub(crate) fn address(&self, place: usize, probes: &mut u64) -> u64
         requires place { place < length self.now }
         requires count { probes.old + 1 < 2 ^ 64 }
@@ -74,7 +74,7 @@ impl KeptRows {
         self.rows[place].address()
     }
 
-    /// The row before a place, and the one at it. Asks a place of a row that isn't the first.
+    /// The row before a place, and the one at it. Requires a place of a row that isn't the first.
     pub(crate) fn pair(&self, place: usize) -> (LineRow, LineRow)
         requires first { 0 < place }
         requires place { place < length self.now }

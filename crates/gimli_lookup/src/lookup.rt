@@ -105,7 +105,7 @@ impl<R: Reader> Model for Lookup<R> {
 }
 
 impl<R: Reader> Lookup<R> {
-    /// Runs the whole program, and keeps the rows of each of its sequences. Rows behind the last end row are in no
+    /// Runs the whole program, and keeps the rows of each of its sequences. Rows after the last end row are in no
     /// sequence. Refused as `sequences` is: by the first fault of the run, wherever it stands; or by `OutOfMemory`.
     pub fn new(program: IncompleteLineProgram<R>) -> Result<Lookup<R>>
         ensures sequences { IfOk result (λ lookup.

@@ -8,7 +8,7 @@ ghost use Rattle.gimli_lookup.specs.Probes.{never_go_down, binary_digits, most_p
 use crate::kept_rows::KeptRows;
 use gimli_line::LineRow;
 
-/// The place of the first row whose address is above `a`, or the number of rows where there is none. Asks addresses
+/// The place of the first row whose address is above `a`, or the number of rows where there is none. Requires addresses
 /// that never go down.
 fn first_above(rows: &KeptRows, a: u64, probes: &mut u64) -> usize
     requires order { never_go_down rows.now ≡ true }
@@ -34,7 +34,7 @@ fn first_above(rows: &KeptRows, a: u64, probes: &mut u64) -> usize
     low
 }
 
-/// The first rows that cover `a`, found by halves. Asks addresses that never go down.
+/// The first rows that cover `a`, found by halves. Requires addresses that never go down.
 fn find_by_halves(rows: &KeptRows, a: u64, probes: &mut u64) -> Option<(LineRow, LineRow)>
     requires order { never_go_down rows.now ≡ true }
     requires count { probes.old + length rows.now < 2 ^ 64 }

@@ -107,7 +107,7 @@ no_fault_among (r ∷ rows) (s ∷ others) e rest is =
     let behind : map row rows ≡ map row others ++ fault e ∷ rest = cc in
     no_fault_among rows others e rest behind
 
--- a program that gives rows has no first fault, and its rows are answered unless memory is wanting
+-- a program that gives rows has no first fault, and its rows are answered unless memory is missing
 rows_refused : (notation : Notation) (h : Header) (rows : List ReadRow) (e : ConvertError) → Events notation h h.program (map row rows) → IsRunRefusal notation h e → e ≡ NoMemory
 rows_refused notation h rows NoMemory given refused = refl
 rows_refused notation h rows (Read e) given refused =

@@ -43,7 +43,7 @@ stops_there sections s e [] end = refl
 stops_there sections s e (i ∷ list) end = refl
 
 module _ (sections : Sections) (s : SourceState) (lists : Lists) (f : File) where
-  -- behind it
+  -- after it
   pub file_taken : (next : Lists) → file_added sections lists f ≡ Ok next → reading_upon sections s (file_added sections (plain lists) f) ≡ reading_left sections s (plain next)
   file_taken next is = ap (reading_upon sections s) (plain_file sections lists f ∙ ap (λ (r : Result Lists ConvertError). r >>= λ n. Ok (plain n)) is)
 

@@ -17,7 +17,7 @@ pub lists_are : (c : Converted) (line_strings : List (List ℕ)) (want : Lists) 
 lists_are c line_strings want program directories files texts = rw (program, directories, files, texts) refl
 
 module _ (s : Sections) (h : Header) (given : Handed) (line_strings : List (List ℕ)) (encoding : Encoding) (target : encoding ≡ encoding_of h given) where
-  -- what is left of the preparation behind each step
+  -- what is left of the preparation after each step
   abbrev pub behind_lines : List ℕ → SourceFile → LineEncoding → Result Lists ConvertError
   behind_lines directory file e =
       all_added (directory_added s) h.directories (started_lists encoding e h (first_texts encoding.version line_strings directory file))

@@ -16,7 +16,7 @@ use Rattle.gimli_write.specs.convert.Lists.{Lists, version_of, with_path, direct
 
 -- ---- one step and the next
 
--- behind a step that is done the next one follows
+-- after a step that is done the next one follows
 pub done_first : {A B : Type 0} (r : Result A ConvertError) (f : A → Result B ConvertError) (x : A) → r ≡ Ok x → (r >>= f) ≡ f x
 done_first r f x is = ap (λ r. r >>= f) is
 
@@ -33,7 +33,7 @@ refused_same r s e is (inr refused) = inr (sym is ∙ refused)
 
 -- ---- one directory, and one file
 
--- the lists behind a directory, by the text that was made of its path
+-- the lists after a directory, by the text that was made of its path
 pub directory_is_added : (s : Sections) (lists : Lists) (v : Value) (path : List ℕ) (text : LineText) (line_strings : List (List ℕ))
     → source_path (version_of lists) s v ≡ Ok path
     → text ≡ made_text (version_of lists) lists.line_strings path → line_strings ≡ made_table (version_of lists) lists.line_strings path
@@ -45,7 +45,7 @@ pub directory_is_added : (s : Sections) (lists : Lists) (v : Value) (path : List
 directory_is_added s lists v path text line_strings is made after =
     rw (made, after) (done_first (source_path (version_of lists) s v) (λ (p : List ℕ). Ok (with_path lists p)) path is)
 
--- the lists behind a file, by the texts that were made of its path and its source
+-- the lists after a file, by the texts that were made of its path and its source
 pub file_is_added : (s : Sections) (lists : Lists) (f : File) (parts : FileParts) (path : LineText) (source : Option LineText) (paths line_strings : List (List ℕ))
     → file_parts (version_of lists) s lists.directory_ids f ≡ Ok parts
     → path ≡ made_text (version_of lists) lists.line_strings parts.path → paths ≡ made_table (version_of lists) lists.line_strings parts.path

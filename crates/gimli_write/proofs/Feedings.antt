@@ -41,7 +41,7 @@ same_left c d line_strings is items =
 
 -- ---- the tables that a reading finds
 
--- they are those of the program behind the read
+-- they are those of the program after the read
 tables_are : (old new : Built) → AddsFiles old new → record old { directories = new.directories; files = new.files } ≡ new
 tables_are old new adds =
     ap (λ (texts : List LineText). let p : Built = record old { directories = texts; files = new.files } in p) (ap (λ (p : Built). p.directories) adds)

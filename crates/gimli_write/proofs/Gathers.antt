@@ -9,12 +9,12 @@ use Rattle.gimli_write.specs.convert.Offers.{Reading, offers}
 use Rattle.gimli_write.specs.convert.Sequences.{gathered}
 use Rattle.gimli_write.specs.convert.ConversionState.{AddsFiles}
 
--- behind a row
+-- after a row
 pub row_gathered : (start : Option ℕ) (rows more : List LineRow) (row : LineRow) (old rest : Reading) (lists : Lists) → old ≡ offers (Row row) lists rest → more ≡ rows ++ row ∷ []
     → gathered start more rest ≡ gathered start rows old
 row_gathered start rows more row old rest lists hands more_is = ap (λ (r : List LineRow). gathered start r rest) more_is ∙ sym (ap (gathered start rows) hands)
 
--- behind an address, before the first row
+-- after an address, before the first row
 pub address_gathered : (start : Option ℕ) (rows : List LineRow) (a : ℕ) (old rest : Reading) (lists : Lists) → old ≡ offers (SetAddress a) lists rest → rows ≡ []
     → gathered (Some a) rows rest ≡ gathered start rows old
 address_gathered start rows a old rest lists hands none = rw (none, hands) refl

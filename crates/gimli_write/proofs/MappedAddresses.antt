@@ -82,7 +82,7 @@ base_below_row parameters past i seen inner =
     let address : (row_at parameters past i).address ≡ (pointer_at parameters (i ∷ past)).address = rw inner refl in
     omega arith
 
--- ---- what was built behind a past
+-- ---- what was built after a past
 
 -- how what was built follows a past: `base` is the address from which the builder's offsets count, and `place` the
 -- offset that it left off at
@@ -92,7 +92,7 @@ pub record Follows (parameters : Parameters) (past : List Ins) (base place : ℕ
   pub counted : is_hidden parameters past ≡ false → pending past ≡ None → base ≡ base_at past
   -- one that is pending can be set
   pub ahead : (a : ℕ) → is_hidden parameters past ≡ false → pending past ≡ Some a → (base + place ≤ a) × (a < address_limit parameters - 2)
-  -- behind nothing that was built of the sequence, offsets count from 0
+  -- after nothing that was built of the sequence, offsets count from 0
   pub unset : gave_row parameters past ≡ false → base + place ≡ 0
 
 pub follows_start : (parameters : Parameters) → Follows parameters [] 0 0

@@ -67,7 +67,7 @@ abbrev pub begins_at : Bool → ℕ
 begins_at true = 1
 begins_at false = 0
 
--- an entry behind others, in a table that begins there
+-- an entry after others, in a table that begins there
 pub entry_at : {A : Type 0} (old : Bool) (handed : Option A) (done rest : List A) (x : A) (i : ℕ) → i ≡ begins_at old + length done
     → (if old then from_one handed (done ++ x ∷ rest) i else slice_get (done ++ x ∷ rest) i) ≡ Some x
 entry_at true handed done rest x zero is = absurd (omega arith)
@@ -133,7 +133,7 @@ one_path version line_strings directories a b id x y =
     let same : made_text version line_strings a ≡ made_text version line_strings b = cc in
     made_apart version line_strings a b x.made y.made same
 
--- the texts that were there are there behind a source, if one is made
+-- the texts that were there are there after a source, if one is made
 pub sources_has : (version : ℕ) (paths : List (List ℕ)) (source : Option (List ℕ)) → HasMade version paths (sources_table version paths source)
 sources_has version paths (Some text) = table_has version paths text
 sources_has version paths None = has_itself version paths

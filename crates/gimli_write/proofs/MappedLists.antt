@@ -174,7 +174,7 @@ directory_ready strings encoding sections lists next v is so =
       files = All-weaker (CanKeep strings lists.line_strings (version_of lists)) (CanKeep strings after (version_of lists)) (λ f w. kept_longer strings lists.line_strings after (version_of lists) f le w) lists.program.files so.files;
     })
 
--- the line strings behind the source of a file
+-- the line strings after the source of a file
 abbrev pub sources_table : ℕ → List (List ℕ) → Option (List ℕ) → List (List ℕ)
 sources_table version paths source = option_map_or (made_table version paths) source paths
 

@@ -63,7 +63,7 @@ module _ (notation : Notation) (sections : Sections) (h : Header) (given : Hande
       (subst (SeesEndsBehind h.parameters []) (decodes_once ends_seen.list ends_seen.end ends_seen.decoding) ends_seen.seen)
       (ap (λ (r : Reading). converted convert_address r first.program) (sym reads.given) ∙ is)
 
-  -- what was built is what was built behind the start
+  -- what was built is what was built after the start
   all_items : c.program.items ≡ whole.items
   all_items = whole.built ∙ ap (λ (l : List BuiltItem). l ++ whole.items) (first_ready []).items
 

@@ -36,7 +36,7 @@ slice_stays [] ys i x is = absurd cc
 slice_stays (y ∷ xs) ys zero x is = is
 slice_stays (y ∷ xs) ys (suc i) x is = slice_stays xs ys i x is
 
--- ids that are there stay behind an instruction
+-- ids that are there stay after an instruction
 pub ids_stay : (sections : Sections) (lists next : Lists) (i : Ins) → defined sections lists i ≡ Ok next
     → (n id : ℕ) → slice_get lists.file_ids n ≡ Some id → slice_get next.file_ids n ≡ Some id
 ids_stay sections lists next (DefineFile f) is n id there = by (file_parts (version_of lists) sections lists.directory_ids f) is
@@ -74,7 +74,7 @@ row_parts r address seen at inner =
 
 -- ---- what comes of the rest of a program
 
--- what comes of these instructions and this end behind a past, from a program on
+-- what comes of these instructions and this end after a past, from a program on
 pub record Rest (sections : Sections) (parameters : Parameters) (first : Lists) (size : ℕ) (c : Conversion) (past list : List Ins) (end : Option Error) (base : ℕ) (place : ℕ × ℕ) (p : Built) : Type 0 where
   pub rows : List ReadRow
   pub events : events_behind parameters past list ++ end_events end ≡ map row rows
@@ -170,7 +170,7 @@ module _ (sections : Sections) (parameters : Parameters) (first : Lists) (conver
       stay = r.stay;
     }
 
-    -- what is read behind a place, and what comes of it
+    -- what is read after a place, and what comes of it
     abbrev Follow : Type 0
     Follow = (base : ℕ) (place : ℕ × ℕ) (p : Built) → Follows parameters (i ∷ past) base place.0
         → converted convert_address (reading_behind sections parameters first (i ∷ past) list end) p ≡ Ok c → Rest sections parameters first size c (i ∷ past) list end base place p
@@ -246,7 +246,7 @@ module _ (sections : Sections) (parameters : Parameters) (first : Lists) (conver
         by true closes so = end_placed base place p one closes seen same so follow
         by false inner so = known (file_id parameters.encoding.version lists (row_at parameters past i).file) refl inner so
 
-    -- the same behind an address that may be pending
+    -- the same after an address that may be pending
     place_taken : (base : ℕ) (place : ℕ × ℕ) (p : Built) → events_at parameters past i ≡ row (row_at parameters past i) ∷ [] → makes_row i ≡ true → is_hidden parameters past ≡ false → Follows parameters past base place.0
         → converted convert_address (offered parameters.encoding.version lists (source_row parameters past i) (reading_behind sections parameters first (i ∷ past) list end)) p ≡ Ok c
         → Follow → Rest sections parameters first size c past (i ∷ list) end base place p

@@ -1,4 +1,4 @@
--- Rows that are read: they are what the program gives, or a fault comes behind them.
+-- Rows that are read: they are what the program gives, or a fault comes after them.
 use Rattle.std.proofs.Common.{◌≡◌, ◌≢◌, ◌⊎◌, Bool, true, List, [], ◌∷◌, ◌++◌, map, refl, sym, ap, ◌∙◌, append_assoc, inl, inr}
 use Rattle.std.specs.Prelude.{Option}
 use Rattle.std.proofs.lemmas.List.{map-append, append-nil}
@@ -38,7 +38,7 @@ events_of_behind a h past (i ∷ list) end =
 
 -- ---- a run to its end
 
--- rows behind which nothing comes are all that the program gives
+-- rows after which nothing comes are all that the program gives
 pub run_ended : (notation : Notation) (h : Header) (events left : List EventWithFiles) (rows : List LineRow) → EventsWithFiles notation true h h.program events
     → events_of events ≡ map row rows ++ events_of left → left ≡ [] → Events notation h h.program (map row rows)
 run_ended notation h events left rows tells so_far none = record {
@@ -68,7 +68,7 @@ first_fault notation h events left rest rows files e tells so_far next = record 
       ∙ ap (λ (l : List EventWithFiles). map row rows ++ events_of l) next;
 }
 
--- a refusal behind rows is the first fault, or want of memory, and has the name that conversions give it
+-- a refusal after rows is the first fault, or want of memory, and has the name that conversions give it
 pub run_refused : (notation : Notation) (h : Header) (events : List EventWithFiles) (old new : RunState) (rows : List LineRow) (e : Error) (r : ConvertError)
     → EventsWithFiles notation true h h.program events → events_of events ≡ map row rows ++ events_of (events_left old) → FaultIs (ready old) new e
     → (e ≡ OutOfMemory → r ≡ NoMemory) → (e ≢ OutOfMemory → r ≡ Read e) → IsRunRefusal notation h r

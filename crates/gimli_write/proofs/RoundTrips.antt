@@ -46,7 +46,7 @@ unit_refused big cause unit_entry old new bytes NoMemory there r = tt
 unit_refused big cause unit_entry old new bytes (Read fault) there r = (bytes, there, r)
 unit_refused big cause unit_entry old new bytes e there r = absurd r.2
 
--- the same by the bytes behind the offset
+-- the same by the bytes after the offset
 pub unit_not_answered : (big other : Bool) (cause : Option Error) (unit_entry : UnitEntry) (old new bytes : List ℕ) (n : ℕ) (r : Result RoundTrip ConvertError)
     → other ≡ big → new ≡ old ++ bytes → n ≡ length old → IfErr r (RefusesUnit (slice_notation other) unit_entry (drop n new)) → IfErr r (IsRefusal big cause unit_entry old new)
 unit_not_answered big other cause unit_entry old new bytes n r order there offset is =

@@ -25,7 +25,7 @@ use Rattle.gimli_write.specs.convert.Lists.{Lists}
 use Rattle.gimli_write.specs.convert.Offers.{Reading, stops, upon, base_at, pending, source_row, offered, reading_at, defined, lists_at, reading_behind, Reads}
 use Rattle.gimli_write.specs.convert.SourceState.{SourceState, started, row_made, base_behind, pending_behind, state_behind, instruction_reading, reading_from, reading_left}
 
--- ---- the state behind a past
+-- ---- the state after a past
 
 abbrev pub state_at : Header → List Ins → Unread → SourceState
 state_at h past unread = record { header = h; row = registers_after h.parameters past; base = base_at past; pending = pending past; unread = unread }

@@ -195,7 +195,7 @@ reset_ready : (q : Parameters) (r : LineRow) (last kept hidden : Bool) → r.end
 reset_ready q r true kept hidden e k h = rw e (k, refl)
 reset_ready q r false kept hidden e k h = rw e (k ∙ h, refl)
 
--- behind a row, whose registers are reset
+-- after a row, whose registers are reset
 pub ready_behind_row : (i : Ins) (hidden : Bool) (old new after : LineRow) → IsReady hidden old → (p q : Parameters) → address_operand i ≡ None → new ≡ stepped p i old
     → (last kept : Bool) → last ≡ new.end_sequence → kept ≡ (if last then false else hidden) → after ≡ reset_row q new → IsReady kept after
 ready_behind_row i hidden old new after ready p q address step last kept ended kept_is reset =

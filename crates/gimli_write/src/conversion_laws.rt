@@ -27,20 +27,25 @@ ghost use Rattle.gimli_write.specs.convert.Preparation.{Handed, encoding_of};
 
 /// A conversion asks of each row and end what the builder's own calls ask.
 pub fn conversions_ask_what_the_builder_asks()
-    ensures { (e : LineEncoding) (place : ℕ × ℕ) (item : BuiltItem) → Decides (can_build e place item) (CanBuild e place item) }
+    ensures { (e : LineEncoding) (place : ℕ × ℕ) (item : BuiltItem)
+        → Decides (can_build e place item) (CanBuild e place item) }
 {}
 
 /// A converted program can be written, whatever its addresses are mapped to.
 pub fn converted_programs_can_be_written()
-    ensures { (convert_address : ℕ → Option Address) (notation : Notation) (sections : Sections) (h : Header) (given : Handed)
+    ensures { (convert_address : ℕ → Option Address) (notation : Notation) (sections : Sections)
+        (h : Header) (given : Handed)
         (line_strings strings : List (List ℕ)) (c : Conversion) →
-        IsConverted convert_address notation sections h given line_strings (Ok c) → CanWrite c.program strings c.line_strings }
+        IsConverted convert_address notation sections h given line_strings (Ok c)
+        → CanWrite c.program strings c.line_strings }
 {}
 
 /// A converted program has the encoding that is handed, else that of its source.
 pub fn converted_programs_keep_their_encoding()
-    ensures { (convert_address : ℕ → Option Address) (notation : Notation) (sections : Sections) (h : Header) (given : Handed)
-        (line_strings : List (List ℕ)) (c : Conversion) → IsConverted convert_address notation sections h given line_strings (Ok c) →
+    ensures { (convert_address : ℕ → Option Address) (notation : Notation) (sections : Sections)
+        (h : Header) (given : Handed)
+        (line_strings : List (List ℕ)) (c : Conversion)
+        → IsConverted convert_address notation sections h given line_strings (Ok c) →
         c.program.encoding ≡ encoding_of h given }
 {}
 
@@ -48,10 +53,13 @@ pub fn converted_programs_keep_their_encoding()
 /// source that gave a row ends hidden, a converted program says what its source says. No address in it hides a row, and
 /// all of them fit its address size.
 pub fn conversions_are_faithful()
-    ensures mapped { (convert_address : ℕ → Option Address) (notation : Notation) (sections : Sections) (h : Header) (given : Handed)
+    ensures mapped { (convert_address : ℕ → Option Address) (notation : Notation)
+        (sections : Sections) (h : Header) (given : Handed)
         (line_strings strings : List (List ℕ)) (c : Conversion) → CanBeFaithful convert_address notation h given →
-        IsConverted convert_address notation sections h given line_strings (Ok c) → IsMapped notation sections h h.program strings c }
-    ensures addresses { (convert_address : ℕ → Option Address) (notation : Notation) (sections : Sections) (h : Header) (given : Handed)
+        IsConverted convert_address notation sections h given line_strings (Ok c)
+        → IsMapped notation sections h h.program strings c }
+    ensures addresses { (convert_address : ℕ → Option Address) (notation : Notation)
+        (sections : Sections) (h : Header) (given : Handed)
         (line_strings : List (List ℕ)) (c : Conversion) → CanBeFaithful convert_address notation h given →
         IsConverted convert_address notation sections h given line_strings (Ok c) →
         AddressesFit c.program.encoding.address_size 0 (0, 0) c.program.items }
@@ -61,14 +69,21 @@ pub fn conversions_are_faithful()
 /// other row all its registers, with the number that its file has now. These are the rows that `round_trip` answers, and
 /// those of a unit that `LineProgram::write` wrote, however it is read well.
 pub fn converted_rows_are_read_back()
-    ensures answered { (convert_address : ℕ → Option Address) (notation : Notation) (sections : Sections) (h : Header) (given : Handed)
-        (line_strings : List (List ℕ)) (c : Conversion) (rows back : List ReadRow) → CanBeFaithful convert_address notation h given →
-        IsConverted convert_address notation sections h given line_strings (Ok c) → Events notation h h.program (map row rows) →
-        (AddressesFit c.program.encoding.address_size 0 (0, 0) c.program.items → RowsMatch c.program.encoding.version [] c.program.items back) →
+    ensures answered { (convert_address : ℕ → Option Address) (notation : Notation)
+        (sections : Sections) (h : Header) (given : Handed)
+        (line_strings : List (List ℕ)) (c : Conversion) (rows back : List ReadRow)
+        → CanBeFaithful convert_address notation h given →
+        IsConverted convert_address notation sections h given line_strings (Ok c)
+        → Events notation h h.program (map row rows) →
+        (AddressesFit c.program.encoding.address_size 0 (0, 0) c.program.items
+        → RowsMatch c.program.encoding.version [] c.program.items back) →
         OneByOne (IsReadAs h.parameters.encoding.version c.program.encoding.version c.file_ids) rows back }
-    ensures written { (convert_address : ℕ → Option Address) (notation : Notation) (sections : Sections) (h : Header) (given : Handed)
-        (line_strings : List (List ℕ)) (c : Conversion) (rows : List ReadRow) → CanBeFaithful convert_address notation h given →
-        IsConverted convert_address notation sections h given line_strings (Ok c) → Events notation h h.program (map row rows) →
+    ensures written { (convert_address : ℕ → Option Address) (notation : Notation)
+        (sections : Sections) (h : Header) (given : Handed)
+        (line_strings : List (List ℕ)) (c : Conversion) (rows : List ReadRow)
+        → CanBeFaithful convert_address notation h given →
+        IsConverted convert_address notation sections h given line_strings (Ok c)
+        → Events notation h h.program (map row rows) →
         (again : Notation) (unit_entry : UnitEntry) (texts : Sections) (strings after : List (List ℕ)) (unit : List ℕ)
         (back : ReadsBack again unit_entry texts c.program strings after unit) →
         (found : List ReadRow) × Events again back.header back.header.program (map row found)
@@ -78,9 +93,12 @@ pub fn converted_rows_are_read_back()
 /// And the files that it answers have the paths of those of the source: each file number of the source has an id, which is
 /// the index of its file.
 pub fn converted_files_are_read_back()
-    ensures { (convert_address : ℕ → Option Address) (notation : Notation) (sections : Sections) (h : Header) (given : Handed)
-        (line_strings strings : List (List ℕ)) (c : Conversion) (files : List File) (answers : List FileAnswer) (directories : List (List ℕ)) →
-        IsConverted convert_address notation sections h given line_strings (Ok c) → FilesAtEnd notation true h h.program files →
+    ensures { (convert_address : ℕ → Option Address) (notation : Notation) (sections : Sections)
+        (h : Header) (given : Handed)
+        (line_strings strings : List (List ℕ)) (c : Conversion) (files : List File)
+        (answers : List FileAnswer) (directories : List (List ℕ)) →
+        IsConverted convert_address notation sections h given line_strings (Ok c)
+        → FilesAtEnd notation true h h.program files →
         answers ≡ map (built_file c.program strings (line_strings_behind c.program c.line_strings)) c.program.files →
         directories ≡ map (bytes_in strings (line_strings_behind c.program c.line_strings)) c.program.directories →
         AreFilesReadAs sections h files c.file_ids directories answers }

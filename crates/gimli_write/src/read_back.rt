@@ -97,7 +97,7 @@ fn directory_values<R: Reader>(
     Ok(directories)
 }
 
-/// The text that a value stands for. Asks a value that stands for one. Refused by `OutOfMemory` alone.
+/// The text that a value stands for. Requires a value that stands for one. Refused by `OutOfMemory` alone.
 fn text_there<R: Reader>(
     alloc: Global,
     value: AttributeValue<R>,
@@ -110,7 +110,7 @@ fn text_there<R: Reader>(
     text(alloc, value, sections)
 }
 
-/// The texts that values stand for. Asks values that stand for texts. Refused by `OutOfMemory` alone.
+/// The texts that values stand for. Requires values that stand for texts. Refused by `OutOfMemory` alone.
 fn texts<R: Reader>(
     alloc: Global,
     values: &[AttributeValue<R>],
@@ -128,7 +128,7 @@ fn texts<R: Reader>(
     Ok(texts)
 }
 
-/// The text of a file, where there is one. Asks a value that stands for a text. Refused by `OutOfMemory` alone.
+/// The text of a file, where there is one. Requires a value that stands for a text. Refused by `OutOfMemory` alone.
 fn source_text<R: Reader>(
     alloc: Global,
     source: Option<AttributeValue<R>>,
@@ -145,7 +145,7 @@ fn source_text<R: Reader>(
     }
 }
 
-/// What is read of a file. Asks one whose texts are there. Refused by `OutOfMemory` alone.
+/// What is read of a file. Requires one whose texts are there. Refused by `OutOfMemory` alone.
 fn read_file<R: Reader>(
     alloc: Global,
     file: &FileEntry<R>,
@@ -168,7 +168,7 @@ fn read_file<R: Reader>(
     })
 }
 
-/// What is read of files. Asks files whose texts are there. Refused by `OutOfMemory` alone.
+/// What is read of files. Requires files whose texts are there. Refused by `OutOfMemory` alone.
 fn read_files<R: Reader>(
     alloc: Global,
     files: &[FileEntry<R>],
@@ -207,7 +207,7 @@ fn read_rows<R: Reader>(
     }
 }
 
-/// What is read of a program at an offset. Asks texts that are there. Refused by the first fault of its run, or by
+/// What is read of a program at an offset. Requires texts that are there. Refused by the first fault of its run, or by
 /// `OutOfMemory`.
 fn read_program<R: Reader>(
     alloc: Global,
@@ -279,7 +279,7 @@ impl StringSections {
     }
 }
 
-/// What is read of the unit at an offset of a section. Asks a unit whose texts are there. Refused by the first fault
+/// What is read of the unit at an offset of a section. Requires a unit whose texts are there. Refused by the first fault
 /// of its run, or by `OutOfMemory`.
 fn read_section<'x, E: Endianity>(
     alloc: Global,
@@ -295,10 +295,12 @@ fn read_section<'x, E: Endianity>(
         (drop offset.0 section.now) }
     ensures offset { IfOk result (λ answer. answer.offset ≡ offset) }
     ensures ok { (h : Header)
-        → BeginsUnit (slice_notation (E.big endian)) (unit_entry_with address_size directory.now) (drop offset.0 section.now) h
+        → BeginsUnit (slice_notation (E.big endian)) (unit_entry_with address_size directory.now)
+        (drop offset.0 section.now) h
         → IfOk result (λ answer. AreAnswers (slice_notation (E.big endian)) sections.now h (answers answer)) }
     ensures err { (h : Header)
-        → BeginsUnit (slice_notation (E.big endian)) (unit_entry_with address_size directory.now) (drop offset.0 section.now) h
+        → BeginsUnit (slice_notation (E.big endian)) (unit_entry_with address_size directory.now)
+        (drop offset.0 section.now) h
         → IfErr result (IsRunRefusal (slice_notation (E.big endian)) h) }
 {
     let texts = TextSections {
@@ -357,7 +359,7 @@ fn read_unit<E: Endianity>(
 
 /// Writes a program's unit, as `LineProgram::write` does, and reads it again: from the offset that was answered, in
 /// the same order, with the program's address size and its working directory, and beside the tables, each written to
-/// an empty section. Asks what `write` asks.
+/// an empty section. Requires what `write` asks.
 ///
 /// What is answered is what the unit says, and what the machine of its program gives: the built directories and files,
 /// and, where each address fits the address size, none is set below the one reached in its sequence, and none is set

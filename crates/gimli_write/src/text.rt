@@ -37,7 +37,8 @@ pub(crate) fn text<R: Reader>(
 ) -> ConvertResult<Vec<u8>>
     ensures ok { IfOk result (λ text. text_of sections.now (value_seen R.bytes R.Offset.number value) ≡ Ok text.items) }
     ensures err { IfErr result (λ e. (e ≡ ConvertError.OutOfMemory) ⊎ ((fault : ReadError)
-        × (e ≡ ConvertError.Read fault) × (text_of sections.now (value_seen R.bytes R.Offset.number value) ≡ Err fault))) }
+        × (e ≡ ConvertError.Read fault)
+        × (text_of sections.now (value_seen R.bytes R.Offset.number value) ≡ Err fault))) }
 {
     match find_text(value, sections) {
         Ok(text) => copied(alloc, text),

@@ -27,7 +27,8 @@ pub fn run<F: Read + Drop, O: Write, E: Write>(
 ) -> u8
     ensures usage { ((command : Command) → IsCommand (map (λ word. word.now) words.now) command → ⊥) → result ≡ 2 }
     ensures command { (command : Command) → IsCommand (map (λ word. word.now) words.now) command → result ≤ 1 }
-    ensures no_file { (command : Command) → IsCommand (map (λ word. word.now) words.now) command → ReadsFile command → IsNone file → result ≡ 1 }
+    ensures no_file { (command : Command) → IsCommand (map (λ word. word.now) words.now) command
+        → ReadsFile command → IsNone file → result ≡ 1 }
 {
     match perform(alloc, words, file, out) {
         Ok(()) => 0,
@@ -42,9 +43,12 @@ fn perform<F: Read + Drop, O: Write>(
     file: Option<F>,
     out: &mut O,
 ) -> Result<(), Refusal>
-    ensures usage { ((command : Command) → IsCommand (map (λ word. word.now) words.now) command → ⊥) → result ≡ Err Refusal.Usage }
-    ensures command { (command : Command) → IsCommand (map (λ word. word.now) words.now) command → result ≢ Err Refusal.Usage }
-    ensures no_file { (command : Command) → IsCommand (map (λ word. word.now) words.now) command → ReadsFile command → IsNone file → result ≡ Err Refusal.File }
+    ensures usage { ((command : Command) → IsCommand (map (λ word. word.now) words.now) command → ⊥)
+        → result ≡ Err Refusal.Usage }
+    ensures command { (command : Command) → IsCommand (map (λ word. word.now) words.now) command
+        → result ≢ Err Refusal.Usage }
+    ensures no_file { (command : Command) → IsCommand (map (λ word. word.now) words.now) command
+        → ReadsFile command → IsNone file → result ≡ Err Refusal.File }
 {
     match Command::parse(words).ok_or(Refusal::Usage)? {
         Command::Demo => print_demo(alloc, out),

@@ -78,7 +78,7 @@ fn print_each<O: Write>(
     Ok(())
 }
 
-/// The offset behind a unit: its own, the bytes of its length, and as many as that says. None where 64 bits don't hold
+/// The offset after a unit: its own, the bytes of its length, and as many as that says. None where 64 bits don't hold
 /// it.
 fn offset_behind(offset: usize, format: Format, unit_length: usize) -> Option<usize>
     ensures there { IfSome result (λ next. next ≡ offset_behind offset format unit_length) }

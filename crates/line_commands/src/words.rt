@@ -87,7 +87,8 @@ impl Command {
     /// What the words ask for; None where they are no command.
     pub fn parse(words: &[&str]) -> Option<Command>
         ensures command { IfSome result (IsCommand (map (λ word. word.now) words.now)) }
-        ensures only { (command : Command) → IsCommand (map (λ word. word.now) words.now) command → result ≡ Some command }
+        ensures only { (command : Command) → IsCommand (map (λ word. word.now) words.now) command
+            → result ≡ Some command }
     {
         match words {
             ["demo"] => Some(Command::Demo),
@@ -149,7 +150,8 @@ impl Query {
     /// The query that four words name.
     fn parse(order: &str, size: &str, offset: &str, address: &str) -> Option<Query>
         ensures named { IfSome result (NamesQuery order.now size.now offset.now address.now) }
-        ensures only { (query : Query) → NamesQuery order.now size.now offset.now address.now query → result ≡ Some query }
+        ensures only { (query : Query) → NamesQuery order.now size.now offset.now address.now query
+            → result ≡ Some query }
     {
         let place = Place::parse(order, size, offset)?;
         let address = parse_address(address)?;

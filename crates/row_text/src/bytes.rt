@@ -6,7 +6,7 @@ use crate::numbers::parse_number;
 use std::alloc::{AllocError, Global};
 
 /// A text: `%` and two hexadecimal digits are a byte, and `%` alone is the empty text. None for a word that is
-/// empty, or has other letters behind a `%`.
+/// empty, or has other letters after a `%`.
 pub fn parse_text(alloc: Global, word: &str) -> Result<Option<Vec<u8>>, AllocError> {
     let mut text = Vec::new(alloc);
     match word {
@@ -26,7 +26,7 @@ pub fn parse_text(alloc: Global, word: &str) -> Result<Option<Vec<u8>>, AllocErr
     Ok(Some(text))
 }
 
-/// Adds what stands behind a `%`: a byte in two digits, and plain letters. False where they are no digits.
+/// Adds what stands after a `%`: a byte in two digits, and plain letters. False where they are no digits.
 fn push_quoted(text: &mut Vec<u8>, part: &[u8]) -> Result<bool, AllocError> {
     let [high, low, plain @ ..] = part else {
         return Ok(false);

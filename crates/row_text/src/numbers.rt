@@ -1,6 +1,6 @@
 //! Numbers.
 
-/// A number in decimal digits, or in hexadecimal ones behind `0x`, where it fits.
+/// A number in decimal digits, or in hexadecimal ones after `0x`, where it fits.
 pub fn parse_number(word: &str) -> Option<u64> {
     match word.strip_prefix("0x") {
         Some(digits) if digits.starts_with('+') => None,

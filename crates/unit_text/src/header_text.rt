@@ -62,7 +62,7 @@ fn print_line_encoding<O: Write>(header: &Header<'_>, out: &mut O) -> io::Result
     writeln!(out, "opcode_base {opcode_base}")
 }
 
-/// Prints bytes behind a word, and the word alone where there are none.
+/// Prints bytes after a word, and the word alone where there are none.
 fn print_bytes<O: Write>(word: &str, bytes: &[u8], out: &mut O) -> io::Result<()> {
     if bytes.is_empty() {
         return writeln!(out, "{word}");
@@ -71,7 +71,7 @@ fn print_bytes<O: Write>(word: &str, bytes: &[u8], out: &mut O) -> io::Result<()
     writeln!(out, "{word} {digits}")
 }
 
-/// Prints the formats of a table, behind a word each.
+/// Prints the formats of a table, after a word each.
 fn print_formats<O: Write>(word: &str, formats: &[FileEntryFormat], out: &mut O) -> io::Result<()> {
     for format in formats {
         let content = format.content_type.0;

@@ -1,4 +1,4 @@
-//! What the words behind a command's name ask for.
+//! What the words after a command's name ask for.
 
 ghost use Rattle.std.specs.Prelude.{IsTrue};
 ghost use Rattle.gimli_core.specs.Numbers.{is_address_size};

@@ -76,7 +76,8 @@ pub fn add_sequence(
 /// `OutOfMemory`.
 pub fn written(alloc: Global, program: &LineProgram) -> Result<EndianVec<LittleEndian>>
     requires can { CanWrite program.now [] [] }
-    ensures unit { IfOk result (λ section. Appends (unit_bytes false program.now.encoding program.now [] []) [] section.bytes) }
+    ensures unit { IfOk result
+        (λ section. Appends (unit_bytes false program.now.encoding program.now [] []) [] section.bytes) }
 {
     let mut section = DebugLine::from(EndianVec::new(alloc, LittleEndian));
     let mut strings = StringTable::default(alloc);

@@ -15,7 +15,7 @@ pub struct SectionFiles {
 }
 
 impl SectionFiles {
-    /// Reads the section of lines, and behind it those of texts, as far as they are named. Refused as `InvalidInput` where
+    /// Reads the section of lines, and after it those of texts, as far as they are named. Refused as `InvalidInput` where
     /// more are.
     pub fn read(rt: &HostRuntime, lines: &str, texts: &[&str]) -> io::Result<SectionFiles> {
         let alloc = rt.alloc();
@@ -42,7 +42,7 @@ impl SectionFiles {
     }
 }
 
-/// The words of a conversion, and the names of its files of texts behind them.
+/// The words of a conversion, and the names of its files of texts after them.
 pub fn split_words<'w, 't>(words: &'w [&'t str]) -> (&'w [&'t str], &'w [&'t str]) {
     words.split_at(words.len().min(WORDS))
 }

@@ -87,7 +87,7 @@ impl<'t> Parts<'t> {
 #[derive(Drop)]
 struct Expansion {
     order: Order,
-    /// The bytes so far, or within `unit(` those behind it.
+    /// The bytes so far, or within `unit(` those after it.
     bytes: Vec<u8>,
     /// Within `unit(`, the bytes before it.
     before_unit: Option<Vec<u8>>,

@@ -8,8 +8,8 @@ use line_commands::Command;
 use row_text::Attempts;
 use std::alloc::{AllocError, Global};
 
-/// What the command of a row prints: its output, its lines on standard error behind `stderr`, and its status, where
-/// it isn't 0, behind `status`.
+/// What the command of a row prints: its output, its lines on standard error after `stderr`, and its status, where
+/// it isn't 0, after `status`.
 pub fn run_row(alloc: Global, row: &Row<'_>, attempts: Attempts) -> Result<Vec<u8>, AllocError> {
     let words: Vec<&str> = row.words.split_whitespace().collect(alloc)?;
     let mut out = Vec::new(alloc);
@@ -43,7 +43,7 @@ fn run_script(
     }
 }
 
-/// The sections of a row: that of lines, and behind it those of texts, as far as they are named. None where more are.
+/// The sections of a row: that of lines, and after it those of texts, as far as they are named. None where more are.
 fn sections_of<'r>(lines: &'r [u8], named: &'r [Vec<u8>]) -> Option<Sections<'r>> {
     let (strings, line_strings) = match named {
         [] => ([].as_slice(), [].as_slice()),

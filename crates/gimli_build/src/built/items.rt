@@ -5,13 +5,13 @@ use std::marker::Model;
 /// What was built in a line program, as it was given.
 #[derive(Clone, Copy, Debug, PartialEq, Eq)]
 pub enum BuiltItem {
-    /// An address that was set: offsets behind it count from there.
+    /// An address that was set: offsets after it count from there.
     SetAddress(Address),
     /// A row that was generated.
     Row(LineRow),
     /// The end of a sequence.
     End {
-        /// How many bytes the end is behind the address that was last set.
+        /// How many bytes the end is after the address that was last set.
         address_offset: u64,
         /// Which operation of the machine instruction there, from 0 on.
         op_index: u64,

@@ -195,7 +195,7 @@ impl LineProgram {
     }
 
     /// Puts a directory last, and answers its id; one that is there has its old id, and nothing changes.
-    /// Asks a program that isn't none, a text without a zero byte, and up to version 4 one that isn't
+    /// Requires a program that isn't none, a text without a zero byte, and up to version 4 one that isn't
     /// empty. Refused for want of memory alone; then nothing changes either.
     pub fn add_directory(&mut self, directory: LineString) -> Result<DirectoryId>
         requires program { self.old.is_none ≡ false }
@@ -223,7 +223,7 @@ impl LineProgram {
         &self.tables
     }
 
-    /// The directory of an id. Asks an id below the number of directories.
+    /// The directory of an id. Requires an id below the number of directories.
     pub fn get_directory(&self, id: DirectoryId) -> &LineString
         requires { id < length self.now.directories }
         ensures { slice_get self.now.directories id ≡ Some (line_text result.now) }
@@ -232,7 +232,7 @@ impl LineProgram {
     }
 
     /// Puts a file last, and answers its id; one that is there has its old id, and takes what is handed of
-    /// it, if anything is. No other file changes. Asks a program that isn't none, a text without a zero byte,
+    /// it, if anything is. No other file changes. Requires a program that isn't none, a text without a zero byte,
     /// up to version 4 one that isn't empty, and the id of a directory that is there. Refused for want of
     /// memory alone; then nothing changes.
     pub fn add_file(
@@ -270,7 +270,7 @@ impl LineProgram {
         self.tables.files()
     }
 
-    /// The path and the directory of a file. Asks an id below the number of files.
+    /// The path and the directory of a file. Requires an id below the number of files.
     pub fn get_file(&self, id: FileId) -> (&LineString, DirectoryId)
         requires { id < length self.now.files }
         ensures { option_map (λ f. f.0) (slice_get self.now.files id)
@@ -279,7 +279,7 @@ impl LineProgram {
         self.tables.get_file(id)
     }
 
-    /// What else is known of a file. Asks an id below the number of files.
+    /// What else is known of a file. Requires an id below the number of files.
     pub fn get_file_info(&self, id: FileId) -> &FileInfo
         requires { id < length self.now.files }
         ensures { option_map (λ f. f.1) (slice_get self.now.files id) ≡ Some (details result.now) }
@@ -287,7 +287,7 @@ impl LineProgram {
         self.tables.get_file_info(id)
     }
 
-    /// The same, to be written. Asks an id below the number of files.
+    /// The same, to be written. Requires an id below the number of files.
     pub fn get_file_info_mut(&mut self, id: FileId) -> &mut FileInfo
         requires { id < length self.old.files }
         ensures* lends { sem 𝓛 (lends_info self.entry id result) }
@@ -307,7 +307,7 @@ impl LineProgram {
     ghost use Rattle.gimli_build.specs.Tables.{keys_of, AreTables};
     ghost use Rattle.gimli_build.specs.LentRow.{lends_row};
 
-    /// Begins a sequence, and sets its address, if one is given. The current row stays. Asks a program that
+    /// Begins a sequence, and sets its address, if one is given. The current row stays. Requires a program that
     /// isn't none, and that no sequence has begun. Refused for want of memory alone; then nothing changes.
     pub fn begin_sequence(&mut self, address: Option<Address>) -> Result<()>
         requires program { self.old.is_none ≡ false }
@@ -330,7 +330,7 @@ impl LineProgram {
 
     /// Sets the address that offsets count from. In a sequence the offset and op_index of the current row
     /// become 0, and so do those that the next row is compared with; otherwise a sequence begins, and the
-    /// current row stays. Asks a program that isn't none. Refused for want of memory alone; then nothing
+    /// current row stays. Requires a program that isn't none. Refused for want of memory alone; then nothing
     /// changes.
     pub fn set_address(&mut self, address: Address) -> Result<()>
         requires { self.old.is_none ≡ false }
@@ -384,7 +384,7 @@ impl LineProgram {
     }
 
     /// Builds the current row, and begins a sequence if none has. Then its discriminator, `basic_block`,
-    /// `prologue_end` and `epilogue_begin` are cleared. Asks a program that isn't none, and what
+    /// `prologue_end` and `epilogue_begin` are cleared. Requires a program that isn't none, and what
     /// `can_generate_row` tells. Refused for want of memory alone; then nothing changes.
     pub fn generate_row(&mut self) -> Result<()>
         requires program { self.old.is_none ≡ false }
@@ -419,7 +419,7 @@ impl LineProgram {
     }
 
     /// Ends a sequence at this offset, in bytes, and the current op_index; the current row becomes the
-    /// initial one. Asks a program that isn't none, and what `can_end_sequence` tells. Refused for want of
+    /// initial one. Requires a program that isn't none, and what `can_end_sequence` tells. Refused for want of
     /// memory alone; then nothing changes.
     pub fn end_sequence(&mut self, address_offset: u64) -> Result<()>
         requires program { self.old.is_none ≡ false }

@@ -84,7 +84,7 @@ fn write_item<W: Writer>(
     }
 }
 
-/// Appends the instructions of a row that follows `previous`. At the start of a sequence, and behind a
+/// Appends the instructions of a row that follows `previous`. At the start of a sequence, and after a
 /// set address in one, `previous` has offset and op_index 0.
 pub(crate) fn write_row<W: Writer>(
     w: &mut W,
@@ -244,7 +244,7 @@ fn maker(line_encoding: &LineEncoding, opcode: u8) -> LineInstruction
     }
 }
 
-/// How many operations a place is behind the row before it.
+/// How many operations a place is after the row before it.
 fn operation_advance(
     line_encoding: &LineEncoding,
     previous: &LineRow,
@@ -263,7 +263,7 @@ fn operation_advance(
     instructions * operations + op_index - previous.op_index
 }
 
-/// How far a line is behind another one.
+/// How far a line is after another one.
 fn line_advance(from: u64, to: u64) -> i64
     requires from { from < 2 ^ 63 }
     requires to { to < 2 ^ 63 }

@@ -1,4 +1,4 @@
-//! The tables of a unit of version 5: each stands behind the formats of its entries and their number.
+//! The tables of a unit of version 5: each stands after the formats of its entries and their number.
 
 ghost use Rattle.std.specs.Prelude.{◌≡◌, ◌<◌, ◌≤◌, ◌^◌, true, [], ◌∷◌, ◌++◌, length, map, if◌then◌else◌, nat_eq, IfOk, IfErr, IfSome, OnOk, OnErr, Ok, Err, Some, None, All, unwrap_or};
 ghost use Rattle.std.specs.Option.{is_none};

@@ -36,7 +36,7 @@ module _ (notation : Notation) (format : Format) where
     | None ↦ (Err (UnknownForm (record { 0 = form })), bytes)
   ]
 
-  -- ---- the forms in parts, each behind the one before
+  -- ---- the forms in parts, each after the one before
 
   -- a value in a form among so many
   abbrev pub among_at : List (ℕ × Shape) → ℕ → List ℕ → Read Value
@@ -45,14 +45,14 @@ module _ (notation : Notation) (format : Format) where
     | None ↦ (Err (UnknownForm (record { 0 = form })), bytes)
   ]
 
-  -- the forms behind the blocks
+  -- the forms after the blocks
   unfoldable pub number_form_at : ℕ → List ℕ → Read Value
   number_form_at form bytes = among_at (drop 5 shapes) form bytes
 
-  -- the forms behind the numbers
+  -- the forms after the numbers
   unfoldable pub word_form_at : ℕ → List ℕ → Read Value
   word_form_at form bytes = among_at (drop 12 shapes) form bytes
 
-  -- the forms behind words and texts
+  -- the forms after words and texts
   unfoldable pub index_form_at : ℕ → List ℕ → Read Value
   index_form_at form bytes = among_at (drop 18 shapes) form bytes

@@ -56,7 +56,7 @@ plain_file path directory time size = record {
 
 -- ---- look-ups by index (DWARF 5, section 6.2.4, and DWARF 4, section 6.2.4)
 
--- the entry of an index in a table that begins at 1, behind one that may stand at 0
+-- the entry of an index in a table that begins at 1, after one that may stand at 0
 abbrev pub from_one : {A : Type 0} → Option A → List A → ℕ → Option A
 from_one first entries zero = first
 from_one first entries (suc i) = slice_get entries i
@@ -78,7 +78,7 @@ has_content content formats = list_any (λ f. nat_eq f.content_type.0 content) f
 
 -- ---- files that a program defines
 
--- a header with one more file, behind the others
+-- a header with one more file, after the others
 abbrev pub with_file : File → Header → Header
 with_file f h = record h { files = h.files ++ f ∷ [] }
 
@@ -86,7 +86,7 @@ with_file f h = record h { files = h.files ++ f ∷ [] }
 abbrev pub bare : Header → Header
 bare h = record h { files = [] }
 
--- a file behind the others; a list that is complete has it already
+-- a file after the others; a list that is complete has it already
 abbrev pub added : Bool → File → List File → List File
 added appends f files = if appends then files ++ f ∷ [] else files
 

@@ -25,7 +25,7 @@ use Rattle.gimli_line.specs.declared.header.file_entry.FileEntryFormat.{FileEntr
 abbrev pub paths_production : Production (List (List ℕ))
 paths_production = closed name
 
--- behind the path of a file: its directory, its timestamp and its size
+-- after the path of a file: its directory, its timestamp and its size
 abbrev pub file_production : List ℕ → Production File
 file_production path = do
   directory ← unsigned
@@ -119,7 +119,7 @@ version_production big = do
   known ← check (nat_le 2 version && nat_le version 5) (UnknownVersion version)
   done version
 
--- up to version 4 the handed address size; in version 5 the unit's own, and behind it a segment selector size of 0
+-- up to version 4 the handed address size; in version 5 the unit's own, and after it a segment selector size of 0
 abbrev pub address_size_production : ℕ → ℕ → Production ℕ
 address_size_production version handed =
     choose (nat_le version 4) (done handed) (do
@@ -220,7 +220,7 @@ fields_production notation unit_entry unit opening program = do
 -- ---- the header
 
 -- a unit: its length, and that many bytes. At their front stand the version and so on, up to the fields that the
--- header length counts, with slack behind the last of these; behind them stands the program
+-- header length counts, with slack after the last of these; after them stands the program
 abbrev pub header_production : Notation → UnitEntry → Production Header
 header_production notation unit_entry = do
   unit ← unit_length notation
@@ -255,6 +255,6 @@ SpellsFormats = formats_production.Spells
 abbrev pub SpellsEntries : Notation → Format → List FileEntryFormat → List ℕ → List Entry → Type 0
 SpellsEntries notation format formats = (entries_production notation format formats).Spells
 
--- the bytes begin with a count, which spells n, and at least n bytes stand behind it
+-- the bytes begin with a count, which spells n, and at least n bytes stand after it
 abbrev pub HoldsCount : List ℕ → ℕ → Type 0
 HoldsCount bytes n = (count : List ℕ) × (behind : List ℕ) × (bytes ≡ count ++ behind) × SpellsUleb128 64 count n × (n ≤ length behind)

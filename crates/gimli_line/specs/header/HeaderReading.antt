@@ -28,7 +28,7 @@ positive_at d bytes = byte_at bytes >>= λ n rest. if not (nat_eq n 0) then (Ok 
 abbrev pub paths_at : List ℕ → Read (List (List ℕ))
 paths_at bytes = closed_at text_at bytes
 
--- what stands behind the path of a file
+-- what stands after the path of a file
 unfoldable pub plain_file_at : List ℕ → List ℕ → Read File
 plain_file_at path bytes =
     unsigned_at bytes >>= λ directory rest. unsigned_at rest >>= λ time rest. unsigned_at rest >>= λ size rest. (Ok (plain_file path directory time size), rest)
@@ -84,7 +84,7 @@ version_at big bytes =
     number_at big 2 bytes >>= λ version rest.
     if nat_le 2 version && nat_le version 5 then (Ok version, rest) else (Err (UnknownVersion version), rest)
 
--- the unit's own address size, and behind it a segment selector size of 0
+-- the unit's own address size, and after it a segment selector size of 0
 unfoldable pub own_address_size_at : List ℕ → Read ℕ
 own_address_size_at bytes =
     address_size_at bytes >>= λ size rest. byte_at rest >>= λ selector rest.

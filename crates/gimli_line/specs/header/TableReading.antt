@@ -7,7 +7,7 @@ abbrev pub is_closed : List ℕ → Bool
 is_closed [] = false
 is_closed (b ∷ bytes) = nat_eq b 0
 
--- the bytes behind the first
+-- the bytes after the first
 abbrev pub behind : List ℕ → List ℕ
 behind [] = []
 behind (b ∷ bytes) = bytes

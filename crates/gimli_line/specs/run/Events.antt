@@ -45,7 +45,7 @@ events_at parameters past i =
     if overflows parameters past i then fault AddressOverflow ∷ []
     else (if makes_row i && not (is_hidden parameters past) then row (row_at parameters past i) ∷ [] else [])
 
--- what these instructions give behind a past
+-- what these instructions give after a past
 abbrev pub events_behind : Parameters → List Ins → List Ins → List Event
 events_behind parameters past [] = []
 events_behind parameters past (i ∷ list) = events_at parameters past i ++ events_behind parameters (i ∷ past) list

@@ -28,7 +28,7 @@ with_files files events = map (λ e. record { event = e; files = files }) events
 abbrev pub files_at : Bool → List File → List Ins → List File
 files_at appends files past = if appends then defined_files files past else files
 
--- what these instructions and this end give behind a past
+-- what these instructions and this end give after a past
 abbrev pub events_with_files_behind : Bool → Header → List Ins → List Ins → Option Error → List EventWithFiles
 events_with_files_behind appends h past [] end = with_files (files_at appends h.files past) (end_events end)
 events_with_files_behind appends h past (i ∷ list) end =
@@ -41,7 +41,7 @@ pub record EventsWithFiles (notation : Notation) (appends : Bool) (h : Header) (
   pub decoding : Decodes notation h bytes list end
   pub given : events ≡ events_with_files_behind appends h [] list end
 
--- the files behind the last instruction of the bytes of a program
+-- the files after the last instruction of the bytes of a program
 pub record FilesAtEnd (notation : Notation) (appends : Bool) (h : Header) (bytes : List ℕ) (files : List File) : Type 0 where
   pub list : List Ins
   pub end : Option Error
@@ -56,11 +56,11 @@ step_events parameters i r =
     if is_refused parameters i r then fault AddressOverflow ∷ []
     else (if makes_row i && not r.hidden then row (stepped parameters i r) ∷ [] else [])
 
--- the registers behind an instruction: they are reset behind a row and behind a refusal
+-- the registers after an instruction: they are reset after a row and after a refusal
 abbrev pub next_registers : Parameters → Ins → LineRow → LineRow
 next_registers parameters i r = if is_refused parameters i r || makes_row i then reset_row parameters (stepped parameters i r) else stepped parameters i r
 
--- the registers behind a past, run from the start of a program
+-- the registers after a past, run from the start of a program
 abbrev pub registers_after : Parameters → List Ins → LineRow
 registers_after parameters [] = initial parameters
 registers_after parameters (i ∷ past) = next_registers parameters i (registers_after parameters past)

@@ -6,7 +6,7 @@ use Rattle.gimli_line.specs.header.Parameters.{Parameters}
 use Rattle.gimli_line.specs.run.Instruction.{Ins, makes_row, defines_file}
 use Rattle.gimli_line.specs.run.Machine.{stepped, is_refused}
 
--- what reading gives is an instruction that defines no file, with this rest behind it; it was executed on the
+-- what reading gives is an instruction that defines no file, with this rest after it; it was executed on the
 -- registers, and refused or not
 pub record Executed (parameters : Parameters) (read : Read Ins) (rest : List ℕ) (old new : LineRow) (refused : Bool) : Type 0 where
   pub instruction : Ins

@@ -61,7 +61,7 @@ abbrev pub defines_file : Ins → Bool
 defines_file (DefineFile f) = true
 defines_file i = false
 
--- the files behind an instruction
+-- the files after an instruction
 abbrev pub files_behind : Bool → Ins → List File → List File
 files_behind appends (DefineFile f) files = added appends f files
 files_behind appends i files = files

@@ -13,7 +13,7 @@ use Rattle.gimli_line.specs.header.Productions.{bytes_of, among}
 
 -- ---- opcodes and their operands
 
--- what stands behind an opcode, and which instruction it is
+-- what stands after an opcode, and which instruction it is
 pub data Operand : Type 0 where
   -- nothing
   none : Ins → Operand
@@ -60,7 +60,7 @@ module _ (notation : Notation) (h : Header) where
     f ← file_production path
     done (make f)
 
-  -- behind a standard opcode without a meaning here: as many LEB128 numbers as the header counts
+  -- after a standard opcode without a meaning here: as many LEB128 numbers as the header counts
   abbrev pub unknown_production : ℕ → ℕ → Production Ins
   unknown_production opcode zero = done (UnknownStandard0 (record { 0 = opcode }))
   unknown_production opcode (suc zero) = do
@@ -70,21 +70,21 @@ module _ (notation : Notation) (h : Header) where
     operands ← bytes_of (times (suc (suc more)) unsigned)
     done (UnknownStandardN (record { 0 = opcode }) operands)
 
-  -- behind an opcode below the opcode base
+  -- after an opcode below the opcode base
   abbrev pub standard_production : ℕ → Production Ins
   standard_production opcode = elim (among opcode standard_opcodes) [
     | Some operand ↦ operand_production operand
     | None ↦ unknown_production opcode (slice_index h.operand_counts (opcode - 1))
   ]
 
-  -- an extended opcode, and the bytes behind it within its instruction; surplus ones are skipped
+  -- an extended opcode, and the bytes after it within its instruction; surplus ones are skipped
   abbrev pub extended_operands : ℕ → List ℕ → Production Ins
   extended_operands opcode operands = elim (among opcode (extended_opcodes h.parameters.encoding.version)) [
     | Some operand ↦ within operands (operand_production operand) >>= λ read. done read.0
     | None ↦ done (UnknownExtended (record { 0 = opcode }) operands)
   ]
 
-  -- behind a zero byte: a length, and that many bytes, of which the first is the opcode
+  -- after a zero byte: a length, and that many bytes, of which the first is the opcode
   abbrev pub extended_production : Production Ins
   extended_production = do
     size ← below_limit notation unsigned
@@ -106,7 +106,7 @@ module _ (notation : Notation) (h : Header) where
 
   -- ---- a program
 
-  -- what is left behind the last instruction: nothing, or bytes that begin with none, and this is the refusal
+  -- what is left after the last instruction: nothing, or bytes that begin with none, and this is the refusal
   abbrev pub IsEnd : List ℕ → Option Error → Type 0
   IsEnd rest None = rest ≡ []
   IsEnd rest (Some e) = (rest ≢ []) × instruction_production.Fault rest e
@@ -121,7 +121,7 @@ module _ (notation : Notation) (h : Header) where
 
 -- ---- refusals
 
--- the refusals that an instruction may have: bytes are wanting, a LEB128 number is none of 64 bits, or a length is too
+-- the refusals that an instruction may have: bytes are missing, a LEB128 number is none of 64 bits, or a length is too
 -- large for the reader's offsets, where these have less than 64 bits
 abbrev pub IsInstructionRefusal : Notation → Error → Type 0
 IsInstructionRefusal notation (UnexpectedEof place) = Unit {0}

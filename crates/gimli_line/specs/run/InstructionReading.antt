@@ -28,28 +28,28 @@ module _ (notation : Notation) (h : Header) where
   operand_at (address make) bytes = number_at notation.big h.parameters.encoding.address_size bytes >>= λ a rest. (Ok (make a), rest)
   operand_at (file make) bytes = text_at bytes >>= λ path rest. plain_file_at path rest >>= λ f rest. (Ok (make f), rest)
 
-  -- behind a standard opcode without a meaning here, with its number of operands
+  -- after a standard opcode without a meaning here, with its number of operands
   unfoldable pub unknown_at : ℕ → ℕ → List ℕ → Read Ins
   unknown_at opcode zero bytes = (Ok (UnknownStandard0 (record { 0 = opcode })), bytes)
   unknown_at opcode (suc zero) bytes = unsigned_at bytes >>= λ n rest. (Ok (UnknownStandard1 (record { 0 = opcode }) n), rest)
   unknown_at opcode (suc (suc more)) bytes =
       bytes_at (times_at (suc (suc more)) unsigned_at) bytes >>= λ operands rest. (Ok (UnknownStandardN (record { 0 = opcode }) operands), rest)
 
-  -- behind an opcode below the opcode base
+  -- after an opcode below the opcode base
   unfoldable pub standard_at : ℕ → List ℕ → Read Ins
   standard_at opcode bytes = elim (among opcode standard_opcodes) [
     | Some operand ↦ operand_at operand bytes
     | None ↦ unknown_at opcode (slice_index h.operand_counts (opcode - 1)) bytes
   ]
 
-  -- an extended opcode, with the bytes behind it within its instruction
+  -- an extended opcode, with the bytes after it within its instruction
   unfoldable pub extended_operands_at : ℕ → List ℕ → List ℕ → Read Ins
   extended_operands_at opcode operands bytes = elim (among opcode (extended_opcodes h.parameters.encoding.version)) [
     | Some operand ↦ within_at operands (operand_at operand) bytes >>= λ read rest. (Ok read.0, rest)
     | None ↦ (Ok (UnknownExtended (record { 0 = opcode }) operands), bytes)
   ]
 
-  -- behind a zero byte
+  -- after a zero byte
   unfoldable pub extended_at : List ℕ → Read Ins
   extended_at bytes =
       offset_at notation.limit unsigned_at bytes >>= λ size rest. split_at size rest >>= λ inside rest.
@@ -62,7 +62,7 @@ module _ (notation : Notation) (h : Header) where
       if nat_eq opcode 0 then extended_at rest
       else (if nat_le h.parameters.opcode_base opcode then (Ok (Special opcode), rest) else standard_at opcode rest)
 
-  -- a program behind what was read as its first instruction
+  -- a program after what was read as its first instruction
   abbrev pub decoded_behind : (List ℕ → List Ins × Option Error) → Read Ins → List Ins × Option Error
   decoded_behind decoding (Ok i, rest) = (i ∷ (decoding rest).0, (decoding rest).1)
   decoded_behind decoding (Err e, rest) = ([], Some e)

@@ -27,7 +27,7 @@ initial parameters = record {
   discriminator = 0;
 }
 
--- the registers behind a row: an end starts all of them anew
+-- the registers after a row: an end starts all of them anew
 abbrev pub reset_row : Parameters → LineRow → LineRow
 reset_row parameters r =
     if r.end_sequence then initial parameters

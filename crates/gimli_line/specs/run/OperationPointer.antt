@@ -115,7 +115,7 @@ hidden_behind parameters ((EndSequence, before) ∷ trail) = false
 hidden_behind parameters ((i, before) ∷ trail) = hidden_behind parameters trail
 
 -- pointers, one at the end of these instructions and one before each, the nearest first: the farthest is the start,
--- so is each behind an end, and each other follows from the one before it
+-- so is each after an end, and each other follows from the one before it
 abbrev pub IsPointerList : Parameters → List Ins → List OperationPointer → Type 0
 IsPointerList parameters [] (p ∷ []) = p ≡ start
 IsPointerList parameters (i ∷ past) (after ∷ before ∷ pointers) =

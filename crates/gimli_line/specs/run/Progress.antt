@@ -12,7 +12,7 @@ use Rattle.gimli_line.specs.run.Machine.{reset_row}
 use Rattle.gimli_line.specs.run.EventsWithFiles.{step_events, next_registers}
 use Rattle.gimli_line.specs.run.RunState.{RunState}
 
--- what these instructions give from these registers on, and the registers behind them
+-- what these instructions give from these registers on, and the registers after them
 abbrev pub events_from : Parameters → LineRow → List Ins → List Event
 events_from parameters r [] = []
 events_from parameters r (i ∷ list) = step_events parameters i r ++ events_from parameters (next_registers parameters i r) list
@@ -21,7 +21,7 @@ abbrev pub registers_behind : Parameters → LineRow → List Ins → LineRow
 registers_behind parameters r [] = r
 registers_behind parameters r (i ∷ list) = registers_behind parameters (next_registers parameters i r) list
 
--- the files behind them
+-- the files after them
 abbrev pub files_from : Bool → List File → List Ins → List File
 files_from appends files [] = files
 files_from appends files (i ∷ list) = files_from appends (files_behind appends i files) list

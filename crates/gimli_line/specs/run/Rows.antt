@@ -26,7 +26,7 @@ live_events a = let c = decoded_at a.unread.notation a.fixed a.unread.bytes in e
 abbrev pub events_left : RunState → List EventWithFiles
 events_left a = live_events (ready a)
 
--- the files behind the last instruction that is still to come
+-- the files after the last instruction that is still to come
 abbrev pub files_at_end : RunState → List File
 files_at_end a = files_from a.appends a.files (decoded_at a.unread.notation a.fixed a.unread.bytes).0
 
@@ -60,8 +60,8 @@ RowIs old new r files =
 abbrev pub EndIs : RunState → RunState → Type 0
 EndIs old new = (events_left old ≡ []) × (events_left new ≡ []) × (new.unread.bytes ≡ []) × (new.files ≡ files_at_end old)
 
--- memory was wanting for a file, whose definition comes behind instructions that give nothing; the files are those of
--- its place, and nothing comes behind it
+-- memory was wanting for a file, whose definition comes after instructions that give nothing; the files are those of
+-- its place, and nothing comes after it
 pub record WantsMemory (old new : RunState) : Type 0 where
   pub place : RunState
   pub passed : Progress old place []

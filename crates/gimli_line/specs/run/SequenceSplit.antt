@@ -11,7 +11,7 @@ pub record SequenceSplit : Type 0 where
   pub unread : Unread
   pub start : Option ℕ
 
--- a row more, behind which the rest is left
+-- a row more, after which the rest is left
 abbrev pub with_row : LineRow → Unread → SequenceSplit → SequenceSplit
 with_row r rest k =
     if r.end_sequence

@@ -56,7 +56,7 @@ pub record AreSequences (notation : Notation) (h c : Header) (parts : List Part)
   pub each : AllByRecursion (λ s. IsSequence (resumed c s) s.start s.end) parts
   pub joined : flat_map (resumed c) parts ≡ through_last_end (program_events h.parameters list None)
 
--- the first fault of a program, behind rows
+-- the first fault of a program, after rows
 pub record HasFirstFault (notation : Notation) (h : Header) (e : Error) : Type 0 where
   pub list : List Ins
   pub end : Option Error

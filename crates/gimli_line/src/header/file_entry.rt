@@ -60,7 +60,7 @@ where
         }
     }
 
-    /// Takes what stands behind the path of a file up to version 4.
+    /// Takes what stands after the path of a file up to version 4.
     #[tactic(auto, unfolding(crate::specs::header::HeaderReading::plain_file_at))]
     pub(crate) fn parse(input: &mut R, path_name: R) -> Result<Self>
         ensures read { (seen (file_seen R.bytes Offset.number) result, R.bytes input.new)
@@ -85,7 +85,8 @@ where
     /// nothing, and neither does an unknown content type.
     pub(crate) fn update(&mut self, content_type: DwLnct, value: AttributeValue<R, Offset>)
         ensures file { file_seen R.bytes Offset.number self.new
-            ≡ file_with (file_seen R.bytes Offset.number self.old) content_type.0 (value_seen R.bytes Offset.number value) }
+            ≡ file_with (file_seen R.bytes Offset.number self.old) content_type.0
+            (value_seen R.bytes Offset.number value) }
         ensures order { (order : Bool) → FileHasOrder R.big order self.old → ValueHasOrder R.big order value
             → FileHasOrder R.big order self.new }
     {

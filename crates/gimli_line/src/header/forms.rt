@@ -45,7 +45,7 @@ pub(crate) fn parse_attribute<R: Reader>(
     }
 }
 
-/// Takes a value in a form that isn't a block: a number, or what comes behind those.
+/// Takes a value in a form that isn't a block: a number, or what comes after those.
 #[tactic(auto, unfolding(crate::specs::header::FormReading::number_form_at, crate::specs::header::FormReading::word_form_at))]
 fn parse_number<R: Reader>(input: &mut R, format: Format, form: DwForm) -> Result<AttributeValue<R>>
     ensures read { (seen (value_seen R.bytes R.Offset.number) result, R.bytes input.new)
@@ -65,7 +65,7 @@ fn parse_number<R: Reader>(input: &mut R, format: Format, form: DwForm) -> Resul
     }
 }
 
-/// Takes a word of the format, a text, or what comes behind those: an index.
+/// Takes a word of the format, a text, or what comes after those: an index.
 #[tactic(auto, unfolding(crate::specs::header::FormReading::word_form_at, crate::specs::header::FormReading::index_form_at))]
 fn parse_word_or_text<R: Reader>(
     input: &mut R,

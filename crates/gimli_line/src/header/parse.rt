@@ -43,7 +43,7 @@ fn parse_version<R: Reader>(input: &mut R) -> Result<u16>
     Ok(version)
 }
 
-/// The address size of a unit: the handed one up to version 4, else the unit's own, behind which a segment
+/// The address size of a unit: the handed one up to version 4, else the unit's own, after which a segment
 /// selector size of 0 stands.
 #[tactic(auto, unfolding(crate::specs::header::HeaderReading::own_address_size_at))]
 fn parse_address_size<R: Reader>(input: &mut R, version: u16, handed: u8) -> Result<u8>
@@ -182,7 +182,8 @@ where
         ensures notation { IfOk result (λ header. header.notation ≡ noted (R.big input.old) Offset.limit) }
         ensures offset { IfOk result (λ header. header.offset ≡ offset) }
         ensures order { IfOk result (HasOneOrder R.big) }
-        ensures directory { IfOk result (λ header. header.comp_dir ≡ taken header.meaning.parameters.encoding comp_dir) }
+        ensures directory { IfOk result (λ header. header.comp_dir
+            ≡ taken header.meaning.parameters.encoding comp_dir) }
         ensures name { IfOk result (λ header. option_map (λ file. file.path_name) header.comp_file
             ≡ taken header.meaning.parameters.encoding (option_map String comp_name)) }
     {
@@ -219,7 +220,8 @@ where
         ensures notation { IfOk result (λ header. header.notation ≡ noted (R.big program_buf) Offset.limit) }
         ensures offset { IfOk result (λ header. header.offset ≡ offset) }
         ensures order { IfOk result (HasOneOrder R.big) }
-        ensures directory { IfOk result (λ header. header.comp_dir ≡ taken header.meaning.parameters.encoding comp_dir) }
+        ensures directory { IfOk result (λ header. header.comp_dir
+            ≡ taken header.meaning.parameters.encoding comp_dir) }
         ensures name { IfOk result (λ header. option_map (λ file. file.path_name) header.comp_file
             ≡ taken header.meaning.parameters.encoding (option_map String comp_name)) }
     {

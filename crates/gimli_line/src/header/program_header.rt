@@ -164,7 +164,7 @@ where
         self.parameters.encoding.version
     }
 
-    /// The length of the header in bytes, from behind that length on.
+    /// The length of the header in bytes, from after that length on.
     pub fn header_length(&self) -> Offset
         ensures { Offset.number result ≡ self.now.meaning.header_length }
     {
@@ -335,7 +335,7 @@ where
             .any(|format| format.content_type == content_type)
     }
 
-    /// The table of files, and behind them those that the program has defined so far. Up to version 4 it begins
+    /// The table of files, and after them those that the program has defined so far. Up to version 4 it begins
     /// with file 1.
     pub fn file_names(&self) -> &[FileEntry<R, Offset>]
         ensures files { map (file_seen R.bytes Offset.number) result.now ≡ self.now.meaning.files }
@@ -361,9 +361,10 @@ where
         self.comp_file.as_ref()
     }
 
-    /// Adds a file behind the others. Refused by `OutOfMemory` alone; nothing is changed then.
+    /// Adds a file after the others. Refused by `OutOfMemory` alone; nothing is changed then.
     pub(crate) fn add_file(&mut self, file: FileEntry<R, Offset>) -> Result<()>
-        ensures ok { OnOk result (self.new.meaning ≡ with_file (file_seen R.bytes Offset.number file) self.old.meaning) }
+        ensures ok { OnOk result (self.new.meaning
+            ≡ with_file (file_seen R.bytes Offset.number file) self.old.meaning) }
         ensures err { OnErr result (self.new.meaning ≡ self.old.meaning) }
         ensures memory { IfErr result (λ e. e ≡ Error.OutOfMemory) }
         ensures notation { self.new.notation ≡ self.old.notation }

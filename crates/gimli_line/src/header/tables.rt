@@ -55,7 +55,8 @@ fn parse_all_formats<R: Reader>(
     input: &mut R,
     count: u8,
 ) -> Result<Vec<FileEntryFormat>>
-    ensures read { IsOutcome (λ formats. formats.items) result (R.bytes input.new) (times_at count format_at (R.bytes input.old)) }
+    ensures read { IsOutcome (λ formats. formats.items) result (R.bytes input.new)
+        (times_at count format_at (R.bytes input.old)) }
     ensures order { R.big input.new ≡ R.big input.old }
 {
     let mut formats = Vec::new(alloc);

@@ -50,7 +50,7 @@ where
     UnknownStandard1(DwLns, u64),
     /// A standard opcode that isn't known, with several operands, and the bytes of these.
     UnknownStandardN(DwLns, R),
-    /// Makes the last row of a sequence. All registers start anew behind it.
+    /// Makes the last row of a sequence. All registers start anew after it.
     EndSequence,
     /// Sets the address, and op_index to 0; or hides the rows to come, where the address stands for nothing.
     SetAddress(u64),
@@ -58,7 +58,7 @@ where
     DefineFile(FileEntry<R, Offset>),
     /// Sets the discriminator of the next row.
     SetDiscriminator(u64),
-    /// An extended opcode that isn't known, and the bytes behind it.
+    /// An extended opcode that isn't known, and the bytes after it.
     UnknownExtended(DwLne, R),
 }
 
@@ -91,7 +91,8 @@ where
         ensures read { (seen (ins_seen R.bytes Offset.number) result, R.bytes input.new)
             ≡ ins_at (record { big = R.big input.old; limit = Offset.limit }) header.now.meaning (R.bytes input.old) }
         ensures order { R.big input.new ≡ R.big input.old }
-        ensures allowed { IfOk result (λ i. IsAllowed header.now.meaning.parameters (ins_seen R.bytes Offset.number i)) }
+        ensures allowed { IfOk result (λ i. IsAllowed header.now.meaning.parameters
+            (ins_seen R.bytes Offset.number i)) }
         ensures operands { IfOk result (InsHasOrder R.big (R.big input.old)) }
     {
         let opcode = input.read_u8()?;
@@ -104,14 +105,16 @@ where
         Self::parse_standard(header, DwLns(opcode), input)
     }
 
-    /// Takes what stands behind the zero byte of an extended instruction. Surplus bytes within its length are
+    /// Takes what stands after the zero byte of an extended instruction. Surplus bytes within its length are
     /// skipped.
     #[tactic(auto, unfolding(crate::specs::run::InstructionReading::extended_at))]
     fn parse_extended(header: &LineProgramHeader<R, Offset>, input: &mut R) -> Result<Self>
         ensures read { (seen (ins_seen R.bytes Offset.number) result, R.bytes input.new)
-            ≡ extended_at (record { big = R.big input.old; limit = Offset.limit }) header.now.meaning (R.bytes input.old) }
+            ≡ extended_at (record { big = R.big input.old; limit = Offset.limit }) header.now.meaning
+            (R.bytes input.old) }
         ensures order { R.big input.new ≡ R.big input.old }
-        ensures allowed { IfOk result (λ i. IsAllowed header.now.meaning.parameters (ins_seen R.bytes Offset.number i)) }
+        ensures allowed { IfOk result (λ i. IsAllowed header.now.meaning.parameters
+            (ins_seen R.bytes Offset.number i)) }
         ensures operands { IfOk result (InsHasOrder R.big (R.big input.old)) }
     {
         let length = parse_offset(input)?;
@@ -120,7 +123,7 @@ where
         Self::parse_extended_operands(header, DwLne(opcode), inside)
     }
 
-    /// Takes the operands of an extended opcode, from the bytes behind it within its instruction.
+    /// Takes the operands of an extended opcode, from the bytes after it within its instruction.
     #[tactic(auto, unfolding(crate::specs::run::InstructionReading::extended_operands_at))]
     fn parse_extended_operands(
         header: &LineProgramHeader<R, Offset>,
@@ -128,8 +131,11 @@ where
         operands: R,
     ) -> Result<Self>
         ensures read { (behind : List ℕ) → (seen (ins_seen R.bytes Offset.number) result, behind)
-            ≡ extended_operands_at (record { big = R.big operands; limit = Offset.limit }) header.now.meaning opcode.0 (R.bytes operands) behind }
-        ensures allowed { IfOk result (λ i. IsAllowed header.now.meaning.parameters (ins_seen R.bytes Offset.number i)) }
+            ≡ extended_operands_at
+            (record { big = R.big operands; limit = Offset.limit }) header.now.meaning opcode.0
+            (R.bytes operands) behind }
+        ensures allowed { IfOk result (λ i. IsAllowed header.now.meaning.parameters
+            (ins_seen R.bytes Offset.number i)) }
         ensures operands { IfOk result (InsHasOrder R.big (R.big operands)) }
     {
         let encoding = header.parameters.encoding;
@@ -162,9 +168,11 @@ where
     ) -> Result<Self>
         requires { 0 < opcode.0 }
         ensures read { (seen (ins_seen R.bytes Offset.number) result, R.bytes input.new)
-            ≡ standard_at (record { big = R.big input.old; limit = Offset.limit }) header.now.meaning opcode.0 (R.bytes input.old) }
+            ≡ standard_at (record { big = R.big input.old; limit = Offset.limit }) header.now.meaning opcode.0
+            (R.bytes input.old) }
         ensures order { R.big input.new ≡ R.big input.old }
-        ensures allowed { IfOk result (λ i. IsAllowed header.now.meaning.parameters (ins_seen R.bytes Offset.number i)) }
+        ensures allowed { IfOk result (λ i. IsAllowed header.now.meaning.parameters
+            (ins_seen R.bytes Offset.number i)) }
         ensures operands { IfOk result (InsHasOrder R.big (R.big input.old)) }
     {
         match opcode {
@@ -197,9 +205,11 @@ where
     ) -> Result<Self>
         requires { 0 < opcode.0 }
         ensures read { (seen (ins_seen R.bytes Offset.number) result, R.bytes input.new)
-            ≡ unknown_at (record { big = R.big input.old; limit = Offset.limit }) header.now.meaning opcode.0 (slice_index header.now.meaning.operand_counts (opcode.0 - 1)) (R.bytes input.old) }
+            ≡ unknown_at (record { big = R.big input.old; limit = Offset.limit }) header.now.meaning opcode.0
+            (slice_index header.now.meaning.operand_counts (opcode.0 - 1)) (R.bytes input.old) }
         ensures order { R.big input.new ≡ R.big input.old }
-        ensures allowed { IfOk result (λ i. IsAllowed header.now.meaning.parameters (ins_seen R.bytes Offset.number i)) }
+        ensures allowed { IfOk result (λ i. IsAllowed header.now.meaning.parameters
+            (ins_seen R.bytes Offset.number i)) }
         ensures operands { IfOk result (InsHasOrder R.big (R.big input.old)) }
     {
         match header.operand_count(opcode) {
@@ -215,7 +225,8 @@ where
 
 /// Takes so many LEB128 numbers, as the bytes that spell them.
 fn parse_operands<R: Reader>(input: &mut R, count: u8) -> Result<R>
-    ensures read { (seen R.bytes result, R.bytes input.new) ≡ bytes_at (times_at count unsigned_at) (R.bytes input.old) }
+    ensures read { (seen R.bytes result, R.bytes input.new)
+        ≡ bytes_at (times_at count unsigned_at) (R.bytes input.old) }
     ensures order { R.big input.new ≡ R.big input.old }
     ensures part { IfOk result (λ part. R.big part ≡ R.big input.old) }
 {
@@ -306,7 +317,8 @@ impl<R: Reader> LineInstructions<R> {
             ExecutedWell header.now.meaning.parameters (ins_at self.old.notation header.now.meaning self.old.bytes) self.new.bytes row.old row.new made)) }
         ensures none { IfOk result (λ found. IsNone found → (self.new ≡ self.old) × (row.new ≡ row.old)) }
         ensures err { IfErr result (λ e. (e ≡ Error.AddressOverflow)
-            × Executed header.now.meaning.parameters (ins_at self.old.notation header.now.meaning self.old.bytes) self.new.bytes row.old row.new true) }
+            × Executed header.now.meaning.parameters
+            (ins_at self.old.notation header.now.meaning self.old.bytes) self.new.bytes row.old row.new true) }
         ensures notation { self.new.notation ≡ self.old.notation }
     {
         let mut input = self.input;
@@ -331,7 +343,7 @@ impl<R: Reader> LineInstructions<R> {
 
     /// Takes the next instruction, by the header of its program; None where no bytes are left. Refused as the
     /// first part of it that isn't there says: `UnexpectedEof`, `BadUnsignedLeb128`, `BadSignedLeb128`, or
-    /// `UnsupportedOffset` where a length is too large for the reader's offsets. Behind a refusal there are no
+    /// `UnsupportedOffset` where a length is too large for the reader's offsets. After a refusal there are no
     /// more instructions.
     pub fn next_instruction(
         &mut self,
@@ -343,7 +355,8 @@ impl<R: Reader> LineInstructions<R> {
             × SpellsInstruction self.old.notation header.now.meaning front (ins_seen R.bytes R.Offset.number i))) }
         ensures refusal { IfErr result (λ e. (self.old.bytes ≢ []) × (self.new.bytes ≡ [])
             × (instruction_production self.old.notation header.now.meaning).Fault self.old.bytes e) }
-        ensures allowed { IfOk result (λ next. IfSome next (λ i. IsAllowed header.now.meaning.parameters (ins_seen R.bytes R.Offset.number i))) }
+        ensures allowed { IfOk result
+            (λ next. IfSome next (λ i. IsAllowed header.now.meaning.parameters (ins_seen R.bytes R.Offset.number i))) }
         ensures notation { self.new.notation ≡ self.old.notation }
         ensures operands { IfOk result (λ next. IfSome next (InsHasOrder R.big self.old.notation.big)) }
     {

@@ -1,4 +1,4 @@
-//! Line programs, before their run and behind it.
+//! Line programs, before their run and after it.
 
 use crate::header::file_entry::FileEntry;
 use crate::header::program_header::LineProgramHeader;

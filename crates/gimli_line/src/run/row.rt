@@ -100,7 +100,8 @@ impl LineRow {
         &self,
         header: &'header LineProgramHeader<R>,
     ) -> Option<&'header FileEntry<R>>
-        ensures { option_map (λ found. file_seen R.bytes R.Offset.number found.now) result ≡ file_of header.now.meaning self.now.file }
+        ensures { option_map (λ found. file_seen R.bytes R.Offset.number found.now) result
+            ≡ file_of header.now.meaning self.now.file }
     {
         header.file(self.file)
     }
@@ -136,7 +137,7 @@ impl LineRow {
         self.basic_block
     }
 
-    /// Whether this is the first byte behind a sequence. What else the row says means nothing then.
+    /// Whether this is the first byte after a sequence. What else the row says means nothing then.
     pub fn end_sequence(&self) -> bool
         ensures { result ≡ self.now.end_sequence }
     {
@@ -189,16 +190,21 @@ impl LineRow {
     ) -> Result<bool>
         requires { IsAllowed (P.meaning program.old).parameters (ins_seen R.bytes R.Offset.number instruction) }
         ensures made { IfOk result (λ made. made ≡ makes_row (ins_seen R.bytes R.Offset.number instruction)) }
-        ensures step { OnOk result (self.new ≡ stepped (P.meaning program.old).parameters (ins_seen R.bytes R.Offset.number instruction) self.old) }
-        ensures fits { OnOk result (is_refused (P.meaning program.old).parameters (ins_seen R.bytes R.Offset.number instruction) self.old ≡ false) }
+        ensures step { OnOk result (self.new ≡ stepped (P.meaning program.old).parameters
+            (ins_seen R.bytes R.Offset.number instruction) self.old) }
+        ensures fits { OnOk result (is_refused (P.meaning program.old).parameters
+            (ins_seen R.bytes R.Offset.number instruction) self.old ≡ false) }
         ensures files { OnOk result (P.meaning program.new ≡ record (P.meaning program.old) {
           files = files_behind P.appends (ins_seen R.bytes R.Offset.number instruction) (P.meaning program.old).files;
         }) }
         ensures overflow { IfErr result (λ e. e ≡ Error.AddressOverflow →
-            (is_refused (P.meaning program.old).parameters (ins_seen R.bytes R.Offset.number instruction) self.old ≡ true)
-            × (self.new ≡ stepped (P.meaning program.old).parameters (ins_seen R.bytes R.Offset.number instruction) self.old)) }
+            (is_refused (P.meaning program.old).parameters
+            (ins_seen R.bytes R.Offset.number instruction) self.old ≡ true)
+            × (self.new ≡ stepped (P.meaning program.old).parameters
+            (ins_seen R.bytes R.Offset.number instruction) self.old)) }
         ensures memory { IfErr result (λ e. e ≢ Error.AddressOverflow →
-            (e ≡ Error.OutOfMemory) × (P.appends ≡ true) × (defines_file (ins_seen R.bytes R.Offset.number instruction) ≡ true) × (self.new ≡ self.old)) }
+            (e ≡ Error.OutOfMemory) × (P.appends ≡ true)
+            × (defines_file (ins_seen R.bytes R.Offset.number instruction) ≡ true) × (self.new ≡ self.old)) }
         ensures kept { OnErr result (P.meaning program.new ≡ P.meaning program.old) }
         ensures notation { P.notation program.new ≡ P.notation program.old }
         ensures offset { P.offset program.new ≡ P.offset program.old }
@@ -220,8 +226,10 @@ impl LineRow {
     ) -> Result<()>
         requires { IsAllowed parameters.now (ins_seen R.bytes R.Offset.number instruction) }
         ensures step { self.new ≡ stepped parameters.now (ins_seen R.bytes R.Offset.number instruction) self.old }
-        ensures fits { OnOk result (is_refused parameters.now (ins_seen R.bytes R.Offset.number instruction) self.old ≡ false) }
-        ensures overflow { IfErr result (λ e. (e ≡ Error.AddressOverflow) × (is_refused parameters.now (ins_seen R.bytes R.Offset.number instruction) self.old ≡ true)) }
+        ensures fits { OnOk result
+            (is_refused parameters.now (ins_seen R.bytes R.Offset.number instruction) self.old ≡ false) }
+        ensures overflow { IfErr result (λ e. (e ≡ Error.AddressOverflow)
+            × (is_refused parameters.now (ins_seen R.bytes R.Offset.number instruction) self.old ≡ true)) }
     {
         match instruction {
             LineInstruction::Special(opcode) => self.exec_special_opcode(opcode, parameters),
@@ -275,7 +283,7 @@ impl LineRow {
         }
     }
 
-    /// Executes one of the standard opcodes that are met most, from the bytes behind it, and says whether it makes a
+    /// Executes one of the standard opcodes that are met most, from the bytes after it, and says whether it makes a
     /// row. None at another opcode, or where its operand isn't short; no register changes then.
     #[inline(always)]
     pub(crate) fn exec_common_opcode<R: Reader>(
@@ -315,7 +323,7 @@ impl LineRow {
         Some(false)
     }
 
-    /// Makes the registers ready for what follows a row: those of a row alone are cleared, and behind an end all
+    /// Makes the registers ready for what follows a row: those of a row alone are cleared, and after an end all
     /// start anew.
     pub fn reset<R: Reader>(&mut self, header: &LineProgramHeader<R>)
         ensures { self.new ≡ reset_row header.now.meaning.parameters self.old }
@@ -358,8 +366,10 @@ impl LineRow {
         parameters: &Parameters,
     ) -> Result<()>
         ensures step { self.new ≡ stepped parameters.now (LineInstruction.AdvancePc operation_advance) self.old }
-        ensures fits { OnOk result (is_refused parameters.now (LineInstruction.AdvancePc operation_advance) self.old ≡ false) }
-        ensures overflow { IfErr result (λ e. (e ≡ Error.AddressOverflow) × (is_refused parameters.now (LineInstruction.AdvancePc operation_advance) self.old ≡ true)) }
+        ensures fits { OnOk result
+            (is_refused parameters.now (LineInstruction.AdvancePc operation_advance) self.old ≡ false) }
+        ensures overflow { IfErr result (λ e. (e ≡ Error.AddressOverflow)
+            × (is_refused parameters.now (LineInstruction.AdvancePc operation_advance) self.old ≡ true)) }
     {
         if self.hidden {
             return Ok(());
@@ -380,10 +390,13 @@ impl LineRow {
 
     /// Adds to the address.
     fn add_to_address(&mut self, length: u64, parameters: &Parameters) -> Result<()>
-        ensures ok { OnOk result ((exceeds parameters.now (record { address = self.old.address + length; op_index = self.old.op_index }) ≡ false)
+        ensures ok { OnOk result ((exceeds parameters.now
+            (record { address = self.old.address + length; op_index = self.old.op_index }) ≡ false)
             × (self.new ≡ record self.old { address = self.old.address + length })) }
         ensures overflow { IfErr result (λ e. (e ≡ Error.AddressOverflow)
-            × (exceeds parameters.now (record { address = self.old.address + length; op_index = self.old.op_index }) ≡ true) × (self.new ≡ self.old)) }
+            × (exceeds parameters.now
+            (record { address = self.old.address + length; op_index = self.old.op_index }) ≡ true)
+            × (self.new ≡ self.old)) }
     {
         self.address = self
             .address
@@ -395,7 +408,8 @@ impl LineRow {
     fn exec_fixed_add_pc(&mut self, advance: u16, parameters: &Parameters) -> Result<()>
         ensures step { self.new ≡ stepped parameters.now (LineInstruction.FixedAddPc advance) self.old }
         ensures fits { OnOk result (is_refused parameters.now (LineInstruction.FixedAddPc advance) self.old ≡ false) }
-        ensures overflow { IfErr result (λ e. (e ≡ Error.AddressOverflow) × (is_refused parameters.now (LineInstruction.FixedAddPc advance) self.old ≡ true)) }
+        ensures overflow { IfErr result (λ e. (e ≡ Error.AddressOverflow)
+            × (is_refused parameters.now (LineInstruction.FixedAddPc advance) self.old ≡ true)) }
     {
         if self.hidden {
             return Ok(());
@@ -409,7 +423,8 @@ impl LineRow {
     fn exec_const_add_pc(&mut self, parameters: &Parameters) -> Result<()>
         ensures step { self.new ≡ stepped parameters.now LineInstruction.ConstAddPc self.old }
         ensures fits { OnOk result (is_refused parameters.now LineInstruction.ConstAddPc self.old ≡ false) }
-        ensures overflow { IfErr result (λ e. (e ≡ Error.AddressOverflow) × (is_refused parameters.now LineInstruction.ConstAddPc self.old ≡ true)) }
+        ensures overflow { IfErr result (λ e. (e ≡ Error.AddressOverflow)
+            × (is_refused parameters.now LineInstruction.ConstAddPc self.old ≡ true)) }
     {
         let adjusted_opcode = 255 - parameters.opcode_base;
         let operation_advance = adjusted_opcode / parameters.line_encoding.line_range;
@@ -423,7 +438,8 @@ impl LineRow {
         ensures some { 0 < opcode }
         ensures step { self.new ≡ stepped parameters.now (LineInstruction.Special opcode) self.old }
         ensures fits { OnOk result (is_refused parameters.now (LineInstruction.Special opcode) self.old ≡ false) }
-        ensures overflow { IfErr result (λ e. (e ≡ Error.AddressOverflow) × (is_refused parameters.now (LineInstruction.Special opcode) self.old ≡ true)) }
+        ensures overflow { IfErr result (λ e. (e ≡ Error.AddressOverflow)
+            × (is_refused parameters.now (LineInstruction.Special opcode) self.old ≡ true)) }
     {
         let adjusted_opcode = opcode - parameters.opcode_base;
         let line_range = parameters.line_encoding.line_range;

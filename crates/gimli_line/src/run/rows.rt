@@ -94,11 +94,13 @@ impl<R: Reader, P: LineProgram<R>> LineRows<R, P> {
 
     /// The next row that isn't hidden, with the header as it is there; None where the program has no more, and the
     /// header has all files then. Refused as an instruction is, or by `OutOfMemory` where it defines a file: the
-    /// answer is None behind such a refusal, as it is behind the end. Refused by `AddressOverflow` too, and then goes
-    /// on behind it. A program whose files are complete isn't refused for memory.
+    /// answer is None after such a refusal, as it is after the end. Refused by `AddressOverflow` too, and then goes
+    /// on after it. A program whose files are complete isn't refused for memory.
     pub fn next_row(&mut self) -> Result<Option<(&LineProgramHeader<R>, &LineRow)>>
-        ensures* after { sem 𝓛 (Rests ⟦<LineRows<R, P> as Lent>⟧.lent self.entry (λ new. KeepsHeader self.old new × MatchResult result
-            (λ found. MatchOption found (EndIs self.old new) (λ pair. RowIs self.old new pair.1.now pair.0.now.meaning.files))
+        ensures* after { sem 𝓛 (Rests ⟦<LineRows<R, P> as Lent>⟧.lent self.entry
+            (λ new. KeepsHeader self.old new × MatchResult result
+            (λ found. MatchOption found (EndIs self.old new)
+            (λ pair. RowIs self.old new pair.1.now pair.0.now.meaning.files))
             (FaultIs (ready self.old) new))) }
         ensures ended { self.old.unread.bytes ≡ [] → result ≡ Ok None }
         ensures header { IfOk result (λ found. MatchOption found ⊤ (λ pair. (bare pair.0.now.meaning ≡ self.old.fixed)
@@ -273,7 +275,8 @@ impl<R: Reader> IncompleteLineProgram<R> {
     pub fn rows(self) -> OneShotLineRows<R>
         ensures events { EventsWithFiles self.notation true self.meaning self.meaning.program (events_left result) }
         ensures files { FilesAtEnd self.notation true self.meaning self.meaning.program (files_at_end result) }
-        ensures start { result ≡ started true self.meaning self.notation (R.Offset.number self.offset.0) (record { bytes = self.meaning.program; notation = self.notation }) }
+        ensures start { result ≡ started true self.meaning self.notation (R.Offset.number self.offset.0)
+            (record { bytes = self.meaning.program; notation = self.notation }) }
     {
         let instructions = self.header.instructions();
         LineRows::start(self, instructions)

@@ -14,7 +14,7 @@ use std::marker::Model;
 pub struct LineSequence<R: Reader> {
     /// The address of its first row; 0 where the end row is the only one.
     pub start: u64,
-    /// The address of its end row, which is that of the first byte behind the sequence.
+    /// The address of its end row, which is that of the first byte after the sequence.
     pub end: u64,
     instructions: LineInstructions<R>,
 }
@@ -70,7 +70,7 @@ impl<R: Reader> SequenceSplit<R> {
         }
     }
 
-    /// Takes in the next row, behind which a rest of the instructions is left. Refused by `OutOfMemory` alone.
+    /// Takes in the next row, after which a rest of the instructions is left. Refused by `OutOfMemory` alone.
     fn row(&mut self, row: &LineRow, rest: &LineInstructions<R>) -> Result<()>
         requires { (front : List ℕ) × (self.old.unread.bytes ≡ front ++ rest.now.bytes) }
         ensures ok { OnOk result (self.new ≡ with_row row.now rest.now self.old) }
@@ -104,11 +104,12 @@ impl<R: Reader> IncompleteLineProgram<R> {
     ghost use Rattle.std.specs.Prelude.{◌≡◌, ◌≢◌, map, IfErr, IfOk};
     ghost use Rattle.gimli_line.specs.run.Sequences.{part_of, AreSequences, HasFirstFault};
 
-    /// Runs the whole program, and splits it into its sequences, so that each can be run by itself. Rows behind the
+    /// Runs the whole program, and splits it into its sequences, so that each can be run by itself. Rows after the
     /// last end row are in no sequence. Refused by the first fault of the run, wherever it stands, or by
     /// `OutOfMemory`.
     pub fn sequences(self) -> Result<(CompleteLineProgram<R>, Vec<LineSequence<R>>)>
-        ensures ok { IfOk result (λ found. AreSequences self.notation self.meaning found.0.meaning (map part_of found.1.items)) }
+        ensures ok { IfOk result (λ found. AreSequences self.notation self.meaning found.0.meaning
+            (map part_of found.1.items)) }
         ensures notation { IfOk result (λ found. found.0.notation ≡ self.notation) }
         ensures offset { IfOk result (λ found. R.Offset.number found.0.offset.0 ≡ R.Offset.number self.offset.0) }
         ensures err { IfErr result (λ e. e ≢ Error.OutOfMemory → HasFirstFault self.notation self.meaning e) }
@@ -137,7 +138,8 @@ impl<R: Reader> CompleteLineProgram<R> {
         ensures events { EventsWithFiles sequence.now.instructions.notation false self.now.meaning
             sequence.now.instructions.bytes (events_left result) }
         ensures files { files_at_end result ≡ self.now.meaning.files }
-        ensures start { result ≡ started false self.now.meaning self.now.notation (R.Offset.number self.now.offset.0) sequence.now.instructions }
+        ensures start { result ≡ started false self.now.meaning self.now.notation
+            (R.Offset.number self.now.offset.0) sequence.now.instructions }
     {
         LineRows::start(self, sequence.instructions.clone())
     }

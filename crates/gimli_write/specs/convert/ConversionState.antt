@@ -24,7 +24,7 @@ pub record ConversionState : Type 0 where
   pub lists : Converted
   -- an address that is handed out next
   pub address : Option ℕ
-  -- a row of the source that is handed out behind it, whose own set address was handed out
+  -- a row of the source that is handed out after it, whose own set address was handed out
   pub held : Option SourceRow
   -- the refusal of an earlier read
   pub failed : Option ConvertError
@@ -56,7 +56,7 @@ abbrev pub held_first : ℕ → Lists → Option SourceRow → Reading → Readi
 held_first version lists (Some r) rest = place_offered version lists r rest
 held_first version lists None rest = rest
 
--- behind a refusal, that refusal
+-- after a refusal, that refusal
 abbrev pub unless_failed : Option ConvertError → Reading → Reading
 unless_failed (Some e) rest = stops e
 unless_failed None rest = rest
@@ -83,7 +83,7 @@ abbrev pub TakesRow : ℕ → Reading → Option SourceRow → Lists → Reading
 TakesRow version old (Some r) lists rest = old ≡ address_offered r.set_address lists (place_offered version lists r rest)
 TakesRow version old None lists rest = (old ≡ ends lists) × (rest ≡ ends lists)
 
--- a read is refused: as what was to be read is, or memory is wanting where a file is still to be defined
+-- a read is refused: as what was to be read is, or memory is missing where a file is still to be defined
 abbrev pub IsReadRefusal : Reading → SourceState → ConvertError → Type 0
 IsReadRefusal old source e = (old ≡ stops e) ⊎ ((e ≡ OutOfMemory) × (defines_ahead source ≡ true))
 
@@ -93,7 +93,7 @@ AddsFiles old new = new ≡ record old { files = new.files }
 
 -- ---- calls of the builder
 
--- a call is refused: memory is wanting, or what the builder asks doesn't hold
+-- a call is refused: memory is missing, or what the builder asks doesn't hold
 abbrev pub IsBuildRefusal : Type 0 → ConvertError → Type 0
 IsBuildRefusal asked e = (e ≡ OutOfMemory) ⊎ ((e ≡ UnsupportedLineInstruction) × ¬ asked)
 
@@ -101,7 +101,7 @@ IsBuildRefusal asked e = (e ≡ OutOfMemory) ⊎ ((e ≡ UnsupportedLineInstruct
 abbrev pub with_program : Built → ConversionState → ConversionState
 with_program p c = record c { lists = record c.lists { program = p } }
 
--- the program behind `begin_sequence`
+-- the program after `begin_sequence`
 abbrev pub begun : Option Address → Built → Built
 begun address p = record p { items = p.items ++ option_to_list (option_map SetAddress address); in_sequence = true }
 

@@ -33,7 +33,7 @@ can_build e place (End offset op_index) = can_follow e place offset op_index
 
 -- ---- one item
 
--- the program behind an item, each as the builder's own call leaves it: `set_address`, `generate_row` of this row, and
+-- the program after an item, each as the builder's own call leaves it: `set_address`, `generate_row` of this row, and
 -- `end_sequence`
 abbrev pub behind_address : Address → Built → Built
 behind_address a p = record p { items = p.items ++ SetAddress a ∷ []; row = restarted p.in_sequence p.row; in_sequence = true }
@@ -52,7 +52,7 @@ behind_end offset p = record p {
 abbrev pub if_built : Built → BuiltItem → Built → Result Built ConvertError
 if_built p item next = if can_build p.line_encoding (previous_place p.items) item then Ok next else Err UnsupportedLineInstruction
 
--- the program behind what is read, where this maps the addresses of the source
+-- the program after what is read, where this maps the addresses of the source
 abbrev pub fed : (ℕ → Option Address) → ConvertLineRow → Built → Result Built ConvertError
 fed convert_address (offer.SetAddress a) p = ok_or (convert_address a) InvalidAddress >>= λ mapped. Ok (behind_address mapped p)
 fed convert_address (offer.Row r) p = if_built p (Row r) (behind_row r p)

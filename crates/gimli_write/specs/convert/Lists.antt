@@ -39,7 +39,7 @@ version_of lists = lists.program.encoding.version
 
 -- ---- directories
 
--- the lists behind a directory of this path
+-- the lists after a directory of this path
 abbrev pub with_path : Lists → List ℕ → Lists
 with_path lists path =
     let text = made_text (version_of lists) lists.line_strings path in
@@ -68,7 +68,7 @@ file_parts version sections directory_ids f =
     if_there (source_text sections) f.source >>= λ source.
     Ok (record { path = path; directory = directory; source = source })
 
--- the lists behind a file of these parts, whose path is added to the line strings before its source is
+-- the lists after a file of these parts, whose path is added to the line strings before its source is
 abbrev pub with_parts : Lists → File → FileParts → Lists
 with_parts lists f parts =
     let made = made_text (version_of lists) in

@@ -41,7 +41,7 @@ abbrev pub gave_row : Parameters → List Ins → Bool
 gave_row parameters [] = false
 gave_row parameters (i ∷ past) = if is_end i then false else ((makes_row i && not (is_hidden parameters past)) || gave_row parameters past)
 
--- none of these instructions behind a past ends a sequence hidden that gave a row
+-- none of these instructions after a past ends a sequence hidden that gave a row
 abbrev pub SeesEndsBehind : Parameters → List Ins → List Ins → Type 0
 SeesEndsBehind parameters past [] = Unit {0}
 SeesEndsBehind parameters past (i ∷ list) =

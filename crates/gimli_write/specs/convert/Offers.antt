@@ -32,7 +32,7 @@ address_operand i = None
 abbrev pub base_at : List Ins → ℕ
 base_at past = nearest address_operand 0 (sequence past)
 
--- the address that was last set behind the last place that makes a row, if one was
+-- the address that was last set after the last place that makes a row, if one was
 abbrev pub pending : List Ins → Option ℕ
 pending [] = None
 pending (i ∷ past) = if makes_row i then None else (elim (address_operand i) [ Some a ↦ Some a | None ↦ pending past ])
@@ -77,7 +77,7 @@ pub data Reading : Type 0 where
   ends : Lists → Reading
   -- a refusal
   stops : ConvertError → Reading
-  -- an address, a row or an end, with the lists at its place, and what is read behind it
+  -- an address, a row or an end, with the lists at its place, and what is read after it
   offers : ConvertLineRow → Lists → Reading → Reading
 
 abbrev pub address_offered : Option ℕ → Lists → Reading → Reading
@@ -92,11 +92,11 @@ abbrev pub place_offered : ℕ → Lists → SourceRow → Reading → Reading
 place_offered version lists r rest =
     if r.row.end_sequence then offers (EndSequence r.address_offset) lists rest else row_offered (built_row version lists r) lists rest
 
--- a row of the source, behind the address that was set for it
+-- a row of the source, after the address that was set for it
 abbrev pub offered : ℕ → Lists → SourceRow → Reading → Reading
 offered version lists r rest = address_offered r.set_address lists (place_offered version lists r rest)
 
--- what a place gives, and what is read behind it: a refusal where it overflows, else its row where it makes one and
+-- what a place gives, and what is read after it: a refusal where it overflows, else its row where it makes one and
 -- isn't hidden
 abbrev pub reading_at : Parameters → Lists → List Ins → Ins → Reading → Reading
 reading_at parameters lists past i rest =
@@ -114,7 +114,7 @@ upon (Err e) next = stops e
 
 -- ---- files that the program defines
 
--- the lists behind an instruction: a file that it defines is added
+-- the lists after an instruction: a file that it defines is added
 abbrev pub defined : Sections → Lists → Ins → Result Lists ConvertError
 defined sections lists (DefineFile f) = file_added sections lists f
 defined sections lists i = Ok lists
@@ -126,7 +126,7 @@ lists_at sections first (i ∷ past) = lists_at sections first past >>= λ lists
 
 -- ---- programs
 
--- what is read of these instructions and this end behind a past
+-- what is read of these instructions and this end after a past
 abbrev pub reading_behind : Sections → Parameters → Lists → List Ins → List Ins → Option Error → Reading
 reading_behind sections parameters first past [] end = upon (lists_at sections first past) (end_reading end)
 reading_behind sections parameters first past (i ∷ list) end =

@@ -71,7 +71,7 @@ line_encoding_of own handed = if int_lt (pos 0) own.line_base then Err InvalidLi
 
 -- ---- the program, with its first directory and file
 
--- texts that are made, and the line strings behind them
+-- texts that are made, and the line strings after them
 pub record FirstTexts : Type 0 where
   pub working_directory : LineText
   pub source_directory : Option LineText
@@ -134,7 +134,7 @@ handed encoding line_encoding name = record { encoding = encoding; line_encoding
 abbrev pub encoding_of : Header → Handed → Encoding
 encoding_of h given = unwrap_or given.encoding h.parameters.encoding
 
--- the lists behind all directories and files of a header, from the line strings before it
+-- the lists after all directories and files of a header, from the line strings before it
 abbrev pub prepared : Sections → Header → Handed → List (List ℕ) → Result Lists ConvertError
 prepared sections h given line_strings =
     let encoding = encoding_of h given in

@@ -27,8 +27,8 @@ abbrev pub none_gathered : List LineRow → Lists → Result (Option SequenceRea
 none_gathered [] lists = Ok (None, ends lists)
 none_gathered (row ∷ rows) lists = Err MissingLineEndSequence
 
--- the sequence that a reading begins with, behind this start and these rows, and what is read behind it: it goes up to
--- its end, or to an address that is set behind a row, which is read again
+-- the sequence that a reading begins with, after this start and these rows, and what is read after it: it goes up to
+-- its end, or to an address that is set after a row, which is read again
 abbrev pub gathered : Option ℕ → List LineRow → Reading → Result (Option SequenceRead × Reading) ConvertError
 gathered start rows (ends lists) = none_gathered rows lists
 gathered start rows (stops e) = Err e

@@ -26,7 +26,7 @@ pub record SourceState : Type 0 where
   pub row : LineRow
   -- the address that was last set in the sequence, else 0
   pub base : ℕ
-  -- the address that was set behind the last place that made a row
+  -- the address that was set after the last place that made a row
   pub pending : Option ℕ
   -- the instructions to come
   pub unread : Unread
@@ -49,7 +49,7 @@ base_behind i base = if is_end i then 0 else unwrap_or (address_operand i) base
 abbrev pub pending_behind : Ins → Option ℕ → Option ℕ
 pending_behind i pending = if makes_row i then None else (elim (address_operand i) [ Some a ↦ Some a | None ↦ pending ])
 
--- the state behind an instruction, apart from what is unread
+-- the state after an instruction, apart from what is unread
 abbrev pub state_behind : Ins → SourceState → SourceState
 state_behind i s = record s {
   row = next_registers s.header.parameters i s.row;
@@ -57,7 +57,7 @@ state_behind i s = record s {
   pending = pending_behind i s.pending;
 }
 
--- what an instruction gives, and what is read behind it
+-- what an instruction gives, and what is read after it
 abbrev pub instruction_reading : SourceState → Lists → Ins → Reading → Reading
 instruction_reading s lists i rest =
     if is_refused s.header.parameters i s.row then stops (Read AddressOverflow)
@@ -85,7 +85,7 @@ defines_ahead s = list_any defines_file (decoded_at s.unread.notation s.header s
 -- ---- steps
 
 module _ {R Offset Endian : Type 0} (bytes : R → List ℕ) (number : Offset → ℕ) where
-  -- what is read from a step on, behind which this state is
+  -- what is read from a step on, after which this state is
   abbrev pub step_reading : Sections → Lists → SourceStep R Endian Offset → SourceState → Reading
   step_reading sections lists Done s = ends lists
   step_reading sections lists More s = reading_left sections s lists
@@ -96,7 +96,7 @@ module _ {R Offset Endian : Type 0} (bytes : R → List ℕ) (number : Offset �
 abbrev pub step_made : {R Endian Offset : Type 0} → SourceState → Ins → SourceStep R Endian Offset
 step_made s i = if makes_row i && not s.row.hidden then Made (row_made s i) else More
 
--- fewer bytes are unread behind a step, and none behind the end
+-- fewer bytes are unread after a step, and none after the end
 abbrev pub Shortens : {R Endian Offset : Type 0} → SourceStep R Endian Offset → SourceState → SourceState → Type 0
 Shortens Done old new = new.unread.bytes ≡ []
 Shortens step old new = length new.unread.bytes < length old.unread.bytes

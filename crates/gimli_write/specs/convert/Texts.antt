@@ -15,7 +15,7 @@ abbrev pub ◌>>=◌ : {A B : Type 0} → Result A ConvertError → (A → Resul
 Ok x >>= f = f x
 Err e >>= f = Err e
 
--- a call is refused: memory is wanting, or the step that it does is refused so
+-- a call is refused: memory is missing, or the step that it does is refused so
 abbrev pub IsRefusedBy : {A : Type 0} → Result A ConvertError → ConvertError → Type 0
 IsRefusedBy step e = (e ≡ OutOfMemory) ⊎ (step ≡ Err e)
 

@@ -27,7 +27,7 @@ pub struct Conversion<R: Reader> {
     pub(crate) lists: Lists,
     /// An address that is handed out next.
     pub(crate) address: Option<u64>,
-    /// A row of the source that is handed out behind it, whose own set address was handed out.
+    /// A row of the source that is handed out after it, whose own set address was handed out.
     held: Option<SourceRow>,
     /// The refusal of an earlier read.
     pub(crate) failed: Option<ConvertError>,
@@ -160,7 +160,8 @@ impl<R: Reader> Conversion<R> {
         &mut self,
         line_strings: &mut LineStringTable,
     ) -> ConvertResult<Option<SourceRow>>
-        ensures ok { IfOk result (λ row. TakesRow (version_of_source self.old) (source_left self.old line_strings.old) row
+        ensures ok { IfOk result (λ row. TakesRow (version_of_source self.old)
+            (source_left self.old line_strings.old) row
             (lists_of self.new line_strings.new) (source_left self.new line_strings.new)) }
         ensures err { IfErr result (IsReadRefusal (source_left self.old line_strings.old) self.old.source) }
         ensures version { version_of_source self.new ≡ version_of_source self.old }

@@ -24,9 +24,11 @@ impl<R: Reader> Conversion<R> {
         convert_address: &F,
     ) -> ConvertResult<()>
         requires { F.IsAlwaysCallable convert_address.now }
-        ensures ok { (g : ℕ → Option Address) → ((a : ℕ) (r : Option Address) → F.post convert_address.now a r → r ≡ g a)
+        ensures ok { (g : ℕ → Option Address)
+            → ((a : ℕ) (r : Option Address) → F.post convert_address.now a r → r ≡ g a)
             → OnOk result (fed g row self.old.lists.program ≡ Ok self.new.lists.program) }
-        ensures err { (g : ℕ → Option Address) → ((a : ℕ) (r : Option Address) → F.post convert_address.now a r → r ≡ g a)
+        ensures err { (g : ℕ → Option Address)
+            → ((a : ℕ) (r : Option Address) → F.post convert_address.now a r → r ≡ g a)
             → IfErr result (IsRefusedBy (fed g row self.old.lists.program)) }
         ensures kept { OnOk result (self.new ≡ with_program self.new.lists.program self.old) }
         ensures items { OnOk result (without_items self.new.lists.program ≡ without_items self.old.lists.program) }
@@ -55,7 +57,8 @@ pub(crate) fn convert_all<R: Reader, F: Fn(u64) -> Option<Address>>(
         → IfOk result (λ answer. converted g (still_to_read conversion line_strings.old) conversion.lists.program
         ≡ Ok (record { program = answer.0; file_ids = answer.1.items; line_strings = line_strings.new })) }
     ensures err { (g : ℕ → Option Address) → ((a : ℕ) (r : Option Address) → F.post convert_address a r → r ≡ g a)
-        → IfErr result (IsRefusedBy (converted g (still_to_read conversion line_strings.old) conversion.lists.program)) }
+        → IfErr result (IsRefusedBy
+        (converted g (still_to_read conversion line_strings.old) conversion.lists.program)) }
     ensures stays { KeepsTexts line_strings.old line_strings.new }
 {
     let mut conversion = conversion;

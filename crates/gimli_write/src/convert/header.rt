@@ -177,7 +177,7 @@ fn line_encoding_of(own: LineEncoding, handed: Option<LineEncoding>) -> ConvertR
     }
 }
 
-/// The program, with its first directory and file. Asks texts without zero bytes. Refused by `OutOfMemory` alone. The
+/// The program, with its first directory and file. Requires texts without zero bytes. Refused by `OutOfMemory` alone. The
 /// line strings keep their texts.
 fn first_program<R: Reader>(
     encoding: Encoding,
@@ -261,7 +261,7 @@ fn first_lists(alloc: Global, program: LineProgram, source_version: u16) -> Conv
     })
 }
 
-/// The program of a header with its directories and files, and where it has those of the source. Asks encodings that a
+/// The program of a header with its directories and files, and where it has those of the source. Requires encodings that a
 /// program may have, where they are handed in. Refused by the first of these that is refused: the working directory, the
 /// source file, the encoding of lines, the directories, the files; or by `OutOfMemory`. The line strings keep their
 /// texts.

@@ -69,7 +69,7 @@ impl Model for FileParts {
     } };
 }
 
-/// A text of a program of this encoding. Asks bytes without a zero byte. Refused by `OutOfMemory` alone; then the line
+/// A text of a program of this encoding. Requires bytes without a zero byte. Refused by `OutOfMemory` alone; then the line
 /// strings are as before.
 pub(crate) fn made(
     text: &[u8],
@@ -112,8 +112,8 @@ pub(crate) fn optional_made(
 }
 
 impl Lists {
-    /// Adds a directory behind the others. Refused as its path is; the program and the ids are then as before, unless
-    /// memory is wanting. The line strings keep their texts.
+    /// Adds a directory after the others. Refused as its path is; the program and the ids are then as before, unless
+    /// memory is missing. The line strings keep their texts.
     pub(crate) fn add_directory<R: Reader>(
         &mut self,
         directory: AttributeValue<R>,
@@ -167,8 +167,8 @@ impl Lists {
         })
     }
 
-    /// Adds a file behind the others. Refused as `file_parts` is; the program and the ids are then as before, unless
-    /// memory is wanting. The line strings keep their texts.
+    /// Adds a file after the others. Refused as `file_parts` is; the program and the ids are then as before, unless
+    /// memory is missing. The line strings keep their texts.
     pub(crate) fn add_file<R: Reader>(
         &mut self,
         file: &FileEntry<R>,
@@ -203,7 +203,8 @@ impl Lists {
     /// The id of the file of a number in the source, which is of this version. Refused as `InvalidFileIndex` where the
     /// source has no file of its number so far.
     pub(crate) fn file_id(&self, source_version: u16, number: u64) -> ConvertResult<FileId>
-        ensures { (line_strings : List (List ℕ)) → result ≡ file_id source_version (lists_with line_strings self.now) number }
+        ensures { (line_strings : List (List ℕ))
+            → result ≡ file_id source_version (lists_with line_strings self.now) number }
     {
         if source_version <= 4 && number == 0 {
             return Err(ConvertError::InvalidFileIndex);

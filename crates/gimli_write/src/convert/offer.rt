@@ -9,6 +9,6 @@ pub enum ConvertLineRow {
     SetAddress(u64),
     /// A row.
     Row(LineRow),
-    /// A sequence ends, so many bytes behind the address that was last set in it.
+    /// A sequence ends, so many bytes after the address that was last set in it.
     EndSequence(u64),
 }

@@ -85,7 +85,7 @@ fn started<R: Reader>(
 impl<'a, 'b, R: Reader> ConvertLineProgram<'a, 'b, R, Conversion<R>> {
     /// A conversion of a source, over the sections that hold its texts. Its directories and files are added to the
     /// program that is built, by the encodings that are handed, else by the source's own. The name is that of the source
-    /// file, where the source is of version 4 or less; else file 0 is it. Asks encodings that a program may have, where
+    /// file, where the source is of version 4 or less; else file 0 is it. Requires encodings that a program may have, where
     /// they are handed. Refused, in this order: for the working directory, the source file, the encoding of lines, the
     /// directories and the files; or by `OutOfMemory`. The tables keep their texts.
     pub fn new(
@@ -113,7 +113,8 @@ impl<'a, 'b, R: Reader> ConvertLineProgram<'a, 'b, R, Conversion<R>> {
             (still_to_read convert.conversion convert.line_strings.now)) }
         ensures stays { IfOk result (λ convert. KeepsTexts line_strings.old convert.line_strings.now) }
         ensures strings { IfOk result (λ convert. convert.strings.now ≡ strings.old) }
-        ensures same_line_strings { IfOk result (λ convert. convert.line_strings.ghost_name ≡ line_strings.entry.ghost_name) }
+        ensures same_line_strings { IfOk result (λ convert. convert.line_strings.ghost_name
+            ≡ line_strings.entry.ghost_name) }
         ensures same_strings { IfOk result (λ convert. convert.strings.ghost_name ≡ strings.entry.ghost_name) }
     {
         let conversion = started(
@@ -165,7 +166,7 @@ impl<'a, 'b, R: Reader> ConvertLineProgram<'a, 'b, R, Conversion<R>> {
     }
 
     /// Makes this row the current one of the program that is built, and builds it. Refused as
-    /// `UnsupportedLineInstruction` where it can't be generated behind the row before it, or by `OutOfMemory`; then
+    /// `UnsupportedLineInstruction` where it can't be generated after the row before it, or by `OutOfMemory`; then
     /// nothing changes, nor does the current row.
     pub fn generate_row(&mut self, row: LineRow) -> ConvertResult<()>
         ensures ok { OnOk result (self.new.conversion
@@ -183,7 +184,7 @@ impl<'a, 'b, R: Reader> ConvertLineProgram<'a, 'b, R, Conversion<R>> {
         self.conversion.generate_row(row)
     }
 
-    /// Ends a sequence of the program that is built, so many bytes behind the address that was last set. Refused as
+    /// Ends a sequence of the program that is built, so many bytes after the address that was last set. Refused as
     /// `UnsupportedLineInstruction` where it can't end there, or by `OutOfMemory`; then nothing changes.
     pub fn end_sequence(&mut self, address_offset: u64) -> ConvertResult<()>
         ensures ok { OnOk result (self.new.conversion
@@ -244,7 +245,7 @@ impl<'a, 'b, R: Reader> ConvertLineProgram<'a, 'b, R, Conversion<R>> {
     {
         self.conversion.read_row(self.line_strings)
     }
-    /// Reads up to the end of a sequence, or to an address that is set behind a row; the next read gives that address
+    /// Reads up to the end of a sequence, or to an address that is set after a row; the next read gives that address
     /// first. Refused as `read_row` is, as `MissingLineEndSequence` for rows without an end, or by `OutOfMemory`; every
     /// later read repeats the refusal. The tables keep their texts.
     pub fn read_sequence(&mut self) -> ConvertResult<Option<ConvertLineSequence>>

@@ -15,9 +15,9 @@ use std::marker::Model;
 /// A row of the source that isn't hidden.
 #[derive(Clone, Copy, Debug)]
 pub(crate) struct SourceRow {
-    /// The address that was set behind the row before it, if one was.
+    /// The address that was set after the row before it, if one was.
     pub(crate) set_address: Option<u64>,
-    /// How many bytes it is behind the address that was last set in the sequence, or behind 0 where none was.
+    /// How many bytes it is after the address that was last set in the sequence, or after 0 where none was.
     pub(crate) address_offset: u64,
     /// The registers.
     pub(crate) row: LineRow,
@@ -86,7 +86,7 @@ fn hides(address: u64, before: u64, address_size: u8) -> bool
     address < before || address >= u64::min_tombstone(address_size)
 }
 
-/// The address from which offsets count behind a row, which may end its sequence.
+/// The address from which offsets count after a row, which may end its sequence.
 fn base_behind_row(base: u64, ends: bool) -> u64
     ensures { result ≡ (if ends then 0 else base) }
 {
@@ -110,7 +110,7 @@ pub(crate) struct SourceRun<R: Reader> {
     instructions: LineInstructions<R>,
     /// The address that was last set in the sequence, hidden or not; else 0.
     base: u64,
-    /// The address that was set behind the last place that made a row, hidden or not.
+    /// The address that was set after the last place that made a row, hidden or not.
     pending: Option<u64>,
     /// Whether the last set address hides what follows it.
     hidden: bool,
@@ -143,7 +143,8 @@ impl<R: Reader> SourceRun<R> {
 
     /// The source, from its start on.
     pub(crate) fn start(program: IncompleteLineProgram<R>) -> Self
-        ensures start { result ≡ started program.meaning (record { bytes = program.meaning.program; notation = program.notation }) }
+        ensures start { result ≡ started program.meaning
+            (record { bytes = program.meaning.program; notation = program.notation }) }
         ensures reads { (sections : Sections) (first : Lists) →
             Reads program.notation sections program.meaning first program.meaning.program (reading_left sections result first) }
     {
@@ -170,9 +171,11 @@ impl<R: Reader> SourceRun<R> {
     /// Takes the next instruction and executes it, unless it defines a file. Refused by `Read`, as the instruction
     /// is, or by `AddressOverflow`. Takes no memory.
     pub(crate) fn step(&mut self) -> ConvertResult<SourceStep<R>>
-        ensures reading { IfOk result (λ step. (sections : Sections) (lists : Lists) → reading_left sections self.old lists
+        ensures reading { IfOk result (λ step. (sections : Sections) (lists : Lists)
+            → reading_left sections self.old lists
             ≡ step_reading R.bytes R.Offset.number sections lists step self.new) }
-        ensures refusal { IfErr result (λ e. (sections : Sections) (lists : Lists) → reading_left sections self.old lists ≡ stops e) }
+        ensures refusal { IfErr result (λ e. (sections : Sections) (lists : Lists)
+            → reading_left sections self.old lists ≡ stops e) }
         ensures shorter { IfOk result (λ step. Shortens step self.old self.new) }
         ensures ahead { IfOk result (λ step. KeepsAhead step self.old self.new) }
         ensures header { self.new.header ≡ self.old.header }
@@ -211,11 +214,13 @@ impl<R: Reader> SourceRun<R> {
         requires allowed { IsAllowed self.old.header.parameters (ins_seen R.bytes R.Offset.number instruction) }
         requires address { address_operand (ins_seen R.bytes R.Offset.number instruction) ≡ None }
         requires file { defines_file (ins_seen R.bytes R.Offset.number instruction) ≡ false }
-        ensures fits { OnOk result (is_refused self.old.header.parameters (ins_seen R.bytes R.Offset.number instruction) self.old.row ≡ false) }
+        ensures fits { OnOk result (is_refused self.old.header.parameters
+            (ins_seen R.bytes R.Offset.number instruction) self.old.row ≡ false) }
         ensures step { OnOk result (self.new ≡ state_behind (ins_seen R.bytes R.Offset.number instruction) self.old) }
         ensures made { IfOk result (λ step. step ≡ step_made self.old (ins_seen R.bytes R.Offset.number instruction)) }
         ensures overflow { IfErr result (λ e. (e ≡ ConvertError.Read AddressOverflow)
-            × (is_refused self.old.header.parameters (ins_seen R.bytes R.Offset.number instruction) self.old.row ≡ true)) }
+            × (is_refused self.old.header.parameters
+            (ins_seen R.bytes R.Offset.number instruction) self.old.row ≡ true)) }
         ensures header { self.new.header ≡ self.old.header }
         ensures unread { self.new.unread ≡ self.old.unread }
     {

@@ -28,14 +28,14 @@ pub struct ConvertLineSequence {
 /// How the rows of a sequence end.
 #[derive(Clone, Copy, Debug, PartialEq, Eq)]
 pub enum ConvertLineSequenceEnd {
-    /// The sequence ends, so many bytes behind the address that was last set in it.
+    /// The sequence ends, so many bytes after the address that was last set in it.
     Length(u64),
-    /// An address is set behind them, from which the offsets of further rows count.
+    /// An address is set after them, from which the offsets of further rows count.
     Address(u64),
 }
 
 impl<R: Reader> Conversion<R> {
-    /// Reads up to the end of a sequence, or to an address that is set behind a row, which the next read hands out first.
+    /// Reads up to the end of a sequence, or to an address that is set after a row, which the next read hands out first.
     /// Refused as `read_row` is, as `MissingLineEndSequence` for rows without an end, or by `OutOfMemory`; every later
     /// read repeats the refusal. The line strings keep their texts.
     pub(crate) fn read_sequence(
