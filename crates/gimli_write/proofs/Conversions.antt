@@ -1,7 +1,6 @@
 -- A conversion, one read after the other.
 use Rattle.std.proofs.Common.{◌≡◌, ◌⊎◌, ℕ, ◌<◌, Bool, true, false, ◌||◌, if◌then◌else◌, List, [], ◌∷◌, ◌++◌, length, refl, sym, ap, ◌∙◌, subst, inl, inr}
 use Rattle.std.specs.Prelude.{Option, Some, None, Result, Ok, Err, IfErr, IfOk}
-use Rattle.std.specs.List.{list_any}
 use Rattle.gimli_core.specs.declared.error.Error.{Error}
 use Rattle.gimli_core.specs.Values.{Value}
 use Rattle.gimli_line.specs.header.File.{File}
@@ -14,10 +13,10 @@ use Rattle.gimli_write.specs.declared.convert_error.ConvertError.TheVariants.{Ou
 use Rattle.gimli_write.specs.convert.Texts.{◌>>=◌, IsRefusedBy, source_path}
 use Rattle.gimli_write.specs.convert.Lists.{Converted, Lists, version_of, with_path, directory_added, FileParts, file_parts, with_parts, file_added, all_added}
 use Rattle.gimli_write.specs.convert.Preparation.{Handed, SourceFile, FirstTexts, prepared, started_lists, first_texts, encoding_of, working_directory, source_file, line_encoding_of}
-use Rattle.gimli_write.specs.convert.Offers.{Reading, stops, offers, file_id, row_in, built_row, row_offered, place_offered}
+use Rattle.gimli_write.specs.convert.Offers.{Reading, stops, defines, offers, file_id, row_in, built_row, row_offered, place_offered, defines_first, after_definitions}
 use Rattle.gimli_write.specs.declared.convert.run.SourceRow.{SourceRow}
 use Rattle.gimli_write.specs.declared.convert.offer.ConvertLineRow.TheVariants.{Row, EndSequence}
-use Rattle.gimli_write.specs.convert.SourceState.{SourceState, reading_from, reading_upon, reading_left, defines_ahead}
+use Rattle.gimli_write.specs.convert.SourceState.{SourceState, reading_from, reading_upon, reading_left}
 use Rattle.gimli_write.specs.convert.ConversionState.{ConversionState, plain, IsReadRefusal}
 
 -- ---- lists without what is built
@@ -52,10 +51,12 @@ module _ (sections : Sections) (s : SourceState) (lists : Lists) (f : File) wher
       ap (reading_upon sections s) (plain_file sections lists f ∙ ap (λ (r : Result Lists ConvertError). r >>= λ n. Ok (plain n)) is)
       ∙ stops_there sections s e (decoded_at s.unread.notation s.header s.unread.bytes).0 (decoded_at s.unread.notation s.header s.unread.bytes).1
 
-  pub file_refusal : (old : Reading) (source : SourceState) (e : ConvertError) → reading_upon sections s (file_added sections (plain lists) f) ≡ old → defines_ahead source ≡ true
-      → IsRefusedBy (file_added sections lists f) e → IsReadRefusal old source e
-  file_refusal old source e here ahead (inl memory) = inr (memory, ahead)
-  file_refusal old source e here ahead (inr is) = inl (sym here ∙ file_refused e is)
+  -- its refusal, where other files are defined before it
+  pub file_refusal : (now old : Reading) (e : ConvertError) → now ≡ defines (reading_upon sections s (file_added sections (plain lists) f))
+      → after_definitions now ≡ after_definitions old → (defines_first now ≡ true → defines_first old ≡ true)
+      → IsRefusedBy (file_added sections lists f) e → IsReadRefusal old e
+  file_refusal now old e here left first (inl memory) = inr (memory, first (ap defines_first here))
+  file_refusal now old e here left first (inr is) = inl (sym left ∙ ap after_definitions (here ∙ ap defines (file_refused e is)))
 
 -- ---- the lists of a header have nothing built
 

@@ -1,20 +1,25 @@
 -- What a conversion reads, handed to the builder.
-use Rattle.std.proofs.Common.{◌≡◌, ◌⊎◌, ℕ, suc, false, true, Bool, if◌then◌else◌, List, refl, sym, ap, ◌∙◌, subst, inl, inr}
+use Rattle.std.proofs.Common.{◌≡◌, ◌⊎◌, ℕ, suc, ◌<◌, arith, false, true, Bool, if◌then◌else◌, List, refl, sym, ap, ◌∙◌, subst, inl, inr}
 use Rattle.std.specs.Prelude.{Option, Some, None, Result, Ok, Err}
 use Rattle.gimli_core.specs.Notation.{Notation}
+use Rattle.gimli_core.specs.declared.error.Error.TheVariants.{AddressOverflow}
 use Rattle.gimli_bytes.specs.declared.address.Address.{Address}
 use Rattle.gimli_line.specs.header.Header.{Header}
+use Rattle.gimli_line.specs.header.Parameters.{Parameters}
+use Rattle.gimli_line.specs.declared.run.instruction.LineInstruction.TheVariants.{DefineFile}
+use Rattle.gimli_line.specs.run.Instruction.{Ins}
+use Rattle.gimli_line.specs.run.OperationPointer.{overflows}
 use Rattle.gimli_build.specs.Built.{Built}
 use Rattle.gimli_build.specs.LineText.{LineText}
 use Rattle.gimli_build.specs.Texts.{Sections}
 use Rattle.gimli_write.specs.declared.convert_error.ConvertError.{ConvertError}
-use Rattle.gimli_write.specs.declared.convert_error.ConvertError.TheVariants.{MissingLineEndSequence, OutOfMemory}
+use Rattle.gimli_write.specs.declared.convert_error.ConvertError.TheVariants.{MissingLineEndSequence, OutOfMemory, Read}
 use Rattle.gimli_write.specs.declared.convert.offer.ConvertLineRow.{ConvertLineRow}
 use Rattle.gimli_write.specs.convert.Texts.{◌>>=◌, IsRefusedBy}
 use Rattle.gimli_write.specs.convert.Lists.{Converted, Lists}
-use Rattle.gimli_write.specs.convert.Offers.{Reading, ends, stops, offers, address_offered, Reads}
+use Rattle.gimli_write.specs.convert.Offers.{Reading, ends, stops, defines, offers, address_offered, reading_at, with_definition, after_definitions, Reads}
 use Rattle.gimli_write.specs.convert.Preparation.{Handed, prepared}
-use Rattle.gimli_write.specs.convert.SourceState.{SourceState, reading_left}
+use Rattle.gimli_write.specs.convert.SourceState.{reading_left}
 use Rattle.gimli_write.specs.convert.Feeding.{Conversion, fed, with_tables, ended, converted, without_items}
 use Rattle.gimli_write.specs.convert.ConversionState.{ConversionState, lists_of, version_of_source, held_first, unless_failed, still_to_read, HandsOut, AddsFiles, IsReadRefusal, IsConverted, with_program}
 use Rattle.gimli_write.proofs.ConvertSteps.{refused_first, refused_same}
@@ -23,7 +28,39 @@ use Rattle.gimli_write.proofs.ConvertSteps.{refused_first, refused_same}
 abbrev pub offer_count : Reading → ℕ
 offer_count (ends lists) = 0
 offer_count (stops e) = 0
+offer_count (defines rest) = offer_count rest
 offer_count (offers item lists rest) = suc (offer_count rest)
+
+-- ---- files that are defined give nothing to build
+
+pub counted_after : (r : Reading) → offer_count (after_definitions r) ≡ offer_count r
+counted_after (defines rest) = counted_after rest
+counted_after (ends lists) = refl
+counted_after (stops e) = refl
+counted_after (offers item lists rest) = refl
+
+-- a read leaves one item fewer
+pub one_fewer : (old rest : Reading) (item : ConvertLineRow) (lists : Lists) → after_definitions old ≡ offers item lists rest → offer_count rest < offer_count old
+one_fewer old rest item lists hands =
+    let e : offer_count old ≡ suc (offer_count rest) = sym (counted_after old) ∙ ap offer_count hands in
+    omega (arith, e)
+
+module _ (m : ℕ → Option Address) where
+  pub converted_after : (r : Reading) (p : Built) → converted m (after_definitions r) p ≡ converted m r p
+  converted_after (defines rest) p = converted_after rest p
+  converted_after (ends lists) p = refl
+  converted_after (stops e) p = refl
+  converted_after (offers item lists rest) p = refl
+
+  -- nor does one at a place
+  pub definition_passed : (parameters : Parameters) (lists : Lists) (past : List Ins) (i : Ins) (rest : Reading) (p : Built)
+      → converted m (reading_at parameters lists past i (with_definition i rest)) p ≡ converted m (reading_at parameters lists past i rest) p
+  definition_passed parameters lists past (DefineFile f) rest p = by (overflows parameters past (DefineFile f))
+    where
+      by : (o : Bool) → converted m (if o then stops (Read AddressOverflow) else defines rest) p ≡ converted m (if o then stops (Read AddressOverflow) else rest) p
+      by true = refl
+      by false = refl
+  definition_passed parameters lists past i rest p = refl
 
 -- ---- what is built doesn't change what is read
 
@@ -48,10 +85,11 @@ tables_are old new adds =
     ∙ sym adds
 
 module _ (m : ℕ → Option Address) (old mid : ConversionState) (before after : List (List ℕ)) where
-  module _ (row : ConvertLineRow) (hands : still_to_read old before ≡ offers row (lists_of mid after) (still_to_read mid after)) (adds : AddsFiles old.lists.program mid.lists.program) where
+  module _ (row : ConvertLineRow) (hands : after_definitions (still_to_read old before) ≡ offers row (lists_of mid after) (still_to_read mid after)) (adds : AddsFiles old.lists.program mid.lists.program) where
     handed_first : converted m (still_to_read old before) old.lists.program ≡ (fed m row mid.lists.program >>= λ next. converted m (still_to_read mid after) next)
     handed_first =
-        ap (λ (r : Reading). converted m r old.lists.program) hands
+        sym (converted_after m (still_to_read old before) old.lists.program)
+        ∙ ap (λ (r : Reading). converted m r old.lists.program) hands
         ∙ ap (λ (p : Built). fed m row p >>= λ next. converted m (still_to_read mid after) next) (tables_are old.lists.program mid.lists.program adds)
 
     pub fed_next : (new : ConversionState) → fed m row mid.lists.program ≡ Ok new.lists.program → new ≡ with_program new.lists.program mid
@@ -61,21 +99,28 @@ module _ (m : ℕ → Option Address) (old mid : ConversionState) (before after 
         ap (λ (r : Reading). converted m r new.lists.program) (same_left mid new after kept items)
         ∙ sym (handed_first ∙ ap (λ (r : Result Built ConvertError). r >>= λ next. converted m (still_to_read mid after) next) is)
 
+    pub fed_fewer : (new : ConversionState) → new ≡ with_program new.lists.program mid → without_items new.lists.program ≡ without_items mid.lists.program
+        → offer_count (still_to_read new after) < offer_count (still_to_read old before)
+    fed_fewer new kept items =
+        subst (λ (r : Reading). offer_count r < offer_count (still_to_read old before)) (sym (same_left mid new after kept items))
+        (one_fewer (still_to_read old before) (still_to_read mid after) row (lists_of mid after) hands)
+
     pub feed_refused : (e : ConvertError) → IsRefusedBy (fed m row mid.lists.program) e → IsRefusedBy (converted m (still_to_read old before) old.lists.program) e
     feed_refused e refused =
         refused_same (fed m row mid.lists.program >>= λ next. converted m (still_to_read mid after) next) (converted m (still_to_read old before) old.lists.program) e
         (sym handed_first) (refused_first (fed m row mid.lists.program) (λ next. converted m (still_to_read mid after) next) e refused)
 
-  pub read_refused : (e : ConvertError) (source : SourceState) → IsReadRefusal (still_to_read old before) source e → IsRefusedBy (converted m (still_to_read old before) old.lists.program) e
-  read_refused e source (inl is) = inr (ap (λ (r : Reading). converted m r old.lists.program) is)
-  read_refused e source (inr memory) = inl memory.0
+  pub read_refused : (e : ConvertError) → IsReadRefusal (still_to_read old before) e → IsRefusedBy (converted m (still_to_read old before) old.lists.program) e
+  read_refused e (inl is) = inr (sym (converted_after m (still_to_read old before) old.lists.program) ∙ ap (λ (r : Reading). converted m r old.lists.program) is)
+  read_refused e (inr memory) = inl memory.0
 
-  module _ (end : still_to_read old before ≡ ends (lists_of mid after)) (adds : AddsFiles old.lists.program mid.lists.program) where
+  module _ (end : after_definitions (still_to_read old before) ≡ ends (lists_of mid after)) (adds : AddsFiles old.lists.program mid.lists.program) where
     last : (unended : Bool) → mid.lists.program.in_sequence ≡ unended
         → converted m (still_to_read old before) old.lists.program
         ≡ (if unended then Err MissingLineEndSequence else Ok (record { program = mid.lists.program; file_ids = mid.lists.file_ids; line_strings = after }))
     last unended is =
-        ap (λ (r : Reading). converted m r old.lists.program) end
+        sym (converted_after m (still_to_read old before) old.lists.program)
+        ∙ ap (λ (r : Reading). converted m r old.lists.program) end
         ∙ ap (λ (b : Bool). let r : Result Conversion ConvertError = if b then Err MissingLineEndSequence else Ok (record { program = with_tables (lists_of mid after) old.lists.program; file_ids = mid.lists.file_ids; line_strings = after }) in r)
         (sym (ap (λ (p : Built). p.in_sequence) adds) ∙ is)
         ∙ ap (λ (p : Built). let r : Result Conversion ConvertError = if unended then Err MissingLineEndSequence else Ok (record { program = p; file_ids = mid.lists.file_ids; line_strings = after }) in r)

@@ -29,9 +29,10 @@ use Rattle.gimli_write.specs.declared.convert.offer.ConvertLineRow.TheVariants a
 use Rattle.gimli_write.specs.convert.Texts.{◌>>=◌, source_path}
 use Rattle.gimli_write.specs.convert.Lists.{Lists, version_of, with_path, directory_added, file_added}
 use Rattle.gimli_write.specs.convert.Preparation.{Handed, encoding_of, first_ids, prepared}
-use Rattle.gimli_write.specs.convert.Offers.{Reading, stops, offers, source_row, built_row, address_offered, row_offered, place_offered, offered, reading_at, end_reading, upon, lists_at, reading_behind, Reads}
+use Rattle.gimli_write.specs.convert.Offers.{Reading, stops, offers, source_row, built_row, address_offered, row_offered, place_offered, offered, reading_at, end_reading, upon, lists_at, with_definition, reading_behind, Reads}
 use Rattle.gimli_write.specs.convert.Mapped.{AreFilesMapped}
 use Rattle.gimli_write.specs.convert.Feeding.{Conversion, converted, with_tables, can_build, behind_address, behind_row, behind_end}
+use Rattle.gimli_write.proofs.Feedings.{definition_passed}
 use Rattle.gimli_write.proofs.MappedDirectories.{AreDirectories, directories_prepared, directories_stay}
 use Rattle.gimli_write.proofs.MappedFiles.{AreFiles, files_next, files_defined}
 use Rattle.gimli_write.proofs.MappedLists.{took, same_ok, is_prepared, all_added_keeps, CanKeep, IsReady, lists_at_keeps, file_ready, prepared_ready}
@@ -134,11 +135,12 @@ module _ (convert_address : ℕ → Option Address) (c : Conversion) where
     where
       by : ((p : Built) → converted convert_address (reading_behind sections parameters first (i ∷ past) list end) p ≡ Ok c → Outcome sections first (behind (i ∷ past) list) p c)
           → (there : Result Lists ConvertError)
-          → converted convert_address (upon there (λ lists. reading_at parameters lists past i (reading_behind sections parameters first (i ∷ past) list end))) p ≡ Ok c
+          → converted convert_address (upon there (λ lists. reading_at parameters lists past i (with_definition i (reading_behind sections parameters first (i ∷ past) list end)))) p ≡ Ok c
           → Outcome sections first (behind (i ∷ past) list) p c
       by rest (Err e) so = absurd cc
       by rest (Ok lists) so =
-          let on = at_goes parameters lists past i (reading_behind sections parameters first (i ∷ past) list end) p so in
+          let others = reading_behind sections parameters first (i ∷ past) list end in
+          let on = at_goes parameters lists past i others p (sym (definition_passed convert_address parameters lists past i others p) ∙ so) in
           let after = rest on.next on.is in
           record {
             finished = after.finished;

@@ -24,9 +24,10 @@ use Rattle.gimli_write.specs.declared.convert_error.ConvertError.TheVariants.{Re
 use Rattle.gimli_write.specs.declared.convert.offer.ConvertLineRow.TheVariants as offer
 use Rattle.gimli_write.specs.convert.Texts.{◌>>=◌}
 use Rattle.gimli_write.specs.convert.Lists.{Lists, FileParts, file_parts, with_parts, version_of}
-use Rattle.gimli_write.specs.convert.Offers.{Reading, stops, offers, base_at, pending, source_row, file_id, row_in, built_row, address_offered, row_offered, place_offered, offered, reading_at, end_reading, upon, defined, lists_at, reading_behind}
+use Rattle.gimli_write.specs.convert.Offers.{Reading, stops, offers, base_at, pending, source_row, file_id, row_in, built_row, address_offered, row_offered, place_offered, offered, reading_at, end_reading, upon, defined, lists_at, with_definition, reading_behind}
 use Rattle.gimli_write.specs.convert.Feeding.{Conversion, converted, with_tables, can_build, behind_address, behind_row, behind_end}
 use Rattle.gimli_write.specs.convert.Mapped.{MapsToItself, gave_row, SeesEndsBehind, IsFileId, RowsMapped}
+use Rattle.gimli_write.proofs.Feedings.{definition_passed}
 use Rattle.gimli_write.proofs.MappedAddresses.{address_within, base_below, base_below_row, pending_is_base, Follows, follows_end, follows_row, follows_quiet}
 
 -- ---- ids stay
@@ -301,7 +302,9 @@ module _ (sections : Sections) (parameters : Parameters) (first : Lists) (conver
       by : ((base : ℕ) (place : ℕ × ℕ) (p : Built) → Follows parameters (i ∷ past) base place.0
           → converted convert_address (reading_behind sections parameters first (i ∷ past) list end) p ≡ Ok c → Rest sections parameters first size c (i ∷ past) list end base place p)
           → (there : Result Lists ConvertError) → lists_at sections first past ≡ there
-          → converted convert_address (upon there (λ lists. reading_at parameters lists past i (reading_behind sections parameters first (i ∷ past) list end))) p ≡ Ok c
+          → converted convert_address (upon there (λ lists. reading_at parameters lists past i (with_definition i (reading_behind sections parameters first (i ∷ past) list end)))) p ≡ Ok c
           → Rest sections parameters first size c past (i ∷ list) end base place p
       by follow (Err e) at so = absurd cc
-      by follow (Ok lists) at so = place_passed past i list end lists at base place p f seen.0 so follow
+      by follow (Ok lists) at so =
+          place_passed past i list end lists at base place p f seen.0
+          (sym (definition_passed convert_address parameters lists past i (reading_behind sections parameters first (i ∷ past) list end) p) ∙ so) follow

@@ -22,7 +22,7 @@ use Rattle.gimli_write.specs.declared.convert_error.ConvertError.TheVariants.{Re
 use Rattle.gimli_write.specs.declared.convert.run.SourceRow.{SourceRow}
 use Rattle.gimli_write.specs.convert.Texts.{◌>>=◌}
 use Rattle.gimli_write.specs.convert.Lists.{Lists}
-use Rattle.gimli_write.specs.convert.Offers.{Reading, stops, upon, base_at, pending, source_row, offered, reading_at, defined, lists_at, reading_behind, Reads}
+use Rattle.gimli_write.specs.convert.Offers.{Reading, stops, upon, base_at, pending, source_row, offered, reading_at, defined, lists_at, reading_behind, Reads, with_definition}
 use Rattle.gimli_write.specs.convert.SourceState.{SourceState, started, row_made, base_behind, pending_behind, state_behind, instruction_reading, reading_from, reading_left}
 
 -- ---- the state after a past
@@ -87,10 +87,10 @@ module _ (sections : Sections) (h : Header) (first : Lists) (u : Unread) where
           ap (λ (s : SourceState). reading_from sections s (defined sections lists i) list end) (state_is h u past i)
           ∙ ap (λ (there : Result Lists ConvertError). reading_from sections (state_at h (i ∷ past) u) there list end) (sym next)
           ∙ others in
-          ap (λ (there : Result Lists ConvertError). upon there (λ l. instruction_reading (state_at h past u) l i (reading_from sections (state_behind i (state_at h past u)) (defined sections l i) list end))) is
-          ∙ place_is h u past lists i (reading_from sections (state_behind i (state_at h past u)) (defined sections lists i) list end)
-          ∙ ap (reading_at h.parameters lists past i) rest
-          ∙ ap (λ (there : Result Lists ConvertError). upon there (λ l. reading_at h.parameters l past i (reading_behind sections h.parameters first (i ∷ past) list end))) (sym is)
+          ap (λ (there : Result Lists ConvertError). upon there (λ l. instruction_reading (state_at h past u) l i (with_definition i (reading_from sections (state_behind i (state_at h past u)) (defined sections l i) list end)))) is
+          ∙ place_is h u past lists i (with_definition i (reading_from sections (state_behind i (state_at h past u)) (defined sections lists i) list end))
+          ∙ ap (λ (r : Reading). reading_at h.parameters lists past i (with_definition i r)) rest
+          ∙ ap (λ (there : Result Lists ConvertError). upon there (λ l. reading_at h.parameters l past i (with_definition i (reading_behind sections h.parameters first (i ∷ past) list end)))) (sym is)
 
 -- what is left at the start of a program is what is read of it
 pub start_reads : (notation : Notation) (sections : Sections) (h : Header) (first : Lists) (bytes : List ℕ)

@@ -1,7 +1,6 @@
 -- What one instruction of a source does to what is still to be read.
 use Rattle.std.proofs.Common.{◌≡◌, ◌≢◌, ℕ, ◌<◌, ◌≤◌, ◌-◌, ◌*◌, ◌^◌, Bool, true, false, not, ◌&&◌, ◌||◌, if◌then◌else◌, List, [], ◌∷◌, ◌++◌, length, refl, sym, ap, ◌∙◌, subst, append_assoc, arith}
 use Rattle.std.specs.Prelude.{Option, Some, None, unwrap_or, Result, Ok, Err, OnOk, OnErr, IfOk, IfErr, nat_lt, nat_le}
-use Rattle.std.specs.List.{list_any}
 use Rattle.std.proofs.lemmas.List.{length-append, append-nil}
 use Rattle.std.proofs.lemmas.Bool.{false≢true}
 use Rattle.gimli_core.specs.Notation.{Notation}
@@ -29,8 +28,8 @@ use Rattle.gimli_write.specs.declared.convert.run.SourceRow.{SourceRow}
 use Rattle.gimli_write.specs.declared.convert.run.SourceStep.{SourceStep}
 use Rattle.gimli_write.specs.declared.convert.run.SourceStep.TheVariants.{Done, More, Made}
 use Rattle.gimli_write.specs.convert.Lists.{Lists, file_added}
-use Rattle.gimli_write.specs.convert.Offers.{Reading, ends, stops, address_operand, offered, defined}
-use Rattle.gimli_write.specs.convert.SourceState.{SourceState, row_made, base_behind, pending_behind, state_behind, instruction_reading, reading_from, reading_upon, reading_left, defines_ahead, step_reading, step_made, Shortens, KeepsAhead}
+use Rattle.gimli_write.specs.convert.Offers.{Reading, defines, with_definition, ends, stops, address_operand, offered, defined}
+use Rattle.gimli_write.specs.convert.SourceState.{SourceState, row_made, base_behind, pending_behind, state_behind, instruction_reading, reading_from, reading_upon, reading_left, step_reading, step_made, Shortens}
 
 -- ---- what a program is decoded into, by its front
 
@@ -72,12 +71,17 @@ no_file : (sections : Sections) (lists : Lists) (i : Ins) → defines_file i ≡
 no_file sections lists (DefineFile f) e = absurd cc
 no_file sections lists i e = refl
 
+no_definition : (i : Ins) (rest : Reading) → defines_file i ≡ false → with_definition i rest ≡ rest
+no_definition (DefineFile f) rest e = absurd cc
+no_definition i rest e = refl
+
 -- bytes that are unread count by their instructions alone
 same_reading : (sections : Sections) (u v : Unread) (s : SourceState) (there : Result Lists ConvertError) (list : List Ins) (end : Option Error)
     → reading_from sections (record s { unread = u }) there list end ≡ reading_from sections (record s { unread = v }) there list end
 same_reading sections u v s there [] end = refl
 same_reading sections u v s (Err e) (i ∷ list) end = refl
-same_reading sections u v s (Ok lists) (i ∷ list) end = ap (instruction_reading s lists i) (same_reading sections u v (state_behind i s) (defined sections lists i) list end)
+same_reading sections u v s (Ok lists) (i ∷ list) end =
+    ap (λ (r : Reading). instruction_reading s lists i (with_definition i r)) (same_reading sections u v (state_behind i s) (defined sections lists i) list end)
 
 module _ (sections : Sections) (lists : Lists) (s : SourceState) where
   pub none_left : s.unread.bytes ≡ [] → reading_left sections s lists ≡ ends lists
@@ -88,7 +92,8 @@ module _ (sections : Sections) (lists : Lists) (s : SourceState) where
 
   module _ (u : Unread) (notation : u.notation ≡ s.unread.notation) (i : Ins) (front : List ℕ) (parts : s.unread.bytes ≡ front ++ u.bytes) (spelled : SpellsInstruction s.unread.notation s.header front i) where
     -- an instruction stands first
-    pub first_is : reading_left sections s lists ≡ instruction_reading s lists i (reading_upon sections (record (state_behind i s) { unread = u }) (defined sections lists i))
+    pub first_is : reading_left sections s lists
+        ≡ instruction_reading s lists i (with_definition i (reading_upon sections (record (state_behind i s) { unread = u }) (defined sections lists i)))
     first_is =
         let there = defined sections lists i in
         let c = decoded_at s.unread.notation s.header u.bytes in
@@ -96,13 +101,13 @@ module _ (sections : Sections) (lists : Lists) (s : SourceState) where
         same_reading sections s.unread u (state_behind i s) there c.0 c.1
         ∙ ap (λ (n : Notation). reading_from sections (record (state_behind i s) { unread = u }) there (decoded_at n s.header u.bytes).0 (decoded_at n s.header u.bytes).1) (sym notation) in
         ap (λ (d : List Ins × Option Error). reading_from sections s (Ok lists) d.0 d.1) (decoded_some s.unread.notation s.header s.unread.bytes i front u.bytes parts spelled)
-        ∙ ap (instruction_reading s lists i) rest
+        ∙ ap (λ (r : Reading). instruction_reading s lists i (with_definition i r)) rest
 
     abbrev next : SourceState
     next = record (state_behind i s) { unread = u }
 
     abbrev rest : Reading
-    rest = reading_upon sections next (defined sections lists i)
+    rest = with_definition i (reading_upon sections next (defined sections lists i))
 
     abbrev quiet_or_row : Reading
     quiet_or_row = if makes_row i && not s.row.hidden then offered s.header.parameters.encoding.version lists (row_made s i) rest else rest
@@ -115,7 +120,7 @@ module _ (sections : Sections) (lists : Lists) (s : SourceState) where
       done = first_is ∙ if_false (is_refused s.header.parameters i s.row) (stops (Read AddressOverflow)) quiet_or_row fits
 
       behind : rest ≡ reading_left sections next lists
-      behind = ap (reading_upon sections next) (no_file sections lists i file)
+      behind = no_definition i (reading_upon sections next (defined sections lists i)) file ∙ ap (reading_upon sections next) (no_file sections lists i file)
 
       pub after_quiet : (makes_row i && not s.row.hidden) ≡ false → reading_left sections s lists ≡ reading_left sections next lists
       after_quiet quiet =
@@ -129,7 +134,7 @@ module _ (sections : Sections) (lists : Lists) (s : SourceState) where
 
   -- a file is defined
   pub after_file : (u : Unread) → u.notation ≡ s.unread.notation → (f : File) (front : List ℕ) → s.unread.bytes ≡ front ++ u.bytes → SpellsInstruction s.unread.notation s.header front (DefineFile f)
-      → reading_left sections s lists ≡ reading_upon sections (record s { unread = u }) (file_added sections lists f)
+      → reading_left sections s lists ≡ defines (reading_upon sections (record s { unread = u }) (file_added sections lists f))
   after_file u notation f front parts spelled = first_is u notation (DefineFile f) front parts spelled
 
 -- ---- the state of a run, by its parts
@@ -299,40 +304,10 @@ module _ (R Endian Offset : Type 0) (s old new : SourceState) (i : Ins) where
   shortens lt true = lt
   shortens lt false = lt
 
-  keeps_ahead : defines_ahead new ≡ defines_ahead old → (b : Bool) → KeepsAhead {R = R} {Endian = Endian} {Offset = Offset} (if b then Made (row_made s i) else More) old new
-  keeps_ahead same true = same
-  keeps_ahead same false = same
-
 module _ {R Endian Offset : Type 0} (s old new : SourceState) (i : Ins) where
   pub executed_shortens : (r : Result (SourceStep R Endian Offset) ConvertError) → IfOk r (λ step. step ≡ step_made s i) → length new.unread.bytes < length old.unread.bytes → IfOk r (λ step. Shortens step old new)
   executed_shortens (Ok step) made lt = rw made (shortens R Endian Offset s old new i lt (makes_row i && not s.row.hidden))
   executed_shortens (Err e) made lt = tt
-
-  pub executed_ahead : (r : Result (SourceStep R Endian Offset) ConvertError) → IfOk r (λ step. step ≡ step_made s i) → defines_ahead new ≡ defines_ahead old → IfOk r (λ step. KeepsAhead step old new)
-  executed_ahead (Ok step) made same = rw made (keeps_ahead R Endian Offset s old new i same (makes_row i && not s.row.hidden))
-  executed_ahead (Err e) made same = tt
-
--- ---- files that are still to be defined
-
-none_ahead : (s : SourceState) → s.unread.bytes ≡ [] → defines_ahead s ≡ false
-none_ahead s e = ap (λ (c : List Ins × Option Error). list_any defines_file c.0) (decoded_none s.unread.notation s.header s.unread.bytes e)
-
-pub ended_ahead : (s t : SourceState) → s.unread.bytes ≡ [] → t.unread.bytes ≡ [] → defines_ahead t ≡ defines_ahead s
-ended_ahead s t e f = none_ahead t f ∙ sym (none_ahead s e)
-
-module _ (s : SourceState) (i : Ins) (front rest : List ℕ) (parts : s.unread.bytes ≡ front ++ rest) (spelled : SpellsInstruction s.unread.notation s.header front i) where
-  first_ahead : defines_ahead s ≡ (defines_file i || list_any defines_file (decoded_at s.unread.notation s.header rest).0)
-  first_ahead = ap (λ (c : List Ins × Option Error). list_any defines_file c.0) (decoded_some s.unread.notation s.header s.unread.bytes i front rest parts spelled)
-
-  pub file_ahead : defines_file i ≡ true → defines_ahead s ≡ true
-  file_ahead file = first_ahead ∙ ap (λ (b : Bool). b || list_any defines_file (decoded_at s.unread.notation s.header rest).0) file
-
-  pub none_taken : (t : SourceState) → t.header ≡ s.header → t.unread.notation ≡ s.unread.notation → t.unread.bytes ≡ rest → defines_file i ≡ false → defines_ahead t ≡ defines_ahead s
-  none_taken t header notation bytes file =
-      ap (λ (k : Header). list_any defines_file (decoded_at t.unread.notation k t.unread.bytes).0) header
-      ∙ ap (λ (n : Notation). list_any defines_file (decoded_at n s.header t.unread.bytes).0) notation
-      ∙ ap (λ (xs : List ℕ). list_any defines_file (decoded_at s.unread.notation s.header xs).0) bytes
-      ∙ sym (first_ahead ∙ ap (λ (b : Bool). b || list_any defines_file (decoded_at s.unread.notation s.header rest).0) file)
 
 module _ {R Offset : Type 0} (Endian : Type 0) (bytes : R → List ℕ) (number : Offset → ℕ) (s : SourceState) (u : Unread) (notation : u.notation ≡ s.unread.notation)
     (i : Ins) (front : List ℕ) (parts : s.unread.bytes ≡ front ++ u.bytes) (spelled : SpellsInstruction s.unread.notation s.header front i) where

@@ -12,8 +12,8 @@ use Rattle.gimli_write.specs.declared.convert_error.ConvertError.TheVariants.{Ou
 use Rattle.gimli_write.specs.declared.convert.run.SourceRow.{SourceRow}
 use Rattle.gimli_write.specs.declared.convert.offer.ConvertLineRow.{ConvertLineRow}
 use Rattle.gimli_write.specs.convert.Lists.{Converted, Lists, lists_with}
-use Rattle.gimli_write.specs.convert.Offers.{Reading, ends, stops, offers, address_offered, place_offered, Reads}
-use Rattle.gimli_write.specs.convert.SourceState.{SourceState, reading_left, defines_ahead}
+use Rattle.gimli_write.specs.convert.Offers.{Reading, ends, stops, offers, address_offered, place_offered, defines_first, after_definitions, Reads}
+use Rattle.gimli_write.specs.convert.SourceState.{SourceState, reading_left}
 use Rattle.gimli_write.specs.convert.Feeding.{Conversion, converted, without_items}
 use Rattle.gimli_write.specs.convert.Preparation.{Handed, prepared}
 
@@ -73,19 +73,22 @@ still_to_read c line_strings =
 
 -- ---- reads
 
--- a read hands this out, and finds these lists; the rest is then still to be read
+-- a read hands this out, after the files that are defined before it, and finds these lists; the rest is then still to be
+-- read
 abbrev pub HandsOut : Reading → Option ConvertLineRow → Lists → Reading → Type 0
-HandsOut old (Some row) lists rest = old ≡ offers row lists rest
-HandsOut old None lists rest = (old ≡ ends lists) × (rest ≡ ends lists)
+HandsOut old (Some row) lists rest = after_definitions old ≡ offers row lists rest
+HandsOut old None lists rest = (after_definitions old ≡ ends lists) × (rest ≡ ends lists)
 
 -- the same of a row of the source, with the address that was set for it
 abbrev pub TakesRow : ℕ → Reading → Option SourceRow → Lists → Reading → Type 0
-TakesRow version old (Some r) lists rest = old ≡ address_offered r.set_address lists (place_offered version lists r rest)
-TakesRow version old None lists rest = (old ≡ ends lists) × (rest ≡ ends lists)
+TakesRow version old (Some r) lists rest =
+    after_definitions old ≡ address_offered r.set_address lists (place_offered version lists r rest)
+TakesRow version old None lists rest = (after_definitions old ≡ ends lists) × (rest ≡ ends lists)
 
--- a read is refused: as what was to be read is, or memory is missing where a file is still to be defined
-abbrev pub IsReadRefusal : Reading → SourceState → ConvertError → Type 0
-IsReadRefusal old source e = (old ≡ stops e) ⊎ ((e ≡ OutOfMemory) × (defines_ahead source ≡ true))
+-- a read is refused: as what was to be read is, after the files that are defined before it, or for want of memory where a
+-- file is defined before anything else is read
+abbrev pub IsReadRefusal : Reading → ConvertError → Type 0
+IsReadRefusal old e = (after_definitions old ≡ stops e) ⊎ ((e ≡ OutOfMemory) × (defines_first old ≡ true))
 
 -- a read adds files to the program, and changes nothing else in it
 abbrev pub AddsFiles : Built → Built → Type 0

@@ -10,7 +10,7 @@ use Rattle.gimli_build.specs.declared.built.items.BuiltItem.{BuiltItem}
 use Rattle.gimli_build.specs.declared.built.items.BuiltItem.TheVariants.{SetAddress, Row, End}
 use Rattle.gimli_write.specs.convert.Texts.{◌>>=◌}
 use Rattle.gimli_write.specs.convert.Lists.{Lists}
-use Rattle.gimli_write.specs.convert.Offers.{Reading, ends, stops, offers}
+use Rattle.gimli_write.specs.convert.Offers.{Reading, ends, stops, defines, offers}
 use Rattle.gimli_write.specs.declared.convert_error.ConvertError.{ConvertError}
 use Rattle.gimli_write.specs.declared.convert_error.ConvertError.TheVariants.{InvalidAddress, MissingLineEndSequence, UnsupportedLineInstruction}
 use Rattle.gimli_write.specs.declared.convert.offer.ConvertLineRow.{ConvertLineRow}
@@ -81,6 +81,7 @@ ended lists p =
 abbrev pub converted : (ℕ → Option Address) → Reading → Built → Result Conversion ConvertError
 converted convert_address (ends lists) p = ended lists p
 converted convert_address (stops e) p = Err e
+converted convert_address (defines rest) p = converted convert_address rest p
 converted convert_address (offers item lists rest) p = fed convert_address item (with_tables lists p) >>= λ next. converted convert_address rest next
 
 -- ---- how contracts start it

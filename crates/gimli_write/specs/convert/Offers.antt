@@ -1,6 +1,6 @@
 -- What a conversion reads of a line program: rows and ends, each at its place, found by looking back (DWARF 5, sections
 -- 6.2.2 and 6.2.5). The past of a place is the list of the instructions before it, the nearest first.
-use Rattle.std.specs.Prelude.{◌≡◌, ℕ, ◌-◌, not, ◌&&◌, if◌then◌else◌, nat_eq, nat_le, List, [], ◌∷◌, slice_get, Option, Some, None, ok_or, Result, Ok, Err}
+use Rattle.std.specs.Prelude.{◌≡◌, ℕ, Bool, true, false, ◌-◌, not, ◌&&◌, if◌then◌else◌, nat_eq, nat_le, List, [], ◌∷◌, slice_get, Option, Some, None, ok_or, Result, Ok, Err}
 use Rattle.gimli_core.specs.Notation.{Notation}
 use Rattle.gimli_core.specs.declared.error.Error.{Error}
 use Rattle.gimli_core.specs.declared.error.Error.TheVariants.{AddressOverflow}
@@ -77,6 +77,8 @@ pub data Reading : Type 0 where
   ends : Lists → Reading
   -- a refusal
   stops : ConvertError → Reading
+  -- the definition of a file, and what is read after it
+  defines : Reading → Reading
   -- an address, a row or an end, with the lists at its place, and what is read after it
   offers : ConvertLineRow → Lists → Reading → Reading
 
@@ -124,13 +126,29 @@ abbrev pub lists_at : Sections → Lists → List Ins → Result Lists ConvertEr
 lists_at sections first [] = Ok first
 lists_at sections first (i ∷ past) = lists_at sections first past >>= λ lists. defined sections lists i
 
+-- what is read after an instruction, where the file that it defines comes first
+abbrev pub with_definition : Ins → Reading → Reading
+with_definition (DefineFile f) rest = defines rest
+with_definition i rest = rest
+
+-- a file is defined before anything else is read
+abbrev pub defines_first : Reading → Bool
+defines_first (defines rest) = true
+defines_first reading = false
+
+-- what is read after the files that are defined first
+abbrev pub after_definitions : Reading → Reading
+after_definitions (defines rest) = after_definitions rest
+after_definitions reading = reading
+
 -- ---- programs
 
 -- what is read of these instructions and this end after a past
 abbrev pub reading_behind : Sections → Parameters → Lists → List Ins → List Ins → Option Error → Reading
 reading_behind sections parameters first past [] end = upon (lists_at sections first past) (end_reading end)
 reading_behind sections parameters first past (i ∷ list) end =
-    upon (lists_at sections first past) (λ lists. reading_at parameters lists past i (reading_behind sections parameters first (i ∷ past) list end))
+    upon (lists_at sections first past) (λ lists.
+    reading_at parameters lists past i (with_definition i (reading_behind sections parameters first (i ∷ past) list end)))
 
 -- what is read of a program's bytes, with these lists at its start
 pub record Reads (notation : Notation) (sections : Sections) (h : Header) (first : Lists) (bytes : List ℕ) (reading : Reading) : Type 0 where

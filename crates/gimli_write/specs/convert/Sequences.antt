@@ -8,7 +8,7 @@ use Rattle.gimli_write.specs.declared.convert.sequence.ConvertLineSequence.{Conv
 use Rattle.gimli_write.specs.declared.convert.sequence.ConvertLineSequenceEnd.{ConvertLineSequenceEnd}
 use Rattle.gimli_write.specs.declared.convert.sequence.ConvertLineSequenceEnd.TheVariants.{Length, Address}
 use Rattle.gimli_write.specs.convert.Lists.{Lists}
-use Rattle.gimli_write.specs.convert.Offers.{Reading, ends, stops, offers}
+use Rattle.gimli_write.specs.convert.Offers.{Reading, ends, stops, defines, offers}
 
 -- rows whose offsets count from one address
 pub record SequenceRead : Type 0 where
@@ -32,6 +32,7 @@ none_gathered (row ∷ rows) lists = Err MissingLineEndSequence
 abbrev pub gathered : Option ℕ → List LineRow → Reading → Result (Option SequenceRead × Reading) ConvertError
 gathered start rows (ends lists) = none_gathered rows lists
 gathered start rows (stops e) = Err e
+gathered start rows (defines rest) = gathered start rows rest
 gathered start rows (offers (Row row) lists rest) = gathered start (rows ++ row ∷ []) rest
 gathered start rows (offers (EndSequence length) lists rest) = Ok (Some (sequence_with start rows (Length length)), rest)
 gathered start [] (offers (SetAddress a) lists rest) = gathered (Some a) [] rest

@@ -1,12 +1,11 @@
 -- What a run over a source has still to read.
-use Rattle.std.specs.Prelude.{◌≡◌, ◌<◌, ℕ, Bool, true, ◌-◌, not, ◌&&◌, if◌then◌else◌, List, [], ◌∷◌, length, Option, Some, None, unwrap_or, Result, Ok}
-use Rattle.std.specs.List.{list_any}
+use Rattle.std.specs.Prelude.{◌≡◌, ◌<◌, ℕ, ◌-◌, not, ◌&&◌, if◌then◌else◌, List, [], ◌∷◌, length, Option, Some, None, unwrap_or, Result, Ok}
 use Rattle.gimli_core.specs.declared.error.Error.{Error}
 use Rattle.gimli_core.specs.declared.error.Error.TheVariants.{AddressOverflow}
 use Rattle.gimli_line.specs.header.Header.{Header}
 use Rattle.gimli_line.specs.header.File.{file_seen}
 use Rattle.gimli_line.specs.declared.run.row.LineRow.{LineRow}
-use Rattle.gimli_line.specs.run.Instruction.{Ins, is_end, makes_row, defines_file}
+use Rattle.gimli_line.specs.run.Instruction.{Ins, is_end, makes_row}
 use Rattle.gimli_line.specs.run.InstructionReading.{decoded_at}
 use Rattle.gimli_line.specs.run.Machine.{initial, stepped, is_refused}
 use Rattle.gimli_line.specs.run.EventsWithFiles.{next_registers}
@@ -18,7 +17,7 @@ use Rattle.gimli_write.specs.declared.convert.run.SourceRow.{SourceRow}
 use Rattle.gimli_write.specs.declared.convert.run.SourceStep.{SourceStep}
 use Rattle.gimli_write.specs.declared.convert.run.SourceStep.TheVariants.{Done, More, Defines, Made}
 use Rattle.gimli_write.specs.convert.Lists.{Lists, file_added}
-use Rattle.gimli_write.specs.convert.Offers.{Reading, ends, stops, address_operand, offered, end_reading, upon, defined}
+use Rattle.gimli_write.specs.convert.Offers.{Reading, ends, stops, defines, address_operand, offered, end_reading, upon, defined, with_definition}
 
 pub record SourceState : Type 0 where
   pub header : Header
@@ -69,7 +68,8 @@ instruction_reading s lists i rest =
 abbrev pub reading_from : Sections → SourceState → Result Lists ConvertError → List Ins → Option Error → Reading
 reading_from sections s there [] end = upon there (end_reading end)
 reading_from sections s there (i ∷ list) end =
-    upon there (λ lists. instruction_reading s lists i (reading_from sections (state_behind i s) (defined sections lists i) list end))
+    upon there (λ lists.
+    instruction_reading s lists i (with_definition i (reading_from sections (state_behind i s) (defined sections lists i) list end)))
 
 -- what is still to be read
 abbrev pub reading_upon : Sections → SourceState → Result Lists ConvertError → Reading
@@ -78,10 +78,6 @@ reading_upon sections s there = let c = decoded_at s.unread.notation s.header s.
 abbrev pub reading_left : Sections → SourceState → Lists → Reading
 reading_left sections s lists = reading_upon sections s (Ok lists)
 
--- a file is still to be defined
-abbrev pub defines_ahead : SourceState → Bool
-defines_ahead s = list_any defines_file (decoded_at s.unread.notation s.header s.unread.bytes).0
-
 -- ---- steps
 
 module _ {R Offset Endian : Type 0} (bytes : R → List ℕ) (number : Offset → ℕ) where
@@ -89,7 +85,7 @@ module _ {R Offset Endian : Type 0} (bytes : R → List ℕ) (number : Offset �
   abbrev pub step_reading : Sections → Lists → SourceStep R Endian Offset → SourceState → Reading
   step_reading sections lists Done s = ends lists
   step_reading sections lists More s = reading_left sections s lists
-  step_reading sections lists (Defines f) s = reading_upon sections s (file_added sections lists (file_seen bytes number f))
+  step_reading sections lists (Defines f) s = defines (reading_upon sections s (file_added sections lists (file_seen bytes number f)))
   step_reading sections lists (Made r) s = offered s.header.parameters.encoding.version lists r (reading_left sections s lists)
 
 -- the step of an instruction that defines no file
@@ -100,8 +96,3 @@ step_made s i = if makes_row i && not s.row.hidden then Made (row_made s i) else
 abbrev pub Shortens : {R Endian Offset : Type 0} → SourceStep R Endian Offset → SourceState → SourceState → Type 0
 Shortens Done old new = new.unread.bytes ≡ []
 Shortens step old new = length new.unread.bytes < length old.unread.bytes
-
--- only a step that defines a file takes one of those that are still to be defined
-abbrev pub KeepsAhead : {R Endian Offset : Type 0} → SourceStep R Endian Offset → SourceState → SourceState → Type 0
-KeepsAhead (Defines f) old new = defines_ahead old ≡ true
-KeepsAhead step old new = defines_ahead new ≡ defines_ahead old

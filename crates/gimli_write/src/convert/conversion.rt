@@ -85,7 +85,7 @@ impl<R: Reader> Conversion<R> {
     ) -> ConvertResult<Option<ConvertLineRow>>
         ensures ok { IfOk result (λ row. HandsOut (still_to_read self.old line_strings.old) row
             (lists_of self.new line_strings.new) (still_to_read self.new line_strings.new)) }
-        ensures err { IfErr result (IsReadRefusal (still_to_read self.old line_strings.old) self.old.source) }
+        ensures err { IfErr result (IsReadRefusal (still_to_read self.old line_strings.old)) }
         ensures repeats { (e : ConvertError) → self.old.failed ≡ Some e → result ≡ Err e }
         ensures failed { IfErr result (λ e. self.new.failed ≡ Some e) }
         ensures well { OnOk result (self.new.failed ≡ None) }
@@ -113,7 +113,7 @@ impl<R: Reader> Conversion<R> {
         requires { self.old.failed ≡ None }
         ensures ok { IfOk result (λ row. HandsOut (still_to_read self.old line_strings.old) row
             (lists_of self.new line_strings.new) (still_to_read self.new line_strings.new)) }
-        ensures err { IfErr result (IsReadRefusal (still_to_read self.old line_strings.old) self.old.source) }
+        ensures err { IfErr result (IsReadRefusal (still_to_read self.old line_strings.old)) }
         ensures well { self.new.failed ≡ None }
         ensures given { OnOk result (self.new.address ≡ None) }
         ensures adds { AddsFiles self.old.lists.program self.new.lists.program }
@@ -163,7 +163,7 @@ impl<R: Reader> Conversion<R> {
         ensures ok { IfOk result (λ row. TakesRow (version_of_source self.old)
             (source_left self.old line_strings.old) row
             (lists_of self.new line_strings.new) (source_left self.new line_strings.new)) }
-        ensures err { IfErr result (IsReadRefusal (source_left self.old line_strings.old) self.old.source) }
+        ensures err { IfErr result (IsReadRefusal (source_left self.old line_strings.old)) }
         ensures version { version_of_source self.new ≡ version_of_source self.old }
         ensures address { self.new.address ≡ self.old.address }
         ensures held { self.new.held ≡ self.old.held }

@@ -227,13 +227,12 @@ impl<'a, 'b, R: Reader> ConvertLineProgram<'a, 'b, R, Conversion<R>> {
     /// Reads up to the next row, end, or address that one of these follows. An address that hides what follows it, and
     /// what it hides, gives nothing. Files that are defined on the way are added to the program that is built. Refused
     /// as `Read` for a fault of the source, as `InvalidFileIndex` for a row of no file, as a file that is defined is, or
-    /// by `OutOfMemory` where one is; every later read repeats the refusal. The tables keep their texts.
+    /// by `OutOfMemory` where this read defines one; every later read repeats the refusal. The tables keep their texts.
     pub fn read_row(&mut self) -> ConvertResult<Option<ConvertLineRow>>
         ensures ok { IfOk result (λ row. HandsOut (still_to_read self.old.conversion self.old.line_strings.now) row
             (lists_of self.new.conversion self.new.line_strings.now)
             (still_to_read self.new.conversion self.new.line_strings.now)) }
-        ensures err { IfErr result (IsReadRefusal (still_to_read self.old.conversion self.old.line_strings.now)
-            self.old.conversion.source) }
+        ensures err { IfErr result (IsReadRefusal (still_to_read self.old.conversion self.old.line_strings.now)) }
         ensures repeats { (e : ConvertError) → self.old.conversion.failed ≡ Some e → result ≡ Err e }
         ensures failed { IfErr result (λ e. self.new.conversion.failed ≡ Some e) }
         ensures well { OnOk result (self.new.conversion.failed ≡ None) }

@@ -139,7 +139,7 @@ impl<R: Reader> SourceRun<R> {
     ghost use Rattle.gimli_build.specs.Texts.{Sections};
     ghost use Rattle.gimli_write.specs.convert.Lists.{Lists};
     ghost use Rattle.gimli_write.specs.convert.Offers.{stops, address_operand, Reads};
-    ghost use Rattle.gimli_write.specs.convert.SourceState.{started, state_behind, step_made, reading_left, step_reading, Shortens, KeepsAhead};
+    ghost use Rattle.gimli_write.specs.convert.SourceState.{started, state_behind, step_made, reading_left, step_reading, Shortens};
 
     /// The source, from its start on.
     pub(crate) fn start(program: IncompleteLineProgram<R>) -> Self
@@ -177,7 +177,6 @@ impl<R: Reader> SourceRun<R> {
         ensures refusal { IfErr result (λ e. (sections : Sections) (lists : Lists)
             → reading_left sections self.old lists ≡ stops e) }
         ensures shorter { IfOk result (λ step. Shortens step self.old self.new) }
-        ensures ahead { IfOk result (λ step. KeepsAhead step self.old self.new) }
         ensures header { self.new.header ≡ self.old.header }
         ensures notation { self.new.unread.notation ≡ self.old.unread.notation }
     {

@@ -1,9 +1,10 @@
 use Rattle.std.proofs.Common.{◌≡◌, sym, ◌∙◌, inr}
+use Rattle.std.specs.Prelude.{None}
 use Rattle.std.proofs.lemmas.Result.{err_from_is_err_and}
 use Rattle.gimli_write.specs.convert.Feeding.{converted}
 use Rattle.gimli_write.specs.convert.ConversionState.{still_to_read}
 use Rattle.gimli_write.proofs.ConvertSteps.{kept_then, refused_same}
-use Rattle.gimli_write.proofs.Feedings.{fed_next, feed_refused, read_refused, left_open, converted_all}
+use Rattle.gimli_write.proofs.Feedings.{fed_next, fed_fewer, feed_refused, read_refused, left_open, converted_all}
 use Rattle.gimli_write.proofs.convert.feeding.convert_all.Goals as goal
 
 pub returns-in_err-row-clause-err : goal.returns-in_err-row-clause-err
@@ -14,11 +15,17 @@ returns-in_err-row-clause-err g c = λ m says.
     let p = err_from_is_err_and c.from_residual.result c.from_residual.ensures.1 in
     rw (p.1, p.2)
     (refused_same (converted m (still_to_read old before) old.lists.program) (converted m (still_to_read c.args.conversion c.args.line_strings.now) c.args.conversion.lists.program) e
-    (c.rows.invariant.same m says) (read_refused m old c.read_row.new.self before c.read_row.new.line_strings e old.source c.in_err-row.ensures.err))
+    (c.rows.invariant.same m says) (read_refused m old c.read_row.new.self before c.read_row.new.line_strings e c.in_err-row.ensures.err))
 
 pub returns-in_err-row-clause-stays : goal.returns-in_err-row-clause-stays
 returns-in_err-row-clause-stays g c =
     kept_then c.args.line_strings.now c.rows.line_strings c.read_row.new.line_strings c.rows.invariant.stays c.in_err-row.ensures.stays
+
+pub rows-smaller : goal.rows-smaller
+rows-smaller g c =
+    let hands = rw c.in-Some.is at c.in_ok-row.ensures.ok in
+    fed_fewer (λ a. None) c.rows.conversion c.read_row.new.self c.rows.line_strings c.read_row.new.line_strings c.in-Some.row hands c.in_ok-row.ensures.adds c.feed.new.self
+    c.in_ok-feed-in-Some.ensures.kept c.in_ok-feed-in-Some.ensures.items
 
 pub rows-preserved : goal.rows-preserved
 rows-preserved g c =

@@ -1,15 +1,38 @@
-use Rattle.std.proofs.Common.{sym, ap, ◌∙◌}
+use Rattle.std.proofs.Common.{ℕ, nat_eq, [], sym, ap, ◌∙◌, inr}
+use Rattle.std.specs.Prelude.{Option, None, Some, Ok, Result}
 use Rattle.std.proofs.lemmas.Bool.{eqb-true}
 use Rattle.std.proofs.lemmas.List.{nil_from_length}
-use Rattle.gimli_build.specs.Built.{Built}
+use Rattle.std.proofs.lemmas.Result.{err_from_is_err_and}
+use Rattle.gimli_write.specs.declared.convert_error.ConvertError.{ConvertError}
+use Rattle.gimli_write.specs.declared.convert.offer.ConvertLineRow.TheVariants.{SetAddress, Row, EndSequence}
+use Rattle.gimli_write.specs.declared.convert.sequence.ConvertLineSequenceEnd.TheVariants.{Address}
+use Rattle.gimli_write.specs.convert.Offers.{Reading, offers}
+use Rattle.gimli_write.specs.convert.Sequences.{SequenceRead, sequence_with, gathered}
 use Rattle.gimli_write.specs.convert.ConversionState.{lists_of, still_to_read}
-use Rattle.gimli_write.proofs.ConvertSteps.{kept_then}
-use Rattle.gimli_write.proofs.Gathers.{row_gathered, address_gathered, added_then}
+use Rattle.gimli_write.proofs.ConvertSteps.{kept_then, refused_same}
+use Rattle.gimli_write.proofs.Feedings.{one_fewer}
+use Rattle.gimli_write.proofs.Gathers.{gathered_first, row_gathered, address_gathered, address_ends, given_back, nothing_gathered, rows_left, gather_refused, added_then}
 use Rattle.gimli_write.proofs.convert.conversion.Conversion.gather.Goals as goal
+
+pub returns-in_err-row-clause-err : goal.returns-in_err-row-clause-err
+returns-in_err-row-clause-err g c =
+    let old = still_to_read c.rows.self c.rows.line_strings in
+    let e = c.in_err-row.field-0.0 in
+    let p = err_from_is_err_and c.from_residual.result c.from_residual.ensures.1 in
+    rw (p.1, p.2)
+    (refused_same (gathered c.rows.start c.rows.rows.items old) (gathered None [] (still_to_read c.args.self.now c.args.line_strings.now)) e
+    c.rows.invariant.same (gather_refused c.rows.start c.rows.rows.items old e c.in_err-row.ensures.err))
 
 pub returns-in_err-row-clause-stays : goal.returns-in_err-row-clause-stays
 returns-in_err-row-clause-stays g c =
     kept_then c.args.line_strings.now c.rows.line_strings c.read_row.new.line_strings c.rows.invariant.stays c.in_err-row.ensures.stays
+
+pub rows-smaller-in-Continue-branch-4 : goal.rows-smaller-in-Continue-branch-4
+rows-smaller-in-Continue-branch-4 g c =
+    let found = rw c.in-Some-Row.is at c.in_ok-row.ensures.ok in
+    let hands = rw c.in-Some-Row.field-0-is at found in
+    one_fewer (still_to_read c.rows.self c.rows.line_strings) (still_to_read c.read_row.new.self c.read_row.new.line_strings) (Row c.in-Some-Row.row)
+    (lists_of c.read_row.new.self c.read_row.new.line_strings) hands
 
 pub rows-preserved-in-Continue-branch-4 : goal.rows-preserved-in-Continue-branch-4
 rows-preserved-in-Continue-branch-4 g c =
@@ -28,6 +51,13 @@ pub returns-in_err-push-in-Some-Row-clause-stays : goal.returns-in_err-push-in-S
 returns-in_err-push-in-Some-Row-clause-stays g c =
     kept_then c.args.line_strings.now c.rows.line_strings c.read_row.new.line_strings c.rows.invariant.stays c.in_ok-row.ensures.stays
 
+pub rows-smaller : goal.rows-smaller
+rows-smaller g c =
+    let found = rw c.in-Some-SetAddress.is at c.in_ok-row.ensures.ok in
+    let hands = rw c.in-Some-SetAddress.field-0-is at found in
+    one_fewer (still_to_read c.rows.self c.rows.line_strings) (still_to_read c.read_row.new.self c.read_row.new.line_strings) (SetAddress c.in-Some-SetAddress.address)
+    (lists_of c.read_row.new.self c.read_row.new.line_strings) hands
+
 pub rows-preserved : goal.rows-preserved
 rows-preserved g c =
     let found = rw c.in-Some-SetAddress.is at c.in_ok-row.ensures.ok in
@@ -42,17 +72,52 @@ rows-preserved g c =
       stays = kept_then c.args.line_strings.now c.rows.line_strings c.read_row.new.line_strings c.rows.invariant.stays c.in_ok-row.ensures.stays;
     }
 
+pub returns-in-Some-SetAddress-2-clause-ok : goal.returns-in-Some-SetAddress-2-clause-ok
+returns-in-Some-SetAddress-2-clause-ok g c =
+    let found = rw c.in-Some-SetAddress.is at c.in_ok-row.ensures.ok in
+    let hands = rw c.in-Some-SetAddress.field-0-is at found in
+    let a = c.in-Some-SetAddress.address in
+    let some = ap (λ (n : ℕ). nat_eq n 0) (sym c.rows.rows.ok.0) ∙ sym c.is_empty.ensures ∙ c.if-is_empty.false in
+    sym c.rows.invariant.same
+    ∙ address_ends c.rows.start c.rows.rows.items a (still_to_read c.rows.self c.rows.line_strings) (still_to_read c.read_row.new.self c.read_row.new.line_strings)
+    (lists_of c.read_row.new.self c.read_row.new.line_strings) hands some
+    ∙ ap (λ (r : Reading). let answer : Result (Option SequenceRead × Reading) ConvertError = Ok (Some (sequence_with c.rows.start c.rows.rows.items (Address a)), r) in answer)
+    (given_back c.read_row.new.self c.give_back.new.self c.read_row.new.line_strings a c.in_ok-row.ensures.well c.in_ok-row.ensures.given c.give_back.ensures)
+
 pub returns-in-Some-SetAddress-2-clause-stays : goal.returns-in-Some-SetAddress-2-clause-stays
 returns-in-Some-SetAddress-2-clause-stays g c =
     kept_then c.args.line_strings.now c.rows.line_strings c.read_row.new.line_strings c.rows.invariant.stays c.in_ok-row.ensures.stays
+
+pub returns-in-Some-EndSequence-clause-ok : goal.returns-in-Some-EndSequence-clause-ok
+returns-in-Some-EndSequence-clause-ok g c =
+    let found = rw c.in-Some-EndSequence.is at c.in_ok-row.ensures.ok in
+    let hands = rw c.in-Some-EndSequence.field-0-is at found in
+    sym c.rows.invariant.same
+    ∙ gathered_first c.rows.start c.rows.rows.items (still_to_read c.rows.self c.rows.line_strings)
+    (offers (EndSequence c.in-Some-EndSequence.length) (lists_of c.read_row.new.self c.read_row.new.line_strings) (still_to_read c.read_row.new.self c.read_row.new.line_strings)) hands
 
 pub returns-in-Some-EndSequence-clause-stays : goal.returns-in-Some-EndSequence-clause-stays
 returns-in-Some-EndSequence-clause-stays g c =
     kept_then c.args.line_strings.now c.rows.line_strings c.read_row.new.line_strings c.rows.invariant.stays c.in_ok-row.ensures.stays
 
+pub returns-in-None-clause-ok : goal.returns-in-None-clause-ok
+returns-in-None-clause-ok g c =
+    let end = rw c.in-None.is at c.in_ok-row.ensures.ok in
+    let none = nil_from_length c.rows.rows.items (sym c.rows.rows.ok.0 ∙ eqb-true c.rows.rows.len 0 (sym c.is_empty-2.ensures ∙ c.if-is_empty-2.true)) in
+    sym c.rows.invariant.same
+    ∙ nothing_gathered c.rows.start c.rows.rows.items (still_to_read c.rows.self c.rows.line_strings) (still_to_read c.read_row.new.self c.read_row.new.line_strings)
+    (lists_of c.read_row.new.self c.read_row.new.line_strings) end.0 end.1 none
+
 pub returns-in-None-clause-stays : goal.returns-in-None-clause-stays
 returns-in-None-clause-stays g c =
     kept_then c.args.line_strings.now c.rows.line_strings c.read_row.new.line_strings c.rows.invariant.stays c.in_ok-row.ensures.stays
+
+pub returns-in-None-2-clause-err : goal.returns-in-None-2-clause-err
+returns-in-None-2-clause-err g c =
+    let end = rw c.in-None.is at c.in_ok-row.ensures.ok in
+    let some = ap (λ (n : ℕ). nat_eq n 0) (sym c.rows.rows.ok.0) ∙ sym c.is_empty-2.ensures ∙ c.if-is_empty-2.false in
+    inr (sym c.rows.invariant.same
+    ∙ rows_left c.rows.start c.rows.rows.items (still_to_read c.rows.self c.rows.line_strings) (lists_of c.read_row.new.self c.read_row.new.line_strings) end.0 some)
 
 pub returns-in-None-2-clause-stays : goal.returns-in-None-2-clause-stays
 returns-in-None-2-clause-stays g c =

@@ -4,10 +4,11 @@ use Rattle.gimli_line.specs.header.File.{file_seen}
 use Rattle.gimli_line.specs.header.Header.{Header}
 use Rattle.gimli_build.specs.Built.{Built}
 use Rattle.gimli_write.specs.convert.Lists.{lists_with}
+use Rattle.gimli_write.specs.convert.Offers.{defines, defines_first, after_definitions}
 use Rattle.gimli_write.specs.convert.ConversionState.{plain, source_left}
 use Rattle.gimli_write.proofs.SourceSteps.{none_left}
 use Rattle.gimli_write.proofs.ConvertSteps.{kept_then}
-use Rattle.gimli_write.proofs.Conversions.{file_taken, file_refusal}
+use Rattle.gimli_write.proofs.Conversions.{conversion, file_taken, file_refusal}
 use Rattle.gimli_write.proofs.convert.conversion.Conversion.next_source_row.Goals as goal
 
 pub returns-in-Done-clause-ok : goal.returns-in-Done-clause-ok
@@ -16,7 +17,7 @@ returns-in-Done-clause-ok g c =
     let lists = plain (lists_with c.steps.line_strings a.lists) in
     let read = rw c.in-Done.is at c.in_ok-step.ensures.reading in
     let over = rw c.in-Done.is at c.in_ok-step.ensures.shorter in
-    (sym c.steps.invariant.left ∙ read a.sections lists, none_left a.sections lists c.step.new.self over)
+    (sym c.steps.invariant.left ∙ ap after_definitions (read a.sections lists), none_left a.sections lists c.step.new.self over)
 
 pub steps-preserved : goal.steps-preserved
 steps-preserved g c =
@@ -25,12 +26,11 @@ steps-preserved g c =
     let before = lists_with c.steps.line_strings a.lists in
     let after = lists_with c.add_file.new.line_strings c.add_file.new.self in
     let read = rw c.in-Defines.is at c.in_ok-step.ensures.reading in
-    let ahead = rw c.in-Defines.is at c.in_ok-step.ensures.ahead in
     record {
       left =
-          sym (read a.sections (plain before) ∙ file_taken a.sections c.step.new.self before f after c.in_ok-add_file-in-Defines.ensures.ok)
+          sym (ap after_definitions (read a.sections (plain before) ∙ ap defines (file_taken a.sections c.step.new.self before f after c.in_ok-add_file-in-Defines.ensures.ok)))
           ∙ c.steps.invariant.left;
-      ahead = λ more. c.steps.invariant.ahead ahead;
+      first = λ more. c.steps.invariant.first (ap defines_first (read a.sections (plain before)));
       version = ap (λ (h : Header). h.parameters.encoding.version) c.in_ok-step.ensures.header ∙ c.steps.invariant.version;
       sections = c.steps.invariant.sections;
       address = c.steps.invariant.address;
@@ -49,11 +49,11 @@ returns-in_err-add_file-in-Defines-clause-err g c =
     let f = file_seen g.R.Reader.bytes g.R.Offset.ReaderOffset.number c.in-Defines.file in
     let before = lists_with c.steps.line_strings a.lists in
     let read = rw c.in-Defines.is at c.in_ok-step.ensures.reading in
-    let ahead = rw c.in-Defines.is at c.in_ok-step.ensures.ahead in
+    let now = conversion a.sections a.source a.lists a.address a.held a.failed in
     let p = err_from_is_err_and c.from_residual-in_err-add_file-in-Defines.result c.from_residual-in_err-add_file-in-Defines.ensures.1 in
     rw (p.1, p.2)
-    (file_refusal a.sections c.step.new.self before f (source_left c.args.self.now c.args.line_strings.now) c.args.self.now.source c.in_err-add_file-in-Defines.field-0.0
-    (sym (read a.sections (plain before)) ∙ c.steps.invariant.left) (c.steps.invariant.ahead ahead) c.in_err-add_file-in-Defines.ensures.err)
+    (file_refusal a.sections c.step.new.self before f (source_left now c.steps.line_strings) (source_left c.args.self.now c.args.line_strings.now) c.in_err-add_file-in-Defines.field-0.0
+    (read a.sections (plain before)) c.steps.invariant.left c.steps.invariant.first c.in_err-add_file-in-Defines.ensures.err)
 
 pub returns-in_err-add_file-in-Defines-clause-stays : goal.returns-in_err-add_file-in-Defines-clause-stays
 returns-in_err-add_file-in-Defines-clause-stays g c =

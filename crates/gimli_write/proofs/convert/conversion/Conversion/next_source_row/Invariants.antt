@@ -1,6 +1,6 @@
 use Rattle.std.proofs.Common.{◌≡◌, true, length}
 use Rattle.gimli_bytes.specs.Texts.{KeepsTexts}
-use Rattle.gimli_write.specs.convert.SourceState.{defines_ahead}
+use Rattle.gimli_write.specs.convert.Offers.{defines_first, after_definitions}
 use Rattle.gimli_write.specs.convert.ConversionState.{version_of_source, source_left, AddsFiles}
 use Rattle.gimli_write.proofs.Conversions.{conversion}
 use Rattle.gimli_write.proofs.convert.conversion.Conversion.next_source_row.Given as goal
@@ -10,8 +10,8 @@ invariant-steps g l =
     let a = l.self-inside in
     let now = conversion a.sections a.source a.lists a.address a.held a.failed in
     record {
-      left : source_left now l.line_strings ≡ source_left l.fn.self l.fn.line_strings;
-      ahead : defines_ahead a.source ≡ true → defines_ahead l.fn.self.source ≡ true;
+      left : after_definitions (source_left now l.line_strings) ≡ after_definitions (source_left l.fn.self l.fn.line_strings);
+      first : defines_first (source_left now l.line_strings) ≡ true → defines_first (source_left l.fn.self l.fn.line_strings) ≡ true;
       version : version_of_source now ≡ version_of_source l.fn.self;
       sections : a.sections ≡ l.fn.self.sections;
       address : a.address ≡ l.fn.self.address;

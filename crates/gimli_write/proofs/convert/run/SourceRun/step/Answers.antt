@@ -3,8 +3,8 @@ use Rattle.gimli_line.specs.declared.run.instruction.LineInstruction.TheVariants
 use Rattle.gimli_line.specs.header.File.{file_seen}
 use Rattle.gimli_line.specs.run.Instruction.{ins_seen, defines_file}
 use Rattle.gimli_line.specs.run.Unread.{Unread}
-use Rattle.gimli_write.specs.convert.SourceState.{SourceState, state_behind, reading_left, defines_ahead}
-use Rattle.gimli_write.proofs.SourceSteps.{state, other_kind, spelled_as, is_shorter, none_left, at_fault, after_file, after_quiet, executed_reading, executed_refusal, with_unread, executed_shortens, executed_ahead, ended_ahead, file_ahead, none_taken}
+use Rattle.gimli_write.specs.convert.SourceState.{SourceState, state_behind, reading_left}
+use Rattle.gimli_write.proofs.SourceSteps.{state, other_kind, spelled_as, is_shorter, none_left, at_fault, after_file, after_quiet, executed_reading, executed_refusal, with_unread, executed_shortens}
 use Rattle.gimli_write.proofs.convert.run.SourceRun.step.Goals as goal
 
 pub returns-in-Err-clause-refusal : goal.returns-in-Err-clause-refusal
@@ -16,34 +16,6 @@ pub returns-in-Ok-None-clause-reading : goal.returns-in-Ok-None-clause-reading
 returns-in-Ok-None-clause-reading g c =
     let n = rw c.in-Ok-None.field-0-is at c.in-Ok-None.ensures.next in
     rw (← c.self.view_is) (λ sections lists. none_left sections lists (state c.self.inside.program.meaning c.self.inside.row c.self.inside.base c.self.inside.pending c.self.inside.instructions) n.0)
-
-pub returns-in-Ok-None-clause-ahead : goal.returns-in-Ok-None-clause-ahead
-returns-in-Ok-None-clause-ahead g c =
-    let n = rw c.in-Ok-None.field-0-is at c.in-Ok-None.ensures.next in
-    let s = state c.self.inside.program.meaning c.self.inside.row c.self.inside.base c.self.inside.pending c.self.inside.instructions in
-    rw (← c.self.view_is) (ended_ahead s (state c.self.inside.program.meaning c.self.inside.row c.self.inside.base c.self.inside.pending c.next_instruction.new.self) n.0 n.1)
-
-pub returns-in-DefineFile-clause-ahead : goal.returns-in-DefineFile-clause-ahead
-returns-in-DefineFile-clause-ahead g c =
-    let n = rw c.in-Ok-Some.field-0-is at c.in-Ok-Some.ensures.next in
-    let lent : c.header.result.now.meaning ≡ c.self.inside.program.meaning = rw c.header.ensures refl in
-    let f = file_seen g.R.Reader.bytes g.R.Offset.ReaderOffset.number c.in-DefineFile.file in
-    let is : ins_seen g.R.Reader.bytes g.R.Offset.ReaderOffset.number c.in-Ok-Some.instruction ≡ DefineFile f = rw c.in-DefineFile.is refl in
-    let spelled = spelled_as c.self.inside.instructions.notation c.self.inside.program.meaning c.header.result.now.meaning n.0 _ _ lent is n.2 in
-    rw (← c.self.view_is) (file_ahead (state c.self.inside.program.meaning c.self.inside.row c.self.inside.base c.self.inside.pending c.self.inside.instructions) (DefineFile f) n.0 c.next_instruction.new.self.bytes n.1 spelled refl)
-
-pub returns-in-SetAddress-clause-ahead : goal.returns-in-SetAddress-clause-ahead
-returns-in-SetAddress-clause-ahead g c =
-    let n = rw c.in-Ok-Some.field-0-is at c.in-Ok-Some.ensures.next in
-    let lent : c.header.result.now.meaning ≡ c.self.inside.program.meaning = rw c.header.ensures refl in
-    let is : ins_seen g.R.Reader.bytes g.R.Offset.ReaderOffset.number c.in-Ok-Some.instruction ≡ SetAddress c.in-SetAddress.address = rw c.in-SetAddress.is refl in
-    let spelled = spelled_as c.self.inside.instructions.notation c.self.inside.program.meaning c.header.result.now.meaning n.0 _ _ lent is n.2 in
-    let s = state c.self.inside.program.meaning c.self.inside.row c.self.inside.base c.self.inside.pending c.self.inside.instructions in
-    rw (← c.self.view_is)
-    (ap defines_ahead c.set_address.ensures
-    ∙ none_taken s (SetAddress c.in-SetAddress.address) n.0 c.next_instruction.new.self.bytes n.1 spelled
-    (state_behind (SetAddress c.in-SetAddress.address) (state c.self.inside.program.meaning c.self.inside.row c.self.inside.base c.self.inside.pending c.next_instruction.new.self))
-    refl c.in-Ok-Some.ensures.notation refl refl)
 
 pub returns-in-DefineFile-clause-reading : goal.returns-in-DefineFile-clause-reading
 returns-in-DefineFile-clause-reading g c =
@@ -81,9 +53,6 @@ returns-in_default g c =
           file c.execute.ensures.fits c.execute.ensures.step c.execute.ensures.made);
       refusal = rw (← c.self.view_is) (executed_refusal _ g.R.Reader.bytes g.R.Offset.ReaderOffset.number s u c.in-Ok-Some.ensures.notation i n.0 n.1 spelled c.execute.result c.execute.ensures.overflow);
       shorter = rw (← c.self.view_is) (executed_shortens (with_unread s u) s c.execute.new.self i c.execute.result c.execute.ensures.made shorter);
-      ahead = rw (← c.self.view_is) (executed_ahead (with_unread s u) s c.execute.new.self i c.execute.result c.execute.ensures.made
-          (none_taken s i n.0 u.bytes n.1 spelled c.execute.new.self c.execute.ensures.header
-          (ap (λ (v : Unread). v.notation) c.execute.ensures.unread ∙ c.in-Ok-Some.ensures.notation) (ap (λ (v : Unread). v.bytes) c.execute.ensures.unread) file));
       header = rw (← c.self.view_is) c.execute.ensures.header;
       notation = rw (← c.self.view_is) (ap (λ (v : Unread). v.notation) c.execute.ensures.unread ∙ c.in-Ok-Some.ensures.notation);
     }
