@@ -23,6 +23,10 @@ initial_row version is_stmt = record {
 abbrev pub cleared : LineRow → LineRow
 cleared r = record r { discriminator = 0; basic_block = false; prologue_end = false; epilogue_begin = false }
 
+-- the row at another offset and op_index
+abbrev pub at_place : ℕ × ℕ → LineRow → LineRow
+at_place place r = record r { address_offset = place.0; op_index = place.1 }
+
 -- the row where an address was set: in a sequence its place is now told from there
 abbrev pub restarted : Bool → LineRow → LineRow
 restarted in_sequence r = if in_sequence then record r { address_offset = 0; op_index = 0 } else r

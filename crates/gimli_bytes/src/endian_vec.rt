@@ -113,6 +113,12 @@ impl<E: Endianity> Writer for EndianVec<E> {
                 self.vec.push(*byte)?;
                 Ok(())
             }
+            [first, second] => {
+                self.vec.reserve(2)?;
+                self.vec.push_reserved(*first);
+                self.vec.push_reserved(*second);
+                Ok(())
+            }
             _ => self.append(bytes),
         }
     }

@@ -18,6 +18,22 @@ pub enum BuiltItem {
     },
 }
 
+impl BuiltItem {
+    ghost use Rattle.std.specs.Prelude.{◌≡◌};
+    ghost use Rattle.gimli_build.specs.Built.{place_after};
+
+    /// The offset and op_index that the next row or end is compared with.
+    #[inline(always)]
+    pub(crate) fn place(&self) -> (u64, u64)
+        ensures { result ≡ place_after self.now }
+    {
+        match self {
+            BuiltItem::Row(row) => (row.address_offset, row.op_index),
+            _ => (0, 0),
+        }
+    }
+}
+
 /// The items of a line program, in the order in which they were built.
 #[derive(Debug, Drop)]
 pub struct BuiltItems<'a>(&'a [BuiltItem]);

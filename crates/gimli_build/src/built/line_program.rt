@@ -398,7 +398,7 @@ impl LineProgram {
         ensures memory { IfErr result (λ e. e ≡ Error.OutOfMemory) }
     {
         self.items.push(BuiltItem::Row(self.row))?;
-        self.row = self.row.cleared();
+        self.row.clear();
         self.in_sequence = true;
         Ok(())
     }

@@ -1,5 +1,5 @@
 ghost use Rattle.std.specs.Prelude.{◌≡◌};
-ghost use Rattle.gimli_build.specs.Rows.{initial_row, cleared, restarted};
+ghost use Rattle.gimli_build.specs.Rows.{initial_row, cleared, at_place, restarted};
 
 use crate::built::files::FileId;
 use gimli_core::{Encoding, LineEncoding};
@@ -52,15 +52,23 @@ impl LineRow {
         }
     }
 
-    /// The row once it was built: what stands for one row alone is cleared.
-    pub(crate) fn cleared(self) -> LineRow
-        ensures { result ≡ cleared self }
+    /// Clears what stands for one row alone, once the row was built.
+    pub(crate) fn clear(&mut self)
+        ensures { self.new ≡ cleared self.old }
+    {
+        self.discriminator = 0;
+        self.basic_block = false;
+        self.prologue_end = false;
+        self.epilogue_begin = false;
+    }
+
+    /// The row at another offset and op_index.
+    pub(crate) fn at(self, place: (u64, u64)) -> LineRow
+        ensures { result ≡ at_place place self }
     {
         LineRow {
-            discriminator: 0,
-            basic_block: false,
-            prologue_end: false,
-            epilogue_begin: false,
+            address_offset: place.0,
+            op_index: place.1,
             ..self
         }
     }

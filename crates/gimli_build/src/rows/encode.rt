@@ -1,9 +1,10 @@
 //! Rows and ends as instructions. Each instruction is written at once; none is kept.
 
-ghost use Rattle.std.specs.Prelude.{◌≡◌, ◌+◌, ◌<◌, ◌^◌, IfOk, OnOk, Ok, pos, ◌-ℤ◌, unsigned_abs};
+ghost use Rattle.std.specs.Prelude.{◌≡◌, ℕ, Bool, ◌+◌, ◌<◌, ◌^◌, IfOk, OnOk, Ok, pos, ◌-ℤ◌, unsigned_abs};
 ghost use Rattle.gimli_build.specs.Conditions.{CanBuild, AreBuilt};
 ghost use Rattle.gimli_build.specs.Items.{next_previous, item_bytes, items_bytes, FitsItem, AreFit};
-ghost use Rattle.gimli_build.specs.Rows.{initial_row};
+ghost use Rattle.gimli_build.specs.Built.{place_after};
+ghost use Rattle.gimli_build.specs.Rows.{initial_row, at_place};
 ghost use Rattle.gimli_build.specs.Advance.{CanEncode, IsPlace, CanFollow, operations};
 ghost use Rattle.gimli_build.specs.Encode.{marks, changes, is_special_advance, line_opcode, line_part, row_maker, operation_part, row_instructions, end_instructions};
 ghost use Rattle.gimli_build.specs.InstructionBytes.{instructions_bytes, FitsInstructions};
@@ -22,7 +23,8 @@ use gimli_core::{Encoding, LineEncoding};
 pub(crate) const OPCODE_BASE: u8 = 13;
 
 /// Appends the instructions of a program's items, each at once. A refusal is that of the first set address that
-/// has one, or the writer's.
+/// has one, or the writer's. It stands apart, so that the loop has the registers to itself.
+#[inline(never)]
 pub(crate) fn write_items<W: Writer>(
     w: &mut W,
     encoding: Encoding,
@@ -36,83 +38,95 @@ pub(crate) fn write_items<W: Writer>(
         (initial_row encoding.version line_encoding.default_is_stmt) items.now) }
     ensures fit { OnOk result (AreFit encoding.version items.now) }
 {
-    let mut previous = LineRow::initial(encoding, line_encoding);
+    let initial = LineRow::initial(encoding, line_encoding);
+    let mut previous = &initial;
+    let mut place = (0, 0);
     for item in items {
-        previous = write_item(w, encoding, line_encoding, &previous, item)?;
+        write_item(w, encoding, line_encoding, place, previous, item)?;
+        previous = next_row(&initial, previous, item);
+        place = item.place();
     }
     Ok(())
 }
 
-/// Appends the instructions of one item that follows `previous`, and answers the row that the next item follows.
+/// The row that the next item follows, but for its place: what was built isn't copied.
+#[inline(always)]
+fn next_row<'a>(initial: &'a LineRow, previous: &'a LineRow, item: &'a BuiltItem) -> &'a LineRow
+    ensures { (version : ℕ) (is_stmt : Bool) (place : ℕ × ℕ) → initial.now ≡ initial_row version is_stmt →
+        at_place (place_after item.now) result.now
+        ≡ next_previous version is_stmt (at_place place previous.now) item.now }
+{
+    match item {
+        BuiltItem::SetAddress(_) => previous,
+        BuiltItem::Row(row) => row,
+        BuiltItem::End { .. } => initial,
+    }
+}
+
+/// Appends the instructions of one item that follows `previous`, whose offset and op_index are `place`.
+#[inline(always)]
 fn write_item<W: Writer>(
     w: &mut W,
     encoding: Encoding,
     line_encoding: LineEncoding,
+    place: (u64, u64),
     previous: &LineRow,
     item: &BuiltItem,
-) -> Result<LineRow>
+) -> Result<()>
     requires can { CanEncode line_encoding }
-    requires place { IsPlace line_encoding previous.now.address_offset previous.now.op_index }
+    requires stands { IsPlace line_encoding place.0 place.1 }
     requires previous_line { previous.now.line < 2 ^ 63 }
-    requires built { CanBuild line_encoding (previous.now.address_offset, previous.now.op_index) item.now }
+    requires built { CanBuild line_encoding place item.now }
     ensures writes { Writes W.Writer w.old w.new result
-        (item_bytes (W.big w.old) encoding line_encoding previous.now item.now) }
+        (item_bytes (W.big w.old) encoding line_encoding (at_place place previous.now) item.now) }
     ensures fit { OnOk result (FitsItem encoding.version item.now) }
-    ensures next { IfOk result (λ next. next
-        ≡ next_previous encoding.version line_encoding.default_is_stmt previous.now item.now) }
 {
     match item {
-        BuiltItem::SetAddress(address) => {
-            write_set_address(w, *address, encoding.address_size)?;
-            Ok(LineRow {
-                address_offset: 0,
-                op_index: 0,
-                ..*previous
-            })
-        }
-        BuiltItem::Row(row) => {
-            write_row(w, encoding, line_encoding, previous, row)?;
-            Ok(*row)
-        }
+        BuiltItem::Row(row) => write_row(w, encoding, line_encoding, place, previous, row),
+        BuiltItem::SetAddress(address) => write_set_address(w, address, encoding.address_size),
         BuiltItem::End {
             address_offset,
             op_index,
         } => {
-            write_end(w, line_encoding, previous, *address_offset, *op_index)?;
-            Ok(LineRow::initial(encoding, line_encoding))
+            let previous = previous.at(place);
+            write_end(w, line_encoding, &previous, *address_offset, *op_index)
         }
     }
 }
 
-/// Appends the instructions of a row that follows `previous`. At the start of a sequence, and after a
-/// set address in one, `previous` has offset and op_index 0.
+/// Appends the instructions of a row that follows `previous`, whose offset and op_index are `place`. At the start of a
+/// sequence, and after a set address in one, both are 0.
+#[inline(always)]
 pub(crate) fn write_row<W: Writer>(
     w: &mut W,
     encoding: Encoding,
     line_encoding: LineEncoding,
+    place: (u64, u64),
     previous: &LineRow,
     row: &LineRow,
 ) -> Result<()>
     requires can { CanEncode line_encoding }
-    requires place { IsPlace line_encoding previous.now.address_offset previous.now.op_index }
-    requires follows { CanFollow line_encoding previous.now.address_offset previous.now.op_index
+    requires stands { IsPlace line_encoding place.0 place.1 }
+    requires follows { CanFollow line_encoding place.0 place.1
         row.now.address_offset row.now.op_index }
     requires previous_line { previous.now.line < 2 ^ 63 }
     requires line { row.now.line < 2 ^ 63 }
     ensures writes { Writes W.Writer w.old w.new result
         (Ok (instructions_bytes
-        (row_instructions encoding.version line_encoding previous.now row.now))) }
+        (row_instructions encoding.version line_encoding (at_place place previous.now) row.now))) }
     ensures fit { OnOk result (FitsInstructions encoding.version row.now) }
 {
     write_marks(w, row)?;
     write_changes(w, encoding.version, previous, row)?;
     let opcode = write_line_advance(w, &line_encoding, line_advance(previous.line, row.line))?;
-    let count = operation_advance(&line_encoding, previous, row.address_offset, row.op_index);
+    let count = operation_advance(&line_encoding, place, row.address_offset, row.op_index);
     write_operation_advance(w, &line_encoding, opcode, count)?;
     Ok(())
 }
 
-/// Appends the instructions of an end, at an offset and an operation, that follows `previous`.
+/// Appends the instructions of an end, at an offset and an operation, that follows `previous`. Ends are few, so it
+/// stands apart from rows.
+#[inline(never)]
 pub(crate) fn write_end<W: Writer>(
     w: &mut W,
     line_encoding: LineEncoding,
@@ -128,7 +142,8 @@ pub(crate) fn write_end<W: Writer>(
         (Ok (instructions_bytes
         (end_instructions line_encoding previous.now address_offset op_index))) }
 {
-    let count = operation_advance(&line_encoding, previous, address_offset, op_index);
+    let place = (previous.address_offset, previous.op_index);
+    let count = operation_advance(&line_encoding, place, address_offset, op_index);
     write_if(w, count != 0, LineInstruction::AdvancePc(count))?;
     write_instruction(w, LineInstruction::EndSequence)
 }
@@ -244,23 +259,21 @@ fn maker(line_encoding: &LineEncoding, opcode: u8) -> LineInstruction
     }
 }
 
-/// How many operations a place is after the row before it.
+/// How many operations an offset and an op_index are after the place of the row before.
 fn operation_advance(
     line_encoding: &LineEncoding,
-    previous: &LineRow,
+    place: (u64, u64),
     address_offset: u64,
     op_index: u64,
 ) -> u64
     requires can { CanEncode line_encoding.now }
-    requires place { IsPlace line_encoding.now previous.now.address_offset previous.now.op_index }
-    requires follows { CanFollow line_encoding.now previous.now.address_offset previous.now.op_index
-        address_offset op_index }
-    ensures { result ≡ operations line_encoding.now previous.now.address_offset previous.now.op_index
-        address_offset op_index }
+    requires stands { IsPlace line_encoding.now place.0 place.1 }
+    requires follows { CanFollow line_encoding.now place.0 place.1 address_offset op_index }
+    ensures { result ≡ operations line_encoding.now place.0 place.1 address_offset op_index }
 {
     let operations = u64::from(line_encoding.maximum_operations_per_instruction);
-    let instructions = instruction_count(*line_encoding, address_offset - previous.address_offset);
-    instructions * operations + op_index - previous.op_index
+    let instructions = instruction_count(*line_encoding, address_offset - place.0);
+    instructions * operations + op_index - place.1
 }
 
 /// How far a line is after another one.

@@ -1,7 +1,7 @@
 //! Instructions, one at a time.
 
-ghost use Rattle.std.specs.Prelude.{◌+◌, ◌∷◌, Ok};
-ghost use Rattle.gimli_bytes.specs.Number.{uleb, sleb};
+ghost use Rattle.std.specs.Prelude.{◌≡◌, ◌+◌, ◌∷◌, Ok};
+ghost use Rattle.gimli_bytes.specs.Number.{uleb, sleb, low_bits as low_bits_of, has_seven_bits as holds_seven_bits};
 ghost use Rattle.gimli_build.specs.InstructionBytes.{instruction_bytes, instructions_bytes, set_address_bytes};
 ghost use Rattle.gimli_build.specs.Encode.{when};
 ghost use Rattle.gimli_build.specs.ReadAs.{read_as};
@@ -68,16 +68,18 @@ pub(crate) fn write_if<W: Writer>(w: &mut W, due: bool, instruction: LineInstruc
 
 /// Appends a set address of `size` bytes: the instruction's opening, and then the address, whose
 /// refusal is handed on.
-pub(crate) fn write_set_address<W: Writer>(w: &mut W, address: Address, size: u8) -> Result<()>
-    ensures { Writes W.Writer w.old w.new result (set_address_bytes (W.big w.old) address size) }
+#[inline(never)]
+pub(crate) fn write_set_address<W: Writer>(w: &mut W, address: &Address, size: u8) -> Result<()>
+    ensures { Writes W.Writer w.old w.new result (set_address_bytes (W.big w.old) address.now size) }
 {
     write_byte(w, 0)?;
     w.write_uleb128(u64::from(size) + 1)?;
     write_byte(w, constants::DW_LNE_set_address.0)?;
-    w.write_address(address, size)
+    w.write_address(*address, size)
 }
 
 /// Appends a discriminator.
+#[inline(never)]
 fn write_discriminator<W: Writer>(w: &mut W, discriminator: u64) -> Result<()>
     ensures { Writes W.Writer w.old w.new result
         (Ok (instruction_bytes (SetDiscriminator discriminator))) }
@@ -94,6 +96,9 @@ fn write_discriminator<W: Writer>(w: &mut W, discriminator: u64) -> Result<()>
 fn write_unsigned<W: Writer>(w: &mut W, opcode: DwLns, operand: u64) -> Result<()>
     ensures { Writes W.Writer w.old w.new result (Ok (opcode.0 ∷ uleb operand)) }
 {
+    if operand < 128 {
+        return w.write(&[opcode.0, operand as u8]);
+    }
     write_byte(w, opcode.0)?;
     w.write_uleb128(operand)
 }
@@ -103,6 +108,23 @@ fn write_unsigned<W: Writer>(w: &mut W, opcode: DwLns, operand: u64) -> Result<(
 fn write_signed<W: Writer>(w: &mut W, opcode: DwLns, operand: i64) -> Result<()>
     ensures { Writes W.Writer w.old w.new result (Ok (opcode.0 ∷ sleb operand)) }
 {
+    if has_seven_bits(operand) {
+        return w.write(&[opcode.0, low_bits(operand)]);
+    }
     write_byte(w, opcode.0)?;
     w.write_sleb128(operand)
+}
+
+/// The lowest seven bits.
+fn low_bits(operand: i64) -> u8
+    ensures { result ≡ low_bits_of operand }
+{
+    operand.rem_euclid(128) as u8
+}
+
+/// Whether seven bits hold the number, with its sign.
+fn has_seven_bits(operand: i64) -> bool
+    ensures { result ≡ holds_seven_bits operand }
+{
+    -64 <= operand && operand < 64
 }

@@ -1,6 +1,6 @@
-use Rattle.std.proofs.Common.{◌+◌, ◌<◌, length, drop, take, refl, ◌∙◌, arith, lit<}
-use Rattle.gimli_build.specs.Rows.{initial_row}
-use Rattle.gimli_build.specs.Items.{items_bytes}
+use Rattle.std.proofs.Common.{◌≡◌, ℕ, ap, ◌+◌, ◌<◌, length, drop, take, refl, ◌∙◌, arith, lit<}
+use Rattle.gimli_build.specs.Rows.{initial_row, at_place}
+use Rattle.gimli_build.specs.Items.{items_bytes, next_previous}
 use Rattle.gimli_build.proofs.ItemRuns.{start_place}
 use Rattle.gimli_build.proofs.ItemsWritten.{taken_next, fit_more, way_on, standing_start, standing_more}
 use Rattle.gimli_build.proofs.Joined.{next_left, begins_self, begins_then}
@@ -14,29 +14,34 @@ loop-item-init g c =
       keeps = begins_self (g.W.Writer.contents c.args.w.now);
       ordered = refl;
       fit = tt;
-      way = rw c.initial-previous.ensures (record { place = start_place e c.requires.can; line = lit< tt; built = c.requires.built });
-      put = λ keeps_bytes. rw c.initial-previous.ensures (standing_start (g.W.Writer.big c.args.w.now) c.args.encoding e (g.W.Writer.contents c.args.w.now) first c.args.items.now);
+      way = rw c.initial-initial.ensures (record { place = start_place e c.requires.can; line = lit< tt; built = c.requires.built });
+      put = λ keeps_bytes. rw c.initial-initial.ensures (standing_start (g.W.Writer.big c.args.w.now) c.args.encoding e (g.W.Writer.contents c.args.w.now) first c.args.items.now);
     }
 
 pub loop-item-preserved : goal.loop-item-preserved
 loop-item-preserved g c =
     let e = c.args.line_encoding in
+    let version = c.args.encoding.version in
     let items = c.args.items.now in
     let item = c.item-item.result in
     let i = c.loop-item.item-index in
     let big = g.W.Writer.big c.args.w.now in
     let contents = g.W.Writer.contents in
-    let whole = items_bytes big c.args.encoding e (initial_row c.args.encoding.version e.default_is_stmt) items in
+    let whole = items_bytes big c.args.encoding e (initial_row version e.default_is_stmt) items in
+    let previous = at_place c.loop-item.place c.loop-item.previous.now in
     let lt : i < length items = omega arith in
     let split = next_left items i item lt c.item-item.is in
     let way = rw split at c.loop-item.invariant.way in
+    let next = c.next_row-previous.ensures version e.default_is_stmt c.loop-item.place c.initial-initial.ensures in
+    let moved : at_place c.place-place.result c.next_row-previous.result.now ≡ next_previous version e.default_is_stmt previous item =
+    ap (λ (p : ℕ × ℕ). at_place p c.next_row-previous.result.now) c.place-place.ensures ∙ next in
     record {
-      keeps = begins_then (contents c.args.w.now) (contents c.loop-item.w) (contents c.write_item.new.w) c.loop-item.invariant.keeps c.in_ok-previous.ensures.writes.keeps;
-      ordered = c.in_ok-previous.ensures.writes.ordered ∙ c.loop-item.invariant.ordered;
-      fit = rw (taken_next items i item lt c.item-item.is) (fit_more c.args.encoding.version (take i items) item c.loop-item.invariant.fit c.in_ok-previous.ensures.fit);
-      way = rw c.in_ok-previous.ensures.next (way_on c.args.encoding.version e c.requires.can c.loop-item.previous item (drop (i + 1) items) way);
+      keeps = begins_then (contents c.args.w.now) (contents c.loop-item.w) (contents c.write_item.new.w) c.loop-item.invariant.keeps c.in_ok-write_item.ensures.writes.keeps;
+      ordered = c.in_ok-write_item.ensures.writes.ordered ∙ c.loop-item.invariant.ordered;
+      fit = rw (taken_next items i item lt c.item-item.is) (fit_more version (take i items) item c.loop-item.invariant.fit c.in_ok-write_item.ensures.fit);
+      way = rw moved (way_on version e c.requires.can previous item (drop (i + 1) items) way);
       put = λ keeps_bytes.
           let so = rw split at (c.loop-item.invariant.put keeps_bytes) in
-          let more = rw c.loop-item.invariant.ordered at (c.in_ok-previous.ensures.writes.ok keeps_bytes) in
-          rw c.in_ok-previous.ensures.next (standing_more big c.args.encoding e whole (contents c.args.w.now) (contents c.loop-item.w) (contents c.write_item.new.w) c.loop-item.previous item (drop (i + 1) items) so more);
+          let more = rw c.loop-item.invariant.ordered at (c.in_ok-write_item.ensures.writes.ok keeps_bytes) in
+          rw moved (standing_more big c.args.encoding e whole (contents c.args.w.now) (contents c.loop-item.w) (contents c.write_item.new.w) previous item (drop (i + 1) items) so more);
     }

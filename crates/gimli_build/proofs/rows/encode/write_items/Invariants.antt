@@ -1,7 +1,7 @@
 use Rattle.std.proofs.Common.{◌≡◌, IsTrue, drop, take}
 use Rattle.gimli_bytes.specs.Written.{Begins}
 use Rattle.gimli_build.specs.Items.{items_bytes, AreFit}
-use Rattle.gimli_build.specs.Rows.{initial_row}
+use Rattle.gimli_build.specs.Rows.{initial_row, at_place}
 use Rattle.gimli_build.proofs.ItemsWritten.{OnTheWay, Standing}
 use Rattle.gimli_build.proofs.rows.encode.write_items.Given as goal
 
@@ -10,10 +10,11 @@ invariant-loop-item g l =
     let contents = g.W.Writer.contents in
     let big = g.W.Writer.big l.fn.w in
     let first = initial_row l.encoding.version l.line_encoding.default_is_stmt in
+    let previous = at_place l.place l.previous in
     record {
       keeps : Begins (contents l.fn.w) (contents l.w);
       ordered : g.W.Writer.big l.w ≡ big;
       fit : AreFit l.encoding.version (take l.item-index l.items);
-      way : OnTheWay l.line_encoding l.previous (drop l.item-index l.items);
-      put : IsTrue g.W.Writer.keeps_bytes → Standing big l.encoding l.line_encoding (items_bytes big l.encoding l.line_encoding first l.items) (contents l.fn.w) (contents l.w) l.previous (drop l.item-index l.items);
+      way : OnTheWay l.line_encoding previous (drop l.item-index l.items);
+      put : IsTrue g.W.Writer.keeps_bytes → Standing big l.encoding l.line_encoding (items_bytes big l.encoding l.line_encoding first l.items) (contents l.fn.w) (contents l.w) previous (drop l.item-index l.items);
     }

@@ -15,6 +15,6 @@ returns g c =
     let second = rw c.from.ensures at (writes g.W.Writer c.write_byte.new.w c.write_uleb128.new.self (let r : Result (Unit {0}) Error = Ok tt in r) (Ok (uleb (c.from.result + 1))) put.keeps put.ordered put.ok put.err) in
     let third = c.in_ok-write_byte-2.ensures in
     let last = c.write_address.ensures in
-    let address = writes g.W.Writer c.write_byte-2.new.w c.write_address.new.self c.write_address.result (address_bytes (big c.write_byte-2.new.w) c.args.address size) last.keeps last.ordered last.ok last.err in
+    let address = writes g.W.Writer c.write_byte-2.new.w c.write_address.new.self c.write_address.result (address_bytes (big c.write_byte-2.new.w) c.args.address.now size) last.keeps last.ordered last.ok last.err in
     let fourth = rw (third.ordered ∙ put.ordered ∙ first.ordered) at address in
-    rw (← address_parts (uleb (size + 1)) (address_bytes (big c.args.w.now) c.args.address size)) (joins first (joins second (joins third fourth)))
+    rw (← address_parts (uleb (size + 1)) (address_bytes (big c.args.w.now) c.args.address.now size)) (joins first (joins second (joins third fourth)))

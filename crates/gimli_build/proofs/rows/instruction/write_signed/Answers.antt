@@ -1,0 +1,14 @@
+use Rattle.std.proofs.Common.{◌≡◌, [], ◌∷◌, Ok, true, sym, ap, ◌∙◌, arith, to_z, of_z, w64}
+use Rattle.std.proofs.lemmas.Int.{ints}
+use Rattle.gimli_bytes.specs.Number.{low_bits, has_seven_bits}
+use Rattle.gimli_bytes.proofs.LebLemmas.{sleb_one}
+use Rattle.gimli_build.proofs.Writes.{writes}
+use Rattle.gimli_build.proofs.rows.instruction.write_signed.Goals as goal
+
+pub returns-then-has_seven_bits : goal.returns-then-has_seven_bits
+returns-then-has_seven_bits g c =
+    let back : to_z w64 (of_z w64 c.args.operand) ≡ c.args.operand = omega (arith, ints) in
+    let one : has_seven_bits c.args.operand ≡ true = ap has_seven_bits (sym back) ∙ sym c.if-has_seven_bits.ensures in
+    let low : c.low_bits.result ≡ low_bits c.args.operand = c.low_bits.ensures ∙ ap low_bits back in
+    let put = c.write.ensures in
+    rw (sleb_one c.args.operand one, ← low) (writes g.W.Writer c.args.w.now c.write.new.self c.write.result (Ok (c.args.opcode.0 ∷ c.low_bits.result ∷ [])) put.keeps put.ordered put.ok put.err)
