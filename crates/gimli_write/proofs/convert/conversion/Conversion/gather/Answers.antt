@@ -103,7 +103,7 @@ returns-in-Some-EndSequence-clause-stays g c =
 pub returns-in-None-clause-ok : goal.returns-in-None-clause-ok
 returns-in-None-clause-ok g c =
     let end = rw c.in-None.is at c.in_ok-row.ensures.ok in
-    let none = nil_from_length c.rows.rows.items (sym c.rows.rows.ok.0 ∙ eqb-true c.rows.rows.len 0 (sym c.is_empty-2.ensures ∙ c.if-is_empty-2.true)) in
+    let none = nil_from_length c.rows.rows.items (sym c.rows.rows.ok.0 ∙ eqb-true c.rows.rows.len 0 (sym c.if-is_empty-2.ensures)) in
     sym c.rows.invariant.same
     ∙ nothing_gathered c.rows.start c.rows.rows.items (still_to_read c.rows.self c.rows.line_strings) (still_to_read c.read_row.new.self c.read_row.new.line_strings)
     (lists_of c.read_row.new.self c.read_row.new.line_strings) end.0 end.1 none
@@ -115,7 +115,7 @@ returns-in-None-clause-stays g c =
 pub returns-in-None-2-clause-err : goal.returns-in-None-2-clause-err
 returns-in-None-2-clause-err g c =
     let end = rw c.in-None.is at c.in_ok-row.ensures.ok in
-    let some = ap (λ (n : ℕ). nat_eq n 0) (sym c.rows.rows.ok.0) ∙ sym c.is_empty-2.ensures ∙ c.if-is_empty-2.false in
+    let some = ap (λ (n : ℕ). nat_eq n 0) (sym c.rows.rows.ok.0) ∙ sym c.if-is_empty-2.ensures in
     inr (sym c.rows.invariant.same
     ∙ rows_left c.rows.start c.rows.rows.items (still_to_read c.rows.self c.rows.line_strings) (lists_of c.read_row.new.self c.read_row.new.line_strings) end.0 some)
 
