@@ -1,7 +1,8 @@
 #!/usr/bin/env bash
 # Builds a small program, takes its line information as raw bytes, builds both examples over libgimli_c.a, and compares what
-# they print with what linetool prints: every row of every unit, and the rows round some addresses. It needs a C compiler and
-# objcopy; rustc for the second example. Where one is missing it says so, and ends well.
+# they print with what linetool prints: every row of every unit, and the rows round some addresses. A third example writes what
+# it reads as a new unit, reads that, and compares the two itself. It needs a C compiler and objcopy; rustc for the second
+# example. Where one is missing it says so, and ends well.
 #
 # The library is built by (cd crates/gimli_c && rt lib), and linetool by (cd crates/linetool && rt run -- demo); both are
 # built here where they aren't there.
@@ -22,6 +23,7 @@ work=$(mktemp -d)
 trap 'rm -rf "$work"' EXIT
 
 cc -std=c11 -Wall -Wextra -Werror -O2 -I "$crate/include" "$here/c/addr2line.c" "$library" "$kit/liblibc_c.a" -o "$work/c"
+cc -std=c11 -Wall -Wextra -Werror -O2 -I "$crate/include" "$here/c/rewrite.c" "$library" "$kit/liblibc_c.a" -o "$work/rewrite"
 examples=c
 if command -v rustc >/dev/null; then
     rustc --edition 2024 -O "$here/rust/addr2line.rs" -L "native=$crate/out" -l static=gimli_c -L "native=$kit" -l static=libc_c \
@@ -46,9 +48,13 @@ expected() {
 }
 
 compared=0
+rewritten=0
 for version in 2 3 4 5; do
     cc -g "-gdwarf-$version" -O1 "$top/compare/sources/main.c" "$top/compare/sources/sums.c" -o "$work/built"
     objcopy --dump-section ".debug_line=$work/line.bin" "$work/built" "$work/copy"
+    : >"$work/line_str.bin"
+    objcopy --dump-section ".debug_line_str=$work/line_str.bin" "$work/built" "$work/copy" 2>/dev/null || true
+    rewritten=$((rewritten + $("$work/rewrite" "$work/line.bin" "$work/line_str.bin")))
     expected >"$work/rows"
     addresses=$(cut -d' ' -f1 "$work/rows" | sort -u)
     for address in $addresses 0 ffffffffffffffff; do expected "$address"; done >"$work/pairs"
@@ -61,4 +67,5 @@ for version in 2 3 4 5; do
         compared=$((compared + $(cat "$work/rows" "$work/pairs" | wc -l)))
     done
 done
+echo "gimli_c: $rewritten rows were written as they were read"
 echo "gimli_c: $compared lines of the examples ($examples) are linetool's"

@@ -1,7 +1,15 @@
 /* Line number programs of DWARF, versions 2 to 5, for C. The calls are those of libgimli_c.a, which is proved: called as this
  * page says, none has undefined behaviour, each returns, and each answers what is said here.
  *
- * Link with out/libgimli_c.a and with the kit's c/liblibc_c.a, which hands malloc and free on.
+ * Build the library in crates/gimli_c by `rt lib`, and link with it and with the kit's c/liblibc_c.a, which hands malloc and
+ * free on:
+ *
+ *   cc -I include program.c out/libgimli_c.a "$(dirname "$(rt doc)")/c/liblibc_c.a"
+ *
+ * For the path, line and column of an address: gimli_line_unit gives the units one after the other, gimli_line_find the row, and
+ * gimli_line_file the path of row.file. In version 5 a path is mostly of the kind GIMLI_TEXT_DEBUG_LINE_STR: it stands in the
+ * section .debug_line_str at path.place, up to a zero byte. `objcopy --dump-section .debug_line=line.bin program copy` takes a
+ * section out of a program.
  *
  * What a caller has to keep:
  * - A pointer is never null, also where its length is 0: hand in any place then.
@@ -39,7 +47,21 @@ enum gimli_status {
     GIMLI_UNSUPPORTED_OFFSET = 15,
     GIMLI_EXPECTED_STRING_ATTRIBUTE_VALUE = 16,
     GIMLI_OUT_OF_MEMORY = 17,
-    GIMLI_NOT_FOUND = 18                               /* what was looked up isn't there */
+    GIMLI_NOT_FOUND = 18,                              /* what was looked up isn't there */
+    /* The others are answered by gimli_line_write alone. */
+    GIMLI_UNSUPPORTED_OFFSET_SIZE = 19,                /* the size of offsets isn't 4 or 8 */
+    GIMLI_UNSUPPORTED_LINE_ENCODING = 20,              /* rows can't be written by the line encoding */
+    GIMLI_TEXT_OUT_OF_BOUNDS = 21,                     /* a text isn't within the texts */
+    GIMLI_ZERO_IN_TEXT = 22,                           /* a text has a zero byte */
+    GIMLI_EMPTY_TEXT = 23,                             /* a text is empty, up to version 4 */
+    GIMLI_NO_SOURCE_FILE = 24,                         /* no directory or no file, in version 5 */
+    GIMLI_NO_SUCH_DIRECTORY = 25,                      /* a file has the index of no directory */
+    GIMLI_NO_SUCH_FILE = 26,                           /* a row has the number of no file */
+    GIMLI_ROW_OUT_OF_ORDER = 27,                       /* a row can't follow the one before it */
+    GIMLI_UNKNOWN_FLAG = 28,                           /* a row has a flag that isn't known */
+    GIMLI_NEED_VERSION_4 = 29,                         /* several operations in an instruction, before version 4 */
+    GIMLI_UNIT_TOO_LONG = 30,                          /* a length or an address that doesn't fit its word */
+    GIMLI_NO_ROOM = 31                                 /* the unit is longer than the room for it */
 };
 
 /* A unit of the section .debug_line. */
@@ -143,6 +165,54 @@ uint32_t gimli_line_file(const uint8_t *section, size_t length, bool big, uint8_
  * can't be looked up in: its first fault is answered. Where another number than 0 is answered, both rows stay as they were. */
 uint32_t gimli_line_find(const uint8_t *section, size_t length, bool big, uint8_t address_size, size_t offset,
                          uint64_t address, gimli_row *first, gimli_row *second);
+
+/* What a unit that is written is encoded by. */
+typedef struct gimli_encoding {
+    uint16_t version;                            /* 2 to 5 */
+    uint8_t address_size;                        /* in bytes: 1, 2, 4 or 8 */
+    uint8_t offset_size;                         /* in bytes: 4 or 8 */
+    uint8_t minimum_instruction_length;          /* bytes of the shortest machine instruction, from 1 on */
+    uint8_t maximum_operations_per_instruction;  /* from 1 on; 1 before version 4 */
+    uint8_t default_is_stmt;                     /* 0 for false, any other number for true */
+    int8_t line_base;                            /* at most 0 */
+    uint8_t line_range;                          /* at most 127, and more than -line_base */
+} gimli_encoding;
+
+/* The usual encoding of a machine with addresses of 8 bytes. */
+#define GIMLI_ENCODING(version) {(version), 8, 4, 1, 1, 1, -5, 14}
+
+/* A text among the bytes of texts that are handed over. */
+typedef struct gimli_name {
+    uint64_t place; /* where it begins */
+    uint64_t size;  /* how many bytes it has */
+} gimli_name;
+
+/* A file that is handed over. */
+typedef struct gimli_file_name {
+    gimli_name path;
+    uint64_t directory;  /* up to version 4 from 1 on, where 0 is DW_AT_comp_dir; in version 5 from 0 on */
+    uint64_t timestamp;  /* 0 where it isn't known */
+    uint64_t size;       /* in bytes; 0 where it isn't known */
+    uint8_t md5[16];     /* zeros where it isn't known */
+} gimli_file_name;
+
+/* Writes a unit with these directories, files and rows to the front of `unit`, and its number of bytes to *size.
+ * GIMLI_NO_ROOM where it is longer than `room`: *size is its length then, and nothing is written to `unit`. Where any other
+ * number than 0 is answered, *size is 0, and nothing is written to `unit`.
+ *
+ * The names of directories and files stand among the `text_length` bytes of `texts`. Both have the indices that gimli_file and
+ * gimli_row have: up to version 4 from 1 on, in version 5 from 0 on. A directory or a file that comes twice is there once, and
+ * in version 5 the directory of the first file comes after the first; so indices in the unit may be others.
+ * `details` is the sum of GIMLI_HAS_TIMESTAMP, GIMLI_HAS_SIZE and GIMLI_HAS_MD5, for what version 5 has of files; up to
+ * version 4 it is always the first two. Sources of files aren't written.
+ *
+ * Rows are as gimli_line_rows gives them. A sequence begins with the first row, and after each with GIMLI_END_SEQUENCE; of such
+ * a row address and op_index count. In a sequence addresses don't go down, and are a whole number of shortest instructions
+ * after the first. */
+uint32_t gimli_line_write(const gimli_encoding *encoding, bool big, uint64_t details, const uint8_t *texts, size_t text_length,
+                          const gimli_name *directories, size_t directory_count, const gimli_file_name *files,
+                          size_t file_count, const gimli_row *rows, size_t row_count, uint8_t *unit, size_t room,
+                          uint64_t *size);
 
 #ifdef __cplusplus
 }

@@ -3,3 +3,4 @@ pub mod Arrays
 pub mod Files
 pub mod Runs
 pub mod Units
+pub mod Handings

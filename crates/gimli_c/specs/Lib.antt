@@ -6,3 +6,5 @@ pub mod Written
 pub mod Unit
 pub mod Found
 pub mod FileSeen
+pub mod Handed
+pub mod Handing

@@ -182,7 +182,7 @@ fn text_here<R: Reader>(value: Option<AttributeValue<R>>) -> Option<R>
 }
 
 /// Puts bytes into a place, as far as there is room.
-fn copy_bytes(bytes: &[u8], room: &mut [u8])
+pub(crate) fn copy_bytes(bytes: &[u8], room: &mut [u8])
     ensures { room.new ≡ written bytes.now room.old }
 {
     for (place, byte) in bytes.iter().enumerate() {

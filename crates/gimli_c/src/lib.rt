@@ -4,17 +4,26 @@
 //! of the caller. Nothing of the caller is kept after a call. `include/gimli_line.h` declares all of it.
 #![tactic(auto)]
 
+mod encoding;
 mod file;
 mod find;
+mod items;
 mod place;
 mod row;
 mod rows;
 mod run;
 pub mod status;
+mod tables;
+mod text;
 mod unit;
+mod write;
 
+pub use encoding::GimliEncoding;
 pub use file::{GimliFile, GimliText, gimli_line_file};
 pub use find::gimli_line_find;
 pub use row::GimliRow;
 pub use rows::gimli_line_rows;
+pub use tables::GimliFileName;
+pub use text::GimliName;
 pub use unit::{GimliUnit, gimli_line_unit};
+pub use write::gimli_line_write;

@@ -34,7 +34,7 @@ pub(crate) fn program_at<'s>(
 }
 
 /// An order of bytes.
-fn order(big: bool) -> RunTimeEndian
+pub(crate) fn order(big: bool) -> RunTimeEndian
     ensures { is_big result ≡ big }
 {
     if big {

@@ -43,6 +43,33 @@ pub const EXPECTED_STRING_ATTRIBUTE_VALUE: u32 = 16;
 pub const OUT_OF_MEMORY: u32 = 17;
 /// What was looked up isn't there.
 pub const NOT_FOUND: u32 = 18;
+/// The size of offsets, in bytes, isn't 4 or 8.
+pub const UNSUPPORTED_OFFSET_SIZE: u32 = 19;
+/// Rows can't be written by this line encoding.
+pub const UNSUPPORTED_LINE_ENCODING: u32 = 20;
+/// A text stands past the end of the texts.
+pub const TEXT_OUT_OF_BOUNDS: u32 = 21;
+/// A text has a zero byte.
+pub const ZERO_IN_TEXT: u32 = 22;
+/// A text is empty, up to version 4.
+pub const EMPTY_TEXT: u32 = 23;
+/// No directory or no file, in version 5.
+pub const NO_SOURCE_FILE: u32 = 24;
+/// No directory has the index that a file has.
+pub const NO_SUCH_DIRECTORY: u32 = 25;
+/// No file has the number that a row has.
+pub const NO_SUCH_FILE: u32 = 26;
+/// A row can't follow the one before: its address is lower, or isn't a whole number of shortest instructions after the first
+/// of its sequence; or its operation or its line isn't one that a row can have.
+pub const ROW_OUT_OF_ORDER: u32 = 27;
+/// A row has a flag that isn't known.
+pub const UNKNOWN_FLAG: u32 = 28;
+/// An instruction has several operations, before version 4.
+pub const NEED_VERSION_4: u32 = 29;
+/// A length that offsets of this size can't say, or an address that is too wide.
+pub const UNIT_TOO_LONG: u32 = 30;
+/// The unit is longer than the room for it.
+pub const NO_ROOM: u32 = 31;
 
 /// The number of a refusal.
 pub(crate) fn error_status(error: Error) -> u32

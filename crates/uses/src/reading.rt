@@ -30,7 +30,8 @@ pub fn rows_of<R: Reader>(alloc: Global, rows: OneShotLineRows<R>) -> Result<Vec
     }
 }
 
-/// The sections that hold texts.
+/// The sections that hold texts. One that isn't there is `EndianSlice::new(b"", LittleEndian)`.
+#[derive(Clone, Copy)]
 pub struct Sections<R: Reader> {
     /// The section `.debug_str`.
     pub strings: R,

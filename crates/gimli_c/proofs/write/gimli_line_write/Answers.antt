@@ -1,0 +1,35 @@
+use Rattle.std.proofs.Common.{List, ℕ, length, ap, ◌∙◌, arith}
+use Rattle.gimli_c.specs.Written.{written}
+use Rattle.gimli_c.proofs.Handings.{appended, built_source}
+use Rattle.gimli_c.proofs.write.gimli_line_write.Goals as goal
+
+pub section_of-requires-clause-can : goal.section_of-requires-clause-can
+section_of-requires-clause-can c = (c.in-Ok.ensures.ok c.args.big).can
+
+pub section_of-requires-clause-source : goal.section_of-requires-clause-source
+section_of-requires-clause-source c = built_source _ c.in-Ok.program (c.in-Ok.ensures.ok c.args.big)
+
+pub returns-then-bytes-unit-clause-room : goal.returns-then-bytes-unit-clause-room
+returns-then-bytes-unit-clause-room c = λ _.
+    let same = ap (λ (xs : List ℕ). length xs) c.slice-bytes.ensures in
+    record {
+      program = c.in-Ok.program;
+      built = c.in-Ok.ensures.ok c.args.big;
+      bytes = c.in-Ok-section_of.section.bytes;
+      is_unit = record { unit = appended _ _ c.in-Ok-section_of.ensures.unit; reads_back = c.in-Ok-section_of.ensures.reads_back };
+      passes = omega (arith, c.if-bytes-unit.true, same);
+      size_is = same;
+    }
+
+pub returns-clause-ok : goal.returns-clause-ok
+returns-clause-ok c = λ _.
+    let same = ap (λ (xs : List ℕ). length xs) c.slice-bytes.ensures in
+    record {
+      program = c.in-Ok.program;
+      built = c.in-Ok.ensures.ok c.args.big;
+      bytes = c.in-Ok-section_of.section.bytes;
+      is_unit = record { unit = appended _ _ c.in-Ok-section_of.ensures.unit; reads_back = c.in-Ok-section_of.ensures.reads_back };
+      fits = omega (arith, c.if-bytes-unit.false, same);
+      written_is = c.copy_bytes.ensures ∙ ap (λ (xs : List ℕ). written xs c.args.unit.now) c.slice-bytes.ensures;
+      size_is = same;
+    }

@@ -1,0 +1,105 @@
+-- The unit of what C hands over.
+use Rattle.std.specs.Prelude.{◌≡◌, ◌≤◌, ◌<◌, ℕ, Bool, false, List, [], length, map, None, Ok}
+use Rattle.gimli_core.specs.Notation.{Notation}
+use Rattle.gimli_line.specs.header.Header.{UnitEntry}
+use Rattle.gimli_bytes.specs.declared.error.Error.{Error}
+use Rattle.gimli_bytes.specs.declared.error.Error.TheVariants.{UnsupportedVersion, NeedVersion, ValueTooLarge, InitialLengthOverflow}
+use Rattle.gimli_build.specs.Built.{Built}
+use Rattle.gimli_build.specs.Conditions.{CanWrite}
+use Rattle.gimli_build.specs.Texts.{Sections}
+use Rattle.gimli_build.specs.ReadsBack.{ReadsBack, IsReadWell}
+use Rattle.gimli_build.specs.Unit.{unit_bytes}
+use Rattle.gimli_c.specs.declared.encoding.GimliEncoding.{GimliEncoding}
+use Rattle.gimli_c.specs.declared.text.GimliName.{GimliName}
+use Rattle.gimli_c.specs.declared.tables.GimliFileName.{GimliFileName}
+use Rattle.gimli_c.specs.declared.row.GimliRow.{GimliRow}
+use Rattle.gimli_c.specs.Handed.{encoding_of, line_encoding_of, has_flag, text_handed, items_handed, AddsDirectories, AddsFiles}
+use Rattle.gimli_c.specs.Written.{written}
+
+-- all that is handed over but for the room
+pub record Handed : Type 0 where
+  pub encoding : GimliEncoding
+  pub big : Bool
+  pub details : ℕ
+  pub texts : List ℕ
+  pub directories : List GimliName
+  pub files : List GimliFileName
+  pub rows : List GimliRow
+
+abbrev pub handed : GimliEncoding → Bool → ℕ → List ℕ → List GimliName → List GimliFileName → List GimliRow → Handed
+handed encoding big details texts directories files rows = record {
+  encoding = encoding;
+  big = big;
+  details = details;
+  texts = texts;
+  directories = directories;
+  files = files;
+  rows = rows;
+}
+
+-- the number of a refusal
+abbrev pub write_status : Error → ℕ
+write_status (UnsupportedVersion _) = 5
+write_status (NeedVersion _) = 29
+write_status ValueTooLarge = 30
+write_status InitialLengthOverflow = 30
+write_status e = 17
+
+-- a program that writes these details of files, from version 5 on
+abbrev pub program_with : ℕ → Built → Built
+program_with details p = record p {
+  file_has_timestamp = has_flag 1 details;
+  file_has_size = has_flag 2 details;
+  file_has_md5 = has_flag 4 details;
+  file_has_source = false;
+}
+
+-- a program of these encodings without rows
+pub record IsStart (h : Handed) (p : Built) : Type 0 where
+  pub encoding_is : p.encoding ≡ encoding_of h.encoding
+  pub lines_are : p.line_encoding ≡ line_encoding_of h.encoding
+  pub items_are : p.items ≡ []
+  pub can : CanWrite p [] []
+
+-- a program that is built of what is handed over
+pub record IsBuiltOf (h : Handed) (p : Built) : Type 0 where
+  pub start : Built
+  pub is_start : IsStart h start
+  pub directory_ids : List ℕ
+  pub file_ids : List ℕ
+  pub between : Built
+  pub behind : Built
+  pub directories : AddsDirectories (program_with h.details start) between (map (text_handed h.texts) h.directories) directory_ids
+  pub files : AddsFiles between behind h.texts directory_ids h.files file_ids
+  pub items : p.items ≡ items_handed h.encoding.version file_ids None h.rows
+  pub others : p ≡ record behind { items = p.items; row = p.row; in_sequence = p.in_sequence }
+  pub can : CanWrite p [] []
+
+-- bytes that are read well with these tables are read as the program
+abbrev pub ReadAs : Bool → Built → List (List ℕ) → List (List ℕ) → List ℕ → Type 0
+ReadAs big p strings line_strings unit = (notation : Notation) (unit_entry : UnitEntry) (sections : Sections)
+    → IsReadWell notation unit_entry sections big p strings line_strings unit → ReadsBack notation unit_entry sections p strings line_strings unit
+
+-- bytes are the unit of a program whose texts all stand in it, and read back as it
+pub record IsUnitOf (big : Bool) (p : Built) (bytes : List ℕ) : Type 0 where
+  pub unit : unit_bytes big p.encoding p [] [] ≡ Ok bytes
+  pub reads_back : ReadAs big p [] [] bytes
+
+-- the unit stands at the front of the room
+pub record GivesUnitOf (h : Handed) (old new : List ℕ) (size : ℕ) : Type 0 where
+  pub program : Built
+  pub built : IsBuiltOf h program
+  pub bytes : List ℕ
+  pub is_unit : IsUnitOf h.big program bytes
+  pub fits : length bytes ≤ length old
+  pub written_is : new ≡ written bytes old
+  pub size_is : size ≡ length bytes
+
+-- the unit is longer than the room
+pub record NeedsRoom (h : Handed) (old : List ℕ) (size : ℕ) : Type 0 where
+  pub program : Built
+  pub built : IsBuiltOf h program
+  pub bytes : List ℕ
+  pub is_unit : IsUnitOf h.big program bytes
+  pub passes : length old < length bytes
+  pub size_is : size ≡ length bytes

@@ -1,0 +1,166 @@
+//! The rows of a unit that is written.
+
+ghost use Rattle.std.specs.Prelude.{◌≡◌, ◌≤◌, ◌-◌, [], ◌∷◌, IfErr, IfOk, OnOk, None, slice_get, unwrap_or};
+ghost use Rattle.gimli_build.specs.declared.built.items.BuiltItem.{BuiltItem};
+ghost use Rattle.gimli_build.specs.Conditions.{CanWrite};
+ghost use Rattle.gimli_c.specs.Handed.{IsRefusal, AddsItems, base_behind, id_of_file, items_handed, items_of_row, items_of_start, row_handed, row_of_file};
+
+use crate::row::GimliRow;
+use crate::status::{NO_SUCH_FILE, OUT_OF_MEMORY, ROW_OUT_OF_ORDER, UNKNOWN_FLAG};
+use gimli_build::{FileId, LineProgram, LineRow};
+use gimli_bytes::Address;
+
+/// Adds rows in order. The address of each sequence is that of its first row.
+pub(crate) fn add_rows(
+    program: &mut LineProgram,
+    ids: &[FileId],
+    rows: &[GimliRow],
+) -> Result<(), u32>
+    requires { CanWrite program.old [] [] }
+    ensures can { CanWrite program.new [] [] }
+    ensures ok { OnOk result (AddsItems program.old program.new
+        (items_handed program.old.encoding.version ids.now None rows.now)) }
+    ensures err { IfErr result IsRefusal }
+{
+    let mut base = None;
+    for row in rows {
+        base = add_row(program, ids, base, row)?;
+    }
+    Ok(())
+}
+
+/// Adds a row or an end, and answers the address of the sequence that the next row belongs to.
+fn add_row(
+    program: &mut LineProgram,
+    ids: &[FileId],
+    base: Option<u64>,
+    row: &GimliRow,
+) -> Result<Option<u64>, u32>
+    requires { CanWrite program.old [] [] }
+    ensures can { CanWrite program.new [] [] }
+    ensures ok { OnOk result (AddsItems program.old program.new
+        (items_of_row program.old.encoding.version ids.now base row.now)) }
+    ensures behind { IfOk result (λ behind. behind ≡ base_behind base row.now) }
+    ensures err { IfErr result IsRefusal }
+{
+    let start = begin(program, base, row.address)?;
+    if row.address < start {
+        return Err(ROW_OUT_OF_ORDER);
+    }
+    if row.flags / 4 % 2 == 1 {
+        add_end(program, start, row)?;
+        Ok(None)
+    } else {
+        add_line(program, ids, start, row)?;
+        Ok(Some(start))
+    }
+}
+
+/// The address of the sequence: where it begins, that of its first row, which is set.
+fn begin(program: &mut LineProgram, base: Option<u64>, address: u64) -> Result<u64, u32>
+    requires { CanWrite program.old [] [] }
+    ensures can { CanWrite program.new [] [] }
+    ensures start { IfOk result (λ start. start ≡ unwrap_or base address) }
+    ensures ok { OnOk result (AddsItems program.old program.new (items_of_start base address)) }
+    ensures err { IfErr result IsRefusal }
+{
+    match base {
+        Some(base) => Ok(base),
+        None => match program.set_address(Address::Constant(address)) {
+            Ok(()) => Ok(address),
+            Err(_) => Err(OUT_OF_MEMORY),
+        },
+    }
+}
+
+/// Ends a sequence that begins at an address.
+fn add_end(program: &mut LineProgram, start: u64, row: &GimliRow) -> Result<(), u32>
+    requires can { CanWrite program.old [] [] }
+    requires above { start ≤ row.now.address }
+    ensures can { CanWrite program.new [] [] }
+    ensures ok { OnOk result (AddsItems program.old program.new
+        (BuiltItem.End (row.now.address - start) row.now.op_index ∷ [])) }
+    ensures err { IfErr result IsRefusal }
+{
+    let offset = row.address - start;
+    program.row().op_index = row.op_index;
+    if !program.can_end_sequence(offset) {
+        return Err(ROW_OUT_OF_ORDER);
+    }
+    match program.end_sequence(offset) {
+        Ok(()) => Ok(()),
+        Err(_) => Err(OUT_OF_MEMORY),
+    }
+}
+
+/// Adds a row to a sequence that begins at an address.
+fn add_line(
+    program: &mut LineProgram,
+    ids: &[FileId],
+    start: u64,
+    row: &GimliRow,
+) -> Result<(), u32>
+    requires can { CanWrite program.old [] [] }
+    requires above { start ≤ row.now.address }
+    ensures can { CanWrite program.new [] [] }
+    ensures ok { OnOk result (AddsItems program.old program.new
+        (BuiltItem.Row (row_handed program.old.encoding.version ids.now start row.now) ∷ [])) }
+    ensures err { IfErr result IsRefusal }
+{
+    if row.flags >= 32 {
+        return Err(UNKNOWN_FLAG);
+    }
+    let file = match file_id(program.version(), ids, row.file) {
+        Some(id) => id,
+        None => return Err(NO_SUCH_FILE),
+    };
+    *program.row() = built_row(file, start, row);
+    if !program.can_generate_row() {
+        return Err(ROW_OUT_OF_ORDER);
+    }
+    match program.generate_row() {
+        Ok(()) => Ok(()),
+        Err(_) => Err(OUT_OF_MEMORY),
+    }
+}
+
+/// A row of a sequence that begins at an address.
+fn built_row(file: FileId, start: u64, row: &GimliRow) -> LineRow
+    requires { start ≤ row.now.address }
+    ensures { result ≡ row_of_file file start row.now }
+{
+    LineRow {
+        address_offset: row.address - start,
+        op_index: row.op_index,
+        file,
+        line: row.line,
+        column: row.column,
+        discriminator: row.discriminator,
+        is_statement: row.flags % 2 == 1,
+        basic_block: row.flags / 2 % 2 == 1,
+        prologue_end: row.flags / 8 % 2 == 1,
+        epilogue_begin: row.flags / 16 % 2 == 1,
+        isa: row.isa,
+    }
+}
+
+/// The id of the file of a number. No number wraps.
+fn file_id(version: u16, ids: &[FileId], number: u64) -> Option<FileId>
+    ensures { result ≡ id_of_file version ids.now number }
+{
+    if version > 4 {
+        return file_at(ids, number);
+    }
+    if number == 0 {
+        return None;
+    }
+    file_at(ids, number - 1)
+}
+
+/// The id at an index. No index wraps.
+fn file_at(ids: &[FileId], index: u64) -> Option<FileId>
+    ensures { result ≡ slice_get ids.now index }
+{
+    let index = usize::try_from(index).ok()?;
+    ids.get(index).copied()
+}

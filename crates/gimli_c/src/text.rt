@@ -1,0 +1,56 @@
+//! Texts that are handed over.
+
+ghost use Rattle.std.specs.Prelude.{◌≡◌, ◌≢◌, ◌≤◌, All, IfErr, IfOk, IsTrue};
+ghost use Rattle.gimli_build.specs.LineText.{Inline, line_text, HasNoZero, IsNotEmpty};
+ghost use Rattle.gimli_c.specs.Handed.{IsRefusal, text_handed};
+
+use crate::status::{EMPTY_TEXT, OUT_OF_MEMORY, TEXT_OUT_OF_BOUNDS, ZERO_IN_TEXT};
+use gimli_build::LineString;
+use std::alloc::Global;
+
+/// A text among the bytes of texts that are handed over.
+#[repr(C)]
+#[derive(Clone, Copy, Debug, PartialEq, Eq)]
+pub struct GimliName {
+    /// Where it begins.
+    pub place: u64,
+    /// How many bytes it has.
+    pub size: u64,
+}
+
+/// A text of a program of this version, or the number of a refusal. No text has a zero byte, and up to version 4 none is
+/// empty.
+pub(crate) fn text_of(
+    alloc: Global,
+    version: u16,
+    texts: &[u8],
+    name: GimliName,
+) -> Result<LineString, u32>
+    ensures ok { IfOk result (λ text. line_text text ≡ Inline (text_handed texts.now name)) }
+    ensures no_zero { IfOk result (λ text. HasNoZero (line_text text)) }
+    ensures not_empty { IfOk result (λ text. version ≤ 4 → IsNotEmpty (line_text text)) }
+    ensures err { IfErr result IsRefusal }
+{
+    let count = texts.len() as u64;
+    if name.place > count || name.size > count - name.place {
+        return Err(TEXT_OUT_OF_BOUNDS);
+    }
+    let bytes = &texts[name.place as usize..(name.place + name.size) as usize];
+    if !are_no_zeros(bytes) {
+        return Err(ZERO_IN_TEXT);
+    }
+    if version <= 4 && bytes.is_empty() {
+        return Err(EMPTY_TEXT);
+    }
+    match bytes.to_vec(alloc) {
+        Ok(copy) => Ok(LineString::String(copy)),
+        Err(_) => Err(OUT_OF_MEMORY),
+    }
+}
+
+/// Whether bytes have no zero.
+fn are_no_zeros(bytes: &[u8]) -> bool
+    ensures { IsTrue result → All (λ b. b ≢ 0) bytes.now }
+{
+    bytes.iter().all(|byte| *byte != 0)
+}

@@ -1,0 +1,138 @@
+//! A unit of directories, files and rows that are handed over.
+
+ghost use Rattle.std.specs.Prelude.{◌≡◌, ◌≢◌, ◌⊎◌, [], Bool, IfErr, IfOk, Some, false};
+ghost use Rattle.gimli_build.specs.Cause.{first_cause};
+ghost use Rattle.gimli_build.specs.Conditions.{CanWrite};
+ghost use Rattle.gimli_bytes.specs.Written.{Appends};
+ghost use Rattle.gimli_build.specs.Unit.{unit_bytes};
+ghost use Rattle.gimli_c.specs.Handed.{IsRefusal};
+ghost use Rattle.gimli_c.specs.Handing.{GivesUnitOf, IsBuiltOf, NeedsRoom, ReadAs, handed, program_with, write_status};
+
+use crate::encoding::{GimliEncoding, encodings};
+use crate::file::copy_bytes;
+use crate::items::add_rows;
+use crate::place::order;
+use crate::row::GimliRow;
+use crate::status::{NEED_VERSION_4, NO_ROOM, OK, OUT_OF_MEMORY, UNIT_TOO_LONG, UNKNOWN_VERSION};
+use crate::tables::{GimliFileName, add_directories, add_files, started};
+use crate::text::GimliName;
+use gimli_build::LineProgram;
+use gimli_bytes::{DebugLine, EndianVec, Error, LineStringTable, StringTable};
+use gimli_core::RunTimeEndian;
+use std::alloc::Global;
+
+/// Writes a unit with these directories, files and rows to the front of `unit`; `size` is how many bytes it has. `NO_ROOM`
+/// where there are fewer in `unit`: then `size` says how many it takes, and nothing is written. Where another number than
+/// these is answered, `size` is 0. Texts stand among the bytes of `texts`. A directory or a file that comes twice is there
+/// once; rows have its number then. `details` is the sum of `HAS_TIMESTAMP`, `HAS_SIZE` and `HAS_MD5`, each where version 5
+/// is to have that detail.
+#[unsafe(no_mangle)]
+pub extern "C" fn gimli_line_write(
+    alloc: Global,
+    encoding: &GimliEncoding,
+    big: bool,
+    details: u64,
+    texts: &[u8],
+    directories: &[GimliName],
+    files: &[GimliFileName],
+    rows: &[GimliRow],
+    unit: &mut [u8],
+    size: &mut u64,
+) -> u32
+    ensures ok { result ≡ OK → GivesUnitOf
+        (handed encoding.now big details texts.now directories.now files.now rows.now) unit.old unit.new size.new }
+    ensures room { result ≡ NO_ROOM → NeedsRoom
+        (handed encoding.now big details texts.now directories.now files.now rows.now) unit.old size.new }
+    ensures err { result ≢ OK → unit.new ≡ unit.old }
+    ensures none { result ≢ OK → result ≢ NO_ROOM → size.new ≡ 0 }
+{
+    *size = 0;
+    let program = match built(alloc, encoding, details, texts, directories, files, rows) {
+        Ok(program) => program,
+        Err(status) => return status,
+    };
+    let section = match section_of(alloc, &program, big) {
+        Ok(section) => section,
+        Err(e) => return write_status(e),
+    };
+    let bytes = section.slice();
+    *size = bytes.len() as u64;
+    if bytes.len() > unit.len() {
+        return NO_ROOM;
+    }
+    copy_bytes(bytes, unit);
+    OK
+}
+
+/// The program that is built of what is handed over.
+fn built(
+    alloc: Global,
+    encoding: &GimliEncoding,
+    details: u64,
+    texts: &[u8],
+    directories: &[GimliName],
+    files: &[GimliFileName],
+    rows: &[GimliRow],
+) -> Result<LineProgram, u32>
+    ensures ok { (big : Bool) → IfOk result (λ program. IsBuiltOf
+        (handed encoding.now big details texts.now directories.now files.now rows.now) program) }
+    ensures err { IfErr result IsRefusal }
+{
+    let (units, lines) = encodings(encoding)?;
+    let start = started(alloc, units, lines, texts, directories, files)?;
+    let mut program = with_details(start, details);
+    let ids = add_directories(alloc, &mut program, texts, directories)?;
+    let file_ids = add_files(alloc, &mut program, texts, ids.as_slice(), files)?;
+    add_rows(&mut program, file_ids.as_slice(), rows)?;
+    Ok(program)
+}
+
+/// The program, which writes these details of files from version 5 on.
+fn with_details(mut program: LineProgram, details: u64) -> LineProgram
+    ensures { result ≡ program_with details program }
+{
+    program.file_has_timestamp = details % 2 == 1;
+    program.file_has_size = details / 2 % 2 == 1;
+    program.file_has_md5 = details / 4 % 2 == 1;
+    program.file_has_source = false;
+    program
+}
+
+/// The unit of a program whose texts all stand in it. Refused by the first cause that the program has, or by `OutOfMemory`.
+fn section_of(
+    alloc: Global,
+    program: &LineProgram,
+    big: bool,
+) -> gimli_bytes::Result<EndianVec<RunTimeEndian>>
+    requires can { CanWrite program.now [] [] }
+    requires source { program.now.file_has_source ≡ false }
+    ensures unit { IfOk result (λ section.
+        Appends (unit_bytes big program.now.encoding program.now [] []) [] section.bytes) }
+    ensures reads_back { IfOk result (λ section. ReadAs big program.now [] [] section.bytes) }
+    ensures err { IfErr result (λ e. (e ≡ Error.OutOfMemory)
+        ⊎ (first_cause big program.now.encoding program.now [] [] ≡ Some e)) }
+{
+    let mut section = DebugLine::from(EndianVec::new(alloc, order(big)));
+    let mut strings = StringTable::default(alloc);
+    let mut line_strings = LineStringTable::default(alloc);
+    program.write(
+        &mut section,
+        program.encoding(),
+        &mut line_strings,
+        &mut strings,
+    )?;
+    Ok(section.0)
+}
+
+/// The number of a refusal.
+fn write_status(error: Error) -> u32
+    ensures number { result ≡ write_status error }
+    ensures err { IsRefusal result }
+{
+    match error {
+        Error::UnsupportedVersion(_) => UNKNOWN_VERSION,
+        Error::NeedVersion(_) => NEED_VERSION_4,
+        Error::ValueTooLarge | Error::InitialLengthOverflow => UNIT_TOO_LONG,
+        _ => OUT_OF_MEMORY,
+    }
+}
