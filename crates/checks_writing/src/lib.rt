@@ -9,6 +9,8 @@ mod builder;
 #[cfg(test)]
 mod built;
 #[cfg(test)]
+mod conversions;
+#[cfg(test)]
 mod equality;
 #[cfg(test)]
 mod errors;

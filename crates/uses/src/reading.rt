@@ -2,15 +2,17 @@
 
 ghost use Rattle.std.specs.Prelude.{◌≡◌, IfOk, None, map};
 ghost use Rattle.gimli_core.specs.Reading.{seen};
+ghost use Rattle.gimli_core.specs.Notation.{noted};
 ghost use Rattle.gimli_core.specs.Values.{value_seen};
 ghost use Rattle.gimli_line.specs.header.Header.{file_of};
 ghost use Rattle.gimli_line.specs.run.Events.{row};
 ghost use Rattle.gimli_line.specs.run.Rows.{events_left};
 ghost use Rattle.gimli_line.specs.run.Sequences.{events_of};
 ghost use Rattle.gimli_write.specs.TextReading.{text_from, text_of};
+ghost use Rattle.uses.specs.UnitRows.{AreRowsOfUnit};
 
-use gimli_core::{AttributeValue, Error, Reader, ReaderOffset, Result};
-use gimli_line::{LineProgramHeader, LineRow, OneShotLineRows};
+use gimli_core::{AttributeValue, DebugLineOffset, Error, Reader, ReaderOffset, Result};
+use gimli_line::{DebugLine, LineProgramHeader, LineRow, OneShotLineRows};
 use std::alloc::Global;
 
 /// All rows of a run. Refused by its first fault, or by `OutOfMemory`.
@@ -91,4 +93,52 @@ pub fn directory_of<R: Reader>(
         Some(directory) => Ok(Some(text(directory, sections)?)),
         None => Ok(None),
     }
+}
+
+/// A row, and the path of its file.
+#[derive(Clone, Copy)]
+pub struct RowWithPath<R: Reader> {
+    /// The row.
+    pub row: LineRow,
+    /// The path, which is relative to the file's directory. None where the header has no such file.
+    pub path: Option<R>,
+}
+
+/// All rows of a run, each with the path of its file. Refused by the first fault of the run, by a path that `text`
+/// refuses, or by `OutOfMemory`.
+pub fn rows_with_paths<R: Reader>(
+    alloc: Global,
+    rows: OneShotLineRows<R>,
+    sections: &Sections<R>,
+) -> Result<Vec<RowWithPath<R>>>
+    ensures ok { IfOk result (λ found. events_of (events_left rows) ≡ map row (map (λ one. one.row) found.items)) }
+{
+    let mut rows = rows;
+    let mut found = Vec::new(alloc);
+    'rows: loop {
+        let one = match rows.next_row()? {
+            Some((header, row)) => RowWithPath {
+                row: *row,
+                path: path_of(row, header, sections)?,
+            },
+            None => return Ok(found),
+        };
+        if found.push(one).is_err() {
+            return Err(Error::OutOfMemory);
+        }
+    }
+}
+
+/// The same for the unit at an offset (`DW_AT_stmt_list`) of a section. Up to version 4 its addresses have 8 bytes.
+pub fn rows_of_unit<R: Reader>(
+    alloc: Global,
+    section: &DebugLine<R>,
+    offset: DebugLineOffset<R::Offset>,
+    sections: &Sections<R>,
+) -> Result<Vec<RowWithPath<R>>>
+    ensures ok { IfOk result (λ found. AreRowsOfUnit (noted (R.big section.now) R.Offset.limit) (R.bytes section.now)
+        (R.Offset.number offset.0) (map (λ one. one.row) found.items)) }
+{
+    let program = section.program(alloc, offset, 8, None, None)?;
+    rows_with_paths(alloc, program.rows(), sections)
 }

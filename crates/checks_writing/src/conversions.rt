@@ -1,0 +1,240 @@
+//! Conversions call by call: refused reads, closures that know no address, and what stands after a refusal.
+
+use crate::equality::{check, check_equal};
+use gimli_core::{DebugLineOffset, Encoding, EndianSlice, Format, LittleEndian, Reader};
+use gimli_line::{DebugLine, IncompleteLineProgram};
+use gimli_write::{
+    Address, ConvertError, ConvertLineProgram, ConvertResult, LineStringId, LineStringTable,
+    StringId, StringTable,
+};
+use std::alloc::Global;
+use std::process::Abort;
+use std::test::Fail;
+
+/// A unit of version 4 with the file `a.c`: an address of 0x10 with a row, an address of 0x20 with a row, and an end 4 bytes
+/// after it.
+const TWO_ADDRESSES: &[u8] =
+    b"\x38\0\0\0\x04\0\x1b\0\0\0\x01\x01\x01\xfb\x0e\x0d\0\x01\x01\x01\x01\0\0\0\x01\0\0\x01\0a.c\0\0\0\0\0\
+      \0\x05\x02\x10\0\0\0\x01\x02\x04\0\x05\x02\x20\0\0\0\x01\x02\x04\0\x01\x01";
+
+/// The same header with a row of file 9, a row of file 1, and an end.
+const MISSING_FILE: &[u8] =
+    b"\x2a\0\0\0\x04\0\x1b\0\0\0\x01\x01\x01\xfb\x0e\x0d\0\x01\x01\x01\x01\0\0\0\x01\0\0\x01\0a.c\0\0\0\0\0\
+      \x04\x09\x01\x04\x01\x01\0\x01\x01";
+
+/// The same header with a row, and no end.
+const OPEN: &[u8] =
+    b"\x22\0\0\0\x04\0\x1b\0\0\0\x01\x01\x01\xfb\x0e\x0d\0\x01\x01\x01\x01\0\0\0\x01\0\0\x01\0a.c\0\0\0\0\0\x01";
+
+/// The same header with a line base of 1, and no program.
+const LINE_BASE: &[u8] =
+    b"\x21\0\0\0\x04\0\x1b\0\0\0\x01\x01\x01\x01\x0e\x0d\0\x01\x01\x01\x01\0\0\0\x01\0\0\x01\0a.c\0\0\0\0\0";
+
+/// The program of a unit, without a directory or a name from outside.
+fn program_of<'i>(
+    alloc: Global,
+    unit: &'i [u8],
+) -> gimli_core::Result<IncompleteLineProgram<EndianSlice<'i, LittleEndian>>> {
+    let section = DebugLine::new(unit, LittleEndian);
+    section.program(alloc, DebugLineOffset(0), 4, None, None)
+}
+
+/// A conversion of a unit as it is, whose header tells all texts.
+fn conversion_of<'a, 'b, R: Reader>(
+    program: IncompleteLineProgram<R>,
+    line_strings: &'a mut LineStringTable,
+    strings: &'b mut StringTable,
+) -> ConvertResult<ConvertLineProgram<'a, 'b, R>> {
+    let texts = program.header().raw_program_buf();
+    ConvertLineProgram::new(
+        texts,
+        texts,
+        program,
+        None,
+        None,
+        None,
+        line_strings,
+        strings,
+    )
+}
+
+// ---- reads
+
+/// A file number that isn't there is told by every later read, and by `convert`.
+fn check_repeated<R: Reader>(
+    rt: &impl Abort,
+    program: IncompleteLineProgram<R>,
+    line_strings: &mut LineStringTable,
+    strings: &mut StringTable,
+) -> ConvertResult<()> {
+    let refusal = Some(ConvertError::InvalidFileIndex);
+    let mut conversion = conversion_of(program, line_strings, strings)?;
+    check_equal(rt, conversion.read_row().err(), refusal);
+    check_equal(rt, conversion.read_row().err(), refusal);
+    check_equal(rt, conversion.read_sequence().err(), refusal);
+    check_equal(rt, conversion.read_row().err(), refusal);
+    let converted = conversion.convert(|address| Some(Address::Constant(address)));
+    check_equal(rt, converted.err(), refusal);
+    Ok(())
+}
+
+#[test]
+fn refused_read_is_repeated(rt: HostRuntime) -> Result<(), Fail> {
+    let program = program_of(rt.alloc(), MISSING_FILE)?;
+    let mut line_strings = LineStringTable::default(rt.alloc());
+    let mut strings = StringTable::default(rt.alloc());
+    check_repeated(&rt, program, &mut line_strings, &mut strings)?;
+    Ok(())
+}
+
+/// A sequence without an end is told by every later read.
+fn check_open<R: Reader>(
+    rt: &impl Abort,
+    program: IncompleteLineProgram<R>,
+    line_strings: &mut LineStringTable,
+    strings: &mut StringTable,
+) -> ConvertResult<()> {
+    let refusal = Some(ConvertError::MissingLineEndSequence);
+    let mut conversion = conversion_of(program, line_strings, strings)?;
+    check_equal(rt, conversion.read_sequence().err(), refusal);
+    check_equal(rt, conversion.read_row().err(), refusal);
+    check_equal(rt, conversion.read_sequence().err(), refusal);
+    Ok(())
+}
+
+#[test]
+fn missing_end_is_repeated(rt: HostRuntime) -> Result<(), Fail> {
+    let program = program_of(rt.alloc(), OPEN)?;
+    let mut line_strings = LineStringTable::default(rt.alloc());
+    let mut strings = StringTable::default(rt.alloc());
+    check_open(&rt, program, &mut line_strings, &mut strings)?;
+    Ok(())
+}
+
+// ---- closures that know no address
+
+/// What `convert` refuses, where this maps the addresses.
+fn refusal_of<R: Reader, F: Fn(u64) -> Option<Address>>(
+    program: IncompleteLineProgram<R>,
+    line_strings: &mut LineStringTable,
+    strings: &mut StringTable,
+    convert_address: F,
+) -> Option<ConvertError>
+    requires { F.IsAlwaysCallable convert_address }
+{
+    match conversion_of(program, line_strings, strings) {
+        Ok(conversion) => conversion.convert(convert_address).err(),
+        Err(error) => Some(error),
+    }
+}
+
+#[test]
+fn address_that_is_no_other(rt: HostRuntime) -> Result<(), Fail> {
+    let program = program_of(rt.alloc(), TWO_ADDRESSES)?;
+    let mut line_strings = LineStringTable::default(rt.alloc());
+    let mut strings = StringTable::default(rt.alloc());
+    let refused = refusal_of(program, &mut line_strings, &mut strings, |_| None);
+    check_equal(&rt, refused, Some(ConvertError::InvalidAddress));
+    Ok(())
+}
+
+/// An address that is kept up to 16.
+fn below_17(address: u64) -> Option<Address> {
+    if address <= 16 {
+        Some(Address::Constant(address))
+    } else {
+        None
+    }
+}
+
+#[test]
+fn second_address_that_is_no_other(rt: HostRuntime) -> Result<(), Fail> {
+    let program = program_of(rt.alloc(), TWO_ADDRESSES)?;
+    let mut line_strings = LineStringTable::default(rt.alloc());
+    let mut strings = StringTable::default(rt.alloc());
+    let refused = refusal_of(program, &mut line_strings, &mut strings, below_17);
+    check_equal(&rt, refused, Some(ConvertError::InvalidAddress));
+    Ok(())
+}
+
+// ---- tables
+
+/// Tables begin with the text that stood before.
+fn check_old_texts(rt: &impl Abort, line_strings: &LineStringTable, strings: &StringTable) {
+    check(rt, line_strings.count() > 0);
+    check(rt, strings.count() > 0);
+    if line_strings.count() > 0 && strings.count() > 0 {
+        check_equal(rt, line_strings.get(LineStringId(0)), b"old".as_slice());
+        check_equal(rt, strings.get(StringId(0)), b"old".as_slice());
+    }
+}
+
+/// What a conversion to version 5 refuses, where the source file has this name. It adds texts to the line strings.
+fn refusal_in_version_5<R: Reader>(
+    program: IncompleteLineProgram<R>,
+    name: R,
+    line_strings: &mut LineStringTable,
+    strings: &mut StringTable,
+) -> Option<ConvertError> {
+    let encoding = Encoding {
+        address_size: 4,
+        format: Format::Dwarf32,
+        version: 5,
+    };
+    let conversion = ConvertLineProgram::new(
+        name,
+        name,
+        program,
+        Some(name),
+        Some(encoding),
+        None,
+        line_strings,
+        strings,
+    );
+    match conversion {
+        Ok(conversion) => conversion.convert(below_17).err(),
+        Err(error) => Some(error),
+    }
+}
+
+/// The program of a unit of version 4, whose working directory is `/w`.
+fn program_in_a_directory<'i>(
+    alloc: Global,
+    unit: &'i [u8],
+    directory: &'i [u8],
+) -> gimli_core::Result<IncompleteLineProgram<EndianSlice<'i, LittleEndian>>> {
+    let section = DebugLine::new(unit, LittleEndian);
+    let directory = EndianSlice::new(directory, LittleEndian);
+    section.program(alloc, DebugLineOffset(0), 4, Some(directory), None)
+}
+
+/// A conversion that isn't begun, in tables with a text.
+#[test]
+fn old_texts_first_after_a_refused_start(rt: HostRuntime) -> Result<(), Fail> {
+    let mut line_strings = LineStringTable::default(rt.alloc());
+    let mut strings = StringTable::default(rt.alloc());
+    line_strings.add(b"old")?;
+    strings.add(b"old")?;
+    let program = program_in_a_directory(rt.alloc(), LINE_BASE, b"/w")?;
+    let name = EndianSlice::new(b"a.c", LittleEndian);
+    let refused = refusal_in_version_5(program, name, &mut line_strings, &mut strings);
+    check_equal(&rt, refused, Some(ConvertError::InvalidLineBase));
+    check_old_texts(&rt, &line_strings, &strings);
+    Ok(())
+}
+
+/// A conversion that is refused at its second address, in tables with a text: `/w` and `a.c` come after it.
+#[test]
+fn old_texts_first_after_a_refused_conversion(rt: HostRuntime) -> Result<(), Fail> {
+    let mut line_strings = LineStringTable::default(rt.alloc());
+    let mut strings = StringTable::default(rt.alloc());
+    line_strings.add(b"old")?;
+    strings.add(b"old")?;
+    let program = program_in_a_directory(rt.alloc(), TWO_ADDRESSES, b"/w")?;
+    let name = EndianSlice::new(b"a.c", LittleEndian);
+    let refused = refusal_in_version_5(program, name, &mut line_strings, &mut strings);
+    check_equal(&rt, refused, Some(ConvertError::InvalidAddress));
+    check_old_texts(&rt, &line_strings, &strings);
+    check_equal(&rt, (line_strings.count(), strings.count()), (3, 1));
+    Ok(())
+}
