@@ -72,7 +72,8 @@ impl<E: Endianity> EndianVec<E> {
 
     /// A copy, which is equal to the section. Refused for want of memory alone.
     pub fn clone(&self) -> Result<EndianVec<E>>
-        ensures { IfOk result (λ copy. copy ≡ self.now) }
+        ensures ok { IfOk result (λ copy. copy ≡ self.now) }
+        ensures memory { IfErr result (λ e. e ≡ Error.OutOfMemory) }
     {
         Ok(EndianVec {
             vec: self.vec.clone()?,
