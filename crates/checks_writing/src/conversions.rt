@@ -1,10 +1,12 @@
-//! Conversions call by call: refused reads, closures that know no address, and what stands after a refusal.
+//! Conversions call by call: reads of either kind, the converter's own builder calls, closures that know no address, and
+//! what stands after a refusal.
 
 use crate::equality::{check, check_equal};
 use gimli_core::{DebugLineOffset, Encoding, EndianSlice, Format, LittleEndian, Reader};
 use gimli_line::{DebugLine, IncompleteLineProgram};
 use gimli_write::{
-    Address, ConvertError, ConvertLineProgram, ConvertResult, LineStringId, LineStringTable,
+    Address, BuiltItem, ConvertError, ConvertLineProgram, ConvertLineRow, ConvertLineSequence,
+    ConvertLineSequenceEnd, ConvertResult, LineProgram, LineRow, LineStringId, LineStringTable,
     StringId, StringTable,
 };
 use std::alloc::Global;
@@ -58,7 +60,201 @@ fn conversion_of<'a, 'b, R: Reader>(
     )
 }
 
+// ---- the builder's calls
+
+/// The row that was read; another item is refused.
+fn row_of(item: Option<ConvertLineRow>) -> ConvertResult<LineRow> {
+    match item {
+        Some(ConvertLineRow::Row(row)) => Ok(row),
+        _ => Err(ConvertError::InvalidAttributeValue),
+    }
+}
+
+const FIRST: Option<ConvertLineRow> = Some(ConvertLineRow::SetAddress(16));
+
+const SECOND: Option<ConvertLineRow> = Some(ConvertLineRow::SetAddress(32));
+
+const END: Option<ConvertLineRow> = Some(ConvertLineRow::EndSequence(4));
+
+/// What a call outside the conditions of the builder is refused by.
+const OUTSIDE: Option<ConvertError> = Some(ConvertError::UnsupportedLineInstruction);
+
+/// The offset and the line of a row; None for another item.
+fn row_built(item: Option<&BuiltItem>) -> Option<(u64, u64)> {
+    match item {
+        Some(BuiltItem::Row(row)) => Some((row.address_offset, row.line)),
+        _ => None,
+    }
+}
+
+/// Each item is handed to a builder call of the converter's own.
+fn built_by_hand<R: Reader>(
+    rt: &impl Abort,
+    program: IncompleteLineProgram<R>,
+    line_strings: &mut LineStringTable,
+    strings: &mut StringTable,
+) -> ConvertResult<LineProgram> {
+    let mut conversion = conversion_of(program, line_strings, strings)?;
+    check_equal(rt, conversion.read_row(), Ok(FIRST));
+    check(rt, !conversion.in_sequence());
+    check_equal(
+        rt,
+        conversion.begin_sequence(Some(Address::Constant(16))),
+        Ok(()),
+    );
+    check(rt, conversion.in_sequence());
+    let row = row_of(conversion.read_row()?)?;
+    check_equal(rt, conversion.generate_row(row), Ok(()));
+    check_equal(rt, conversion.read_row(), Ok(SECOND));
+    check_equal(rt, conversion.set_address(Address::Constant(32)), Ok(()));
+    let second = row_of(conversion.read_row()?)?;
+    check_equal(rt, conversion.generate_row(second), Ok(()));
+    check_equal(rt, conversion.read_row(), Ok(END));
+    check_equal(rt, conversion.end_sequence(4), Ok(()));
+    check(rt, !conversion.in_sequence());
+    check_equal(rt, conversion.read_row(), Ok(None));
+    let (built, files) = conversion.program();
+    check_equal(rt, files.len(), 2);
+    Ok(built)
+}
+
+/// The items of a program with two addresses, and a row at each.
+fn check_two_addresses(rt: &impl Abort, program: &LineProgram) {
+    let mut items = program.items();
+    check_equal(rt, set_address(items.next()), Some(16));
+    check_equal(rt, row_built(items.next()), Some((0, 1)));
+    check_equal(rt, set_address(items.next()), Some(32));
+    check_equal(rt, row_built(items.next()), Some((0, 1)));
+    check_equal(rt, end_built(items.next()), Some((4, 0)));
+    check(rt, items.next().is_none());
+}
+
+/// The constant of a set address; None for another item.
+fn set_address(item: Option<&BuiltItem>) -> Option<u64> {
+    match item {
+        Some(BuiltItem::SetAddress(Address::Constant(address))) => Some(*address),
+        _ => None,
+    }
+}
+
+/// The offset and the operation of an end; None for another item.
+fn end_built(item: Option<&BuiltItem>) -> Option<(u64, u64)> {
+    match item {
+        Some(
+            BuiltItem::End {
+                address_offset,
+                op_index,
+            },
+        ) => Some((*address_offset, *op_index)),
+        _ => None,
+    }
+}
+
+#[test]
+fn builder_calls(rt: HostRuntime) -> Result<(), Fail> {
+    let program = program_of(rt.alloc(), TWO_ADDRESSES)?;
+    let mut line_strings = LineStringTable::default(rt.alloc());
+    let mut strings = StringTable::default(rt.alloc());
+    let built = built_by_hand(&rt, program, &mut line_strings, &mut strings)?;
+    check_two_addresses(&rt, &built);
+    Ok(())
+}
+
+/// A second begin, a row of operation 1, a row of line 2^63, and a row and an end at a lower offset: each is refused after
+/// a row of line 7 at offset 4.
+fn refused_by_hand<R: Reader>(
+    rt: &impl Abort,
+    program: IncompleteLineProgram<R>,
+    line_strings: &mut LineStringTable,
+    strings: &mut StringTable,
+) -> ConvertResult<LineProgram> {
+    let mut conversion = conversion_of(program, line_strings, strings)?;
+    check_equal(rt, conversion.read_row(), Ok(FIRST));
+    let row = row_of(conversion.read_row()?)?;
+    check_equal(rt, conversion.begin_sequence(None), Ok(()));
+    let first = LineRow {
+        address_offset: 4,
+        line: 7,
+        ..row
+    };
+    check_equal(rt, conversion.generate_row(first), Ok(()));
+    check_equal(rt, conversion.begin_sequence(None).err(), OUTSIDE);
+    let second = LineRow {
+        address_offset: 8,
+        op_index: 1,
+        ..row
+    };
+    check_equal(rt, conversion.generate_row(second).err(), OUTSIDE);
+    let far = LineRow {
+        address_offset: 8,
+        line: 1 << 63,
+        ..row
+    };
+    check_equal(rt, conversion.generate_row(far).err(), OUTSIDE);
+    check_equal(rt, conversion.generate_row(row).err(), OUTSIDE);
+    check_equal(rt, conversion.end_sequence(3).err(), OUTSIDE);
+    check(rt, conversion.in_sequence());
+    let (built, _files) = conversion.program();
+    Ok(built)
+}
+
+/// The program after them: its one row, which is the current one too, in a sequence.
+#[test]
+fn builder_calls_outside_their_conditions(rt: HostRuntime) -> Result<(), Fail> {
+    let program = program_of(rt.alloc(), TWO_ADDRESSES)?;
+    let mut line_strings = LineStringTable::default(rt.alloc());
+    let mut strings = StringTable::default(rt.alloc());
+    let mut built = refused_by_hand(&rt, program, &mut line_strings, &mut strings)?;
+    let current = *built.row();
+    check_equal(&rt, (current.address_offset, current.line), (4, 7));
+    check_equal(&rt, current.op_index, 0);
+    check(&rt, built.in_sequence());
+    let mut items = built.items();
+    check_equal(&rt, row_built(items.next()), Some((4, 7)));
+    check(&rt, items.next().is_none());
+    Ok(())
+}
+
 // ---- reads
+
+/// The sequence that was read; none is refused.
+fn sequence_of(sequence: Option<ConvertLineSequence>) -> ConvertResult<ConvertLineSequence> {
+    match sequence {
+        Some(sequence) => Ok(sequence),
+        None => Err(ConvertError::InvalidAttributeValue),
+    }
+}
+
+/// An address that `read_row` handed out isn't handed out again; the one that ends a sequence is the next to come.
+fn check_mixed_reads<R: Reader>(
+    rt: &impl Abort,
+    program: IncompleteLineProgram<R>,
+    line_strings: &mut LineStringTable,
+    strings: &mut StringTable,
+) -> ConvertResult<()> {
+    let mut conversion = conversion_of(program, line_strings, strings)?;
+    check_equal(rt, conversion.read_row(), Ok(FIRST));
+    let sequence = sequence_of(conversion.read_sequence()?)?;
+    check_equal(rt, sequence.start, None);
+    check_equal(rt, sequence.rows.len(), 1);
+    check_equal(rt, sequence.end, ConvertLineSequenceEnd::Address(32));
+    check_equal(rt, conversion.read_row(), Ok(SECOND));
+    let row = row_of(conversion.read_row()?)?;
+    check_equal(rt, (row.address_offset, row.line), (0, 1));
+    check_equal(rt, conversion.read_row(), Ok(END));
+    check_equal(rt, conversion.read_row(), Ok(None));
+    check(rt, conversion.read_sequence()?.is_none());
+    Ok(())
+}
+
+#[test]
+fn reads_of_either_kind(rt: HostRuntime) -> Result<(), Fail> {
+    let program = program_of(rt.alloc(), TWO_ADDRESSES)?;
+    let mut line_strings = LineStringTable::default(rt.alloc());
+    let mut strings = StringTable::default(rt.alloc());
+    check_mixed_reads(&rt, program, &mut line_strings, &mut strings)?;
+    Ok(())
+}
 
 /// A file number that isn't there is told by every later read, and by `convert`.
 fn check_repeated<R: Reader>(
