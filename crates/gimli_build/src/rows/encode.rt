@@ -1,6 +1,6 @@
 //! Rows and ends as instructions. Each instruction is written at once; none is kept.
 
-ghost use Rattle.std.specs.Prelude.{◌≡◌, ℕ, Bool, not, nat_eq, [], ◌∷◌, ◌++◌, ◌+◌, ◌<◌, ◌^◌, IfOk, OnOk, Ok, pos, ◌-ℤ◌, unsigned_abs};
+ghost use Rattle.std.specs.Prelude.{◌≡◌, ℕ, Bool, not, nat_eq, nat_le, if◌then◌else◌, [], ◌∷◌, ◌++◌, ◌+◌, ◌*◌, ◌<◌, ◌≤◌, ◌^◌, Some, None, IfOk, OnOk, Ok, pos, ◌-ℤ◌, unsigned_abs};
 ghost use Rattle.gimli_build.specs.Conditions.{CanBuild, AreBuilt};
 ghost use Rattle.gimli_build.specs.Items.{next_previous, item_bytes, items_bytes, FitsItem, AreFit};
 ghost use Rattle.gimli_build.specs.Built.{place_after};
@@ -209,7 +209,7 @@ fn has_special(line_encoding: &LineEncoding, advance: i64) -> bool
 }
 
 /// Appends what advances by `count` operations and makes the row, where the special opcode `opcode` is
-/// due for the line. Products are compared by division: `count` times the line range can pass 64 bits.
+/// due for the line.
 fn write_operation_advance<W: Writer>(
     w: &mut W,
     line_encoding: &LineEncoding,
@@ -221,20 +221,30 @@ fn write_operation_advance<W: Writer>(
         (Ok (instructions_bytes (operation_part line_encoding.now opcode count))) }
 {
     let range = u64::from(line_encoding.line_range);
-    let room = u64::from(u8::MAX - opcode) / range;
-    if count <= room {
-        let special = opcode + (count * range) as u8;
+    if let Some(special) = special_opcode(opcode, count, range) {
         return write_instruction(w, maker(line_encoding, special));
     }
     let rest = count.saturating_sub(u64::from(u8::MAX - OPCODE_BASE) / range);
-    if rest <= room {
-        let special = opcode + (rest * range) as u8;
+    if let Some(shorter) = special_opcode(opcode, rest, range) {
         write_instruction(w, LineInstruction::ConstAddPc)?;
-        return write_instruction(w, maker(line_encoding, special));
+        return write_instruction(w, maker(line_encoding, shorter));
     }
     write_instruction(w, LineInstruction::AdvancePc(count))?;
     write_instruction(w, maker(line_encoding, opcode))?;
     Ok(())
+}
+
+/// The special opcode that advances by `count` operations more than `opcode` does; none where no byte has it. More than
+/// 255 are too many for each line range, so the product stays small.
+fn special_opcode(opcode: u8, count: u64, range: u64) -> Option<u8>
+    requires some { 1 ≤ range }
+    requires few { range ≤ 127 }
+    ensures { result ≡ (if nat_le (opcode + count * range) 255 then Some (opcode + count * range) else None) }
+{
+    if count > u64::from(u8::MAX) {
+        return None;
+    }
+    u8::try_from(u64::from(opcode) + count * range).ok()
 }
 
 /// What makes a row by this special opcode: copy where the opcode advances nothing.
