@@ -1,7 +1,6 @@
 -- Instructions written one after the other.
-use Rattle.std.proofs.Common.{◌≡◌, ℕ, ◌+◌, ◌-◌, ◌*◌, ◌/◌, ◌<◌, ◌≤◌, List, [], ◌∷◌, ◌++◌, false, nat_le, append_assoc, sym, ap, ◌∙◌, arith, inl, inr, refl}
-use Rattle.std.proofs.lemmas.Nat.{le-div}
-use Rattle.std.proofs.lemmas.Bool.{cases_lt, lt-leb}
+use Rattle.std.proofs.Common.{◌≡◌, ℕ, ◌+◌, ◌-◌, ◌*◌, Bool, true, false, if◌then◌else◌, List, [], ◌∷◌, ◌++◌, Some, None, nat_le, append_assoc, sym, ap, ◌∙◌, refl}
+use Rattle.std.proofs.lemmas.Option.{none-some}
 use Rattle.std.proofs.lemmas.List.{append-nil}
 use Rattle.std.proofs.lemmas.List.Concat.{flat_map-append}
 use Rattle.gimli_core.specs.declared.common.LineEncoding.{LineEncoding}
@@ -18,15 +17,12 @@ then_bytes old is js = append_assoc old (instructions_bytes is) (instructions_by
 
 pub ruleset joins = (then_bytes, bytes_append, append_assoc)
 
--- there is no room for so many operations in a special opcode
-pub no_room : (g s n : ℕ) → 1 ≤ g → s ≤ 255 → (255 - s) / g < n → nat_le (s + n * g) 255 ≡ false
-no_room g s n pg small over =
-    lt-leb (s + n * g) 255 (elim (cases_lt 255 (s + n * g)) [
-      | inl above ↦ above
-      | inr within ↦ absurd (let h = le-div n (255 - s) g pg (omega arith) in omega (arith, h))
-    ])
+-- where no byte has the special opcode, it is past 255
+pub past : (fits : Bool) (s : ℕ) → (if fits then Some s else None) ≡ None → fits ≡ false
+past true s none = absurd (none-some s (sym none))
+past false s none = refl
 
 -- with const_add_pc neither
-pub by_advance : (e : LineEncoding) (s n : ℕ) → 1 ≤ e.line_range → s ≤ 255 → (255 - s) / e.line_range < n → (255 - s) / e.line_range < n - constant_advance e
+pub by_advance : (e : LineEncoding) (s n : ℕ) → nat_le (s + n * e.line_range) 255 ≡ false → nat_le (s + (n - constant_advance e) * e.line_range) 255 ≡ false
     → operation_part e s n ≡ AdvancePc n ∷ row_maker e s ∷ []
-by_advance e s n pg small over rest = rw (no_room e.line_range s n pg small over, no_room e.line_range s (n - constant_advance e) pg small rest) refl
+by_advance e s n over rest = rw (over, rest) refl

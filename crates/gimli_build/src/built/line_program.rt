@@ -397,7 +397,8 @@ impl LineProgram {
         ensures err { OnErr result (self.new ≡ self.old) }
         ensures memory { IfErr result (λ e. e ≡ Error.OutOfMemory) }
     {
-        self.items.push(BuiltItem::Row(self.row))?;
+        self.items.reserve(1)?;
+        self.items.push_reserved(BuiltItem::Row(self.row));
         self.row.clear();
         self.in_sequence = true;
         Ok(())
@@ -530,6 +531,10 @@ fn can_follow(
     ensures { IsTrue result
         ↔ CanFollow line_encoding previous_offset previous_op_index offset op_index }
 {
+    if is_plain(line_encoding) {
+        return op_index == 0
+            && (previous_offset < offset || (previous_offset == offset && previous_op_index == 0));
+    }
     let operations = u64::from(line_encoding.maximum_operations_per_instruction);
     if !is_whole(line_encoding, offset) || op_index >= operations || offset < previous_offset {
         return false;
@@ -540,6 +545,15 @@ fn can_follow(
     operations == 1
         || instruction_count(line_encoding, offset - previous_offset)
             <= (u64::MAX - op_index) / operations
+}
+
+/// Whether each byte can begin an instruction, and each instruction is one operation.
+fn is_plain(line_encoding: LineEncoding) -> bool
+    ensures { IsTrue result ↔ (line_encoding.minimum_instruction_length ≡ 1)
+        × (line_encoding.maximum_operations_per_instruction ≡ 1) }
+{
+    line_encoding.minimum_instruction_length == 1
+        && line_encoding.maximum_operations_per_instruction == 1
 }
 
 /// Whether an offset is a whole number of shortest instructions.

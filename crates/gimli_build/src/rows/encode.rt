@@ -1,16 +1,17 @@
 //! Rows and ends as instructions. Each instruction is written at once; none is kept.
 
-ghost use Rattle.std.specs.Prelude.{◌≡◌, ℕ, Bool, ◌+◌, ◌<◌, ◌^◌, IfOk, OnOk, Ok, pos, ◌-ℤ◌, unsigned_abs};
+ghost use Rattle.std.specs.Prelude.{◌≡◌, ℕ, Bool, not, nat_eq, nat_le, if◌then◌else◌, [], ◌∷◌, ◌++◌, ◌+◌, ◌*◌, ◌<◌, ◌≤◌, ◌^◌, Some, None, IfOk, OnOk, Ok, pos, ◌-ℤ◌, unsigned_abs};
 ghost use Rattle.gimli_build.specs.Conditions.{CanBuild, AreBuilt};
 ghost use Rattle.gimli_build.specs.Items.{next_previous, item_bytes, items_bytes, FitsItem, AreFit};
 ghost use Rattle.gimli_build.specs.Built.{place_after};
 ghost use Rattle.gimli_build.specs.Rows.{initial_row, at_place};
 ghost use Rattle.gimli_build.specs.Advance.{CanEncode, IsPlace, CanFollow, operations};
-ghost use Rattle.gimli_build.specs.Encode.{marks, changes, is_special_advance, line_opcode, line_part, row_maker, operation_part, row_instructions, end_instructions};
+ghost use Rattle.gimli_build.specs.Encode.{when, marks, changes, is_special_advance, line_opcode, line_part, row_maker, operation_part, row_instructions};
 ghost use Rattle.gimli_build.specs.InstructionBytes.{instructions_bytes, FitsInstructions};
 ghost use Rattle.gimli_build.specs.FileNumber.{file_number};
 ghost use Rattle.gimli_build.specs.ReadAs.{read_as};
 ghost use Rattle.gimli_build.specs.Writes.{Writes};
+ghost use Rattle.gimli_line.specs.declared.run.instruction.LineInstruction.TheVariants.{AdvancePc, EndSequence};
 
 use crate::built::items::BuiltItem;
 use crate::built::line_program::instruction_count;
@@ -42,9 +43,11 @@ pub(crate) fn write_items<W: Writer>(
     let mut previous = &initial;
     let mut place = (0, 0);
     for item in items {
+        let next = next_row(&initial, previous, item);
+        let next_place = item.place();
         write_item(w, encoding, line_encoding, place, previous, item)?;
-        previous = next_row(&initial, previous, item);
-        place = item.place();
+        previous = next;
+        place = next_place;
     }
     Ok(())
 }
@@ -88,8 +91,8 @@ fn write_item<W: Writer>(
             address_offset,
             op_index,
         } => {
-            let previous = previous.at(place);
-            write_end(w, line_encoding, &previous, *address_offset, *op_index)
+            let count = operation_advance(&line_encoding, place, *address_offset, *op_index);
+            write_end(w, count)
         }
     }
 }
@@ -124,26 +127,13 @@ pub(crate) fn write_row<W: Writer>(
     Ok(())
 }
 
-/// Appends the instructions of an end, at an offset and an operation, that follows `previous`. Ends are few, so it
-/// stands apart from rows.
+/// Appends the instructions of an end that is `count` operations after the row before. Ends are few, so it stands apart
+/// from rows.
 #[inline(never)]
-pub(crate) fn write_end<W: Writer>(
-    w: &mut W,
-    line_encoding: LineEncoding,
-    previous: &LineRow,
-    address_offset: u64,
-    op_index: u64,
-) -> Result<()>
-    requires can { CanEncode line_encoding }
-    requires place { IsPlace line_encoding previous.now.address_offset previous.now.op_index }
-    requires follows { CanFollow line_encoding previous.now.address_offset previous.now.op_index
-        address_offset op_index }
-    ensures { Writes W.Writer w.old w.new result
-        (Ok (instructions_bytes
-        (end_instructions line_encoding previous.now address_offset op_index))) }
+pub(crate) fn write_end<W: Writer>(w: &mut W, count: u64) -> Result<()>
+    ensures { Writes W.Writer w.old w.new result (Ok (instructions_bytes
+        (when (not (nat_eq count 0)) (AdvancePc count) ++ EndSequence ∷ []))) }
 {
-    let place = (previous.address_offset, previous.op_index);
-    let count = operation_advance(&line_encoding, place, address_offset, op_index);
     write_if(w, count != 0, LineInstruction::AdvancePc(count))?;
     write_instruction(w, LineInstruction::EndSequence)
 }
@@ -219,7 +209,7 @@ fn has_special(line_encoding: &LineEncoding, advance: i64) -> bool
 }
 
 /// Appends what advances by `count` operations and makes the row, where the special opcode `opcode` is
-/// due for the line. Products are compared by division: `count` times the line range can pass 64 bits.
+/// due for the line.
 fn write_operation_advance<W: Writer>(
     w: &mut W,
     line_encoding: &LineEncoding,
@@ -231,20 +221,30 @@ fn write_operation_advance<W: Writer>(
         (Ok (instructions_bytes (operation_part line_encoding.now opcode count))) }
 {
     let range = u64::from(line_encoding.line_range);
-    let room = u64::from(u8::MAX - opcode) / range;
-    if count <= room {
-        let special = opcode + (count * range) as u8;
+    if let Some(special) = special_opcode(opcode, count, range) {
         return write_instruction(w, maker(line_encoding, special));
     }
     let rest = count.saturating_sub(u64::from(u8::MAX - OPCODE_BASE) / range);
-    if rest <= room {
-        let special = opcode + (rest * range) as u8;
+    if let Some(shorter) = special_opcode(opcode, rest, range) {
         write_instruction(w, LineInstruction::ConstAddPc)?;
-        return write_instruction(w, maker(line_encoding, special));
+        return write_instruction(w, maker(line_encoding, shorter));
     }
     write_instruction(w, LineInstruction::AdvancePc(count))?;
     write_instruction(w, maker(line_encoding, opcode))?;
     Ok(())
+}
+
+/// The special opcode that advances by `count` operations more than `opcode` does; none where no byte has it. More than
+/// 255 are too many for each line range, so the product stays small.
+fn special_opcode(opcode: u8, count: u64, range: u64) -> Option<u8>
+    requires some { 1 ≤ range }
+    requires few { range ≤ 127 }
+    ensures { result ≡ (if nat_le (opcode + count * range) 255 then Some (opcode + count * range) else None) }
+{
+    if count > u64::from(u8::MAX) {
+        return None;
+    }
+    u8::try_from(u64::from(opcode) + count * range).ok()
 }
 
 /// What makes a row by this special opcode: copy where the opcode advances nothing.

@@ -79,7 +79,7 @@ pub(crate) fn write_set_address<W: Writer>(w: &mut W, address: &Address, size: u
 }
 
 /// Appends a discriminator.
-#[inline(never)]
+#[inline(always)]
 fn write_discriminator<W: Writer>(w: &mut W, discriminator: u64) -> Result<()>
     ensures { Writes W.Writer w.old w.new result
         (Ok (instruction_bytes (SetDiscriminator discriminator))) }
@@ -99,6 +99,14 @@ fn write_unsigned<W: Writer>(w: &mut W, opcode: DwLns, operand: u64) -> Result<(
     if operand < 128 {
         return w.write(&[opcode.0, operand as u8]);
     }
+    write_long_unsigned(w, opcode, operand)
+}
+
+/// Appends a standard opcode and its unsigned operand, by a call for each.
+#[inline(always)]
+fn write_long_unsigned<W: Writer>(w: &mut W, opcode: DwLns, operand: u64) -> Result<()>
+    ensures { Writes W.Writer w.old w.new result (Ok (opcode.0 ∷ uleb operand)) }
+{
     write_byte(w, opcode.0)?;
     w.write_uleb128(operand)
 }

@@ -32,9 +32,9 @@ loop-item-preserved g c =
     let lt : i < length items = omega arith in
     let split = next_left items i item lt c.item-item.is in
     let way = rw split at c.loop-item.invariant.way in
-    let next = c.next_row-previous.ensures version e.default_is_stmt c.loop-item.place c.initial-initial.ensures in
-    let moved : at_place c.place-place.result c.next_row-previous.result.now ≡ next_previous version e.default_is_stmt previous item =
-    ap (λ (p : ℕ × ℕ). at_place p c.next_row-previous.result.now) c.place-place.ensures ∙ next in
+    let next = c.next_row-next.ensures version e.default_is_stmt c.loop-item.place c.initial-initial.ensures in
+    let moved : at_place c.place-next_place.result c.next_row-next.result.now ≡ next_previous version e.default_is_stmt previous item =
+    ap (λ (p : ℕ × ℕ). at_place p c.next_row-next.result.now) c.place-next_place.ensures ∙ next in
     record {
       keeps = begins_then (contents c.args.w.now) (contents c.loop-item.w) (contents c.write_item.new.w) c.loop-item.invariant.keeps c.in_ok-write_item.ensures.writes.keeps;
       ordered = c.in_ok-write_item.ensures.writes.ordered ∙ c.loop-item.invariant.ordered;
