@@ -3,6 +3,7 @@ use Rattle.std.proofs.Common.{◌≡◌, ℕ, zero, suc, Bool, true, false, ◌&
 use Rattle.std.specs.Prelude.{All, IfSome, nat_le, nat_eq, Result, Ok, Err}
 use Rattle.std.specs.List.{list_any}
 use Rattle.std.specs.Option.{is_none}
+use Rattle.std.proofs.lemmas.Bool.{false≢true}
 use Rattle.std.proofs.lemmas.List.Elements.{All-push, All-cons, All-head, All-tail}
 use Rattle.gimli_bytes.specs.declared.error.Error.{Error}
 use Rattle.gimli_bytes.specs.Written.{Appends}
@@ -109,3 +110,13 @@ items_built details e start between behind p texts bytes ids given files file_id
     ap (λ (q : Built). q.encoding.version) f.others ∙ ap (λ (q : Built). q.encoding.version) d.others ∙ ap (λ (x : Encoding). x.version) is in
     a.items_are ∙ ap (λ (xs : List BuiltItem). xs ++ items_handed behind.encoding.version now None rows) items
     ∙ ap (λ (v : ℕ). items_handed v now None rows) version ∙ ap (λ (xs : List ℕ). items_handed e.version xs None rows) same
+
+-- which details are written changes nothing of what a program requires to be written, where no source is among them
+pub can_with : (details : ℕ) (p : Built) → CanWrite p [] [] → CanWrite (program_with details p) [] []
+can_with details p can = record {
+  program = can.program;
+  directories = can.directories;
+  paths = can.paths;
+  sources = can.sources;
+  sources_end = λ _ has. absurd (false≢true has);
+}

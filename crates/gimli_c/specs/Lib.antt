@@ -8,3 +8,4 @@ pub mod Found
 pub mod FileSeen
 pub mod Handed
 pub mod Handing
+pub mod Refused

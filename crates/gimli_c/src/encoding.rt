@@ -1,8 +1,9 @@
 //! What a unit that is written is encoded by.
 
-ghost use Rattle.std.specs.Prelude.{◌≡◌, ◌≤◌, IfErr, IfOk};
+ghost use Rattle.std.specs.Prelude.{◌≡◌, ◌≤◌, ℕ, Err, IfErr, IfOk, None, Some};
 ghost use Rattle.gimli_build.specs.Conditions.{Accepts};
 ghost use Rattle.gimli_c.specs.Handed.{IsRefusal, encoding_of, line_encoding_of};
+ghost use Rattle.gimli_c.specs.Refused.{encoding_fault, HasBadLines};
 
 use crate::status::{
     UNKNOWN_VERSION, UNSUPPORTED_ADDRESS_SIZE, UNSUPPORTED_LINE_ENCODING, UNSUPPORTED_OFFSET_SIZE,
@@ -38,6 +39,9 @@ pub(crate) fn encodings(given: &GimliEncoding) -> Result<(Encoding, LineEncoding
     ensures encoding { IfOk result (λ e. e.0 ≡ encoding_of given.now) }
     ensures lines { IfOk result (λ e. e.1 ≡ line_encoding_of given.now) }
     ensures accepts { IfOk result (λ e. Accepts e.0 e.1) }
+    ensures well { IfOk result (λ e. encoding_fault given.now ≡ None) }
+    ensures fault { (s : ℕ) → encoding_fault given.now ≡ Some s → result ≡ Err s }
+    ensures bad_lines { HasBadLines given.now → result ≡ Err UNSUPPORTED_LINE_ENCODING }
     ensures err { IfErr result IsRefusal }
 {
     if given.version < 2 || given.version > 5 {

@@ -1,11 +1,12 @@
 //! A unit of directories, files and rows that are handed over.
 
-ghost use Rattle.std.specs.Prelude.{◌≡◌, ◌≢◌, ◌⊎◌, [], Bool, IfErr, IfOk, Some, false};
+ghost use Rattle.std.specs.Prelude.{◌≡◌, ◌≢◌, ◌⊎◌, ℕ, [], Bool, Err, IfErr, IfOk, Some, false};
 ghost use Rattle.gimli_build.specs.Cause.{first_cause};
 ghost use Rattle.gimli_build.specs.Conditions.{CanWrite};
 ghost use Rattle.gimli_bytes.specs.Written.{Appends};
 ghost use Rattle.gimli_build.specs.Unit.{unit_bytes};
 ghost use Rattle.gimli_c.specs.Handed.{IsRefusal};
+ghost use Rattle.gimli_c.specs.Refused.{encoding_fault, HasBadLines};
 ghost use Rattle.gimli_c.specs.Handing.{GivesUnitOf, IsBuiltOf, NeedsRoom, ReadAs, handed, program_with, write_status};
 
 use crate::encoding::{GimliEncoding, encodings};
@@ -13,7 +14,10 @@ use crate::file::copy_bytes;
 use crate::items::add_rows;
 use crate::place::order;
 use crate::row::GimliRow;
-use crate::status::{NEED_VERSION_4, NO_ROOM, OK, OUT_OF_MEMORY, UNIT_TOO_LONG, UNKNOWN_VERSION};
+use crate::status::{
+    NEED_VERSION_4, NO_ROOM, OK, OUT_OF_MEMORY, UNIT_TOO_LONG, UNKNOWN_VERSION,
+    UNSUPPORTED_LINE_ENCODING,
+};
 use crate::tables::{GimliFileName, add_directories, add_files, started};
 use crate::text::GimliName;
 use gimli_build::LineProgram;
@@ -43,6 +47,8 @@ pub extern "C" fn gimli_line_write(
         (handed encoding.now big details texts.now directories.now files.now rows.now) unit.old unit.new size.new }
     ensures room { result ≡ NO_ROOM → NeedsRoom
         (handed encoding.now big details texts.now directories.now files.now rows.now) unit.old size.new }
+    ensures fault { (s : ℕ) → encoding_fault encoding.now ≡ Some s → result ≡ s }
+    ensures bad_lines { HasBadLines encoding.now → result ≡ UNSUPPORTED_LINE_ENCODING }
     ensures err { result ≢ OK → unit.new ≡ unit.old }
     ensures none { result ≢ OK → result ≢ NO_ROOM → size.new ≡ 0 }
 {
@@ -76,6 +82,8 @@ fn built(
 ) -> Result<LineProgram, u32>
     ensures ok { (big : Bool) → IfOk result (λ program. IsBuiltOf
         (handed encoding.now big details texts.now directories.now files.now rows.now) program) }
+    ensures fault { (s : ℕ) → encoding_fault encoding.now ≡ Some s → result ≡ Err s }
+    ensures bad_lines { HasBadLines encoding.now → result ≡ Err UNSUPPORTED_LINE_ENCODING }
     ensures err { IfErr result IsRefusal }
 {
     let (units, lines) = encodings(encoding)?;

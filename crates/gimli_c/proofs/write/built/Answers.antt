@@ -1,8 +1,11 @@
 use Rattle.std.proofs.Common.{List, ℕ, map, subst, ◌∙◌}
 use Rattle.gimli_build.specs.Built.{Built}
 use Rattle.gimli_c.specs.Handed.{AddsDirectories, AddsFiles, text_handed}
-use Rattle.gimli_c.proofs.Handings.{items_built}
+use Rattle.gimli_c.proofs.Handings.{items_built, can_with}
 use Rattle.gimli_c.proofs.write.built.Goals as goal
+
+pub add_directories-requires : goal.add_directories-requires
+add_directories-requires c = rw c.with_details-program.ensures (can_with c.args.details c.in_ok-start.start c.in_ok-start.ensures.can)
 
 pub returns-clause-ok : goal.returns-clause-ok
 returns-clause-ok c = λ big.
