@@ -1,5 +1,5 @@
 ghost use Rattle.std.specs.Prelude.{◌≡◌};
-ghost use Rattle.gimli_build.specs.Rows.{initial_row, cleared, at_place, restarted};
+ghost use Rattle.gimli_build.specs.Rows.{initial_row, cleared, restarted};
 
 use crate::built::files::FileId;
 use gimli_core::{Encoding, LineEncoding};
@@ -60,17 +60,6 @@ impl LineRow {
         self.basic_block = false;
         self.prologue_end = false;
         self.epilogue_begin = false;
-    }
-
-    /// The row at another offset and op_index.
-    pub(crate) fn at(self, place: (u64, u64)) -> LineRow
-        ensures { result ≡ at_place place self }
-    {
-        LineRow {
-            address_offset: place.0,
-            op_index: place.1,
-            ..self
-        }
     }
 
     /// The row where an address was set: in a sequence its offset and op_index count from there.
