@@ -49,6 +49,7 @@ pub extern "C" fn gimli_line_write(
         (handed encoding.now big details texts.now directories.now files.now rows.now) unit.old size.new }
     ensures fault { (s : ℕ) → encoding_fault encoding.now ≡ Some s → result ≡ s }
     ensures bad_lines { HasBadLines encoding.now → result ≡ UNSUPPORTED_LINE_ENCODING }
+    ensures number { result ≢ OK → result ≢ NO_ROOM → IsRefusal result }
     ensures err { result ≢ OK → unit.new ≡ unit.old }
     ensures none { result ≢ OK → result ≢ NO_ROOM → size.new ≡ 0 }
 {
