@@ -10,3 +10,4 @@ pub mod Outcome
 pub mod HeaderReading
 pub mod EntryReading
 pub mod Opening
+pub mod UnitAt

@@ -3,6 +3,7 @@ pub mod Instruction
 pub mod InstructionGrammar
 pub mod InstructionReading
 pub mod Unread
+pub mod NextInstruction
 pub mod Registers
 pub mod OperationPointer
 pub mod Events

@@ -1,11 +1,13 @@
 //! The section `.debug_line`, from which line programs are read.
 
-ghost use Rattle.std.specs.Prelude.{◌≡◌, ◌≢◌, IfErr, IfOk, IsTrue, drop, option_map};
+ghost use Rattle.std.specs.Prelude.{◌≡◌, IfErr, IfOk, IsTrue, drop, option_map};
 ghost use Rattle.gimli_core.specs.Notation.{noted};
 ghost use Rattle.gimli_core.specs.Numbers.{is_address_size};
 ghost use Rattle.gimli_core.specs.declared.attribute_value.AttributeValue.TheVariants.{String};
 ghost use Rattle.gimli_line.specs.header.Header.{HasOneOrder, unit_entry};
-ghost use Rattle.gimli_line.specs.header.HeaderGrammar.{HasHeaderFault, SpellsUnit, taken};
+ghost use Rattle.gimli_line.specs.header.HeaderGrammar.{taken};
+ghost use Rattle.gimli_line.specs.header.UnitAt.{HasUnitAt, IsUnitRefusal};
+ghost use Rattle.gimli_line.specs.run.Unread.{unread};
 
 use crate::header::program_header::LineProgramHeader;
 use crate::run::program::IncompleteLineProgram;
@@ -53,14 +55,12 @@ impl<R: Reader> DebugLine<R> {
         comp_name: Option<R>,
     ) -> Result<IncompleteLineProgram<R>>
         requires { IsTrue (is_address_size address_size) }
-        ensures unit { IfOk result (λ program. SpellsUnit (noted (R.big self.now) R.Offset.limit)
-            (unit_entry R.bytes address_size comp_dir comp_name)
-            (drop (R.Offset.number offset.0) (R.bytes self.now)) program.meaning) }
-        ensures refusal { IfErr result (λ e. e ≢ Error.OutOfMemory
-            → HasHeaderFault (noted (R.big self.now) R.Offset.limit)
-            (unit_entry R.bytes address_size comp_dir comp_name)
-            (drop (R.Offset.number offset.0) (R.bytes self.now)) e) }
-        ensures notation { IfOk result (λ program. program.notation ≡ noted (R.big self.now) R.Offset.limit) }
+        ensures unit { IfOk result (HasUnitAt (unread R.bytes R.big R.Offset.limit self.now)
+            (R.Offset.number offset.0) (unit_entry R.bytes address_size comp_dir comp_name)) }
+        ensures refusal { IfErr result (IsUnitRefusal (unread R.bytes R.big R.Offset.limit self.now)
+            (R.Offset.number offset.0) (unit_entry R.bytes address_size comp_dir comp_name)) }
+        ensures notation { IfOk result
+            (λ program. program.notation ≡ noted (R.big self.now) R.Offset.limit) }
         ensures offset { IfOk result (λ program. program.offset ≡ offset) }
         ensures order { IfOk result (HasOneOrder R.big) }
         ensures directory { IfOk result (λ program. program.comp_dir
@@ -99,7 +99,8 @@ impl<T> DebugLine<T> {
     where
         F: FnMut(&'a T) -> R + Drop,
         requires { F.IsAlwaysCallable borrow }
-        ensures { (contents : _) × (after : F) × (contents.now ≡ self.now) × F.step borrow contents result after }
+        ensures { (contents : _) × (after : F) × (contents.now ≡ self.now)
+            × F.step borrow contents result after }
     {
         borrow(&self.debug_line_section).into()
     }

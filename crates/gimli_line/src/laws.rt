@@ -1,23 +1,23 @@
 //! Laws of the two grammars: a unit has one header or one refusal, a program is decoded in one way. And laws of what
 //! a run gives.
 
-ghost use Rattle.std.specs.Prelude.{◌≡◌, ◌≢◌, ◌≤◌, ◌⊎◌, ◌+◌, ℕ, Bool, List, [], Option, Some, length, true, false};
+ghost use Rattle.std.specs.Prelude.{◌≡◌, ◌≢◌, ◌≤◌, ◌⊎◌, ◌+◌, ℕ, Bool, List, [], Option, Some, length};
 ghost use Rattle.std.specs.Ordering.{nat_cmp};
 ghost use Rattle.gimli_core.specs.Equality.{IsExact};
 ghost use Rattle.gimli_core.specs.Notation.{Notation};
 ghost use Rattle.gimli_core.specs.declared.common.Format.{Format};
 ghost use Rattle.gimli_core.specs.declared.error.Error.{Error};
 ghost use Rattle.gimli_line.specs.header.Header.{Header, UnitEntry};
-ghost use Rattle.gimli_line.specs.header.HeaderGrammar.{Entry, SpellsUnit, HasHeaderFault, SpellsEntries, HoldsCount};
-ghost use Rattle.gimli_line.specs.run.Events.{events_behind, row_at};
-ghost use Rattle.gimli_line.specs.run.Instruction.{Ins, makes_row};
-ghost use Rattle.gimli_line.specs.run.EventsWithFiles.{EventsWithFiles, FilesAtEnd, events_with_files_behind, events_with_files_from, registers_after};
-ghost use Rattle.gimli_line.specs.run.InstructionGrammar.{Decodes, instruction_production, IsInstructionRefusal};
+ghost use Rattle.gimli_line.specs.header.HeaderGrammar.{SpellsUnit, HasHeaderFault, HasUnit, HasNoUnit, HaveCountedEntries};
+ghost use Rattle.gimli_line.specs.run.Events.{events_behind, row_at, GivesRow};
+ghost use Rattle.gimli_line.specs.run.Instruction.{Ins};
+ghost use Rattle.gimli_line.specs.run.EventsWithFiles.{EventsWithFiles, FilesAtEnd, events_with_files_behind, machine_events, registers_after, registers_at};
+ghost use Rattle.gimli_line.specs.run.InstructionGrammar.{Decodes, AreDecodedOnce, instruction_production, IsInstructionRefusal};
 ghost use Rattle.gimli_line.specs.run.InstructionReading.{decoded_at};
 ghost use Rattle.gimli_line.specs.run.OperationPointer.{OperationPointer, IsPointerList, pointers, is_hidden, overflows};
 ghost use Rattle.gimli_line.specs.run.Rows.{events_left, files_at_end, started};
 ghost use Rattle.gimli_line.specs.run.Unread.{Unread};
-ghost use Rattle.gimli_line.specs.run.Machine.{run, initial, is_refused, stepped};
+ghost use Rattle.gimli_line.specs.run.Machine.{run, initial, is_refused};
 ghost use Rattle.gimli_line.specs.run.NonDecreasing.{AreOneSequence, NeverBelow};
 ghost use Rattle.gimli_line.specs.header.Parameters.{Parameters};
 ghost use Rattle.gimli_line.specs.run.Row.{column_number};
@@ -33,16 +33,15 @@ use gimli_core::{AttributeValue, Reader};
 /// Bytes begin with a unit, or they have a refusal.
 pub fn unit_or_refusal()
     ensures { (notation : Notation) (unit_entry : UnitEntry) (bytes : List ℕ) →
-        ((h : Header) × SpellsUnit notation unit_entry bytes h)
-        ⊎ ((e : Error) × HasHeaderFault notation unit_entry bytes e) }
+        HasUnit notation unit_entry bytes ⊎ HasNoUnit notation unit_entry bytes }
 {}
 
 /// They don't have both, the header is one, and so is the refusal.
 pub fn one_unit_or_refusal()
-    ensures both { (notation : Notation) (unit_entry : UnitEntry) (bytes : List ℕ) (h : Header) (e : Error) →
-        SpellsUnit notation unit_entry bytes h → HasHeaderFault notation unit_entry bytes e → ⊥ }
-    ensures header { (notation : Notation) (unit_entry : UnitEntry) (bytes : List ℕ) (h k : Header) →
-        SpellsUnit notation unit_entry bytes h → SpellsUnit notation unit_entry bytes k → h ≡ k }
+    ensures both { (notation : Notation) (unit_entry : UnitEntry) (bytes : List ℕ) →
+        HasUnit notation unit_entry bytes → HasNoUnit notation unit_entry bytes → ⊥ }
+    ensures header { (notation : Notation) (unit_entry : UnitEntry) (bytes : List ℕ) (h k : Header)
+        → SpellsUnit notation unit_entry bytes h → SpellsUnit notation unit_entry bytes k → h ≡ k }
     ensures refusal { (notation : Notation) (unit_entry : UnitEntry) (bytes : List ℕ) (e d : Error) →
         HasHeaderFault notation unit_entry bytes e → HasHeaderFault notation unit_entry bytes d → e ≡ d }
 {}
@@ -51,23 +50,21 @@ pub fn one_unit_or_refusal()
 pub fn one_decoding()
     ensures some { (notation : Notation) (h : Header) (bytes : List ℕ) →
         (list : List Ins) × (end : Option Error) × Decodes notation h bytes list end }
-    ensures one { (notation : Notation) (h : Header) (bytes : List ℕ) (list other : List Ins)
-        (end finish : Option Error) →
-        Decodes notation h bytes list end → Decodes notation h bytes other finish → (list ≡ other) × (end ≡ finish) }
+    ensures one { (notation : Notation) (h : Header) (bytes : List ℕ) →
+        AreDecodedOnce notation h bytes }
 {}
 
 /// A program has no more instructions than bytes.
 pub fn instructions_are_bounded()
-    ensures { (notation : Notation) (h : Header) (bytes : List ℕ) (list : List Ins) (end : Option Error) →
-        Decodes notation h bytes list end → length list ≤ length bytes }
+    ensures { (notation : Notation) (h : Header) (bytes : List ℕ) (list : List Ins)
+        (end : Option Error) → Decodes notation h bytes list end → length list ≤ length bytes }
 {}
 
 /// The entries of a table of version 5 begin with their count, which says how many they are, and no fewer bytes than
 /// that stand after it: each entry has a byte at least, since some format is there.
 pub fn entries_are_bounded()
-    ensures { (notation : Notation) (format : Format) (formats : List FileEntryFormat) → formats ≢ [] →
-        (bytes : List ℕ) (entries : List Entry) → SpellsEntries notation format formats bytes entries →
-        HoldsCount bytes (length entries) }
+    ensures { (notation : Notation) (format : Format) (formats : List FileEntryFormat) →
+        formats ≢ [] → HaveCountedEntries notation format formats }
 {}
 
 /// Both tables of a header together have no more entries than its length counts bytes, whatever they give as their
@@ -87,8 +84,7 @@ pub fn machine_gives_events()
     ensures without_files { (parameters : Parameters) (list : List Ins) →
         run parameters (initial parameters) list ≡ events_behind parameters [] list }
     ensures machine { (appends : Bool) (h : Header) (list : List Ins) (end : Option Error) →
-        events_with_files_from appends h.parameters (initial h.parameters) h.files list end
-        ≡ events_with_files_behind appends h [] list end }
+        machine_events appends h list end ≡ events_with_files_behind appends h [] list end }
     ensures started { (appends : Bool) (h : Header) (notation : Notation) (offset : ℕ) (unread : Unread) →
         EventsWithFiles unread.notation appends h unread.bytes (events_left (started appends h notation offset unread)) }
     ensures files { (appends : Bool) (h : Header) (notation : Notation) (offset : ℕ) (unread : Unread) →
@@ -106,8 +102,8 @@ pub fn addresses_never_go_down()
 pub fn columns_are_ordered()
     ensures total { (a b : Column) →
         ⟦<ColumnType as Ord>⟧.cmp a b ≡ nat_cmp (column_number a) (column_number b) }
-    ensures partial { (a b : Column) →
-        ⟦<ColumnType as PartialOrd>⟧.partial_cmp a b ≡ Some (nat_cmp (column_number a) (column_number b)) }
+    ensures partial { (a b : Column) → ⟦<ColumnType as PartialOrd>⟧.partial_cmp a b
+        ≡ Some (nat_cmp (column_number a) (column_number b)) }
 {}
 
 /// A refused instruction is `UnexpectedEof`, `BadUnsignedLeb128` or `BadSignedLeb128`, or it is `UnsupportedOffset`, for
@@ -173,7 +169,6 @@ pub fn registers_look_back()
         is_refused parameters i (registers_after parameters past) ≡ overflows parameters past i }
     ensures hidden { (parameters : Parameters) (past : List Ins) →
         (registers_after parameters past).hidden ≡ is_hidden parameters past }
-    ensures row { (parameters : Parameters) (past : List Ins) (i : Ins) → makes_row i ≡ true
-        → is_hidden parameters past ≡ false →
-        stepped parameters i (registers_after parameters past) ≡ row_at parameters past i }
+    ensures row { (parameters : Parameters) (past : List Ins) (i : Ins) →
+        GivesRow parameters past i → registers_at parameters past i ≡ row_at parameters past i }
 {}

@@ -90,6 +90,10 @@ bare h = record h { files = [] }
 abbrev pub added : Bool → File → List File → List File
 added appends f files = if appends then files ++ f ∷ [] else files
 
+-- a header after a file is defined: the file stands after the others, or is there already
+abbrev pub with_defined_file : Bool → File → Header → Header
+with_defined_file appends f h = record h { files = added appends f h.files }
+
 -- ---- how contracts see a header
 
 -- what it says, the notation of its program, and its parts as they are
@@ -108,6 +112,14 @@ pub record SeenHeader (R Offset Endian : Type 0) : Type 0 where
   pub program_buf : R
   pub comp_dir : Option R
   pub comp_file : Option (FileEntry R Offset Endian)
+
+-- the directory and the file of an index, with their readers as they are
+module _ {R Offset Endian : Type 0} where
+  abbrev pub own_directory_of : SeenHeader R Offset Endian → ℕ → Option (AttributeValue R Offset Endian)
+  own_directory_of h i = entry_of h.meaning.parameters.encoding.version (option_map String h.comp_dir) h.include_directories.items i
+
+  abbrev pub own_file_of : SeenHeader R Offset Endian → ℕ → Option (FileEntry R Offset Endian)
+  own_file_of h i = entry_of h.meaning.parameters.encoding.version h.comp_file h.file_names.items i
 
 -- ---- the order of bytes of a header's readers
 

@@ -237,6 +237,14 @@ SpellsUnit notation unit_entry bytes h = (unit : List ℕ) × (after : List ℕ)
 abbrev pub HasHeaderFault : Notation → UnitEntry → List ℕ → Error → Type 0
 HasHeaderFault notation unit_entry bytes e = (header_production notation unit_entry).Fault bytes e
 
+-- the bytes begin with some unit
+abbrev pub HasUnit : Notation → UnitEntry → List ℕ → Type 0
+HasUnit notation unit_entry bytes = (h : Header) × SpellsUnit notation unit_entry bytes h
+
+-- they begin with none, and have some refusal
+abbrev pub HasNoUnit : Notation → UnitEntry → List ℕ → Type 0
+HasNoUnit notation unit_entry bytes = (e : Error) × HasHeaderFault notation unit_entry bytes e
+
 -- ---- what spells a table
 
 -- texts that aren't empty, closed by an empty one
@@ -258,3 +266,8 @@ SpellsEntries notation format formats = (entries_production notation format form
 -- the bytes begin with a count, which spells n, and at least n bytes stand after it
 abbrev pub HoldsCount : List ℕ → ℕ → Type 0
 HoldsCount bytes n = (count : List ℕ) × (behind : List ℕ) × (bytes ≡ count ++ behind) × SpellsUleb128 64 count n × (n ≤ length behind)
+
+-- the bytes of any entries of these formats hold the count of these entries
+abbrev pub HaveCountedEntries : Notation → Format → List FileEntryFormat → Type 0
+HaveCountedEntries notation format formats =
+    (bytes : List ℕ) (entries : List Entry) → SpellsEntries notation format formats bytes entries → HoldsCount bytes (length entries)

@@ -1,5 +1,5 @@
 -- What a program gives: its rows and faults in order.
-use Rattle.std.specs.Prelude.{◌≡◌, Bool, false, not, ◌&&◌, if◌then◌else◌, List, [], ◌∷◌, ◌++◌, ℕ, Option, Some, None}
+use Rattle.std.specs.Prelude.{◌≡◌, Bool, true, false, not, ◌&&◌, if◌then◌else◌, List, [], ◌∷◌, ◌++◌, ℕ, Option, Some, None}
 use Rattle.std.specs.List.{list_any}
 use Rattle.gimli_core.specs.declared.error.Error.{Error}
 use Rattle.gimli_core.specs.declared.error.Error.TheVariants.{AddressOverflow}
@@ -44,6 +44,10 @@ abbrev pub events_at : Parameters → List Ins → Ins → List Event
 events_at parameters past i =
     if overflows parameters past i then fault AddressOverflow ∷ []
     else (if makes_row i && not (is_hidden parameters past) then row (row_at parameters past i) ∷ [] else [])
+
+-- a place gives a row: its instruction makes one, and it isn't hidden
+abbrev pub GivesRow : Parameters → List Ins → Ins → Type 0
+GivesRow parameters past i = (makes_row i ≡ true) × (is_hidden parameters past ≡ false)
 
 -- what these instructions give after a past
 abbrev pub events_behind : Parameters → List Ins → List Ins → List Event

@@ -70,3 +70,11 @@ abbrev pub events_with_files_from : Bool → Parameters → LineRow → List Fil
 events_with_files_from appends parameters r files [] end = with_files files (end_events end)
 events_with_files_from appends parameters r files (i ∷ list) end =
     with_files files (step_events parameters i r) ++ events_with_files_from appends parameters (next_registers parameters i r) (files_behind appends i files) list end
+
+-- what the machine gives of a program, run from the registers at its start
+abbrev pub machine_events : Bool → Header → List Ins → Option Error → List EventWithFiles
+machine_events appends h list end = events_with_files_from appends h.parameters (initial h.parameters) h.files list end
+
+-- the registers that the machine has at a place with this instruction
+abbrev pub registers_at : Parameters → List Ins → Ins → LineRow
+registers_at parameters past i = stepped parameters i (registers_after parameters past)

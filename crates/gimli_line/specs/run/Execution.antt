@@ -1,10 +1,22 @@
--- Instructions that are executed from their bytes, without a value of their own between.
-use Rattle.std.specs.Prelude.{◌≡◌, ℕ, List, Bool, false, Ok}
+-- What is done where an instruction is refused, and instructions that are executed from their bytes, without a value of
+-- their own between.
+use Rattle.std.specs.Prelude.{◌≡◌, ◌≢◌, ℕ, List, Bool, true, false, Ok}
 use Rattle.gimli_core.specs.Reading.{Read}
+use Rattle.gimli_core.specs.declared.error.Error.{Error}
+use Rattle.gimli_core.specs.declared.error.Error.TheVariants.{AddressOverflow, OutOfMemory}
 use Rattle.gimli_line.specs.declared.run.row.LineRow.{LineRow}
 use Rattle.gimli_line.specs.header.Parameters.{Parameters}
 use Rattle.gimli_line.specs.run.Instruction.{Ins, makes_row, defines_file}
 use Rattle.gimli_line.specs.run.Machine.{stepped, is_refused}
+
+-- a refusal that is `AddressOverflow`: the address would pass the greatest one of its size; the registers go on, but for
+-- the address
+abbrev pub OverflowIs : Parameters → Ins → LineRow → LineRow → Error → Type 0
+OverflowIs parameters i old new e = e ≡ AddressOverflow → (is_refused parameters i old ≡ true) × (new ≡ stepped parameters i old)
+
+-- any other refusal: memory was wanting to add the file that the instruction defines, and no register changes
+abbrev pub OtherRefusalIs : Bool → Ins → LineRow → LineRow → Error → Type 0
+OtherRefusalIs appends i old new e = e ≢ AddressOverflow → (e ≡ OutOfMemory) × (appends ≡ true) × (defines_file i ≡ true) × (new ≡ old)
 
 -- what reading gives is an instruction that defines no file, with this rest after it; it was executed on the
 -- registers, and refused or not

@@ -1,7 +1,7 @@
 -- Instructions, with lists of bytes in the place of readers and numbers in the place of offsets.
 use Rattle.std.specs.Prelude.{◌≡◌, ℕ, List, Bool, true, false}
 use Rattle.gimli_line.specs.header.File.{File, file_seen, FileHasOrder}
-use Rattle.gimli_line.specs.header.Header.{added}
+use Rattle.gimli_line.specs.header.Header.{Header, added}
 use Rattle.gimli_line.specs.declared.run.instruction.LineInstruction.{LineInstruction}
 use Rattle.gimli_line.specs.declared.run.instruction.LineInstruction.TheVariants.{Special, Copy, AdvancePc, AdvanceLine, SetFile, SetColumn, NegateStatement, SetBasicBlock, ConstAddPc, FixedAddPc, SetPrologueEnd, SetEpilogueBegin, SetIsa, UnknownStandard0, UnknownStandard1, UnknownStandardN, EndSequence, SetAddress, DefineFile, SetDiscriminator, UnknownExtended}
 
@@ -65,3 +65,7 @@ defines_file i = false
 abbrev pub files_behind : Bool → Ins → List File → List File
 files_behind appends (DefineFile f) files = added appends f files
 files_behind appends i files = files
+
+-- the header after an instruction, which may have one more file
+abbrev pub header_behind : Bool → Ins → Header → Header
+header_behind appends i h = record h { files = files_behind appends i h.files }

@@ -119,6 +119,11 @@ module _ (notation : Notation) (h : Header) where
     pub spelled : Each SpellsInstruction front list
     pub ended : IsEnd rest end
 
+  -- the bytes are decoded in one way at most
+  abbrev pub AreDecodedOnce : List ℕ → Type 0
+  AreDecodedOnce bytes =
+      (list other : List Ins) (end finish : Option Error) → Decodes bytes list end → Decodes bytes other finish → (list ≡ other) × (end ≡ finish)
+
 -- ---- refusals
 
 -- the refusals that an instruction may have: bytes are missing, a LEB128 number is none of 64 bits, or a length is too

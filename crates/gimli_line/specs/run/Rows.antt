@@ -1,5 +1,6 @@
 -- What a row iterator still gives.
-use Rattle.std.specs.Prelude.{◌≡◌, ◌≢◌, ◌⊎◌, ◌<◌, ℕ, Bool, true, List, [], ◌∷◌, ◌++◌, length}
+use Rattle.std.specs.Prelude.{◌≡◌, ◌≢◌, ◌⊎◌, ◌<◌, ℕ, Bool, true, List, [], ◌∷◌, ◌++◌, length, Option, Some, None, Result, Ok, Err}
+use Rattle.std.specs.Borrow.{Bor}
 use Rattle.gimli_core.specs.declared.error.Error.{Error}
 use Rattle.gimli_core.specs.declared.error.Error.TheVariants.{AddressOverflow, OutOfMemory}
 use Rattle.gimli_core.specs.Notation.{Notation}
@@ -7,13 +8,13 @@ use Rattle.gimli_line.specs.declared.run.rows.Step.{Step}
 use Rattle.gimli_line.specs.declared.run.rows.Step.TheVariants.{Done, Made, More}
 use Rattle.gimli_line.specs.declared.run.row.LineRow.{LineRow}
 use Rattle.gimli_line.specs.header.File.{File}
-use Rattle.gimli_line.specs.header.Header.{Header, bare}
+use Rattle.gimli_line.specs.header.Header.{Header, SeenHeader, bare}
 use Rattle.gimli_line.specs.run.Instruction.{Ins, defines_file}
 use Rattle.gimli_line.specs.run.InstructionGrammar.{SpellsInstruction}
 use Rattle.gimli_line.specs.run.InstructionReading.{decoded_at}
 use Rattle.gimli_line.specs.run.Events.{Event, row, fault}
 use Rattle.gimli_line.specs.run.Machine.{initial}
-use Rattle.gimli_line.specs.run.Unread.{Unread}
+use Rattle.gimli_line.specs.run.Unread.{Unread, whole_program}
 use Rattle.gimli_line.specs.run.RunState.{RunState}
 use Rattle.gimli_line.specs.run.EventsWithFiles.{EventWithFiles, events_with_files_from}
 use Rattle.gimli_line.specs.run.Progress.{ready, files_from, Progress}
@@ -37,6 +38,10 @@ event_of e a = record { event = e; files = a.files }
 -- rows at the start of a sequence
 abbrev pub started : Bool → Header → Notation → ℕ → Unread → RunState
 started appends h notation offset unread = record { fixed = bare h; files = h.files; appends = appends; notation = notation; offset = offset; row = initial h.parameters; unread = unread }
+
+-- rows of a whole program, from its start to its end
+abbrev pub whole_run : Header → Notation → ℕ → RunState
+whole_run h notation offset = started true h notation offset (whole_program h notation)
 
 -- the header is the same but for its files
 pub record KeepsHeader (old new : RunState) : Type 0 where
@@ -85,3 +90,9 @@ FaultComes old new e =
 -- a refusal: want of memory for a file, or a fault
 abbrev pub FaultIs : RunState → RunState → Error → Type 0
 FaultIs old new e = ((e ≡ OutOfMemory) × WantsMemory old new) ⊎ FaultComes old new e
+
+-- what `next_row` answers: the end, the next row with the header that has the files of its place, or a refusal
+abbrev pub NextIs : {R Offset Endian : Type 0} → RunState → RunState → Result (Option (Bor (SeenHeader R Offset Endian) × Bor LineRow)) Error → Type 0
+NextIs old new (Ok None) = EndIs old new
+NextIs old new (Ok (Some found)) = RowIs old new found.1.now found.0.now.meaning.files
+NextIs old new (Err e) = FaultIs (ready old) new e

@@ -1,11 +1,20 @@
 -- What is read from, whatever the type of the reader.
-use Rattle.std.specs.Prelude.{ℕ, ◌-◌, List, length, take}
-use Rattle.gimli_core.specs.Notation.{Notation}
+use Rattle.std.specs.Prelude.{ℕ, ◌-◌, Bool, List, length, take}
+use Rattle.gimli_core.specs.Notation.{Notation, noted}
+use Rattle.gimli_line.specs.header.Header.{Header}
 
 pub record Unread : Type 0 where
   -- the bytes left
   pub bytes : List ℕ
   pub notation : Notation
+
+-- what a reader has left, by its bytes, its order and the limit of its offsets
+abbrev pub unread : {R : Type 0} → (R → List ℕ) → (R → Bool) → ℕ → R → Unread
+unread bytes big limit reader = record { bytes = bytes reader; notation = noted (big reader) limit }
+
+-- the whole program of a header
+abbrev pub whole_program : Header → Notation → Unread
+whole_program h notation = record { bytes = h.program; notation = notation }
 
 -- what stands in front of a rest
 abbrev pub in_front : Unread → Unread → Unread

@@ -100,8 +100,7 @@ where
     R: Reader<Offset = Offset>,
     Offset: ReaderOffset,
 {
-    ghost use Rattle.gimli_core.specs.declared.attribute_value.AttributeValue.TheVariants.{String};
-    ghost use Rattle.gimli_line.specs.header.Header.{directory_of, entry_of, file_of, has_content, with_file};
+    ghost use Rattle.gimli_line.specs.header.Header.{directory_of, file_of, own_directory_of, own_file_of, has_content, with_file};
     ghost use Rattle.gimli_line.specs.header.File.{file_seen};
 
     /// A copy, which says what the header says. Refused by `OutOfMemory` alone.
@@ -202,7 +201,8 @@ where
 
     /// The greatest number of operations in one instruction of the machine.
     pub fn maximum_operations_per_instruction(&self) -> u8
-        ensures { result ≡ self.now.meaning.parameters.line_encoding.maximum_operations_per_instruction }
+        ensures { result
+            ≡ self.now.meaning.parameters.line_encoding.maximum_operations_per_instruction }
     {
         self.parameters
             .line_encoding
@@ -266,7 +266,8 @@ where
 
     /// The table of directories. Up to version 4 it begins with directory 1.
     pub fn include_directories(&self) -> &[AttributeValue<R, Offset>]
-        ensures directories { map (value_seen R.bytes Offset.number) result.now ≡ self.now.meaning.directories }
+        ensures directories { map (value_seen R.bytes Offset.number) result.now
+            ≡ self.now.meaning.directories }
         ensures own { result.now ≡ self.now.include_directories.items }
     {
         &self.include_directories
@@ -276,8 +277,7 @@ where
     pub fn directory(&self, directory: u64) -> Option<AttributeValue<R, Offset>>
         ensures directory { option_map (value_seen R.bytes Offset.number) result
             ≡ directory_of self.now.meaning directory }
-        ensures own { result ≡ entry_of self.now.meaning.parameters.encoding.version
-            (option_map String self.now.comp_dir) self.now.include_directories.items directory }
+        ensures own { result ≡ own_directory_of self.now directory }
     {
         if self.version() > 4 {
             return entry(&self.include_directories, directory).copied();
@@ -300,14 +300,16 @@ where
 
     /// Whether the files have a timestamp. Where it doesn't hold, it isn't known of any file.
     pub fn file_has_timestamp(&self) -> bool
-        ensures { result ≡ (nat_le self.now.meaning.parameters.encoding.version 4 || has_content 0x0003 self.now.meaning.file_formats) }
+        ensures { result ≡ (nat_le self.now.meaning.parameters.encoding.version 4
+            || has_content 0x0003 self.now.meaning.file_formats) }
     {
         self.version() <= 4 || self.file_has(constants::DW_LNCT_timestamp)
     }
 
     /// Whether the files have a size. Where it doesn't hold, it isn't known of any file.
     pub fn file_has_size(&self) -> bool
-        ensures { result ≡ (nat_le self.now.meaning.parameters.encoding.version 4 || has_content 0x0004 self.now.meaning.file_formats) }
+        ensures { result ≡ (nat_le self.now.meaning.parameters.encoding.version 4
+            || has_content 0x0004 self.now.meaning.file_formats) }
     {
         self.version() <= 4 || self.file_has(constants::DW_LNCT_size)
     }
@@ -348,9 +350,7 @@ where
     pub fn file(&self, file: u64) -> Option<&FileEntry<R, Offset>>
         ensures file { option_map (λ found. file_seen R.bytes Offset.number found.now) result
             ≡ file_of self.now.meaning file }
-        ensures own { option_map (λ found. found.now) result
-            ≡ entry_of self.now.meaning.parameters.encoding.version
-            self.now.comp_file self.now.file_names.items file }
+        ensures own { option_map (λ found. found.now) result ≡ own_file_of self.now file }
     {
         if self.version() > 4 {
             return entry(&self.file_names, file);
@@ -388,8 +388,7 @@ where
     R: Reader<Offset = Offset>,
     Offset: ReaderOffset,
 {
-    ghost use Rattle.gimli_core.specs.declared.attribute_value.AttributeValue.TheVariants.{String};
-    ghost use Rattle.gimli_line.specs.header.Header.{directory_of, entry_of};
+    ghost use Rattle.gimli_line.specs.header.Header.{directory_of, own_directory_of};
 
     /// The file's directory, as far as the header has it.
     pub fn directory(
@@ -398,8 +397,7 @@ where
     ) -> Option<AttributeValue<R, Offset>>
         ensures directory { option_map (value_seen R.bytes Offset.number) result
             ≡ directory_of header.now.meaning self.now.directory_index }
-        ensures own { result ≡ entry_of header.now.meaning.parameters.encoding.version
-            (option_map String header.now.comp_dir) header.now.include_directories.items self.now.directory_index }
+        ensures own { result ≡ own_directory_of header.now self.now.directory_index }
     {
         header.directory(self.directory_index)
     }

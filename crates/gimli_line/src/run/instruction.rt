@@ -263,18 +263,18 @@ impl<R: Reader> Model for LineInstructions<R> {
 }
 
 impl<R: Reader> LineInstructions<R> {
-    ghost use Rattle.std.specs.Prelude.{◌≡◌, ◌≢◌, [], ◌++◌, List, ℕ, true, IfOk, IfErr, IsNone, MatchOption};
+    ghost use Rattle.std.specs.Prelude.{◌≡◌, [], ◌++◌, List, ℕ, true, IfOk, IfErr, IsNone, option_map};
     ghost use Rattle.gimli_line.specs.run.Execution.{Executed, ExecutedWell};
     ghost use Rattle.gimli_line.specs.run.Instruction.{ins_seen, InsHasOrder};
     ghost use Rattle.gimli_line.specs.run.InstructionReading.{ins_at};
     ghost use Rattle.std.specs.Prelude.{Ok};
-    ghost use Rattle.gimli_line.specs.run.InstructionGrammar.{SpellsInstruction, instruction_production};
+    ghost use Rattle.gimli_line.specs.run.NextInstruction.{TakesNext, EndsByFault};
     ghost use Rattle.gimli_line.specs.run.Machine.{IsAllowed};
-    ghost use Rattle.gimli_line.specs.run.Unread.{in_front};
+    ghost use Rattle.gimli_line.specs.run.Unread.{unread, in_front};
 
     /// The instructions of these bytes.
     pub(crate) fn new(input: R) -> Self
-        ensures { result ≡ record { bytes = R.bytes input; notation = record { big = R.big input; limit = R.Offset.limit } } }
+        ensures { result ≡ unread R.bytes R.big R.Offset.limit input }
     {
         LineInstructions { input }
     }
@@ -349,16 +349,14 @@ impl<R: Reader> LineInstructions<R> {
         &mut self,
         header: &LineProgramHeader<R>,
     ) -> Result<Option<LineInstruction<R>>>
-        ensures next { IfOk result (λ next. MatchOption next
-            ((self.old.bytes ≡ []) × (self.new.bytes ≡ []))
-            (λ i. (front : List ℕ) × (self.old.bytes ≡ front ++ self.new.bytes)
-            × SpellsInstruction self.old.notation header.now.meaning front (ins_seen R.bytes R.Offset.number i))) }
-        ensures refusal { IfErr result (λ e. (self.old.bytes ≢ []) × (self.new.bytes ≡ [])
-            × (instruction_production self.old.notation header.now.meaning).Fault self.old.bytes e) }
-        ensures allowed { IfOk result
-            (λ next. IfSome next (λ i. IsAllowed header.now.meaning.parameters (ins_seen R.bytes R.Offset.number i))) }
+        ensures next { IfOk result (λ next. TakesNext header.now.meaning self.old self.new
+            (option_map (ins_seen R.bytes R.Offset.number) next)) }
+        ensures refusal { IfErr result (EndsByFault header.now.meaning self.old self.new) }
+        ensures allowed { IfOk result (λ next. IfSome next
+            (λ i. IsAllowed header.now.meaning.parameters (ins_seen R.bytes R.Offset.number i))) }
         ensures notation { self.new.notation ≡ self.old.notation }
-        ensures operands { IfOk result (λ next. IfSome next (InsHasOrder R.big self.old.notation.big)) }
+        ensures operands { IfOk result
+            (λ next. IfSome next (InsHasOrder R.big self.old.notation.big)) }
     {
         if self.input.is_empty() {
             return Ok(None);
@@ -379,10 +377,11 @@ where
     Offset: ReaderOffset,
 {
     ghost use Rattle.std.specs.Prelude.{◌≡◌};
+    ghost use Rattle.gimli_line.specs.run.Unread.{whole_program};
 
     /// The instructions of the program.
     pub fn instructions(&self) -> LineInstructions<R>
-        ensures { result ≡ record { bytes = self.now.meaning.program; notation = self.now.notation } }
+        ensures { result ≡ whole_program self.now.meaning self.now.notation }
     {
         LineInstructions::new(self.program_buf)
     }

@@ -9,7 +9,7 @@ use std::marker::Model;
 pub trait LineProgram<R: Reader> {
     ghost use Rattle.std.specs.Prelude.{◌≡◌, ℕ, Bool, true, OnOk, OnErr, IfErr};
     ghost use Rattle.gimli_core.specs.Notation.{Notation};
-    ghost use Rattle.gimli_line.specs.header.Header.{Header, added};
+    ghost use Rattle.gimli_line.specs.header.Header.{Header, with_defined_file};
     ghost use Rattle.gimli_line.specs.header.File.{file_seen};
 
     /// What the header says.
@@ -33,9 +33,8 @@ pub trait LineProgram<R: Reader> {
     /// Adds a file that the program defines, where the list of files isn't complete. Refused by `OutOfMemory`
     /// alone; nothing is changed then.
     fn add_file(&mut self, file: FileEntry<R>) -> Result<()>
-        ensures ok { OnOk result (meaning self.new ≡ record (meaning self.old) {
-          files = added appends (file_seen R.bytes R.Offset.number file) (meaning self.old).files;
-        }) }
+        ensures ok { OnOk result (meaning self.new
+            ≡ with_defined_file appends (file_seen R.bytes R.Offset.number file) (meaning self.old)) }
         ensures err { OnErr result (meaning self.new ≡ meaning self.old) }
         ensures memory { IfErr result (λ e. (e ≡ Error.OutOfMemory) × (appends ≡ true)) }
         ensures notation { notation self.new ≡ notation self.old }
@@ -94,8 +93,9 @@ where
 }
 
 impl<R: Reader> LineProgram<R> for IncompleteLineProgram<R> {
-    ghost use Rattle.std.specs.Prelude.{◌≡◌, true, [], ◌∷◌, ◌++◌, OnOk, OnErr, IfErr};
+    ghost use Rattle.std.specs.Prelude.{◌≡◌, true, OnOk, OnErr, IfErr};
     ghost use Rattle.gimli_line.specs.header.File.{file_seen};
+    ghost use Rattle.gimli_line.specs.header.Header.{with_file};
 
     ghost meaning = { λ p. p.meaning };
 
@@ -110,9 +110,8 @@ impl<R: Reader> LineProgram<R> for IncompleteLineProgram<R> {
     }
 
     fn add_file(&mut self, file: FileEntry<R>) -> Result<()>
-        ensures ok { OnOk result (self.new.meaning ≡ record self.old.meaning {
-          files = self.old.meaning.files ++ file_seen R.bytes R.Offset.number file ∷ [];
-        }) }
+        ensures ok { OnOk result (self.new.meaning
+            ≡ with_file (file_seen R.bytes R.Offset.number file) self.old.meaning) }
         ensures err { OnErr result (self.new.meaning ≡ self.old.meaning) }
         ensures memory { IfErr result (λ e. (e ≡ Error.OutOfMemory) × (true ≡ true)) }
         ensures notation { self.new.notation ≡ self.old.notation }

@@ -1,6 +1,6 @@
 //! Rows, and what each instruction does to the registers.
 
-ghost use Rattle.std.specs.Prelude.{◌≡◌, ◌≢◌, ◌<◌, ◌≤◌, ◌+◌, true, false, IfErr, IfOk, IfSome, IsNone, MatchOption, OnErr, OnOk, option_map};
+ghost use Rattle.std.specs.Prelude.{◌≡◌, ◌<◌, ◌≤◌, ◌+◌, true, false, IfErr, IfOk, IfSome, IsNone, MatchOption, OnErr, OnOk, option_map};
 ghost use Rattle.std.specs.Int.NonZero.{non_zero_u64_get};
 
 use crate::header::file_entry::FileEntry;
@@ -43,12 +43,11 @@ pub enum ColumnType {
 impl LineRow {
     ghost use Rattle.gimli_core.specs.Notation.{Notation};
     ghost use Rattle.gimli_line.specs.header.Header.{Header, file_of};
-    ghost use Rattle.gimli_line.specs.run.Instruction.{files_behind};
-    ghost use Rattle.gimli_line.specs.run.Instruction.{ins_seen, makes_row, defines_file};
+    ghost use Rattle.gimli_line.specs.run.Instruction.{ins_seen, makes_row, header_behind};
     ghost use Rattle.gimli_line.specs.header.File.{file_seen};
     ghost use Rattle.gimli_line.specs.run.Machine.{initial, reset_row, rebased, IsAllowed, is_refused, stepped, with_register};
     ghost use Rattle.gimli_line.specs.run.OperationPointer.{exceeds};
-    ghost use Rattle.gimli_line.specs.run.Execution.{ExecutedWell};
+    ghost use Rattle.gimli_line.specs.run.Execution.{ExecutedWell, OverflowIs, OtherRefusalIs};
     ghost use Rattle.gimli_line.specs.run.InstructionReading.{standard_at};
     ghost use Rattle.gimli_line.specs.run.Row.{column_number};
     ghost use Rattle.gimli_line.specs.run.Registers.{advanced_line};
@@ -108,7 +107,8 @@ impl LineRow {
 
     /// The line, from 1 on; None where the instruction belongs to no line.
     pub fn line(&self) -> Option<NonZeroU64>
-        ensures { MatchOption result (self.now.line ≡ 0) (λ line. non_zero_u64_get line ≡ self.now.line) }
+        ensures { MatchOption result (self.now.line ≡ 0)
+            (λ line. non_zero_u64_get line ≡ self.now.line) }
     {
         NonZeroU64::new(self.line)
     }
@@ -188,23 +188,20 @@ impl LineRow {
         instruction: LineInstruction<R>,
         program: &mut P,
     ) -> Result<bool>
-        requires { IsAllowed (P.meaning program.old).parameters (ins_seen R.bytes R.Offset.number instruction) }
-        ensures made { IfOk result (λ made. made ≡ makes_row (ins_seen R.bytes R.Offset.number instruction)) }
+        requires { IsAllowed (P.meaning program.old).parameters
+            (ins_seen R.bytes R.Offset.number instruction) }
+        ensures made { IfOk result
+            (λ made. made ≡ makes_row (ins_seen R.bytes R.Offset.number instruction)) }
         ensures step { OnOk result (self.new ≡ stepped (P.meaning program.old).parameters
             (ins_seen R.bytes R.Offset.number instruction) self.old) }
         ensures fits { OnOk result (is_refused (P.meaning program.old).parameters
             (ins_seen R.bytes R.Offset.number instruction) self.old ≡ false) }
-        ensures files { OnOk result (P.meaning program.new ≡ record (P.meaning program.old) {
-          files = files_behind P.appends (ins_seen R.bytes R.Offset.number instruction) (P.meaning program.old).files;
-        }) }
-        ensures overflow { IfErr result (λ e. e ≡ Error.AddressOverflow →
-            (is_refused (P.meaning program.old).parameters
-            (ins_seen R.bytes R.Offset.number instruction) self.old ≡ true)
-            × (self.new ≡ stepped (P.meaning program.old).parameters
-            (ins_seen R.bytes R.Offset.number instruction) self.old)) }
-        ensures memory { IfErr result (λ e. e ≢ Error.AddressOverflow →
-            (e ≡ Error.OutOfMemory) × (P.appends ≡ true)
-            × (defines_file (ins_seen R.bytes R.Offset.number instruction) ≡ true) × (self.new ≡ self.old)) }
+        ensures files { OnOk result (P.meaning program.new ≡ header_behind P.appends
+            (ins_seen R.bytes R.Offset.number instruction) (P.meaning program.old)) }
+        ensures overflow { IfErr result (OverflowIs (P.meaning program.old).parameters
+            (ins_seen R.bytes R.Offset.number instruction) self.old self.new) }
+        ensures memory { IfErr result (OtherRefusalIs P.appends
+            (ins_seen R.bytes R.Offset.number instruction) self.old self.new) }
         ensures kept { OnErr result (P.meaning program.new ≡ P.meaning program.old) }
         ensures notation { P.notation program.new ≡ P.notation program.old }
         ensures offset { P.offset program.new ≡ P.offset program.old }

@@ -62,13 +62,13 @@ impl<R: Reader, P: LineProgram<R>> Lent for LineRows<R, P> {
 }
 
 impl<R: Reader, P: LineProgram<R>> LineRows<R, P> {
-    ghost use Rattle.std.specs.Prelude.{◌≡◌, [], ◌∷◌, ⊤, None, Ok, IfErr, IfOk, MatchBool, MatchOption, MatchResult};
+    ghost use Rattle.std.specs.Prelude.{◌≡◌, [], ◌∷◌, None, Ok, IfErr, IfOk, IfSome, MatchBool};
     ghost use Rattle.std.specs.Borrow.{sem};
     ghost use Rattle.std.specs.Io.BufRead.{Rests};
     ghost use Rattle.gimli_line.specs.run.Events.{row as row_event};
     ghost use Rattle.gimli_line.specs.header.Header.{bare};
     ghost use Rattle.gimli_line.specs.run.Progress.{ready, Progress};
-    ghost use Rattle.gimli_line.specs.run.Rows.{started, KeepsHeader, StepIs, RowIs, EndIs, FaultIs};
+    ghost use Rattle.gimli_line.specs.run.Rows.{started, KeepsHeader, StepIs, NextIs, RowIs, EndIs, FaultIs};
 
     /// The rows of these instructions of a program, from the start of a sequence on.
     pub(crate) fn start(program: P, instructions: LineInstructions<R>) -> Self
@@ -98,13 +98,14 @@ impl<R: Reader, P: LineProgram<R>> LineRows<R, P> {
     /// on after it. A program whose files are complete isn't refused for memory.
     pub fn next_row(&mut self) -> Result<Option<(&LineProgramHeader<R>, &LineRow)>>
         ensures* after { sem 𝓛 (Rests ⟦<LineRows<R, P> as Lent>⟧.lent self.entry
-            (λ new. KeepsHeader self.old new × MatchResult result
-            (λ found. MatchOption found (EndIs self.old new)
-            (λ pair. RowIs self.old new pair.1.now pair.0.now.meaning.files))
-            (FaultIs (ready self.old) new))) }
+            (λ new. KeepsHeader self.old new × NextIs self.old new result)) }
         ensures ended { self.old.unread.bytes ≡ [] → result ≡ Ok None }
-        ensures header { IfOk result (λ found. MatchOption found ⊤ (λ pair. (bare pair.0.now.meaning ≡ self.old.fixed)
-            × (pair.0.now.notation ≡ self.old.notation) × (R.Offset.number pair.0.now.offset.0 ≡ self.old.offset))) }
+        ensures header { IfOk result (λ found. IfSome found
+            (λ next. bare next.0.now.meaning ≡ self.old.fixed)) }
+        ensures notation { IfOk result (λ found. IfSome found
+            (λ next. next.0.now.notation ≡ self.old.notation)) }
+        ensures offset { IfOk result (λ found. IfSome found
+            (λ next. R.Offset.number next.0.now.offset.0 ≡ self.old.offset)) }
     {
         match self.advance() {
             Err(e) => Err(e),
@@ -268,15 +269,17 @@ impl<R: Reader> LineRows<R, IncompleteLineProgram<R>> {
 
 impl<R: Reader> IncompleteLineProgram<R> {
     ghost use Rattle.std.specs.Prelude.{◌≡◌, true};
-    ghost use Rattle.gimli_line.specs.run.Rows.{events_left, files_at_end, started};
+    ghost use Rattle.gimli_line.specs.run.Rows.{events_left, files_at_end, whole_run};
     ghost use Rattle.gimli_line.specs.run.EventsWithFiles.{EventsWithFiles, FilesAtEnd};
 
     /// The rows of the program, from its start to its end.
     pub fn rows(self) -> OneShotLineRows<R>
-        ensures events { EventsWithFiles self.notation true self.meaning self.meaning.program (events_left result) }
-        ensures files { FilesAtEnd self.notation true self.meaning self.meaning.program (files_at_end result) }
-        ensures start { result ≡ started true self.meaning self.notation (R.Offset.number self.offset.0)
-            (record { bytes = self.meaning.program; notation = self.notation }) }
+        ensures events { EventsWithFiles self.notation true self.meaning self.meaning.program
+            (events_left result) }
+        ensures files { FilesAtEnd self.notation true self.meaning self.meaning.program
+            (files_at_end result) }
+        ensures start { result
+            ≡ whole_run self.meaning self.notation (R.Offset.number self.offset.0) }
     {
         let instructions = self.header.instructions();
         LineRows::start(self, instructions)

@@ -164,8 +164,10 @@ impl<R: Reader> IncompleteLineProgram<R> {
         ensures ok { IfOk result (λ found. AreSequences self.notation self.meaning found.0.meaning
             (map part_of found.1.items)) }
         ensures notation { IfOk result (λ found. found.0.notation ≡ self.notation) }
-        ensures offset { IfOk result (λ found. R.Offset.number found.0.offset.0 ≡ R.Offset.number self.offset.0) }
-        ensures err { IfErr result (λ e. e ≢ Error.OutOfMemory → HasFirstFault self.notation self.meaning e) }
+        ensures offset { IfOk result
+            (λ found. R.Offset.number found.0.offset.0 ≡ R.Offset.number self.offset.0) }
+        ensures err { IfErr result
+            (λ e. e ≢ Error.OutOfMemory → HasFirstFault self.notation self.meaning e) }
     {
         let alloc = *self.header.file_names.allocator();
         let mut rows = self.rows();
@@ -193,8 +195,10 @@ impl<R: Reader> IncompleteLineProgram<R> {
         ensures each { IfOk result (λ found. map (λ rows. map row rows.items) found.2.items
             ≡ map (resumed found.0.meaning) (map part_of found.1.items)) }
         ensures notation { IfOk result (λ found. found.0.notation ≡ self.notation) }
-        ensures offset { IfOk result (λ found. R.Offset.number found.0.offset.0 ≡ R.Offset.number self.offset.0) }
-        ensures err { IfErr result (λ e. e ≢ Error.OutOfMemory → HasFirstFault self.notation self.meaning e) }
+        ensures offset { IfOk result
+            (λ found. R.Offset.number found.0.offset.0 ≡ R.Offset.number self.offset.0) }
+        ensures err { IfErr result
+            (λ e. e ≢ Error.OutOfMemory → HasFirstFault self.notation self.meaning e) }
     {
         let alloc = *self.header.file_names.allocator();
         let mut run = self.rows();

@@ -8,4 +8,4 @@ pub returns-clause-hidden : goal.returns-clause-hidden
 returns-clause-hidden c = hidden_behind
 
 pub returns-clause-row : goal.returns-clause-row
-returns-clause-row c = row_behind
+returns-clause-row c = λ parameters past i gives. row_behind parameters past i gives.0 gives.1

@@ -16,11 +16,9 @@ returns-in-Ok-true g c =
       (refl, λ _. tt, (keeps, rw (c.current.ensures.row, c.current.ensures.files) r)),
       record {
         after = tt;
-        header = (
-          c.current.ensures.header ∙ c.in-Ok-true.ensures.fixed,
-          c.current.ensures.notation ∙ c.in-Ok-true.ensures.notation,
-          c.current.ensures.offset ∙ c.in-Ok-true.ensures.offset,
-        );
+        header = c.current.ensures.header ∙ c.in-Ok-true.ensures.fixed;
+        notation = c.current.ensures.notation ∙ c.in-Ok-true.ensures.notation;
+        offset = c.current.ensures.offset ∙ c.in-Ok-true.ensures.offset;
         ended = λ empty. let none = sym (none_to_come c.args.self.now empty) ∙ r.0 in absurd cc;
       },
     )
@@ -37,6 +35,8 @@ returns-in-Err g c =
       record {
         after = tt;
         header = tt;
+        notation = tt;
+        offset = tt;
         ended = λ empty. absurd (never_refused (ready c.args.self.now) c.advance.new.self c.in-Err.e empty c.in-Err.ensures.err);
       },
     )

@@ -1,0 +1,16 @@
+-- What is taken of the instructions that are still to come (DWARF 5, section 6.2.5).
+use Rattle.std.specs.Prelude.{◌≡◌, ◌≢◌, ℕ, List, [], ◌++◌, Option, Some, None}
+use Rattle.gimli_core.specs.declared.error.Error.{Error}
+use Rattle.gimli_line.specs.header.Header.{Header}
+use Rattle.gimli_line.specs.run.Instruction.{Ins}
+use Rattle.gimli_line.specs.run.InstructionGrammar.{SpellsInstruction, instruction_production}
+use Rattle.gimli_line.specs.run.Unread.{Unread}
+
+-- a spelling of the instruction is taken from the front; or there is none, since no bytes are left
+abbrev pub TakesNext : Header → Unread → Unread → Option Ins → Type 0
+TakesNext h old new None = (old.bytes ≡ []) × (new.bytes ≡ [])
+TakesNext h old new (Some i) = (front : List ℕ) × (old.bytes ≡ front ++ new.bytes) × SpellsInstruction old.notation h front i
+
+-- bytes are left that begin with no instruction, and this is the refusal; after it none are left
+abbrev pub EndsByFault : Header → Unread → Unread → Error → Type 0
+EndsByFault h old new e = (old.bytes ≢ []) × (new.bytes ≡ []) × (instruction_production old.notation h).Fault old.bytes e
