@@ -1,6 +1,6 @@
 -- The bytes of a number as it is written, or the refusal of its value or its size. "big" says that the most
 -- significant byte comes first.
-use Rattle.std.specs.Prelude.{ℕ, zero, suc, ◌+◌, ◌-◌, ◌*◌, ◌/◌, ◌%◌, ◌^◌, Bool, ◌||◌, nat_lt, nat_eq, if◌then◌else◌, List, [], ◌∷◌, ◌++◌, Result, Ok, Err, ℤ, pos, negsuc, bit_and}
+use Rattle.std.specs.Prelude.{ℕ, zero, suc, ◌+◌, ◌-◌, ◌*◌, ◌/◌, ◌%◌, ◌^◌, Bool, ◌||◌, nat_lt, nat_eq, if◌then◌else◌, List, [], ◌∷◌, ◌++◌, length, Result, Ok, Err, ℤ, pos, negsuc, bit_and}
 use Rattle.std.specs.Int.{w64, cast_signed}
 use Rattle.gimli_core.specs.Numbers.{number_bytes}
 use Rattle.gimli_core.specs.Reading.{seen}
@@ -122,3 +122,7 @@ pointer_bytes big place (Constant n) encoding size =
     else (if nat_eq (bit_and encoding.0 0x70) 0x10 then pointer_data big ((n + (2 ^ 64 - place)) % 2 ^ 64) (format_of encoding) size
     else Err (UnsupportedPointerEncoding encoding))
 pointer_bytes big place (Symbol symbol addend) encoding size = Err InvalidAddress
+
+-- the same for an address that is written behind these bytes
+abbrev pub pointer_at_end : Bool → List ℕ → Address → DwEhPe → ℕ → Result (List ℕ) Error
+pointer_at_end big old address encoding size = pointer_bytes big (length old) address encoding size

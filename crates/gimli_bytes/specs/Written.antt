@@ -30,3 +30,11 @@ patched old at bytes =
 abbrev pub patch : Result (List ℕ) Error → List ℕ → ℕ → Result (List ℕ) Error
 patch (Ok bytes) old at = patched old at bytes
 patch (Err e) old at = Err e
+
+-- what a call over bytes that are there leaves where it answered Ok: the wanted bytes, from the place on, over the old ones
+abbrev pub Overwrites : ℕ → Result (List ℕ) Error → List ℕ → List ℕ → Type 0
+Overwrites at wanted old new = patch wanted old at ≡ Ok new
+
+-- what it may refuse for: the refusal that is wanted, else that of the place
+abbrev pub RefusesAt : ℕ → Result (List ℕ) Error → List ℕ → Error → Type 0
+RefusesAt at wanted old e = patch wanted old at ≡ Err e

@@ -62,7 +62,8 @@ impl<E: Endianity> EndianVec<E> {
     /// Appends bytes. It stands apart, so that what appends one byte stays small.
     #[inline(never)]
     fn append(&mut self, bytes: &[u8]) -> Result<()>
-        ensures ok { OnOk result (self.new ≡ record self.old { bytes = self.old.bytes ++ bytes.now }) }
+        ensures ok { OnOk result
+            (self.new ≡ record self.old { bytes = self.old.bytes ++ bytes.now }) }
         ensures err { OnErr result (self.new ≡ self.old) }
         ensures memory { IfErr result (λ e. e ≡ Error.OutOfMemory) }
     {
@@ -105,7 +106,8 @@ impl<E: Endianity> Writer for EndianVec<E> {
 
     #[inline(always)]
     fn write(&mut self, bytes: &[u8]) -> Result<()>
-        ensures ok { OnOk result (self.new ≡ record self.old { bytes = self.old.bytes ++ bytes.now }) }
+        ensures ok { OnOk result
+            (self.new ≡ record self.old { bytes = self.old.bytes ++ bytes.now }) }
         ensures err { OnErr result (self.new ≡ self.old) }
         ensures memory { IfErr result (λ e. e ≡ Error.OutOfMemory) }
     {

@@ -17,7 +17,8 @@ use crate::str::{LineStringId, StringId};
 pub fn equal_addresses_and_ids()
     ensures address { (a b : Address) → Decides (⟦<Address as PartialEq>⟧.eq a b) (a ≡ b) }
     ensures string { (a b : StringId) → Decides (⟦<StringId as PartialEq>⟧.eq a b) (a ≡ b) }
-    ensures line_string { (a b : LineStringId) → Decides (⟦<LineStringId as PartialEq>⟧.eq a b) (a ≡ b) }
+    ensures line_string { (a b : LineStringId) →
+        Decides (⟦<LineStringId as PartialEq>⟧.eq a b) (a ≡ b) }
 {}
 
 /// What `write_uleb128` appends is a spelling of the number, and no other is shorter.

@@ -139,7 +139,8 @@ impl<E: Endianity, const N: usize> PieceVec<E, N> {
     /// Appends bytes, as the writer's call does. Refused for want of memory alone, and then nothing is changed; a length past the
     /// greatest `usize` counts as a refused growth.
     pub fn write(&mut self, bytes: &[u8]) -> Result<()>
-        ensures ok { OnOk result (self.new ≡ record self.old { bytes = self.old.bytes ++ bytes.now }) }
+        ensures ok { OnOk result
+            (self.new ≡ record self.old { bytes = self.old.bytes ++ bytes.now }) }
         ensures err { OnErr result (self.new ≡ self.old) }
         ensures memory { IfErr result (λ e. e ≡ Error.OutOfMemory) }
     {

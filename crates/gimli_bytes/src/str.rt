@@ -96,9 +96,10 @@ impl Texts {
     fn write<W: Writer>(&self, w: &mut W) -> Result<()>
         ensures keeps { Begins (W.contents w.old) (W.contents w.new) }
         ensures ordered { W.big w.new ≡ W.big w.old }
-        ensures ok { IsTrue W.keeps_bytes →
-            OnOk result (Appends (Ok (table_bytes self.now)) (W.contents w.old) (W.contents w.new)) }
-        ensures err { IsTrue W.fails_for_memory_alone → IfErr result (Refuses (Ok (table_bytes self.now))) }
+        ensures ok { IsTrue W.keeps_bytes → OnOk result (Appends
+            (Ok (table_bytes self.now)) (W.contents w.old) (W.contents w.new)) }
+        ensures err { IsTrue W.fails_for_memory_alone →
+            IfErr result (Refuses (Ok (table_bytes self.now))) }
         ensures texts { AreTexts self.now }
     {
         for text in self.strings.as_slice() {
@@ -183,9 +184,10 @@ impl StringTable {
     pub fn write<W: Writer>(&self, w: &mut DebugStr<W>) -> Result<()>
         ensures keeps { Begins (W.contents w.old.0) (W.contents w.new.0) }
         ensures ordered { W.big w.new.0 ≡ W.big w.old.0 }
-        ensures ok { IsTrue W.keeps_bytes →
-            OnOk result (Appends (Ok (table_bytes self.now)) (W.contents w.old.0) (W.contents w.new.0)) }
-        ensures err { IsTrue W.fails_for_memory_alone → IfErr result (Refuses (Ok (table_bytes self.now))) }
+        ensures ok { IsTrue W.keeps_bytes → OnOk result (Appends
+            (Ok (table_bytes self.now)) (W.contents w.old.0) (W.contents w.new.0)) }
+        ensures err { IsTrue W.fails_for_memory_alone →
+            IfErr result (Refuses (Ok (table_bytes self.now))) }
         ensures texts { AreTexts self.now }
     {
         self.texts.write(&mut w.0)
@@ -271,9 +273,10 @@ impl LineStringTable {
     pub fn write<W: Writer>(&self, w: &mut DebugLineStr<W>) -> Result<()>
         ensures keeps { Begins (W.contents w.old.0) (W.contents w.new.0) }
         ensures ordered { W.big w.new.0 ≡ W.big w.old.0 }
-        ensures ok { IsTrue W.keeps_bytes →
-            OnOk result (Appends (Ok (table_bytes self.now)) (W.contents w.old.0) (W.contents w.new.0)) }
-        ensures err { IsTrue W.fails_for_memory_alone → IfErr result (Refuses (Ok (table_bytes self.now))) }
+        ensures ok { IsTrue W.keeps_bytes → OnOk result (Appends
+            (Ok (table_bytes self.now)) (W.contents w.old.0) (W.contents w.new.0)) }
+        ensures err { IsTrue W.fails_for_memory_alone →
+            IfErr result (Refuses (Ok (table_bytes self.now))) }
         ensures texts { AreTexts self.now }
     {
         self.texts.write(&mut w.0)

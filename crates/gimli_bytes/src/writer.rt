@@ -1,7 +1,7 @@
 ghost use Rattle.std.specs.Prelude.{◌≡◌, ℕ, ◌+◌, ◌≤◌, Bool, List, IsTrue, IfOk, IfErr, OnOk, OnErr, Ok, Err, length, take};
 ghost use Rattle.gimli_core.specs.Numbers.{number_bytes, SpellsUleb128, SpellsSleb128, IsShortest};
-ghost use Rattle.gimli_bytes.specs.Written.{Begins, Appends, Refuses, patch};
-ghost use Rattle.gimli_bytes.specs.Number.{udata, sdata, twos_complement, uleb, sleb, address_bytes, escape_size, open_length, length_word, pointer_data, pointer_bytes};
+ghost use Rattle.gimli_bytes.specs.Written.{Begins, Appends, Refuses, Overwrites, RefusesAt};
+ghost use Rattle.gimli_bytes.specs.Number.{udata, sdata, twos_complement, uleb, sleb, address_bytes, escape_size, open_length, length_word, pointer_data, pointer_at_end};
 
 use crate::address::Address;
 use crate::error::{Error, Result};
@@ -57,18 +57,17 @@ pub trait Writer {
         ensures ordered { big self.new ≡ big self.old }
         ensures refused { OnErr result (contents self.new ≡ contents self.old) }
         ensures ok { IsTrue keeps_bytes →
-            OnOk result (patch (Ok bytes.now) (contents self.old) offset ≡ Ok (contents self.new)) }
+            OnOk result (Overwrites offset (Ok bytes.now) (contents self.old) (contents self.new)) }
         ensures err { IsTrue fails_for_memory_alone →
-            IfErr result (λ e. patch (Ok bytes.now) (contents self.old) offset ≡ Err e) };
+            IfErr result (RefusesAt offset (Ok bytes.now) (contents self.old)) };
 
     /// Appends an address of `size` bytes. A symbol is `InvalidAddress`; a constant is refused as
     /// by `write_udata`. A writer that supports relocations has a body of its own.
     fn write_address(&mut self, address: Address, size: u8) -> Result<()>
         ensures keeps { Begins (contents self.old) (contents self.new) }
         ensures ordered { big self.new ≡ big self.old }
-        ensures ok { IsTrue keeps_bytes → OnOk result
-            (Appends (address_bytes (big self.old) address size)
-            (contents self.old) (contents self.new)) }
+        ensures ok { IsTrue keeps_bytes → OnOk result (Appends
+            (address_bytes (big self.old) address size) (contents self.old) (contents self.new)) }
         ensures err { IsTrue fails_for_memory_alone →
             IfErr result (Refuses (address_bytes (big self.old) address size)) }
     {
@@ -84,11 +83,10 @@ pub trait Writer {
     fn write_eh_pointer(&mut self, address: Address, eh_pe: DwEhPe, size: u8) -> Result<()>
         ensures keeps { Begins (contents self.old) (contents self.new) }
         ensures ordered { big self.new ≡ big self.old }
-        ensures ok { IsTrue keeps_bytes → OnOk result
-            (Appends (pointer_bytes (big self.old) (length (contents self.old)) address eh_pe size)
-            (contents self.old) (contents self.new)) }
-        ensures err { IsTrue fails_for_memory_alone → IfErr result
-            (Refuses (pointer_bytes (big self.old) (length (contents self.old)) address eh_pe size)) }
+        ensures ok { IsTrue keeps_bytes → OnOk result (Appends (pointer_at_end (big self.old)
+            (contents self.old) address eh_pe size) (contents self.old) (contents self.new)) }
+        ensures err { IsTrue fails_for_memory_alone → IfErr result (Refuses
+            (pointer_at_end (big self.old) (contents self.old) address eh_pe size)) }
     {
         match address {
             Address::Constant(val) => match eh_pe.application() {
@@ -109,9 +107,8 @@ pub trait Writer {
     fn write_eh_pointer_data(&mut self, val: u64, format: DwEhPe, size: u8) -> Result<()>
         ensures keeps { Begins (contents self.old) (contents self.new) }
         ensures ordered { big self.new ≡ big self.old }
-        ensures ok { IsTrue keeps_bytes → OnOk result
-            (Appends (pointer_data (big self.old) val format size)
-            (contents self.old) (contents self.new)) }
+        ensures ok { IsTrue keeps_bytes → OnOk result (Appends
+            (pointer_data (big self.old) val format size) (contents self.old) (contents self.new)) }
         ensures err { IsTrue fails_for_memory_alone →
             IfErr result (Refuses (pointer_data (big self.old) val format size)) }
     {
@@ -134,10 +131,10 @@ pub trait Writer {
     fn write_offset(&mut self, val: usize, _section: SectionId, size: u8) -> Result<()>
         ensures keeps { Begins (contents self.old) (contents self.new) }
         ensures ordered { big self.new ≡ big self.old }
-        ensures ok { IsTrue keeps_bytes → OnOk result
-            (Appends (udata (big self.old) val size)
-            (contents self.old) (contents self.new)) }
-        ensures err { IsTrue fails_for_memory_alone → IfErr result (Refuses (udata (big self.old) val size)) }
+        ensures ok { IsTrue keeps_bytes → OnOk result (Appends
+            (udata (big self.old) val size) (contents self.old) (contents self.new)) }
+        ensures err { IsTrue fails_for_memory_alone →
+            IfErr result (Refuses (udata (big self.old) val size)) }
     {
         self.write_udata(val as u64, size)
     }
@@ -155,11 +152,10 @@ pub trait Writer {
         ensures before { take offset (contents self.new) ≡ take offset (contents self.old) }
         ensures ordered { big self.new ≡ big self.old }
         ensures refused { OnErr result (contents self.new ≡ contents self.old) }
-        ensures ok { IsTrue keeps_bytes → OnOk result
-            (patch (udata (big self.old) val size) (contents self.old) offset
-            ≡ Ok (contents self.new)) }
-        ensures err { IsTrue fails_for_memory_alone → IfErr result
-            (λ e. patch (udata (big self.old) val size) (contents self.old) offset ≡ Err e) }
+        ensures ok { IsTrue keeps_bytes → OnOk result (Overwrites offset
+            (udata (big self.old) val size) (contents self.old) (contents self.new)) }
+        ensures err { IsTrue fails_for_memory_alone →
+            IfErr result (RefusesAt offset (udata (big self.old) val size) (contents self.old)) }
     {
         self.write_udata_at(offset, val as u64, size)
     }
@@ -169,10 +165,10 @@ pub trait Writer {
     fn write_reference(&mut self, _symbol: usize, _size: u8) -> Result<()>
         ensures keeps { Begins (contents self.old) (contents self.new) }
         ensures ordered { big self.new ≡ big self.old }
-        ensures ok { IsTrue keeps_bytes → OnOk result
-            (Appends (Err Error.InvalidReference)
-            (contents self.old) (contents self.new)) }
-        ensures err { IsTrue fails_for_memory_alone → IfErr result (Refuses (Err Error.InvalidReference)) }
+        ensures ok { IsTrue keeps_bytes → OnOk result (Appends
+            (Err Error.InvalidReference) (contents self.old) (contents self.new)) }
+        ensures err { IsTrue fails_for_memory_alone →
+            IfErr result (Refuses (Err Error.InvalidReference)) }
     {
         Err(Error::InvalidReference)
     }
@@ -181,9 +177,8 @@ pub trait Writer {
     fn write_u8(&mut self, val: u8) -> Result<()>
         ensures keeps { Begins (contents self.old) (contents self.new) }
         ensures ordered { big self.new ≡ big self.old }
-        ensures ok { IsTrue keeps_bytes → OnOk result
-            (Appends (Ok (number_bytes (big self.old) 1 val))
-            (contents self.old) (contents self.new)) }
+        ensures ok { IsTrue keeps_bytes → OnOk result (Appends
+            (Ok (number_bytes (big self.old) 1 val)) (contents self.old) (contents self.new)) }
         ensures err { IsTrue fails_for_memory_alone →
             IfErr result (Refuses (Ok (number_bytes (big self.old) 1 val))) }
     {
@@ -194,9 +189,8 @@ pub trait Writer {
     fn write_u16(&mut self, val: u16) -> Result<()>
         ensures keeps { Begins (contents self.old) (contents self.new) }
         ensures ordered { big self.new ≡ big self.old }
-        ensures ok { IsTrue keeps_bytes → OnOk result
-            (Appends (Ok (number_bytes (big self.old) 2 val))
-            (contents self.old) (contents self.new)) }
+        ensures ok { IsTrue keeps_bytes → OnOk result (Appends
+            (Ok (number_bytes (big self.old) 2 val)) (contents self.old) (contents self.new)) }
         ensures err { IsTrue fails_for_memory_alone →
             IfErr result (Refuses (Ok (number_bytes (big self.old) 2 val))) }
     {
@@ -207,9 +201,8 @@ pub trait Writer {
     fn write_u32(&mut self, val: u32) -> Result<()>
         ensures keeps { Begins (contents self.old) (contents self.new) }
         ensures ordered { big self.new ≡ big self.old }
-        ensures ok { IsTrue keeps_bytes → OnOk result
-            (Appends (Ok (number_bytes (big self.old) 4 val))
-            (contents self.old) (contents self.new)) }
+        ensures ok { IsTrue keeps_bytes → OnOk result (Appends
+            (Ok (number_bytes (big self.old) 4 val)) (contents self.old) (contents self.new)) }
         ensures err { IsTrue fails_for_memory_alone →
             IfErr result (Refuses (Ok (number_bytes (big self.old) 4 val))) }
     {
@@ -220,9 +213,8 @@ pub trait Writer {
     fn write_u64(&mut self, val: u64) -> Result<()>
         ensures keeps { Begins (contents self.old) (contents self.new) }
         ensures ordered { big self.new ≡ big self.old }
-        ensures ok { IsTrue keeps_bytes → OnOk result
-            (Appends (Ok (number_bytes (big self.old) 8 val))
-            (contents self.old) (contents self.new)) }
+        ensures ok { IsTrue keeps_bytes → OnOk result (Appends
+            (Ok (number_bytes (big self.old) 8 val)) (contents self.old) (contents self.new)) }
         ensures err { IsTrue fails_for_memory_alone →
             IfErr result (Refuses (Ok (number_bytes (big self.old) 8 val))) }
     {
@@ -233,9 +225,8 @@ pub trait Writer {
     fn write_u128(&mut self, val: u128) -> Result<()>
         ensures keeps { Begins (contents self.old) (contents self.new) }
         ensures ordered { big self.new ≡ big self.old }
-        ensures ok { IsTrue keeps_bytes → OnOk result
-            (Appends (Ok (number_bytes (big self.old) 16 val))
-            (contents self.old) (contents self.new)) }
+        ensures ok { IsTrue keeps_bytes → OnOk result (Appends
+            (Ok (number_bytes (big self.old) 16 val)) (contents self.old) (contents self.new)) }
         ensures err { IsTrue fails_for_memory_alone →
             IfErr result (Refuses (Ok (number_bytes (big self.old) 16 val))) }
     {
@@ -248,11 +239,10 @@ pub trait Writer {
         ensures before { take offset (contents self.new) ≡ take offset (contents self.old) }
         ensures ordered { big self.new ≡ big self.old }
         ensures refused { OnErr result (contents self.new ≡ contents self.old) }
-        ensures ok { IsTrue keeps_bytes → OnOk result
-            (patch (Ok (number_bytes (big self.old) 1 val)) (contents self.old) offset
-            ≡ Ok (contents self.new)) }
-        ensures err { IsTrue fails_for_memory_alone → IfErr result
-            (λ e. patch (Ok (number_bytes (big self.old) 1 val)) (contents self.old) offset ≡ Err e) }
+        ensures ok { IsTrue keeps_bytes → OnOk result (Overwrites offset
+            (Ok (number_bytes (big self.old) 1 val)) (contents self.old) (contents self.new)) }
+        ensures err { IsTrue fails_for_memory_alone → IfErr result (RefusesAt offset
+            (Ok (number_bytes (big self.old) 1 val)) (contents self.old)) }
     {
         self.write_at(offset, &[val])
     }
@@ -263,11 +253,10 @@ pub trait Writer {
         ensures before { take offset (contents self.new) ≡ take offset (contents self.old) }
         ensures ordered { big self.new ≡ big self.old }
         ensures refused { OnErr result (contents self.new ≡ contents self.old) }
-        ensures ok { IsTrue keeps_bytes → OnOk result
-            (patch (Ok (number_bytes (big self.old) 2 val)) (contents self.old) offset
-            ≡ Ok (contents self.new)) }
-        ensures err { IsTrue fails_for_memory_alone → IfErr result
-            (λ e. patch (Ok (number_bytes (big self.old) 2 val)) (contents self.old) offset ≡ Err e) }
+        ensures ok { IsTrue keeps_bytes → OnOk result (Overwrites offset
+            (Ok (number_bytes (big self.old) 2 val)) (contents self.old) (contents self.new)) }
+        ensures err { IsTrue fails_for_memory_alone → IfErr result (RefusesAt offset
+            (Ok (number_bytes (big self.old) 2 val)) (contents self.old)) }
     {
         self.write_at(offset, &bytes_of_u16(self.endian(), val))
     }
@@ -278,11 +267,10 @@ pub trait Writer {
         ensures before { take offset (contents self.new) ≡ take offset (contents self.old) }
         ensures ordered { big self.new ≡ big self.old }
         ensures refused { OnErr result (contents self.new ≡ contents self.old) }
-        ensures ok { IsTrue keeps_bytes → OnOk result
-            (patch (Ok (number_bytes (big self.old) 4 val)) (contents self.old) offset
-            ≡ Ok (contents self.new)) }
-        ensures err { IsTrue fails_for_memory_alone → IfErr result
-            (λ e. patch (Ok (number_bytes (big self.old) 4 val)) (contents self.old) offset ≡ Err e) }
+        ensures ok { IsTrue keeps_bytes → OnOk result (Overwrites offset
+            (Ok (number_bytes (big self.old) 4 val)) (contents self.old) (contents self.new)) }
+        ensures err { IsTrue fails_for_memory_alone → IfErr result (RefusesAt offset
+            (Ok (number_bytes (big self.old) 4 val)) (contents self.old)) }
     {
         self.write_at(offset, &bytes_of_u32(self.endian(), val))
     }
@@ -293,11 +281,10 @@ pub trait Writer {
         ensures before { take offset (contents self.new) ≡ take offset (contents self.old) }
         ensures ordered { big self.new ≡ big self.old }
         ensures refused { OnErr result (contents self.new ≡ contents self.old) }
-        ensures ok { IsTrue keeps_bytes → OnOk result
-            (patch (Ok (number_bytes (big self.old) 8 val)) (contents self.old) offset
-            ≡ Ok (contents self.new)) }
-        ensures err { IsTrue fails_for_memory_alone → IfErr result
-            (λ e. patch (Ok (number_bytes (big self.old) 8 val)) (contents self.old) offset ≡ Err e) }
+        ensures ok { IsTrue keeps_bytes → OnOk result (Overwrites offset
+            (Ok (number_bytes (big self.old) 8 val)) (contents self.old) (contents self.new)) }
+        ensures err { IsTrue fails_for_memory_alone → IfErr result (RefusesAt offset
+            (Ok (number_bytes (big self.old) 8 val)) (contents self.old)) }
     {
         self.write_at(offset, &bytes_of_u64(self.endian(), val))
     }
@@ -308,11 +295,10 @@ pub trait Writer {
         ensures before { take offset (contents self.new) ≡ take offset (contents self.old) }
         ensures ordered { big self.new ≡ big self.old }
         ensures refused { OnErr result (contents self.new ≡ contents self.old) }
-        ensures ok { IsTrue keeps_bytes → OnOk result
-            (patch (Ok (number_bytes (big self.old) 16 val)) (contents self.old) offset
-            ≡ Ok (contents self.new)) }
-        ensures err { IsTrue fails_for_memory_alone → IfErr result
-            (λ e. patch (Ok (number_bytes (big self.old) 16 val)) (contents self.old) offset ≡ Err e) }
+        ensures ok { IsTrue keeps_bytes → OnOk result (Overwrites offset
+            (Ok (number_bytes (big self.old) 16 val)) (contents self.old) (contents self.new)) }
+        ensures err { IsTrue fails_for_memory_alone → IfErr result (RefusesAt offset
+            (Ok (number_bytes (big self.old) 16 val)) (contents self.old)) }
     {
         self.write_at(offset, &bytes_of_u128(self.endian(), val))
     }
@@ -322,10 +308,10 @@ pub trait Writer {
     fn write_udata(&mut self, val: u64, size: u8) -> Result<()>
         ensures keeps { Begins (contents self.old) (contents self.new) }
         ensures ordered { big self.new ≡ big self.old }
-        ensures ok { IsTrue keeps_bytes → OnOk result
-            (Appends (udata (big self.old) val size)
-            (contents self.old) (contents self.new)) }
-        ensures err { IsTrue fails_for_memory_alone → IfErr result (Refuses (udata (big self.old) val size)) }
+        ensures ok { IsTrue keeps_bytes → OnOk result (Appends
+            (udata (big self.old) val size) (contents self.old) (contents self.new)) }
+        ensures err { IsTrue fails_for_memory_alone →
+            IfErr result (Refuses (udata (big self.old) val size)) }
     {
         match size {
             1 => {
@@ -368,10 +354,10 @@ pub trait Writer {
     fn write_sdata(&mut self, val: i64, size: u8) -> Result<()>
         ensures keeps { Begins (contents self.old) (contents self.new) }
         ensures ordered { big self.new ≡ big self.old }
-        ensures ok { IsTrue keeps_bytes → OnOk result
-            (Appends (sdata (big self.old) val size)
-            (contents self.old) (contents self.new)) }
-        ensures err { IsTrue fails_for_memory_alone → IfErr result (Refuses (sdata (big self.old) val size)) }
+        ensures ok { IsTrue keeps_bytes → OnOk result (Appends
+            (sdata (big self.old) val size) (contents self.old) (contents self.new)) }
+        ensures err { IsTrue fails_for_memory_alone →
+            IfErr result (Refuses (sdata (big self.old) val size)) }
     {
         match size {
             1 => self.write_u8(bits_of_i8(val)?),
@@ -389,11 +375,10 @@ pub trait Writer {
         ensures before { take offset (contents self.new) ≡ take offset (contents self.old) }
         ensures ordered { big self.new ≡ big self.old }
         ensures refused { OnErr result (contents self.new ≡ contents self.old) }
-        ensures ok { IsTrue keeps_bytes → OnOk result
-            (patch (udata (big self.old) val size) (contents self.old) offset
-            ≡ Ok (contents self.new)) }
-        ensures err { IsTrue fails_for_memory_alone → IfErr result
-            (λ e. patch (udata (big self.old) val size) (contents self.old) offset ≡ Err e) }
+        ensures ok { IsTrue keeps_bytes → OnOk result (Overwrites offset
+            (udata (big self.old) val size) (contents self.old) (contents self.new)) }
+        ensures err { IsTrue fails_for_memory_alone →
+            IfErr result (RefusesAt offset (udata (big self.old) val size) (contents self.old)) }
     {
         match size {
             1 => {
@@ -470,9 +455,8 @@ pub trait Writer {
         ensures after { IfOk result (λ word. length (contents self.old) ≤ word.0) }
         ensures place { IsTrue keeps_bytes →
             IfOk result (λ word. word.0 ≡ length (contents self.old) + escape_size format) }
-        ensures ok { IsTrue keeps_bytes → OnOk result
-            (Appends (Ok (open_length (big self.old) format))
-            (contents self.old) (contents self.new)) }
+        ensures ok { IsTrue keeps_bytes → OnOk result (Appends
+            (Ok (open_length (big self.old) format)) (contents self.old) (contents self.new)) }
         ensures err { IsTrue fails_for_memory_alone →
             IfErr result (Refuses (Ok (open_length (big self.old) format))) }
     {
@@ -504,11 +488,10 @@ pub trait Writer {
         ensures before { take offset.0 (contents self.new) ≡ take offset.0 (contents self.old) }
         ensures ordered { big self.new ≡ big self.old }
         ensures refused { OnErr result (contents self.new ≡ contents self.old) }
-        ensures ok { IsTrue keeps_bytes → OnOk result
-            (patch (length_word (big self.old) format val) (contents self.old) offset.0
-            ≡ Ok (contents self.new)) }
-        ensures err { IsTrue fails_for_memory_alone → IfErr result
-            (λ e. patch (length_word (big self.old) format val) (contents self.old) offset.0 ≡ Err e) }
+        ensures ok { IsTrue keeps_bytes → OnOk result (Overwrites offset.0
+            (length_word (big self.old) format val) (contents self.old) (contents self.new)) }
+        ensures err { IsTrue fails_for_memory_alone → IfErr result (RefusesAt offset.0
+            (length_word (big self.old) format val) (contents self.old)) }
     {
         if format == Format::Dwarf32 && (0xffff_fff0..=0xffff_ffff).contains(&val) {
             return Err(Error::InitialLengthOverflow);
