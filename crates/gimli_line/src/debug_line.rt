@@ -12,8 +12,7 @@ ghost use Rattle.gimli_line.specs.run.Unread.{unread};
 use crate::header::program_header::LineProgramHeader;
 use crate::run::program::IncompleteLineProgram;
 use gimli_core::{
-    DebugLineOffset, EndianSlice, Endianity, Error, Reader, ReaderOffset, Result, Section,
-    SectionId,
+    DebugLineOffset, EndianSlice, Endianity, Reader, ReaderOffset, Result, Section, SectionId,
 };
 use std::alloc::Global;
 use std::marker::Model;

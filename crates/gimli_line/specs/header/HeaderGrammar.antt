@@ -267,7 +267,7 @@ SpellsEntries notation format formats = (entries_production notation format form
 abbrev pub HoldsCount : List ℕ → ℕ → Type 0
 HoldsCount bytes n = (count : List ℕ) × (behind : List ℕ) × (bytes ≡ count ++ behind) × SpellsUleb128 64 count n × (n ≤ length behind)
 
--- the bytes of any entries of these formats hold the count of these entries
+-- whatever entries of these formats bytes spell, the bytes hold their count
 abbrev pub HaveCountedEntries : Notation → Format → List FileEntryFormat → Type 0
 HaveCountedEntries notation format formats =
     (bytes : List ℕ) (entries : List Entry) → SpellsEntries notation format formats bytes entries → HoldsCount bytes (length entries)

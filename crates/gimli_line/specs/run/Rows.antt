@@ -91,7 +91,8 @@ FaultComes old new e =
 abbrev pub FaultIs : RunState → RunState → Error → Type 0
 FaultIs old new e = ((e ≡ OutOfMemory) × WantsMemory old new) ⊎ FaultComes old new e
 
--- what `next_row` answers: the end, the next row with the header that has the files of its place, or a refusal
+-- an answer of `next_row` is what was next to come: the end, a row with a header that has the files of its place, or a
+-- refusal
 abbrev pub NextIs : {R Offset Endian : Type 0} → RunState → RunState → Result (Option (Bor (SeenHeader R Offset Endian) × Bor LineRow)) Error → Type 0
 NextIs old new (Ok None) = EndIs old new
 NextIs old new (Ok (Some found)) = RowIs old new found.1.now found.0.now.meaning.files
