@@ -2,12 +2,11 @@
 
 use crate::equality::{check, check_equal};
 use crate::units::{DEMO_PROGRAM, HEADER, changed, file_count, program, slice, unit};
-use gimli_core::{Reader, Result};
+use gimli_core::{Error, Reader, Result};
 use gimli_line::{CompleteLineProgram, LineRow, LineSequence, ResumedLineRows};
 use gimli_lookup::Lookup;
 use std::alloc::{AllocError, Global};
 use std::process::Abort;
-use std::test::Fail;
 
 /// Two adjacent rows.
 type Pair = (LineRow, LineRow);
@@ -209,13 +208,21 @@ fn check_case<R: Reader>(rt: &impl Abort, alloc: Global, unit: R, case: &Case) -
     Ok(())
 }
 
-#[test]
-fn each_address_of_small_programs(rt: HostRuntime) -> std::result::Result<(), Fail> {
+fn steps_of_each_address_of_small_programs(rt: &impl Abort, alloc: Global) -> Result<()> {
     for case in &CASES {
-        let unit = unit(rt.alloc(), HEADER, case.program)?;
-        check_case(&rt, rt.alloc(), slice(&unit), case)?;
+        let unit = unit(alloc, HEADER, case.program)?;
+        check_case(rt, alloc, slice(&unit), case)?;
     }
     Ok(())
+}
+
+#[test]
+fn each_address_of_small_programs(rt: HostRuntime) {
+    check_equal(
+        &rt,
+        steps_of_each_address_of_small_programs(&rt, rt.alloc()),
+        Ok(()),
+    );
 }
 
 // ---- the rows that one run keeps
@@ -254,19 +261,23 @@ fn check_kept<R: Reader>(rt: &impl Abort, alloc: Global, unit: R, case: &Case) -
     Ok(())
 }
 
-#[test]
-fn rows_of_one_run(rt: HostRuntime) -> std::result::Result<(), Fail> {
+fn steps_of_rows_of_one_run(rt: &impl Abort, alloc: Global) -> Result<()> {
     for case in &CASES {
-        let unit = unit(rt.alloc(), HEADER, case.program)?;
-        check_kept(&rt, rt.alloc(), slice(&unit), case)?;
+        let unit = unit(alloc, HEADER, case.program)?;
+        check_kept(rt, alloc, slice(&unit), case)?;
     }
     Ok(())
+}
+
+#[test]
+fn rows_of_one_run(rt: HostRuntime) {
+    check_equal(&rt, steps_of_rows_of_one_run(&rt, rt.alloc()), Ok(()));
 }
 
 // ---- a lookup of many rows
 
 /// A program of one sequence of a thousand rows: at each address from 0x11 on a row, the last one an end.
-fn program_of_a_thousand_rows(alloc: Global) -> std::result::Result<Vec<u8>, AllocError> {
+fn bytes_of_a_thousand_rows(alloc: Global) -> std::result::Result<Vec<u8>, AllocError> {
     let mut program = Vec::from_slice(alloc, b"\0\x05\x02\x10\0\0\0")?;
     for _ in 0..999 {
         program.push(0x20)?;
@@ -275,19 +286,23 @@ fn program_of_a_thousand_rows(alloc: Global) -> std::result::Result<Vec<u8>, All
     Ok(program)
 }
 
+/// Its bytes, or `OutOfMemory`.
+fn program_of_a_thousand_rows(alloc: Global) -> Result<Vec<u8>> {
+    bytes_of_a_thousand_rows(alloc).map_err(|_| Error::OutOfMemory)
+}
+
 /// The addresses of two rows.
 fn addresses(pair: Option<Pair>) -> Option<(u64, u64)> {
     pair.map(|(first, second)| (first.address(), second.address()))
 }
 
 /// The row at each address is found, and the one after it, with at most ten probes.
-#[test]
-fn each_address_of_a_thousand_rows(rt: HostRuntime) -> std::result::Result<(), Fail> {
-    let bytes = program_of_a_thousand_rows(rt.alloc())?;
-    let unit = unit(rt.alloc(), HEADER, &bytes)?;
+fn steps_of_each_address_of_a_thousand_rows(rt: &impl Abort, alloc: Global) -> Result<()> {
+    let bytes = program_of_a_thousand_rows(alloc)?;
+    let unit = unit(alloc, HEADER, &bytes)?;
     // The unit has 1048 bytes, which one byte doesn't tell.
-    let unit = changed(rt.alloc(), &unit, &[(0, 0x14), (1, 4)])?;
-    let lookup = Lookup::new(program(rt.alloc(), slice(&unit), 4)?)?;
+    let unit = changed(alloc, &unit, &[(0, 0x14), (1, 4)])?;
+    let lookup = Lookup::new(program(alloc, slice(&unit), 4)?)?;
     for a in 0..1100 {
         let is_covered = 0x11 <= a && a < 0x3f8;
         let expected = is_covered.then_some((a, a + 1));
@@ -297,4 +312,13 @@ fn each_address_of_a_thousand_rows(rt: HostRuntime) -> std::result::Result<(), F
         assert!(rt; 1 <= probes && probes <= 10, "at {a}");
     }
     Ok(())
+}
+
+#[test]
+fn each_address_of_a_thousand_rows(rt: HostRuntime) {
+    check_equal(
+        &rt,
+        steps_of_each_address_of_a_thousand_rows(&rt, rt.alloc()),
+        Ok(()),
+    );
 }

@@ -13,7 +13,6 @@ use gimli_write::{
 };
 use std::alloc::Global;
 use std::process::Abort;
-use std::test::Fail;
 
 /// A text of one byte.
 fn text(alloc: Global, byte: u8) -> Result<LineString>
@@ -94,18 +93,22 @@ fn put_name(program: &mut LineProgram, alloc: Global, name: u8) -> Result<FileId
     put_file(program, alloc, name, None)
 }
 
-#[test]
-fn accessors(rt: HostRuntime) -> std::result::Result<(), Fail> {
-    let program = program(rt.alloc())?;
-    check(&rt, !program.is_none());
-    check_equal(&rt, program.version(), 4);
-    check_equal(&rt, program.address_size(), 4);
-    check_equal(&rt, program.format(), Format::Dwarf32);
-    check_equal(&rt, program.encoding().version, 4);
-    check(&rt, !program.file_has_md5);
+fn steps_of_accessors(rt: &impl Abort, alloc: Global) -> Result<()> {
+    let program = program(alloc)?;
+    check(rt, !program.is_none());
+    check_equal(rt, program.version(), 4);
+    check_equal(rt, program.address_size(), 4);
+    check_equal(rt, program.format(), Format::Dwarf32);
+    check_equal(rt, program.encoding().version, 4);
+    check(rt, !program.file_has_md5);
     let working = program.get_directory(program.default_directory());
-    check_equal(&rt, first_byte(working), b'w');
+    check_equal(rt, first_byte(working), b'w');
     Ok(())
+}
+
+#[test]
+fn accessors(rt: HostRuntime) {
+    check_equal(&rt, steps_of_accessors(&rt, rt.alloc()), Ok(()));
 }
 
 #[test]
@@ -116,17 +119,21 @@ fn no_program(rt: HostRuntime) {
     check(&rt, none.is_empty());
 }
 
-#[test]
-fn directories_twice(rt: HostRuntime) -> std::result::Result<(), Fail> {
-    let mut program = program(rt.alloc())?;
-    let first = put_directory(&mut program, rt.alloc(), b'i')?;
-    let again = put_directory(&mut program, rt.alloc(), b'i')?;
-    check_equal(&rt, first, again);
-    let working = put_directory(&mut program, rt.alloc(), b'w')?;
-    check_equal(&rt, working, program.default_directory());
-    check(&rt, first != working);
-    check_equal(&rt, first_byte(program.get_directory(working)), b'w');
+fn steps_of_directories_twice(rt: &impl Abort, alloc: Global) -> Result<()> {
+    let mut program = program(alloc)?;
+    let first = put_directory(&mut program, alloc, b'i')?;
+    let again = put_directory(&mut program, alloc, b'i')?;
+    check_equal(rt, first, again);
+    let working = put_directory(&mut program, alloc, b'w')?;
+    check_equal(rt, working, program.default_directory());
+    check(rt, first != working);
+    check_equal(rt, first_byte(program.get_directory(working)), b'w');
     Ok(())
+}
+
+#[test]
+fn directories_twice(rt: HostRuntime) {
+    check_equal(&rt, steps_of_directories_twice(&rt, rt.alloc()), Ok(()));
 }
 
 /// Adds another directory, after which the old id still has its own.
@@ -149,14 +156,18 @@ fn put_behind(
 }
 
 /// In a copy an id has its own directory too, whatever is added to the program.
-#[test]
-fn ids_stay(rt: HostRuntime) -> std::result::Result<(), Fail> {
-    let mut program = program(rt.alloc())?;
-    let old = put_directory(&mut program, rt.alloc(), b'i')?;
+fn steps_of_ids_stay(rt: &impl Abort, alloc: Global) -> Result<()> {
+    let mut program = program(alloc)?;
+    let old = put_directory(&mut program, alloc, b'i')?;
     let copy = program.clone()?;
-    put_behind(&rt, rt.alloc(), &mut program, old, b'j')?;
+    put_behind(rt, alloc, &mut program, old, b'j')?;
     assert_eq!(rt; first_byte(copy.get_directory(old)), b'i');
     Ok(())
+}
+
+#[test]
+fn ids_stay(rt: HostRuntime) {
+    check_equal(&rt, steps_of_ids_stay(&rt, rt.alloc()), Ok(()));
 }
 
 /// Files `a` and `b`.
@@ -191,13 +202,17 @@ fn put_first_again(
     Ok(())
 }
 
-#[test]
-fn files_twice(rt: HostRuntime) -> std::result::Result<(), Fail> {
-    let mut program = program(rt.alloc())?;
-    let (first, second) = put_two_files(&mut program, rt.alloc())?;
-    put_first_again(&rt, rt.alloc(), &mut program, first)?;
-    check_numbers(&rt, first, second);
+fn steps_of_files_twice(rt: &impl Abort, alloc: Global) -> Result<()> {
+    let mut program = program(alloc)?;
+    let (first, second) = put_two_files(&mut program, alloc)?;
+    put_first_again(rt, alloc, &mut program, first)?;
+    check_numbers(rt, first, second);
     Ok(())
+}
+
+#[test]
+fn files_twice(rt: HostRuntime) {
+    check_equal(&rt, steps_of_files_twice(&rt, rt.alloc()), Ok(()));
 }
 
 /// The name of the next file, or 0 at the end.
@@ -215,12 +230,16 @@ fn check_names(rt: &impl Abort, program: &LineProgram) {
     check_equal(rt, next_name(&mut files), 0);
 }
 
-#[test]
-fn files_in_order(rt: HostRuntime) -> std::result::Result<(), Fail> {
-    let mut program = program(rt.alloc())?;
-    put_two_files(&mut program, rt.alloc())?;
-    check_names(&rt, &program);
+fn steps_of_files_in_order(rt: &impl Abort, alloc: Global) -> Result<()> {
+    let mut program = program(alloc)?;
+    put_two_files(&mut program, alloc)?;
+    check_names(rt, &program);
     Ok(())
+}
+
+#[test]
+fn files_in_order(rt: HostRuntime) {
+    check_equal(&rt, steps_of_files_in_order(&rt, rt.alloc()), Ok(()));
 }
 
 /// Adds the file `a`, of this size.
@@ -241,19 +260,23 @@ fn set_size(program: &mut LineProgram, file: FileId, size: u64)
     program.get_file_info_mut(file).size = size;
 }
 
-#[test]
-fn details(rt: HostRuntime) -> std::result::Result<(), Fail> {
-    let mut program = program(rt.alloc())?;
-    let file = put_sized(&mut program, rt.alloc(), 2)?;
-    check_equal(&rt, program.get_file_info(file).size, 2);
+fn steps_of_details(rt: &impl Abort, alloc: Global) -> Result<()> {
+    let mut program = program(alloc)?;
+    let file = put_sized(&mut program, alloc, 2)?;
+    check_equal(rt, program.get_file_info(file).size, 2);
     set_size(&mut program, file, 3);
-    let again = put_name(&mut program, rt.alloc(), b'a')?;
-    check_equal(&rt, again, file);
-    check_equal(&rt, program.get_file_info(again).size, 3);
-    let again = put_sized(&mut program, rt.alloc(), 2)?;
-    check_equal(&rt, again, file);
-    check_equal(&rt, program.get_file_info(again).size, 2);
+    let again = put_name(&mut program, alloc, b'a')?;
+    check_equal(rt, again, file);
+    check_equal(rt, program.get_file_info(again).size, 3);
+    let again = put_sized(&mut program, alloc, 2)?;
+    check_equal(rt, again, file);
+    check_equal(rt, program.get_file_info(again).size, 2);
     Ok(())
+}
+
+#[test]
+fn details(rt: HostRuntime) {
+    check_equal(&rt, steps_of_details(&rt, rt.alloc()), Ok(()));
 }
 
 // ---- rows that may follow
@@ -322,25 +345,33 @@ const PLACES: [((u8, u8), (u64, u64), (u64, u64), bool); 14] = [
     ((2, 1), (0, 0), (u64::MAX, 0), false),
 ];
 
-#[test]
-fn rows_that_may_follow(rt: HostRuntime) -> std::result::Result<(), Fail> {
+fn steps_of_rows_that_may_follow(rt: &impl Abort, alloc: Global) -> Result<()> {
     for (lengths, previous, place, can) in PLACES {
-        let found = can_follow(rt.alloc(), lengths, previous, place)?;
+        let found = can_follow(alloc, lengths, previous, place)?;
         assert_eq!(rt; found, (can, can), "{lengths:?} {previous:?} {place:?}");
     }
     Ok(())
 }
 
-/// A line may have 63 bits, and an end has none.
 #[test]
-fn farthest_rows(rt: HostRuntime) -> std::result::Result<(), Fail> {
-    let mut program = program(rt.alloc())?;
+fn rows_that_may_follow(rt: HostRuntime) {
+    check_equal(&rt, steps_of_rows_that_may_follow(&rt, rt.alloc()), Ok(()));
+}
+
+/// A line may have 63 bits, and an end has none.
+fn steps_of_farthest_rows(rt: &impl Abort, alloc: Global) -> Result<()> {
+    let mut program = program(alloc)?;
     for (line, can) in [(0, true), (0x7fff_ffff_ffff_ffff, true), (1 << 63, false)] {
         set_row(&mut program, u64::MAX, line);
         assert_eq!(rt; program.can_generate_row(), can, "line {line}");
         assert!(rt; program.can_end_sequence(u64::MAX), "line {line}");
     }
     Ok(())
+}
+
+#[test]
+fn farthest_rows(rt: HostRuntime) {
+    check_equal(&rt, steps_of_farthest_rows(&rt, rt.alloc()), Ok(()));
 }
 
 // ---- items
@@ -426,25 +457,33 @@ fn check_items(rt: &impl Abort, program: &LineProgram) {
 
 /// A row at the set address, and one four bytes after it. A body of `generate_row` that always answers that
 /// memory is missing fails here.
-#[test]
-fn items_in_order(rt: HostRuntime) -> std::result::Result<(), Fail> {
-    let mut program = begun(&rt, rt.alloc())?;
-    put_two_rows(&rt, &mut program)?;
-    put_last_end(&rt, &mut program)?;
-    check_items(&rt, &program);
+fn steps_of_items_in_order(rt: &impl Abort, alloc: Global) -> Result<()> {
+    let mut program = begun(rt, alloc)?;
+    put_two_rows(rt, &mut program)?;
+    put_last_end(rt, &mut program)?;
+    check_items(rt, &program);
     Ok(())
 }
 
 #[test]
-fn cleared_registers(rt: HostRuntime) -> std::result::Result<(), Fail> {
-    let mut program = program(rt.alloc())?;
+fn items_in_order(rt: HostRuntime) {
+    check_equal(&rt, steps_of_items_in_order(&rt, rt.alloc()), Ok(()));
+}
+
+fn steps_of_cleared_registers(rt: &impl Abort, alloc: Global) -> Result<()> {
+    let mut program = program(alloc)?;
     program.row().discriminator = 5;
-    check(&rt, put_row(&mut program, 4, 3)?);
-    check_equal(&rt, program.row().discriminator, 0);
-    check_equal(&rt, program.row().line, 3);
-    check(&rt, put_end(&mut program, 8)?);
-    check_equal(&rt, program.row().line, 1);
+    check(rt, put_row(&mut program, 4, 3)?);
+    check_equal(rt, program.row().discriminator, 0);
+    check_equal(rt, program.row().line, 3);
+    check(rt, put_end(&mut program, 8)?);
+    check_equal(rt, program.row().line, 1);
     Ok(())
+}
+
+#[test]
+fn cleared_registers(rt: HostRuntime) {
+    check_equal(&rt, steps_of_cleared_registers(&rt, rt.alloc()), Ok(()));
 }
 
 fn set_address(program: &mut LineProgram, address: u64) -> Result<()>
@@ -454,44 +493,64 @@ fn set_address(program: &mut LineProgram, address: u64) -> Result<()>
     program.set_address(Address::Constant(address))
 }
 
-#[test]
-fn address_in_mid_sequence(rt: HostRuntime) -> std::result::Result<(), Fail> {
-    let mut program = program(rt.alloc())?;
+fn steps_of_address_in_mid_sequence(rt: &impl Abort, alloc: Global) -> Result<()> {
+    let mut program = program(alloc)?;
     set_row(&mut program, 7, 1);
     set_address(&mut program, 16)?;
-    check_equal(&rt, program.row().address_offset, 7);
-    check(&rt, put_row(&mut program, 7, 1)?);
+    check_equal(rt, program.row().address_offset, 7);
+    check(rt, put_row(&mut program, 7, 1)?);
     set_address(&mut program, 32)?;
-    check_equal(&rt, program.row().address_offset, 0);
-    check(&rt, put_row(&mut program, 0, 1)?);
+    check_equal(rt, program.row().address_offset, 0);
+    check(rt, put_row(&mut program, 0, 1)?);
     Ok(())
 }
 
 #[test]
-fn copies(rt: HostRuntime) -> std::result::Result<(), Fail> {
-    let mut program = program(rt.alloc())?;
-    put_name(&mut program, rt.alloc(), b'a')?;
+fn address_in_mid_sequence(rt: HostRuntime) {
+    check_equal(
+        &rt,
+        steps_of_address_in_mid_sequence(&rt, rt.alloc()),
+        Ok(()),
+    );
+}
+
+fn steps_of_copies(rt: &impl Abort, alloc: Global) -> Result<()> {
+    let mut program = program(alloc)?;
+    put_name(&mut program, alloc, b'a')?;
     set_address(&mut program, 16)?;
     let copy = program.clone()?;
-    check(&rt, copy.in_sequence());
+    check(rt, copy.in_sequence());
     let (kind, number) = item_number(copy.items().next());
-    check_equal(&rt, kind, 1);
-    check_equal(&rt, number, 16);
-    check_equal(&rt, next_name(&mut copy.files()), b'a');
+    check_equal(rt, kind, 1);
+    check_equal(rt, number, 16);
+    check_equal(rt, next_name(&mut copy.files()), b'a');
     Ok(())
+}
+
+#[test]
+fn copies(rt: HostRuntime) {
+    check_equal(&rt, steps_of_copies(&rt, rt.alloc()), Ok(()));
 }
 
 /// A sequence without an address is no item, and can be ended.
-#[test]
-fn sequence_without_an_address(rt: HostRuntime) -> std::result::Result<(), Fail> {
-    let mut program = program(rt.alloc())?;
+fn steps_of_sequence_without_an_address(rt: &impl Abort, alloc: Global) -> Result<()> {
+    let mut program = program(alloc)?;
     program.begin_sequence(None)?;
-    check(&rt, program.is_empty());
-    check(&rt, program.in_sequence());
-    check(&rt, put_end(&mut program, 0)?);
-    check(&rt, !program.is_empty());
-    check(&rt, !program.in_sequence());
+    check(rt, program.is_empty());
+    check(rt, program.in_sequence());
+    check(rt, put_end(&mut program, 0)?);
+    check(rt, !program.is_empty());
+    check(rt, !program.in_sequence());
     Ok(())
+}
+
+#[test]
+fn sequence_without_an_address(rt: HostRuntime) {
+    check_equal(
+        &rt,
+        steps_of_sequence_without_an_address(&rt, rt.alloc()),
+        Ok(()),
+    );
 }
 
 // ---- texts
@@ -515,28 +574,36 @@ fn check_new_text(
     Ok(())
 }
 
-#[test]
-fn forms_of_texts(rt: HostRuntime) -> std::result::Result<(), Fail> {
-    let mut line_strings = LineStringTable::default(rt.alloc());
-    check_new_text(&rt, 4, &mut line_strings, DW_FORM_string, 0)?;
-    check_new_text(&rt, 5, &mut line_strings, DW_FORM_line_strp, 1)?;
-    check_new_text(&rt, 5, &mut line_strings, DW_FORM_line_strp, 1)?;
+fn steps_of_forms_of_texts(rt: &impl Abort, alloc: Global) -> Result<()> {
+    let mut line_strings = LineStringTable::default(alloc);
+    check_new_text(rt, 4, &mut line_strings, DW_FORM_string, 0)?;
+    check_new_text(rt, 5, &mut line_strings, DW_FORM_line_strp, 1)?;
+    check_new_text(rt, 5, &mut line_strings, DW_FORM_line_strp, 1)?;
     assert_eq!(rt; LineString::StringRef(StringId(0)).form(), DW_FORM_strp);
     Ok(())
 }
 
-/// Each form finds its text.
 #[test]
-fn bytes_of_texts(rt: HostRuntime) -> std::result::Result<(), Fail> {
-    let mut strings = StringTable::default(rt.alloc());
-    let mut line_strings = LineStringTable::default(rt.alloc());
+fn forms_of_texts(rt: HostRuntime) {
+    check_equal(&rt, steps_of_forms_of_texts(&rt, rt.alloc()), Ok(()));
+}
+
+/// Each form finds its text.
+fn steps_of_bytes_of_texts(rt: &impl Abort, alloc: Global) -> Result<()> {
+    let mut strings = StringTable::default(alloc);
+    let mut line_strings = LineStringTable::default(alloc);
     let one = LineString::StringRef(strings.add(b"one")?);
     let two = LineString::LineStringRef(line_strings.add(b"two")?);
-    let three = LineString::String(b"three".to_vec(rt.alloc())?);
-    check_equal(&rt, one.get(&strings, &line_strings), b"one".as_slice());
-    check_equal(&rt, two.get(&strings, &line_strings), b"two".as_slice());
-    check_equal(&rt, three.get(&strings, &line_strings), b"three".as_slice());
+    let three = LineString::String(b"three".to_vec(alloc)?);
+    check_equal(rt, one.get(&strings, &line_strings), b"one".as_slice());
+    check_equal(rt, two.get(&strings, &line_strings), b"two".as_slice());
+    check_equal(rt, three.get(&strings, &line_strings), b"three".as_slice());
     Ok(())
+}
+
+#[test]
+fn bytes_of_texts(rt: HostRuntime) {
+    check_equal(&rt, steps_of_bytes_of_texts(&rt, rt.alloc()), Ok(()));
 }
 
 // ---- equal ids, rows and items
@@ -601,31 +668,39 @@ fn items_of(row: BuiltRow, file: FileId) -> [BuiltItem; 7] {
 }
 
 /// Equal ids hash alike.
-#[test]
-fn equal_ids(rt: HostRuntime) -> std::result::Result<(), Fail> {
-    let mut program = program(rt.alloc())?;
-    let directory = put_directory(&mut program, rt.alloc(), b'i')?;
+fn steps_of_equal_ids(rt: &impl Abort, alloc: Global) -> Result<()> {
+    let mut program = program(alloc)?;
+    let directory = put_directory(&mut program, alloc, b'i')?;
     let directories = [program.default_directory(), directory];
-    check_distinct(&rt, "directory", &directories);
-    check_alike(&rt, "directory", &directories, &directories);
-    let (first, second) = put_two_files(&mut program, rt.alloc())?;
-    check_distinct(&rt, "file", &[first, second]);
-    check_alike(&rt, "file", &[first, second], &[first, second]);
+    check_distinct(rt, "directory", &directories);
+    check_alike(rt, "directory", &directories, &directories);
+    let (first, second) = put_two_files(&mut program, alloc)?;
+    check_distinct(rt, "file", &[first, second]);
+    check_alike(rt, "file", &[first, second], &[first, second]);
     Ok(())
 }
 
-/// The current row is a sequence's first, in the first file.
 #[test]
-fn equal_rows_and_items(rt: HostRuntime) -> std::result::Result<(), Fail> {
-    let mut program = program(rt.alloc())?;
-    let (first, second) = put_two_files(&mut program, rt.alloc())?;
+fn equal_ids(rt: HostRuntime) {
+    check_equal(&rt, steps_of_equal_ids(&rt, rt.alloc()), Ok(()));
+}
+
+/// The current row is a sequence's first, in the first file.
+fn steps_of_equal_rows_and_items(rt: &impl Abort, alloc: Global) -> Result<()> {
+    let mut program = program(alloc)?;
+    let (first, second) = put_two_files(&mut program, alloc)?;
     let row = *program.row();
-    check_equal(&rt, row.file, first);
+    check_equal(rt, row.file, first);
     check(
-        &rt,
+        rt,
         row.is_statement && row.line == 1 && row.address_offset == 0,
     );
-    check_distinct(&rt, "row", &rows_of(row, second));
-    check_distinct(&rt, "item", &items_of(row, second));
+    check_distinct(rt, "row", &rows_of(row, second));
+    check_distinct(rt, "item", &items_of(row, second));
     Ok(())
+}
+
+#[test]
+fn equal_rows_and_items(rt: HostRuntime) {
+    check_equal(&rt, steps_of_equal_rows_and_items(&rt, rt.alloc()), Ok(()));
 }

@@ -10,13 +10,12 @@ use gimli_core::{
 };
 use gimli_line::{ColumnType, LineRow};
 use gimli_write::{
-    Address, DebugLine, DebugLineStr, DebugStr, EndianVec, Error, Leb128, LineProgram,
-    LineStringTable, Result, RoundTrip, StringTable, Writer, round_trip,
+    Address, ConvertResult, DebugLine, DebugLineStr, DebugStr, EndianVec, Error, Leb128,
+    LineProgram, LineStringTable, Result, RoundTrip, StringTable, Writer, round_trip,
 };
 use std::alloc::Global;
 use std::num::NonZeroU64;
 use std::process::Abort;
-use std::test::Fail;
 
 // ---- vectors
 
@@ -37,14 +36,22 @@ fn check_take(rt: &impl Abort, w: &mut EndianVec<BigEndian>) -> Result<()> {
     Ok(())
 }
 
-#[test]
-fn copies_and_taken_bytes(rt: HostRuntime) -> std::result::Result<(), Fail> {
-    let mut w = EndianVec::new(rt.alloc(), BigEndian);
+fn steps_of_copies_and_taken_bytes(rt: &impl Abort, alloc: Global) -> Result<()> {
+    let mut w = EndianVec::new(alloc, BigEndian);
     assert_eq!(rt; w.endian(), BigEndian);
     w.write(b"abc")?;
-    check_copy(&rt, &w)?;
-    check_take(&rt, &mut w)?;
+    check_copy(rt, &w)?;
+    check_take(rt, &mut w)?;
     Ok(())
+}
+
+#[test]
+fn copies_and_taken_bytes(rt: HostRuntime) {
+    check_equal(
+        &rt,
+        steps_of_copies_and_taken_bytes(&rt, rt.alloc()),
+        Ok(()),
+    );
 }
 
 /// The numbers of DWARF 5, section 7.6.
@@ -61,37 +68,45 @@ fn numbers_by_themselves(rt: HostRuntime) {
 // ---- sections
 
 /// The offset of a section is that of what is appended next.
-#[test]
-fn offsets_of_sections(rt: HostRuntime) -> std::result::Result<(), Fail> {
-    let mut lines = DebugLine::from(EndianVec::new(rt.alloc(), LittleEndian));
-    let mut strings = DebugStr::from(EndianVec::new(rt.alloc(), BigEndian));
-    let mut line_strings = DebugLineStr::from(EndianVec::new(rt.alloc(), BigEndian));
-    check_equal(&rt, lines.offset(), DebugLineOffset(0));
+fn steps_of_offsets_of_sections(rt: &impl Abort, alloc: Global) -> Result<()> {
+    let mut lines = DebugLine::from(EndianVec::new(alloc, LittleEndian));
+    let mut strings = DebugStr::from(EndianVec::new(alloc, BigEndian));
+    let mut line_strings = DebugLineStr::from(EndianVec::new(alloc, BigEndian));
+    check_equal(rt, lines.offset(), DebugLineOffset(0));
     lines.0.write(b"abc")?;
     strings.0.write(b"ab")?;
     line_strings.0.write(b"a")?;
-    check_equal(&rt, lines.offset(), DebugLineOffset(3));
-    check_equal(&rt, strings.offset(), DebugStrOffset(2));
-    check_equal(&rt, line_strings.offset(), DebugLineStrOffset(1));
+    check_equal(rt, lines.offset(), DebugLineOffset(3));
+    check_equal(rt, strings.offset(), DebugStrOffset(2));
+    check_equal(rt, line_strings.offset(), DebugLineStrOffset(1));
     Ok(())
 }
 
-/// The tables of a section hold ids, texts and offsets, and are written after what is there.
 #[test]
-fn tables_of_texts(rt: HostRuntime) -> std::result::Result<(), Fail> {
-    let mut table = LineStringTable::default(rt.alloc());
+fn offsets_of_sections(rt: HostRuntime) {
+    check_equal(&rt, steps_of_offsets_of_sections(&rt, rt.alloc()), Ok(()));
+}
+
+/// The tables of a section hold ids, texts and offsets, and are written after what is there.
+fn steps_of_tables_of_texts(rt: &impl Abort, alloc: Global) -> Result<()> {
+    let mut table = LineStringTable::default(alloc);
     let directory = table.add(b"/w")?;
     let file = table.add(b"a.c")?;
-    check(&rt, table.add(b"/w")? == directory && directory != file);
-    check(&rt, directory.0 < table.count() && file.0 < table.count());
-    check_equal(&rt, table.get(file), b"a.c".as_slice());
-    check_equal(&rt, table.offset(file), DebugLineStrOffset(3));
-    check_equal(&rt, table.count(), 2);
+    check(rt, table.add(b"/w")? == directory && directory != file);
+    check(rt, directory.0 < table.count() && file.0 < table.count());
+    check_equal(rt, table.get(file), b"a.c".as_slice());
+    check_equal(rt, table.offset(file), DebugLineStrOffset(3));
+    check_equal(rt, table.count(), 2);
     let mut section = DebugLineStr::from(EndianVec::new(*table.allocator(), BigEndian));
     section.0.write(b"..")?;
     table.write(&mut section)?;
-    check_equal(&rt, section.0.slice(), b"../w\0a.c\0".as_slice());
+    check_equal(rt, section.0.slice(), b"../w\0a.c\0".as_slice());
     Ok(())
+}
+
+#[test]
+fn tables_of_texts(rt: HostRuntime) {
+    check_equal(&rt, steps_of_tables_of_texts(&rt, rt.alloc()), Ok(()));
 }
 
 // ---- units after other bytes
@@ -146,13 +161,21 @@ fn check_written(rt: &impl Abort, alloc: Global, program: &LineProgram) -> Resul
     Ok(())
 }
 
-#[test]
-fn units_behind_other_bytes(rt: HostRuntime) -> std::result::Result<(), Fail> {
-    let program = demo(rt.alloc())?;
-    check_written(&rt, rt.alloc(), &program)?;
-    check_incompatible(&rt, rt.alloc(), &program)?;
-    check_refused(&rt, rt.alloc())?;
+fn steps_of_units_behind_other_bytes(rt: &impl Abort, alloc: Global) -> Result<()> {
+    let program = demo(alloc)?;
+    check_written(rt, alloc, &program)?;
+    check_incompatible(rt, alloc, &program)?;
+    check_refused(rt, alloc)?;
     Ok(())
+}
+
+#[test]
+fn units_behind_other_bytes(rt: HostRuntime) {
+    check_equal(
+        &rt,
+        steps_of_units_behind_other_bytes(&rt, rt.alloc()),
+        Ok(()),
+    );
 }
 
 /// A row of the first file has this address and this line, and its other numbers are those of a new row.
@@ -183,11 +206,7 @@ fn check_read(rt: &impl Abort, answer: &RoundTrip) {
 }
 
 /// A round trip after three bytes.
-fn check_round_trip(
-    rt: &impl Abort,
-    alloc: Global,
-    program: &LineProgram,
-) -> std::result::Result<(), Fail>
+fn check_round_trip(rt: &impl Abort, alloc: Global, program: &LineProgram) -> ConvertResult<()>
     requires { CanWrite program.now [] [] }
 {
     let mut strings = StringTable::default(alloc);
@@ -207,8 +226,16 @@ fn check_round_trip(
     Ok(())
 }
 
+fn steps_of_round_trip_behind_other_bytes(rt: &impl Abort, alloc: Global) -> ConvertResult<()> {
+    let program = demo(alloc)?;
+    check_round_trip(rt, alloc, &program)
+}
+
 #[test]
-fn round_trip_behind_other_bytes(rt: HostRuntime) -> std::result::Result<(), Fail> {
-    let program = demo(rt.alloc())?;
-    check_round_trip(&rt, rt.alloc(), &program)
+fn round_trip_behind_other_bytes(rt: HostRuntime) {
+    check_equal(
+        &rt,
+        steps_of_round_trip_behind_other_bytes(&rt, rt.alloc()),
+        Ok(()),
+    );
 }

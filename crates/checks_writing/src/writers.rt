@@ -15,7 +15,6 @@ use gimli_write::{
 };
 use std::alloc::Global;
 use std::process::Abort;
-use std::test::Fail;
 
 // ---- an array
 
@@ -225,14 +224,22 @@ const SYMBOL: Address = Address::Symbol {
 };
 
 /// An address is written by `write_address`, with the size of addresses, also where it is a symbol.
-#[test]
-fn addresses_by_their_own_call(rt: HostRuntime) -> std::result::Result<(), Fail> {
+fn steps_of_addresses_by_their_own_call(rt: &impl Abort, alloc: Global) -> Result<()> {
     check(
-        &rt,
-        is_noted(rt.alloc(), Address::Constant(0x1000), 0x2d, b"C\x04")?,
+        rt,
+        is_noted(alloc, Address::Constant(0x1000), 0x2d, b"C\x04")?,
     );
-    check(&rt, is_noted(rt.alloc(), SYMBOL, 0x2e, b"Y\x04\x07")?);
+    check(rt, is_noted(alloc, SYMBOL, 0x2e, b"Y\x04\x07")?);
     Ok(())
+}
+
+#[test]
+fn addresses_by_their_own_call(rt: HostRuntime) {
+    check_equal(
+        &rt,
+        steps_of_addresses_by_their_own_call(&rt, rt.alloc()),
+        Ok(()),
+    );
 }
 
 /// Whether a text is in one of these tables, or in the program.
@@ -296,13 +303,21 @@ fn references(alloc: Global) -> Result<Vec<u8>> {
 }
 
 /// A reference to a text is written by `write_offset`, with the section that the text is in and the size of words.
-#[test]
-fn references_by_their_own_call(rt: HostRuntime) -> std::result::Result<(), Fail> {
+fn steps_of_references_by_their_own_call(rt: &impl Abort, alloc: Global) -> Result<()> {
     let unit =
         b"\x2b\0\0\0\x05\0\x08\0\x23\0\0\0\x01\x01\x01\xfb\x0e\x0d\0\x01\x01\x01\x01\0\0\0\x01\0\0\x01\
         \x01\x01\x1f\x01L\x04\x02\x02\x01\x0e\x02\x0f\x01S\x04\x03\0";
-    assert_eq!(rt; references(rt.alloc())?.as_slice(), unit.as_slice());
+    assert_eq!(rt; references(alloc)?.as_slice(), unit.as_slice());
     Ok(())
+}
+
+#[test]
+fn references_by_their_own_call(rt: HostRuntime) {
+    check_equal(
+        &rt,
+        steps_of_references_by_their_own_call(&rt, rt.alloc()),
+        Ok(()),
+    );
 }
 
 // ---- a writer that isn't steady
@@ -388,17 +403,25 @@ fn check_fresh(rt: &impl Abort, alloc: Global, program: &LineProgram) -> Result<
 }
 
 /// Each call of the writer is refused in turn, until none is.
-#[test]
-fn writer_that_refuses_each_call(rt: HostRuntime) -> std::result::Result<(), Fail> {
-    let program = demo(rt.alloc())?;
+fn steps_of_writer_that_refuses_each_call(rt: &impl Abort, alloc: Global) -> Result<()> {
+    let program = demo(alloc)?;
     let mut refused = 0;
     for calls in 0..100usize {
-        if !check_tired(&rt, rt.alloc(), &program, calls)? {
+        if !check_tired(rt, alloc, &program, calls)? {
             assert_eq!(rt; refused, calls);
             refused = calls + 1;
-            check_fresh(&rt, rt.alloc(), &program)?;
+            check_fresh(rt, alloc, &program)?;
         }
     }
     assert!(rt; refused > 20 && refused < 100, "{refused}");
     Ok(())
+}
+
+#[test]
+fn writer_that_refuses_each_call(rt: HostRuntime) {
+    check_equal(
+        &rt,
+        steps_of_writer_that_refuses_each_call(&rt, rt.alloc()),
+        Ok(()),
+    );
 }
