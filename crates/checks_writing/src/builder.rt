@@ -59,6 +59,11 @@ fn program_by(alloc: Global, lines: LineEncoding) -> Result<LineProgram>
     LineProgram::new(alloc, encoding, lines, working_dir, None, source_file, None)
 }
 
+/// A check of a program that wasn't built fails.
+fn check_not_built(rt: &impl Abort, error: Error) {
+    check_equal(rt, Err(error), Ok(()));
+}
+
 fn put_directory(program: &mut LineProgram, alloc: Global, name: u8) -> Result<DirectoryId>
     requires program { program.old.is_none ≡ false }
     requires name { 0 < name }
@@ -119,12 +124,17 @@ fn no_program(rt: HostRuntime) {
     check(&rt, none.is_empty());
 }
 
-fn steps_of_directories_twice(rt: &impl Abort, alloc: Global) -> Result<()> {
-    let mut program = program(alloc)?;
-    let first = put_directory(&mut program, alloc, b'i')?;
-    let again = put_directory(&mut program, alloc, b'i')?;
+fn steps_of_directories_twice(
+    rt: &impl Abort,
+    alloc: Global,
+    program: &mut LineProgram,
+) -> Result<()>
+    requires { program.old.is_none ≡ false }
+{
+    let first = put_directory(program, alloc, b'i')?;
+    let again = put_directory(program, alloc, b'i')?;
     check_equal(rt, first, again);
-    let working = put_directory(&mut program, alloc, b'w')?;
+    let working = put_directory(program, alloc, b'w')?;
     check_equal(rt, working, program.default_directory());
     check(rt, first != working);
     check_equal(rt, first_byte(program.get_directory(working)), b'w');
@@ -133,7 +143,14 @@ fn steps_of_directories_twice(rt: &impl Abort, alloc: Global) -> Result<()> {
 
 #[test]
 fn directories_twice(rt: HostRuntime) {
-    check_equal(&rt, steps_of_directories_twice(&rt, rt.alloc()), Ok(()));
+    match program(rt.alloc()) {
+        Ok(mut program) => check_equal(
+            &rt,
+            steps_of_directories_twice(&rt, rt.alloc(), &mut program),
+            Ok(()),
+        ),
+        Err(error) => check_not_built(&rt, error),
+    }
 }
 
 /// Adds another directory, after which the old id still has its own.
@@ -156,18 +173,26 @@ fn put_behind(
 }
 
 /// In a copy an id has its own directory too, whatever is added to the program.
-fn steps_of_ids_stay(rt: &impl Abort, alloc: Global) -> Result<()> {
-    let mut program = program(alloc)?;
-    let old = put_directory(&mut program, alloc, b'i')?;
+fn steps_of_ids_stay(rt: &impl Abort, alloc: Global, program: &mut LineProgram) -> Result<()>
+    requires { program.old.is_none ≡ false }
+{
+    let old = put_directory(program, alloc, b'i')?;
     let copy = program.clone()?;
-    put_behind(rt, alloc, &mut program, old, b'j')?;
-    assert_eq!(rt; first_byte(copy.get_directory(old)), b'i');
+    check_equal(rt, put_behind(rt, alloc, program, old, b'j'), Ok(()));
+    check_equal(rt, first_byte(copy.get_directory(old)), b'i');
     Ok(())
 }
 
 #[test]
 fn ids_stay(rt: HostRuntime) {
-    check_equal(&rt, steps_of_ids_stay(&rt, rt.alloc()), Ok(()));
+    match program(rt.alloc()) {
+        Ok(mut program) => check_equal(
+            &rt,
+            steps_of_ids_stay(&rt, rt.alloc(), &mut program),
+            Ok(()),
+        ),
+        Err(error) => check_not_built(&rt, error),
+    }
 }
 
 /// Files `a` and `b`.
@@ -202,17 +227,25 @@ fn put_first_again(
     Ok(())
 }
 
-fn steps_of_files_twice(rt: &impl Abort, alloc: Global) -> Result<()> {
-    let mut program = program(alloc)?;
-    let (first, second) = put_two_files(&mut program, alloc)?;
-    put_first_again(rt, alloc, &mut program, first)?;
+fn steps_of_files_twice(rt: &impl Abort, alloc: Global, program: &mut LineProgram) -> Result<()>
+    requires { program.old.is_none ≡ false }
+{
+    let (first, second) = put_two_files(program, alloc)?;
+    put_first_again(rt, alloc, program, first)?;
     check_numbers(rt, first, second);
     Ok(())
 }
 
 #[test]
 fn files_twice(rt: HostRuntime) {
-    check_equal(&rt, steps_of_files_twice(&rt, rt.alloc()), Ok(()));
+    match program(rt.alloc()) {
+        Ok(mut program) => check_equal(
+            &rt,
+            steps_of_files_twice(&rt, rt.alloc(), &mut program),
+            Ok(()),
+        ),
+        Err(error) => check_not_built(&rt, error),
+    }
 }
 
 /// The name of the next file, or 0 at the end.
@@ -230,16 +263,24 @@ fn check_names(rt: &impl Abort, program: &LineProgram) {
     check_equal(rt, next_name(&mut files), 0);
 }
 
-fn steps_of_files_in_order(rt: &impl Abort, alloc: Global) -> Result<()> {
-    let mut program = program(alloc)?;
-    put_two_files(&mut program, alloc)?;
-    check_names(rt, &program);
+fn steps_of_files_in_order(rt: &impl Abort, alloc: Global, program: &mut LineProgram) -> Result<()>
+    requires { program.old.is_none ≡ false }
+{
+    put_two_files(program, alloc)?;
+    check_names(rt, program);
     Ok(())
 }
 
 #[test]
 fn files_in_order(rt: HostRuntime) {
-    check_equal(&rt, steps_of_files_in_order(&rt, rt.alloc()), Ok(()));
+    match program(rt.alloc()) {
+        Ok(mut program) => check_equal(
+            &rt,
+            steps_of_files_in_order(&rt, rt.alloc(), &mut program),
+            Ok(()),
+        ),
+        Err(error) => check_not_built(&rt, error),
+    }
 }
 
 /// Adds the file `a`, of this size.
@@ -260,15 +301,16 @@ fn set_size(program: &mut LineProgram, file: FileId, size: u64)
     program.get_file_info_mut(file).size = size;
 }
 
-fn steps_of_details(rt: &impl Abort, alloc: Global) -> Result<()> {
-    let mut program = program(alloc)?;
-    let file = put_sized(&mut program, alloc, 2)?;
+fn steps_of_details(rt: &impl Abort, alloc: Global, program: &mut LineProgram) -> Result<()>
+    requires { program.old.is_none ≡ false }
+{
+    let file = put_sized(program, alloc, 2)?;
     check_equal(rt, program.get_file_info(file).size, 2);
-    set_size(&mut program, file, 3);
-    let again = put_name(&mut program, alloc, b'a')?;
+    set_size(program, file, 3);
+    let again = put_name(program, alloc, b'a')?;
     check_equal(rt, again, file);
     check_equal(rt, program.get_file_info(again).size, 3);
-    let again = put_sized(&mut program, alloc, 2)?;
+    let again = put_sized(program, alloc, 2)?;
     check_equal(rt, again, file);
     check_equal(rt, program.get_file_info(again).size, 2);
     Ok(())
@@ -276,7 +318,14 @@ fn steps_of_details(rt: &impl Abort, alloc: Global) -> Result<()> {
 
 #[test]
 fn details(rt: HostRuntime) {
-    check_equal(&rt, steps_of_details(&rt, rt.alloc()), Ok(()));
+    match program(rt.alloc()) {
+        Ok(mut program) => check_equal(
+            &rt,
+            steps_of_details(&rt, rt.alloc(), &mut program),
+            Ok(()),
+        ),
+        Err(error) => check_not_built(&rt, error),
+    }
 }
 
 // ---- rows that may follow
@@ -457,33 +506,41 @@ fn check_items(rt: &impl Abort, program: &LineProgram) {
 
 /// A row at the set address, and one four bytes after it. A body of `generate_row` that always answers that
 /// memory is missing fails here.
-fn steps_of_items_in_order(rt: &impl Abort, alloc: Global) -> Result<()> {
-    let mut program = begun(rt, alloc)?;
-    put_two_rows(rt, &mut program)?;
-    put_last_end(rt, &mut program)?;
-    check_items(rt, &program);
+fn steps_of_items_in_order(rt: &impl Abort, program: &mut LineProgram) -> Result<()>
+    requires { program.old.is_none ≡ false }
+{
+    put_two_rows(rt, program)?;
+    put_last_end(rt, program)?;
+    check_items(rt, program);
     Ok(())
 }
 
 #[test]
 fn items_in_order(rt: HostRuntime) {
-    check_equal(&rt, steps_of_items_in_order(&rt, rt.alloc()), Ok(()));
+    match begun(&rt, rt.alloc()) {
+        Ok(mut program) => check_equal(&rt, steps_of_items_in_order(&rt, &mut program), Ok(())),
+        Err(error) => check_not_built(&rt, error),
+    }
 }
 
-fn steps_of_cleared_registers(rt: &impl Abort, alloc: Global) -> Result<()> {
-    let mut program = program(alloc)?;
+fn steps_of_cleared_registers(rt: &impl Abort, program: &mut LineProgram) -> Result<()>
+    requires { program.old.is_none ≡ false }
+{
     program.row().discriminator = 5;
-    check(rt, put_row(&mut program, 4, 3)?);
+    check(rt, put_row(program, 4, 3)?);
     check_equal(rt, program.row().discriminator, 0);
     check_equal(rt, program.row().line, 3);
-    check(rt, put_end(&mut program, 8)?);
+    check(rt, put_end(program, 8)?);
     check_equal(rt, program.row().line, 1);
     Ok(())
 }
 
 #[test]
 fn cleared_registers(rt: HostRuntime) {
-    check_equal(&rt, steps_of_cleared_registers(&rt, rt.alloc()), Ok(()));
+    match program(rt.alloc()) {
+        Ok(mut program) => check_equal(&rt, steps_of_cleared_registers(&rt, &mut program), Ok(())),
+        Err(error) => check_not_built(&rt, error),
+    }
 }
 
 fn set_address(program: &mut LineProgram, address: u64) -> Result<()>
@@ -493,31 +550,36 @@ fn set_address(program: &mut LineProgram, address: u64) -> Result<()>
     program.set_address(Address::Constant(address))
 }
 
-fn steps_of_address_in_mid_sequence(rt: &impl Abort, alloc: Global) -> Result<()> {
-    let mut program = program(alloc)?;
-    set_row(&mut program, 7, 1);
-    set_address(&mut program, 16)?;
+fn steps_of_address_in_mid_sequence(rt: &impl Abort, program: &mut LineProgram) -> Result<()>
+    requires { program.old.is_none ≡ false }
+{
+    set_row(program, 7, 1);
+    set_address(program, 16)?;
     check_equal(rt, program.row().address_offset, 7);
-    check(rt, put_row(&mut program, 7, 1)?);
-    set_address(&mut program, 32)?;
+    check(rt, put_row(program, 7, 1)?);
+    set_address(program, 32)?;
     check_equal(rt, program.row().address_offset, 0);
-    check(rt, put_row(&mut program, 0, 1)?);
+    check(rt, put_row(program, 0, 1)?);
     Ok(())
 }
 
 #[test]
 fn address_in_mid_sequence(rt: HostRuntime) {
-    check_equal(
-        &rt,
-        steps_of_address_in_mid_sequence(&rt, rt.alloc()),
-        Ok(()),
-    );
+    match program(rt.alloc()) {
+        Ok(mut program) => check_equal(
+            &rt,
+            steps_of_address_in_mid_sequence(&rt, &mut program),
+            Ok(()),
+        ),
+        Err(error) => check_not_built(&rt, error),
+    }
 }
 
-fn steps_of_copies(rt: &impl Abort, alloc: Global) -> Result<()> {
-    let mut program = program(alloc)?;
-    put_name(&mut program, alloc, b'a')?;
-    set_address(&mut program, 16)?;
+fn steps_of_copies(rt: &impl Abort, alloc: Global, program: &mut LineProgram) -> Result<()>
+    requires { program.old.is_none ≡ false }
+{
+    put_name(program, alloc, b'a')?;
+    set_address(program, 16)?;
     let copy = program.clone()?;
     check(rt, copy.in_sequence());
     let (kind, number) = item_number(copy.items().next());
@@ -529,16 +591,21 @@ fn steps_of_copies(rt: &impl Abort, alloc: Global) -> Result<()> {
 
 #[test]
 fn copies(rt: HostRuntime) {
-    check_equal(&rt, steps_of_copies(&rt, rt.alloc()), Ok(()));
+    match program(rt.alloc()) {
+        Ok(mut program) => check_equal(&rt, steps_of_copies(&rt, rt.alloc(), &mut program), Ok(())),
+        Err(error) => check_not_built(&rt, error),
+    }
 }
 
 /// A sequence without an address is no item, and can be ended.
-fn steps_of_sequence_without_an_address(rt: &impl Abort, alloc: Global) -> Result<()> {
-    let mut program = program(alloc)?;
+fn steps_of_sequence_without_an_address(rt: &impl Abort, program: &mut LineProgram) -> Result<()>
+    requires program { program.old.is_none ≡ false }
+    requires outside { program.old.in_sequence ≡ false }
+{
     program.begin_sequence(None)?;
     check(rt, program.is_empty());
     check(rt, program.in_sequence());
-    check(rt, put_end(&mut program, 0)?);
+    check(rt, put_end(program, 0)?);
     check(rt, !program.is_empty());
     check(rt, !program.in_sequence());
     Ok(())
@@ -546,11 +613,14 @@ fn steps_of_sequence_without_an_address(rt: &impl Abort, alloc: Global) -> Resul
 
 #[test]
 fn sequence_without_an_address(rt: HostRuntime) {
-    check_equal(
-        &rt,
-        steps_of_sequence_without_an_address(&rt, rt.alloc()),
-        Ok(()),
-    );
+    match program(rt.alloc()) {
+        Ok(mut program) => check_equal(
+            &rt,
+            steps_of_sequence_without_an_address(&rt, &mut program),
+            Ok(()),
+        ),
+        Err(error) => check_not_built(&rt, error),
+    }
 }
 
 // ---- texts
@@ -589,21 +659,27 @@ fn forms_of_texts(rt: HostRuntime) {
 }
 
 /// Each form finds its text.
-fn steps_of_bytes_of_texts(rt: &impl Abort, alloc: Global) -> Result<()> {
-    let mut strings = StringTable::default(alloc);
-    let mut line_strings = LineStringTable::default(alloc);
+fn steps_of_bytes_of_texts(
+    rt: &impl Abort,
+    alloc: Global,
+    strings: &mut StringTable,
+    line_strings: &mut LineStringTable,
+) -> Result<()> {
     let one = LineString::StringRef(strings.add(b"one")?);
     let two = LineString::LineStringRef(line_strings.add(b"two")?);
     let three = LineString::String(b"three".to_vec(alloc)?);
-    check_equal(rt, one.get(&strings, &line_strings), b"one".as_slice());
-    check_equal(rt, two.get(&strings, &line_strings), b"two".as_slice());
-    check_equal(rt, three.get(&strings, &line_strings), b"three".as_slice());
+    check_equal(rt, one.get(strings, line_strings), b"one".as_slice());
+    check_equal(rt, two.get(strings, line_strings), b"two".as_slice());
+    check_equal(rt, three.get(strings, line_strings), b"three".as_slice());
     Ok(())
 }
 
 #[test]
 fn bytes_of_texts(rt: HostRuntime) {
-    check_equal(&rt, steps_of_bytes_of_texts(&rt, rt.alloc()), Ok(()));
+    let mut strings = StringTable::default(rt.alloc());
+    let mut line_strings = LineStringTable::default(rt.alloc());
+    let steps = steps_of_bytes_of_texts(&rt, rt.alloc(), &mut strings, &mut line_strings);
+    check_equal(&rt, steps, Ok(()));
 }
 
 // ---- equal ids, rows and items
@@ -668,13 +744,14 @@ fn items_of(row: BuiltRow, file: FileId) -> [BuiltItem; 7] {
 }
 
 /// Equal ids hash alike.
-fn steps_of_equal_ids(rt: &impl Abort, alloc: Global) -> Result<()> {
-    let mut program = program(alloc)?;
-    let directory = put_directory(&mut program, alloc, b'i')?;
+fn steps_of_equal_ids(rt: &impl Abort, alloc: Global, program: &mut LineProgram) -> Result<()>
+    requires { program.old.is_none ≡ false }
+{
+    let directory = put_directory(program, alloc, b'i')?;
     let directories = [program.default_directory(), directory];
     check_distinct(rt, "directory", &directories);
     check_alike(rt, "directory", &directories, &directories);
-    let (first, second) = put_two_files(&mut program, alloc)?;
+    let (first, second) = put_two_files(program, alloc)?;
     check_distinct(rt, "file", &[first, second]);
     check_alike(rt, "file", &[first, second], &[first, second]);
     Ok(())
@@ -682,13 +759,25 @@ fn steps_of_equal_ids(rt: &impl Abort, alloc: Global) -> Result<()> {
 
 #[test]
 fn equal_ids(rt: HostRuntime) {
-    check_equal(&rt, steps_of_equal_ids(&rt, rt.alloc()), Ok(()));
+    match program(rt.alloc()) {
+        Ok(mut program) => check_equal(
+            &rt,
+            steps_of_equal_ids(&rt, rt.alloc(), &mut program),
+            Ok(()),
+        ),
+        Err(error) => check_not_built(&rt, error),
+    }
 }
 
 /// The current row is a sequence's first, in the first file.
-fn steps_of_equal_rows_and_items(rt: &impl Abort, alloc: Global) -> Result<()> {
-    let mut program = program(alloc)?;
-    let (first, second) = put_two_files(&mut program, alloc)?;
+fn steps_of_equal_rows_and_items(
+    rt: &impl Abort,
+    alloc: Global,
+    program: &mut LineProgram,
+) -> Result<()>
+    requires { program.old.is_none ≡ false }
+{
+    let (first, second) = put_two_files(program, alloc)?;
     let row = *program.row();
     check_equal(rt, row.file, first);
     check(
@@ -702,5 +791,12 @@ fn steps_of_equal_rows_and_items(rt: &impl Abort, alloc: Global) -> Result<()> {
 
 #[test]
 fn equal_rows_and_items(rt: HostRuntime) {
-    check_equal(&rt, steps_of_equal_rows_and_items(&rt, rt.alloc()), Ok(()));
+    match program(rt.alloc()) {
+        Ok(mut program) => check_equal(
+            &rt,
+            steps_of_equal_rows_and_items(&rt, rt.alloc(), &mut program),
+            Ok(()),
+        ),
+        Err(error) => check_not_built(&rt, error),
+    }
 }

@@ -157,18 +157,24 @@ fn end_built(item: Option<&BuiltItem>) -> Option<(u64, u64)> {
     }
 }
 
-fn steps_of_builder_calls(rt: &impl Abort, alloc: Global) -> ConvertResult<()> {
+fn steps_of_builder_calls(
+    rt: &impl Abort,
+    alloc: Global,
+    line_strings: &mut LineStringTable,
+    strings: &mut StringTable,
+) -> ConvertResult<()> {
     let program = program_of(alloc, slice(TWO_ADDRESSES), None)?;
-    let mut line_strings = LineStringTable::default(alloc);
-    let mut strings = StringTable::default(alloc);
-    let built = built_by_hand(rt, program, &mut line_strings, &mut strings)?;
+    let built = built_by_hand(rt, program, line_strings, strings)?;
     check_two_addresses(rt, &built);
     Ok(())
 }
 
 #[test]
 fn builder_calls(rt: HostRuntime) {
-    check_equal(&rt, steps_of_builder_calls(&rt, rt.alloc()), Ok(()));
+    let mut line_strings = LineStringTable::default(rt.alloc());
+    let mut strings = StringTable::default(rt.alloc());
+    let steps = steps_of_builder_calls(&rt, rt.alloc(), &mut line_strings, &mut strings);
+    check_equal(&rt, steps, Ok(()));
 }
 
 /// A second begin, a row of operation 1, a row of line 2^63, and a row and an end at a lower offset: each is refused after
@@ -213,11 +219,11 @@ fn refused_by_hand<R: Reader>(
 fn steps_of_builder_calls_outside_their_conditions(
     rt: &impl Abort,
     alloc: Global,
+    line_strings: &mut LineStringTable,
+    strings: &mut StringTable,
 ) -> ConvertResult<()> {
     let program = program_of(alloc, slice(TWO_ADDRESSES), None)?;
-    let mut line_strings = LineStringTable::default(alloc);
-    let mut strings = StringTable::default(alloc);
-    let mut built = refused_by_hand(rt, program, &mut line_strings, &mut strings)?;
+    let mut built = refused_by_hand(rt, program, line_strings, strings)?;
     let current = *built.row();
     check_equal(rt, (current.address_offset, current.line), (4, 7));
     check_equal(rt, current.op_index, 0);
@@ -230,11 +236,15 @@ fn steps_of_builder_calls_outside_their_conditions(
 
 #[test]
 fn builder_calls_outside_their_conditions(rt: HostRuntime) {
-    check_equal(
+    let mut line_strings = LineStringTable::default(rt.alloc());
+    let mut strings = StringTable::default(rt.alloc());
+    let steps = steps_of_builder_calls_outside_their_conditions(
         &rt,
-        steps_of_builder_calls_outside_their_conditions(&rt, rt.alloc()),
-        Ok(()),
+        rt.alloc(),
+        &mut line_strings,
+        &mut strings,
     );
+    check_equal(&rt, steps, Ok(()));
 }
 
 // ---- reads
@@ -270,17 +280,22 @@ fn check_mixed_reads<R: Reader>(
     Ok(())
 }
 
-fn steps_of_reads_of_either_kind(rt: &impl Abort, alloc: Global) -> ConvertResult<()> {
+fn steps_of_reads_of_either_kind(
+    rt: &impl Abort,
+    alloc: Global,
+    line_strings: &mut LineStringTable,
+    strings: &mut StringTable,
+) -> ConvertResult<()> {
     let program = program_of(alloc, slice(TWO_ADDRESSES), None)?;
-    let mut line_strings = LineStringTable::default(alloc);
-    let mut strings = StringTable::default(alloc);
-    check_mixed_reads(rt, program, &mut line_strings, &mut strings)?;
-    Ok(())
+    check_mixed_reads(rt, program, line_strings, strings)
 }
 
 #[test]
 fn reads_of_either_kind(rt: HostRuntime) {
-    check_equal(&rt, steps_of_reads_of_either_kind(&rt, rt.alloc()), Ok(()));
+    let mut line_strings = LineStringTable::default(rt.alloc());
+    let mut strings = StringTable::default(rt.alloc());
+    let steps = steps_of_reads_of_either_kind(&rt, rt.alloc(), &mut line_strings, &mut strings);
+    check_equal(&rt, steps, Ok(()));
 }
 
 /// A file number that isn't there is told by every later read, and by `convert`.
@@ -301,21 +316,22 @@ fn check_repeated<R: Reader>(
     Ok(())
 }
 
-fn steps_of_refused_read_is_repeated(rt: &impl Abort, alloc: Global) -> ConvertResult<()> {
+fn steps_of_refused_read_is_repeated(
+    rt: &impl Abort,
+    alloc: Global,
+    line_strings: &mut LineStringTable,
+    strings: &mut StringTable,
+) -> ConvertResult<()> {
     let program = program_of(alloc, slice(MISSING_FILE), None)?;
-    let mut line_strings = LineStringTable::default(alloc);
-    let mut strings = StringTable::default(alloc);
-    check_repeated(rt, program, &mut line_strings, &mut strings)?;
-    Ok(())
+    check_repeated(rt, program, line_strings, strings)
 }
 
 #[test]
 fn refused_read_is_repeated(rt: HostRuntime) {
-    check_equal(
-        &rt,
-        steps_of_refused_read_is_repeated(&rt, rt.alloc()),
-        Ok(()),
-    );
+    let mut line_strings = LineStringTable::default(rt.alloc());
+    let mut strings = StringTable::default(rt.alloc());
+    let steps = steps_of_refused_read_is_repeated(&rt, rt.alloc(), &mut line_strings, &mut strings);
+    check_equal(&rt, steps, Ok(()));
 }
 
 /// A sequence without an end is told by every later read.
@@ -333,21 +349,22 @@ fn check_open<R: Reader>(
     Ok(())
 }
 
-fn steps_of_missing_end_is_repeated(rt: &impl Abort, alloc: Global) -> ConvertResult<()> {
+fn steps_of_missing_end_is_repeated(
+    rt: &impl Abort,
+    alloc: Global,
+    line_strings: &mut LineStringTable,
+    strings: &mut StringTable,
+) -> ConvertResult<()> {
     let program = program_of(alloc, slice(OPEN), None)?;
-    let mut line_strings = LineStringTable::default(alloc);
-    let mut strings = StringTable::default(alloc);
-    check_open(rt, program, &mut line_strings, &mut strings)?;
-    Ok(())
+    check_open(rt, program, line_strings, strings)
 }
 
 #[test]
 fn missing_end_is_repeated(rt: HostRuntime) {
-    check_equal(
-        &rt,
-        steps_of_missing_end_is_repeated(&rt, rt.alloc()),
-        Ok(()),
-    );
+    let mut line_strings = LineStringTable::default(rt.alloc());
+    let mut strings = StringTable::default(rt.alloc());
+    let steps = steps_of_missing_end_is_repeated(&rt, rt.alloc(), &mut line_strings, &mut strings);
+    check_equal(&rt, steps, Ok(()));
 }
 
 // ---- closures that know no address
@@ -367,22 +384,24 @@ fn refusal_of<R: Reader, F: Fn(u64) -> Option<Address>>(
     }
 }
 
-fn steps_of_address_that_is_no_other(rt: &impl Abort, alloc: Global) -> ConvertResult<()> {
+fn steps_of_address_that_is_no_other(
+    rt: &impl Abort,
+    alloc: Global,
+    line_strings: &mut LineStringTable,
+    strings: &mut StringTable,
+) -> ConvertResult<()> {
     let program = program_of(alloc, slice(TWO_ADDRESSES), None)?;
-    let mut line_strings = LineStringTable::default(alloc);
-    let mut strings = StringTable::default(alloc);
-    let refused = refusal_of(program, &mut line_strings, &mut strings, |_| None);
+    let refused = refusal_of(program, line_strings, strings, |_| None);
     check_equal(rt, refused, Some(ConvertError::InvalidAddress));
     Ok(())
 }
 
 #[test]
 fn address_that_is_no_other(rt: HostRuntime) {
-    check_equal(
-        &rt,
-        steps_of_address_that_is_no_other(&rt, rt.alloc()),
-        Ok(()),
-    );
+    let mut line_strings = LineStringTable::default(rt.alloc());
+    let mut strings = StringTable::default(rt.alloc());
+    let steps = steps_of_address_that_is_no_other(&rt, rt.alloc(), &mut line_strings, &mut strings);
+    check_equal(&rt, steps, Ok(()));
 }
 
 /// An address that is kept up to 16.
@@ -394,22 +413,29 @@ fn below_17(address: u64) -> Option<Address> {
     }
 }
 
-fn steps_of_second_address_that_is_no_other(rt: &impl Abort, alloc: Global) -> ConvertResult<()> {
+fn steps_of_second_address_that_is_no_other(
+    rt: &impl Abort,
+    alloc: Global,
+    line_strings: &mut LineStringTable,
+    strings: &mut StringTable,
+) -> ConvertResult<()> {
     let program = program_of(alloc, slice(TWO_ADDRESSES), None)?;
-    let mut line_strings = LineStringTable::default(alloc);
-    let mut strings = StringTable::default(alloc);
-    let refused = refusal_of(program, &mut line_strings, &mut strings, below_17);
+    let refused = refusal_of(program, line_strings, strings, below_17);
     check_equal(rt, refused, Some(ConvertError::InvalidAddress));
     Ok(())
 }
 
 #[test]
 fn second_address_that_is_no_other(rt: HostRuntime) {
-    check_equal(
+    let mut line_strings = LineStringTable::default(rt.alloc());
+    let mut strings = StringTable::default(rt.alloc());
+    let steps = steps_of_second_address_that_is_no_other(
         &rt,
-        steps_of_second_address_that_is_no_other(&rt, rt.alloc()),
-        Ok(()),
+        rt.alloc(),
+        &mut line_strings,
+        &mut strings,
     );
+    check_equal(&rt, steps, Ok(()));
 }
 
 // ---- tables
@@ -456,51 +482,59 @@ fn refusal_in_version_5<R: Reader>(
 fn steps_of_old_texts_first_after_a_refused_start(
     rt: &impl Abort,
     alloc: Global,
+    line_strings: &mut LineStringTable,
+    strings: &mut StringTable,
 ) -> ConvertResult<()> {
-    let mut line_strings = LineStringTable::default(alloc);
-    let mut strings = StringTable::default(alloc);
     line_strings.add(b"old")?;
     strings.add(b"old")?;
     let program = program_of(alloc, slice(LINE_BASE), Some(slice(b"/w")))?;
     let name = slice(b"a.c");
-    let refused = refusal_in_version_5(program, name, &mut line_strings, &mut strings);
+    let refused = refusal_in_version_5(program, name, line_strings, strings);
     check_equal(rt, refused, Some(ConvertError::InvalidLineBase));
-    check_old_texts(rt, &line_strings, &strings);
+    check_old_texts(rt, line_strings, strings);
     Ok(())
 }
 
 #[test]
 fn old_texts_first_after_a_refused_start(rt: HostRuntime) {
-    check_equal(
+    let mut line_strings = LineStringTable::default(rt.alloc());
+    let mut strings = StringTable::default(rt.alloc());
+    let steps = steps_of_old_texts_first_after_a_refused_start(
         &rt,
-        steps_of_old_texts_first_after_a_refused_start(&rt, rt.alloc()),
-        Ok(()),
+        rt.alloc(),
+        &mut line_strings,
+        &mut strings,
     );
+    check_equal(&rt, steps, Ok(()));
 }
 
 /// A conversion that is refused at its second address, in tables with a text: `/w` and `a.c` come after it.
 fn steps_of_old_texts_first_after_a_refused_conversion(
     rt: &impl Abort,
     alloc: Global,
+    line_strings: &mut LineStringTable,
+    strings: &mut StringTable,
 ) -> ConvertResult<()> {
-    let mut line_strings = LineStringTable::default(alloc);
-    let mut strings = StringTable::default(alloc);
     line_strings.add(b"old")?;
     strings.add(b"old")?;
     let program = program_of(alloc, slice(TWO_ADDRESSES), Some(slice(b"/w")))?;
     let name = slice(b"a.c");
-    let refused = refusal_in_version_5(program, name, &mut line_strings, &mut strings);
+    let refused = refusal_in_version_5(program, name, line_strings, strings);
     check_equal(rt, refused, Some(ConvertError::InvalidAddress));
-    check_old_texts(rt, &line_strings, &strings);
+    check_old_texts(rt, line_strings, strings);
     check_equal(rt, (line_strings.count(), strings.count()), (3, 1));
     Ok(())
 }
 
 #[test]
 fn old_texts_first_after_a_refused_conversion(rt: HostRuntime) {
-    check_equal(
+    let mut line_strings = LineStringTable::default(rt.alloc());
+    let mut strings = StringTable::default(rt.alloc());
+    let steps = steps_of_old_texts_first_after_a_refused_conversion(
         &rt,
-        steps_of_old_texts_first_after_a_refused_conversion(&rt, rt.alloc()),
-        Ok(()),
+        rt.alloc(),
+        &mut line_strings,
+        &mut strings,
     );
+    check_equal(&rt, steps, Ok(()));
 }

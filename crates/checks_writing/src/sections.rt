@@ -68,28 +68,30 @@ fn numbers_by_themselves(rt: HostRuntime) {
 // ---- sections
 
 /// The offset of a section is that of what is appended next.
-fn steps_of_offsets_of_sections(rt: &impl Abort, alloc: Global) -> Result<()> {
-    let mut lines = DebugLine::from(EndianVec::new(alloc, LittleEndian));
-    let mut strings = DebugStr::from(EndianVec::new(alloc, BigEndian));
-    let mut line_strings = DebugLineStr::from(EndianVec::new(alloc, BigEndian));
-    check_equal(rt, lines.offset(), DebugLineOffset(0));
-    lines.0.write(b"abc")?;
-    strings.0.write(b"ab")?;
-    line_strings.0.write(b"a")?;
-    check_equal(rt, lines.offset(), DebugLineOffset(3));
-    check_equal(rt, strings.offset(), DebugStrOffset(2));
-    check_equal(rt, line_strings.offset(), DebugLineStrOffset(1));
-    Ok(())
+#[test]
+fn offset_of_lines(rt: HostRuntime) {
+    let mut lines = DebugLine::from(EndianVec::new(rt.alloc(), LittleEndian));
+    check_equal(&rt, lines.offset(), DebugLineOffset(0));
+    check_equal(&rt, lines.0.write(b"abc"), Ok(()));
+    check_equal(&rt, lines.offset(), DebugLineOffset(3));
 }
 
 #[test]
-fn offsets_of_sections(rt: HostRuntime) {
-    check_equal(&rt, steps_of_offsets_of_sections(&rt, rt.alloc()), Ok(()));
+fn offset_of_strings(rt: HostRuntime) {
+    let mut strings = DebugStr::from(EndianVec::new(rt.alloc(), BigEndian));
+    check_equal(&rt, strings.0.write(b"ab"), Ok(()));
+    check_equal(&rt, strings.offset(), DebugStrOffset(2));
 }
 
-/// The tables of a section hold ids, texts and offsets, and are written after what is there.
-fn steps_of_tables_of_texts(rt: &impl Abort, alloc: Global) -> Result<()> {
-    let mut table = LineStringTable::default(alloc);
+#[test]
+fn offset_of_line_strings(rt: HostRuntime) {
+    let mut line_strings = DebugLineStr::from(EndianVec::new(rt.alloc(), BigEndian));
+    check_equal(&rt, line_strings.0.write(b"a"), Ok(()));
+    check_equal(&rt, line_strings.offset(), DebugLineStrOffset(1));
+}
+
+/// The tables of a section hold ids, texts and offsets.
+fn put_texts(rt: &impl Abort, table: &mut LineStringTable) -> Result<()> {
     let directory = table.add(b"/w")?;
     let file = table.add(b"a.c")?;
     check(rt, table.add(b"/w")? == directory && directory != file);
@@ -97,16 +99,18 @@ fn steps_of_tables_of_texts(rt: &impl Abort, alloc: Global) -> Result<()> {
     check_equal(rt, table.get(file), b"a.c".as_slice());
     check_equal(rt, table.offset(file), DebugLineStrOffset(3));
     check_equal(rt, table.count(), 2);
-    let mut section = DebugLineStr::from(EndianVec::new(*table.allocator(), BigEndian));
-    section.0.write(b"..")?;
-    table.write(&mut section)?;
-    check_equal(rt, section.0.slice(), b"../w\0a.c\0".as_slice());
     Ok(())
 }
 
+/// They are written after what is there.
 #[test]
 fn tables_of_texts(rt: HostRuntime) {
-    check_equal(&rt, steps_of_tables_of_texts(&rt, rt.alloc()), Ok(()));
+    let mut table = LineStringTable::default(rt.alloc());
+    check_equal(&rt, put_texts(&rt, &mut table), Ok(()));
+    let mut section = DebugLineStr::from(EndianVec::new(*table.allocator(), BigEndian));
+    check_equal(&rt, section.0.write(b".."), Ok(()));
+    check_equal(&rt, table.write(&mut section), Ok(()));
+    check_equal(&rt, section.0.slice(), b"../w\0a.c\0".as_slice());
 }
 
 // ---- units after other bytes
@@ -154,7 +158,8 @@ fn check_written(rt: &impl Abort, alloc: Global, program: &LineProgram) -> Resul
     requires { CanWrite program.now [] [] }
 {
     let mut section = section_of_three(alloc)?;
-    check_equal(rt, write(alloc, program, &mut section)?, DebugLineOffset(3));
+    let answer = write(alloc, program, &mut section);
+    check_equal(rt, answer, Ok(DebugLineOffset(3)));
     check(rt, section.0.slice().starts_with(b"\xaa\xbb\xcc"));
     check(rt, section.0.slice().ends_with(DEMO_UNIT));
     check_equal(rt, section.0.len(), 54);
@@ -163,9 +168,9 @@ fn check_written(rt: &impl Abort, alloc: Global, program: &LineProgram) -> Resul
 
 fn steps_of_units_behind_other_bytes(rt: &impl Abort, alloc: Global) -> Result<()> {
     let program = demo(alloc)?;
-    check_written(rt, alloc, &program)?;
-    check_incompatible(rt, alloc, &program)?;
-    check_refused(rt, alloc)?;
+    check_equal(rt, check_written(rt, alloc, &program), Ok(()));
+    check_equal(rt, check_incompatible(rt, alloc, &program), Ok(()));
+    check_equal(rt, check_refused(rt, alloc), Ok(()));
     Ok(())
 }
 
@@ -205,21 +210,26 @@ fn check_read(rt: &impl Abort, answer: &RoundTrip) {
     }
 }
 
-/// A round trip after three bytes.
-fn check_round_trip(rt: &impl Abort, alloc: Global, program: &LineProgram) -> ConvertResult<()>
+/// A round trip of a program that names no text of a table.
+fn round_trip_alone(
+    alloc: Global,
+    program: &LineProgram,
+    section: &mut DebugLine<EndianVec<LittleEndian>>,
+) -> ConvertResult<RoundTrip>
     requires { CanWrite program.now [] [] }
 {
     let mut strings = StringTable::default(alloc);
     let mut line_strings = LineStringTable::default(alloc);
-    let mut section = section_of_three(alloc)?;
     let encoding = program.encoding();
-    let answer = round_trip(
-        program,
-        &mut section,
-        encoding,
-        &mut line_strings,
-        &mut strings,
-    )?;
+    round_trip(program, section, encoding, &mut line_strings, &mut strings)
+}
+
+/// A round trip after three bytes.
+fn check_round_trip(rt: &impl Abort, alloc: Global, program: &LineProgram) -> ConvertResult<()>
+    requires { CanWrite program.now [] [] }
+{
+    let mut section = section_of_three(alloc)?;
+    let answer = round_trip_alone(alloc, program, &mut section)?;
     check_read(rt, &answer);
     check(rt, section.0.slice().starts_with(b"\xaa\xbb\xcc"));
     check(rt, section.0.slice().ends_with(DEMO_UNIT));
