@@ -42,8 +42,8 @@ fn check_distinct<T: PartialEq>(rt: &impl Abort, name: &str, values: &[T]) {
 fn check_ascending<T: Ord>(rt: &impl Abort, values: &[T]) {
     for (i, one) in values.iter().enumerate() {
         for (j, other) in values.iter().enumerate() {
-            assert_eq!(rt; one.cmp(other), i.cmp(&j), "{i} and {j}");
-            assert_eq!(rt; *one < *other, i < j, "{i} and {j}");
+            check_equal(rt, one.cmp(other), i.cmp(&j));
+            check_equal(rt, *one < *other, i < j);
         }
     }
 }

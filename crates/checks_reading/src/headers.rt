@@ -310,7 +310,7 @@ fn steps_of_sections_over_readers_and_vectors(rt: &impl Abort, alloc: Global) ->
     check_reader(rt);
     let owned = DebugLine::from(changed(alloc, UNIT_OF_VERSION_5, &[])?);
     let lent = owned.borrow(|bytes| EndianSlice::new(bytes, LittleEndian));
-    assert!(rt; is_in_w(alloc, &lent)?);
+    check_equal(rt, is_in_w(alloc, &lent), Ok(true));
     Ok(())
 }
 

@@ -142,32 +142,28 @@ const LARGE_LENGTH: &[u8] = &[0xff, 0xff, 0xff, 0xff, 0, 0, 0, 0, 1, 0, 0, 0, 9]
 
 const LARGE_WORD: &[u8] = &[0, 0, 0, 1, 0, 0, 0, 0, 9];
 
-fn check_large_length(rt: &impl Abort, alloc: Global) {
-    let slice = EndianSlice::new(LARGE_LENGTH, Little);
-    check_equal(
-        rt,
-        initial_length(slice),
-        (Ok((0x1_0000_0000, Format::Dwarf64)), 1),
-    );
-    let narrow = NarrowReader::new(alloc, LARGE_LENGTH, Little);
-    check_equal(
-        rt,
-        initial_length(narrow),
-        (Err(Error::UnsupportedOffset), 1),
-    );
+fn check_large_length<R: Reader>(rt: &impl Abort, reader: R, wanted: Result<(u64, Format)>) {
+    let (length, left) = initial_length(reader);
+    check_equal(rt, length, wanted);
+    check_equal(rt, left, 1);
 }
 
-fn check_large_word(rt: &impl Abort, alloc: Global) {
-    let slice = EndianSlice::new(LARGE_WORD, Big);
-    check_equal(rt, long_word(slice), (Ok(0x1_0000_0000), 1));
-    let narrow = NarrowReader::new(alloc, LARGE_WORD, Big);
-    check_equal(rt, long_word(narrow), (Err(Error::UnsupportedOffset), 1));
+fn check_large_word<R: Reader>(rt: &impl Abort, reader: R, wanted: Result<u64>) {
+    let (word, left) = long_word(reader);
+    check_equal(rt, word, wanted);
+    check_equal(rt, left, 1);
 }
 
 #[test]
 fn words_that_an_offset_does_not_hold(rt: HostRuntime) {
-    check_large_length(&rt, rt.alloc());
-    check_large_word(&rt, rt.alloc());
+    let slice = EndianSlice::new(LARGE_LENGTH, Little);
+    check_large_length(&rt, slice, Ok((0x1_0000_0000, Format::Dwarf64)));
+    let narrow = NarrowReader::new(rt.alloc(), LARGE_LENGTH, Little);
+    check_large_length(&rt, narrow, Err(Error::UnsupportedOffset));
+    let slice = EndianSlice::new(LARGE_WORD, Big);
+    check_large_word(&rt, slice, Ok(0x1_0000_0000));
+    let narrow = NarrowReader::new(rt.alloc(), LARGE_WORD, Big);
+    check_large_word(&rt, narrow, Err(Error::UnsupportedOffset));
 }
 
 // ---- parts of readers
