@@ -4,7 +4,7 @@ use crate::instructions::executed_by_unit;
 use crate::units::{HEADER_OF_TWO_FILES, Slice, UNIT_OF_VERSION_4, program, slice, unit};
 use gimli_core::{
     AttributeValue, DW_FORM_string, DW_FORM_udata, DW_LNCT_MD5, DW_LNCT_path, DebugLineStrOffset,
-    DebugStrOffset, DwLne, DwLns, EndianSlice, Reader, Result, RunTimeEndian,
+    DebugStrOffset, DwLne, DwLns, EndianSlice, Error, Reader, Result, RunTimeEndian,
 };
 use gimli_line::LineInstruction::{
     AdvanceLine, AdvancePc, ConstAddPc, EndSequence, FixedAddPc, NegateStatement, SetAddress,
@@ -16,7 +16,6 @@ use std::alloc::Global;
 use std::fmt::Debug;
 use std::num::NonZeroU64;
 use std::process::Abort;
-use std::test::Fail;
 
 /// A condition holds.
 ///
@@ -43,8 +42,8 @@ fn check_distinct<T: PartialEq>(rt: &impl Abort, name: &str, values: &[T]) {
 fn check_ascending<T: Ord>(rt: &impl Abort, values: &[T]) {
     for (i, one) in values.iter().enumerate() {
         for (j, other) in values.iter().enumerate() {
-            assert_eq!(rt; one.cmp(other), i.cmp(&j), "{i} and {j}");
-            assert_eq!(rt; *one < *other, i < j, "{i} and {j}");
+            check_equal(rt, one.cmp(other), i.cmp(&j));
+            check_equal(rt, *one < *other, i < j);
         }
     }
 }
@@ -172,10 +171,14 @@ fn check_entries<R: Reader + PartialEq>(rt: &impl Abort, alloc: Global, unit: R)
     Ok(())
 }
 
-#[test]
-fn equal_entries(rt: HostRuntime) -> std::result::Result<(), Fail> {
-    check_entries(&rt, rt.alloc(), slice(UNIT_OF_VERSION_4))?;
+fn steps_of_equal_entries(rt: &impl Abort, alloc: Global) -> Result<()> {
+    check_entries(rt, alloc, slice(UNIT_OF_VERSION_4))?;
     Ok(())
+}
+
+#[test]
+fn equal_entries(rt: HostRuntime) {
+    check_equal(&rt, steps_of_equal_entries(&rt, rt.alloc()), Ok(()));
 }
 
 /// Programs, each of which changes one register alone; the last hides what follows it.
@@ -196,20 +199,25 @@ const CHANGES: [&[u8]; 13] = [
 ];
 
 /// The row after each of them.
-fn changed_rows(alloc: Global) -> std::result::Result<Vec<LineRow>, Fail> {
+fn changed_rows(alloc: Global) -> Result<Vec<LineRow>> {
     let mut rows = Vec::new(alloc);
     for bytes in CHANGES {
         let unit = unit(alloc, HEADER_OF_TWO_FILES, bytes)?;
         let (_, row) = executed_by_unit(alloc, slice(&unit), 4)?;
-        rows.push(row)?;
+        let pushed = rows.push(row);
+        pushed.map_err(|_| Error::OutOfMemory)?;
     }
     Ok(rows)
 }
 
-#[test]
-fn equal_rows(rt: HostRuntime) -> std::result::Result<(), Fail> {
-    let rows = changed_rows(rt.alloc())?;
-    check_distinct(&rt, "row", &rows);
-    assert!(rt; changed_rows(rt.alloc())? == rows);
+fn steps_of_equal_rows(rt: &impl Abort, alloc: Global) -> Result<()> {
+    let rows = changed_rows(alloc)?;
+    check_distinct(rt, "row", &rows);
+    assert!(rt; changed_rows(alloc)? == rows);
     Ok(())
+}
+
+#[test]
+fn equal_rows(rt: HostRuntime) {
+    check_equal(&rt, steps_of_equal_rows(&rt, rt.alloc()), Ok(()));
 }

@@ -1,18 +1,27 @@
 //! The texts of the errors of reading.
 
+use crate::equality::check_equal;
 use gimli_core::{Error, ReaderOffsetId};
-use std::test::Fail;
+use std::alloc::{AllocError, Global};
+use std::process::Abort;
 
 /// A refusal of reading has a text, whatever it is.
-#[test]
-fn texts_of_reading(rt: HostRuntime) -> std::result::Result<(), Fail> {
+fn steps_of_texts_of_reading(
+    rt: &impl Abort,
+    alloc: Global,
+) -> std::result::Result<(), AllocError> {
     for error in [
         Error::UnexpectedEof(ReaderOffsetId(3)),
         Error::UnknownVersion(6),
         Error::AddressOverflow,
         Error::OutOfMemory,
     ] {
-        assert!(rt; !error.to_string(rt.alloc())?.is_empty(), "at {error:?}");
+        assert!(rt; !error.to_string(alloc)?.is_empty(), "at {error:?}");
     }
     Ok(())
+}
+
+#[test]
+fn texts_of_reading(rt: HostRuntime) {
+    check_equal(&rt, steps_of_texts_of_reading(&rt, rt.alloc()), Ok(()));
 }

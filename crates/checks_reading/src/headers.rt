@@ -15,7 +15,6 @@ use gimli_core::{
 use gimli_line::{DebugLine, LineProgramHeader};
 use std::alloc::{AllocError, Global};
 use std::process::Abort;
-use std::test::Fail;
 
 // ---- numbers that offsets of 32 bits don't hold
 
@@ -49,7 +48,12 @@ fn lengths_that_offsets_do_not_hold(rt: HostRuntime) {
 }
 
 /// A unit of version 5 and 64-bit DWARF with these directories and no file, in a header of 64 bytes.
-fn unit_of_directories(
+fn unit_of_directories(alloc: Global, directories: &[u8]) -> Result<Vec<u8>> {
+    bytes_of_directories(alloc, directories).map_err(|_| Error::OutOfMemory)
+}
+
+/// Its bytes.
+fn bytes_of_directories(
     alloc: Global,
     directories: &[u8],
 ) -> std::result::Result<Vec<u8>, AllocError> {
@@ -75,26 +79,26 @@ const VALUES: [(&[u8], bool); 8] = [
     (b"\x01\x01\x1a\x01\xff\xff\xff\xff\x0f", true),
 ];
 
-#[test]
-fn values_that_offsets_do_not_hold(rt: HostRuntime) -> std::result::Result<(), Fail> {
+fn steps_of_values_that_offsets_do_not_hold(rt: &impl Abort, alloc: Global) -> Result<()> {
     for (directories, fits) in VALUES {
-        let unit = unit_of_directories(rt.alloc(), directories)?;
+        let unit = unit_of_directories(alloc, directories)?;
         let narrow = if fits { None } else { Some(UnsupportedOffset) };
-        assert_eq!(rt;
-            narrow_refusal(rt.alloc(), &unit),
-            narrow,
-            "at {directories:?}"
-        );
-        assert_eq!(rt;
-            refusal(rt.alloc(), slice(&unit)),
-            None,
-            "at {directories:?}"
-        );
+        assert_eq!(rt; narrow_refusal(alloc, &unit), narrow, "at {directories:?}");
+        assert_eq!(rt; refusal(alloc, slice(&unit)), None, "at {directories:?}");
     }
     let block = b"\x01\x01\x09\x01\x80\x80\x80\x80\x10";
-    let unit = unit_of_directories(rt.alloc(), block)?;
-    check(&rt, is_too_wide(rt.alloc(), &unit));
+    let unit = unit_of_directories(alloc, block)?;
+    check(rt, is_too_wide(alloc, &unit));
     Ok(())
+}
+
+#[test]
+fn values_that_offsets_do_not_hold(rt: HostRuntime) {
+    check_equal(
+        &rt,
+        steps_of_values_that_offsets_do_not_hold(&rt, rt.alloc()),
+        Ok(()),
+    );
 }
 
 /// The number of files, the length of the program and the first byte of it, over any reader.
@@ -135,18 +139,22 @@ const LEFT: [(&[u8], &[(usize, u8)], u64); 11] = [
     (UNIT_OF_VERSION_4, &[(0, 0x28)], 34),
 ];
 
-#[test]
-fn bytes_left_where_more_are_wanting(rt: HostRuntime) -> std::result::Result<(), Fail> {
+fn steps_of_bytes_left_where_more_are_wanting(rt: &impl Abort, alloc: Global) -> Result<()> {
     for (unit, changes, left) in LEFT {
-        let bytes = changed(rt.alloc(), unit, changes)?;
+        let bytes = changed(alloc, unit, changes)?;
         let refused = Some(UnexpectedEof(ReaderOffsetId(left)));
-        assert_eq!(rt;
-            refusal(rt.alloc(), slice(&bytes)),
-            refused,
-            "at {changes:?}"
-        );
+        assert_eq!(rt; refusal(alloc, slice(&bytes)), refused, "at {changes:?}");
     }
     Ok(())
+}
+
+#[test]
+fn bytes_left_where_more_are_wanting(rt: HostRuntime) {
+    check_equal(
+        &rt,
+        steps_of_bytes_left_where_more_are_wanting(&rt, rt.alloc()),
+        Ok(()),
+    );
 }
 
 // ---- indexes at the top of their range
@@ -173,19 +181,27 @@ fn is_found_at_top<R: Reader>(
 }
 
 /// No index wraps to one that is there.
-#[test]
-fn indexes_at_the_top_of_their_range(rt: HostRuntime) -> std::result::Result<(), Fail> {
+fn steps_of_indexes_at_the_top_of_their_range(rt: &impl Abort, alloc: Global) -> Result<()> {
     for version in [2u8, 3, 4, 5] {
         let unit = if version == 5 {
             UNIT_OF_VERSION_5
         } else {
             DEMO_UNIT
         };
-        let bytes = changed(rt.alloc(), unit, &[(4, version)])?;
-        let found = is_found_at_top(rt.alloc(), slice(&bytes), slice(b"/w"), slice(b"a.c"))?;
+        let bytes = changed(alloc, unit, &[(4, version)])?;
+        let found = is_found_at_top(alloc, slice(&bytes), slice(b"/w"), slice(b"a.c"))?;
         assert_eq!(rt; found, None, "of version {version}");
     }
     Ok(())
+}
+
+#[test]
+fn indexes_at_the_top_of_their_range(rt: HostRuntime) {
+    check_equal(
+        &rt,
+        steps_of_indexes_at_the_top_of_their_range(&rt, rt.alloc()),
+        Ok(()),
+    );
 }
 
 /// The directory of a file, as its entry finds it in the header.
@@ -212,10 +228,14 @@ fn check_directories<R: Reader>(
     Ok(())
 }
 
-#[test]
-fn directories_of_files(rt: HostRuntime) -> std::result::Result<(), Fail> {
-    check_directories(&rt, rt.alloc(), slice(UNIT_OF_VERSION_4), slice(b"/w"))?;
+fn steps_of_directories_of_files(rt: &impl Abort, alloc: Global) -> Result<()> {
+    check_directories(rt, alloc, slice(UNIT_OF_VERSION_4), slice(b"/w"))?;
     Ok(())
+}
+
+#[test]
+fn directories_of_files(rt: HostRuntime) {
+    check_equal(&rt, steps_of_directories_of_files(&rt, rt.alloc()), Ok(()));
 }
 
 /// The numbers of a file by the names of versions 2 to 4 are those by the names of version 5.
@@ -244,11 +264,15 @@ fn check_numbers<R: Reader>(rt: &impl Abort, alloc: Global, unit: R) -> Result<(
     Ok(())
 }
 
-#[test]
-fn numbers_by_two_names(rt: HostRuntime) -> std::result::Result<(), Fail> {
-    let bytes = changed(rt.alloc(), DEMO_UNIT, &[(34, 7), (35, 9)])?;
-    check_numbers(&rt, rt.alloc(), slice(&bytes))?;
+fn steps_of_numbers_by_two_names(rt: &impl Abort, alloc: Global) -> Result<()> {
+    let bytes = changed(alloc, DEMO_UNIT, &[(34, 7), (35, 9)])?;
+    check_numbers(rt, alloc, slice(&bytes))?;
     Ok(())
+}
+
+#[test]
+fn numbers_by_two_names(rt: HostRuntime) {
+    check_equal(&rt, steps_of_numbers_by_two_names(&rt, rt.alloc()), Ok(()));
 }
 
 // ---- sections
@@ -282,13 +306,21 @@ fn check_reader(rt: &impl Abort) {
     );
 }
 
-#[test]
-fn sections_over_readers_and_vectors(rt: HostRuntime) -> std::result::Result<(), Fail> {
-    check_reader(&rt);
-    let owned = DebugLine::from(Vec::from_slice(rt.alloc(), UNIT_OF_VERSION_5)?);
+fn steps_of_sections_over_readers_and_vectors(rt: &impl Abort, alloc: Global) -> Result<()> {
+    check_reader(rt);
+    let owned = DebugLine::from(changed(alloc, UNIT_OF_VERSION_5, &[])?);
     let lent = owned.borrow(|bytes| EndianSlice::new(bytes, LittleEndian));
-    assert!(rt; is_in_w(rt.alloc(), &lent)?);
+    check_equal(rt, is_in_w(alloc, &lent), Ok(true));
     Ok(())
+}
+
+#[test]
+fn sections_over_readers_and_vectors(rt: HostRuntime) {
+    check_equal(
+        &rt,
+        steps_of_sections_over_readers_and_vectors(&rt, rt.alloc()),
+        Ok(()),
+    );
 }
 
 // ---- equal and copied headers
@@ -316,17 +348,25 @@ fn has_equal_copies<R: Reader + PartialEq>(alloc: Global, unit: R) -> Result<boo
 
 /// Two reads of the same bytes are equal, and so are copies; other bytes give another header. Files and formats are
 /// compared and copied with it.
-#[test]
-fn equal_and_copied_headers(rt: HostRuntime) -> std::result::Result<(), Fail> {
+fn steps_of_equal_and_copied_headers(rt: &impl Abort, alloc: Global) -> Result<()> {
     let one = slice(UNIT_OF_VERSION_5);
     check(
-        &rt,
-        have_equal_headers(rt.alloc(), one, slice(UNIT_OF_VERSION_5))?,
+        rt,
+        have_equal_headers(alloc, one, slice(UNIT_OF_VERSION_5))?,
     );
-    check(&rt, !have_equal_headers(rt.alloc(), one, slice(DEMO_UNIT))?);
-    check(&rt, has_equal_copies(rt.alloc(), one)?);
-    check(&rt, has_equal_copies(rt.alloc(), slice(DEMO_UNIT))?);
+    check(rt, !have_equal_headers(alloc, one, slice(DEMO_UNIT))?);
+    check(rt, has_equal_copies(alloc, one)?);
+    check(rt, has_equal_copies(alloc, slice(DEMO_UNIT))?);
     Ok(())
+}
+
+#[test]
+fn equal_and_copied_headers(rt: HostRuntime) {
+    check_equal(
+        &rt,
+        steps_of_equal_and_copied_headers(&rt, rt.alloc()),
+        Ok(()),
+    );
 }
 
 /// Places of the version 5 unit whose bytes the header keeps, each with another byte that leaves a header: address
@@ -343,12 +383,20 @@ const OTHERS: [(usize, u8); 9] = [
     (41, 0x0b),
 ];
 
-#[test]
-fn headers_that_differ_in_one_part(rt: HostRuntime) -> std::result::Result<(), Fail> {
+fn steps_of_headers_that_differ_in_one_part(rt: &impl Abort, alloc: Global) -> Result<()> {
     for (place, byte) in OTHERS {
-        let other = changed(rt.alloc(), UNIT_OF_VERSION_5, &[(place, byte)])?;
-        let equal = have_equal_headers(rt.alloc(), slice(UNIT_OF_VERSION_5), slice(&other))?;
+        let other = changed(alloc, UNIT_OF_VERSION_5, &[(place, byte)])?;
+        let equal = have_equal_headers(alloc, slice(UNIT_OF_VERSION_5), slice(&other))?;
         assert!(rt; !equal, "at {place}");
     }
     Ok(())
+}
+
+#[test]
+fn headers_that_differ_in_one_part(rt: HostRuntime) {
+    check_equal(
+        &rt,
+        steps_of_headers_that_differ_in_one_part(&rt, rt.alloc()),
+        Ok(()),
+    );
 }

@@ -15,7 +15,6 @@ use gimli_line::{
 };
 use std::alloc::Global;
 use std::process::Abort;
-use std::test::Fail;
 
 // ---- taken
 
@@ -68,21 +67,26 @@ fn is_refused<R: Reader>(alloc: Global, unit: R, error: Error) -> Result<bool> {
 }
 
 /// An instruction of each number of operands, and with an end of sequence.
-#[test]
-fn nothing_behind_the_last_instruction(rt: HostRuntime) -> std::result::Result<(), Fail> {
+fn steps_of_nothing_behind_the_last_instruction(rt: &impl Abort, alloc: Global) -> Result<()> {
     let only = [
         (b"\x0c\xb9\x64".as_slice(), SetIsa(12857)),
         (b"\x09\x2a\0".as_slice(), FixedAddPc(42)),
         (b"\0\x01\x01".as_slice(), EndSequence),
     ];
     for (bytes, instruction) in only {
-        let unit = unit(rt.alloc(), HEADER, bytes)?;
-        assert!(rt;
-            is_only(rt.alloc(), slice(&unit), instruction)?,
-            "at {bytes:?}"
-        );
+        let unit = unit(alloc, HEADER, bytes)?;
+        assert!(rt; is_only(alloc, slice(&unit), instruction)?, "at {bytes:?}");
     }
     Ok(())
+}
+
+#[test]
+fn nothing_behind_the_last_instruction(rt: HostRuntime) {
+    check_equal(
+        &rt,
+        steps_of_nothing_behind_the_last_instruction(&rt, rt.alloc()),
+        Ok(()),
+    );
 }
 
 /// Programs whose first instruction is refused, and by what. The number of a refusal counts the bytes that were
@@ -118,16 +122,21 @@ const REFUSED: [(&[u8], Error); 9] = [
     ),
 ];
 
-#[test]
-fn nothing_behind_a_refused_instruction(rt: HostRuntime) -> std::result::Result<(), Fail> {
+fn steps_of_nothing_behind_a_refused_instruction(rt: &impl Abort, alloc: Global) -> Result<()> {
     for (bytes, error) in REFUSED {
-        let unit = unit(rt.alloc(), HEADER, bytes)?;
-        assert!(rt;
-            is_refused(rt.alloc(), slice(&unit), error)?,
-            "at {bytes:?}"
-        );
+        let unit = unit(alloc, HEADER, bytes)?;
+        assert!(rt; is_refused(alloc, slice(&unit), error)?, "at {bytes:?}");
     }
     Ok(())
+}
+
+#[test]
+fn nothing_behind_a_refused_instruction(rt: HostRuntime) {
+    check_equal(
+        &rt,
+        steps_of_nothing_behind_a_refused_instruction(&rt, rt.alloc()),
+        Ok(()),
+    );
 }
 
 // ---- executed
@@ -308,16 +317,24 @@ const EXECUTED: [(&[u8], u8, Result<bool>, [u64; 7], [bool; 5]); 37] = [
     ),
 ];
 
-#[test]
-fn one_instruction_executed(rt: HostRuntime) -> std::result::Result<(), Fail> {
+fn steps_of_one_instruction_executed(rt: &impl Abort, alloc: Global) -> Result<()> {
     for (bytes, size, answer, registers, marks) in EXECUTED {
-        let unit = unit(rt.alloc(), HEADER_OF_RANGE_12, bytes)?;
-        let (last, row) = executed_by_unit(rt.alloc(), slice(&unit), size)?;
+        let unit = unit(alloc, HEADER_OF_RANGE_12, bytes)?;
+        let (last, row) = executed_by_unit(alloc, slice(&unit), size)?;
         assert_eq!(rt; last, answer, "at {bytes:?}");
         assert_eq!(rt; numbers(&row), registers, "at {bytes:?}");
         assert_eq!(rt; flags(&row), marks, "at {bytes:?}");
     }
     Ok(())
+}
+
+#[test]
+fn one_instruction_executed(rt: HostRuntime) {
+    check_equal(
+        &rt,
+        steps_of_one_instruction_executed(&rt, rt.alloc()),
+        Ok(()),
+    );
 }
 
 // ---- files
@@ -334,8 +351,7 @@ fn is_in_path<R: Reader>(alloc: Global, unit: R, path: Option<&[u8]>) -> Result<
     })
 }
 
-#[test]
-fn files_of_a_row(rt: HostRuntime) -> std::result::Result<(), Fail> {
+fn steps_of_files_of_a_row(rt: &impl Abort, alloc: Global) -> Result<()> {
     let paths: [(&[u8], Option<&[u8]>); 4] = [
         (&[4, 0], None),
         (&[4, 1], Some(b"foo.rs")),
@@ -343,11 +359,19 @@ fn files_of_a_row(rt: HostRuntime) -> std::result::Result<(), Fail> {
         (&[4, 100], None),
     ];
     for (bytes, path) in paths {
-        let unit = unit(rt.alloc(), HEADER_OF_TWO_FILES, bytes)?;
-        assert!(rt; is_in_path(rt.alloc(), slice(&unit), path)?, "at {bytes:?}");
+        let unit = unit(alloc, HEADER_OF_TWO_FILES, bytes)?;
+        assert!(rt; is_in_path(alloc, slice(&unit), path)?, "at {bytes:?}");
     }
     Ok(())
 }
+
+#[test]
+fn files_of_a_row(rt: HostRuntime) {
+    check_equal(&rt, steps_of_files_of_a_row(&rt, rt.alloc()), Ok(()));
+}
+
+/// What is answered where an instruction or a file isn't there.
+const NOTHING: Error = Error::UnexpectedEof(ReaderOffsetId(0));
 
 /// A program that defines the file `foo.c`, in directory 0, of timestamp 1 and size 2.
 const DEFINES: &[u8] = b"\0\x0a\x03foo.c\0\0\x01\x02";
@@ -368,10 +392,10 @@ fn has_defined<R: Reader>(header: &LineProgramHeader<R>) -> bool {
 fn check_definition<R: Reader>(
     rt: &impl Abort,
     program: &mut IncompleteLineProgram<R>,
-) -> std::result::Result<(), Fail> {
+) -> Result<()> {
     let mut instructions = program.header().instructions();
     let defines = instructions.next_instruction(program.header())?;
-    let defines = defines.ok_or("no instruction")?;
+    let defines = defines.ok_or(NOTHING)?;
     let mut row = LineRow::new(program.header());
     row.execute(SetFile(2), program)?;
     let before = row;
@@ -384,13 +408,10 @@ fn check_definition<R: Reader>(
 }
 
 /// A program whose files are complete takes no more, and refuses nothing.
-fn check_complete<R: Reader>(
-    rt: &impl Abort,
-    program: &CompleteLineProgram<R>,
-) -> std::result::Result<(), Fail> {
+fn check_complete<R: Reader>(rt: &impl Abort, program: &CompleteLineProgram<R>) -> Result<()> {
     let mut instructions = program.header().instructions();
     let defines = instructions.next_instruction(program.header())?;
-    let defines = defines.ok_or("no instruction")?;
+    let defines = defines.ok_or(NOTHING)?;
     let mut row = LineRow::new(program.header());
     let mut lent = program;
     check_equal(rt, row.execute(defines, &mut lent), Ok(false));
@@ -399,22 +420,15 @@ fn check_complete<R: Reader>(
 }
 
 /// A file is added to a program that isn't complete, and to no other, by the trait's own call.
-fn check_added<R: Reader>(
-    rt: &impl Abort,
-    program: &mut IncompleteLineProgram<R>,
-) -> std::result::Result<(), Fail> {
-    let file = *program.header().file(1).ok_or("no file")?;
+fn check_added<R: Reader>(rt: &impl Abort, program: &mut IncompleteLineProgram<R>) -> Result<()> {
+    let file = *program.header().file(1).ok_or(NOTHING)?;
     program.add_file(file)?;
     assert_eq!(rt; file_count(LineProgram::header(program)), 3);
     Ok(())
 }
 
 /// The same of a unit.
-fn check_definition_of_unit<R: Reader>(
-    rt: &impl Abort,
-    alloc: Global,
-    unit: R,
-) -> std::result::Result<(), Fail> {
+fn check_definition_of_unit<R: Reader>(rt: &impl Abort, alloc: Global, unit: R) -> Result<()> {
     let mut program = program(alloc, unit, 4)?;
     let (complete, _) = program.clone()?.sequences()?;
     check_definition(rt, &mut program)?;
@@ -422,10 +436,18 @@ fn check_definition_of_unit<R: Reader>(
     check_added(rt, &mut program)
 }
 
+fn steps_of_file_defined_by_an_instruction(rt: &impl Abort, alloc: Global) -> Result<()> {
+    let unit = unit(alloc, HEADER, DEFINES)?;
+    check_definition_of_unit(rt, alloc, slice(&unit))
+}
+
 #[test]
-fn file_defined_by_an_instruction(rt: HostRuntime) -> std::result::Result<(), Fail> {
-    let unit = unit(rt.alloc(), HEADER, DEFINES)?;
-    check_definition_of_unit(&rt, rt.alloc(), slice(&unit))
+fn file_defined_by_an_instruction(rt: HostRuntime) {
+    check_equal(
+        &rt,
+        steps_of_file_defined_by_an_instruction(&rt, rt.alloc()),
+        Ok(()),
+    );
 }
 
 // ---- after a row
@@ -483,12 +505,20 @@ fn check_ended<R: Reader>(
     Ok(())
 }
 
-#[test]
-fn registers_reset_and_rebased(rt: HostRuntime) -> std::result::Result<(), Fail> {
+fn steps_of_registers_reset_and_rebased(rt: &impl Abort, alloc: Global) -> Result<()> {
     let marked: &[u8] = &[2, 42, 6, 7, 10, 11, 0, 2, 4, 9];
-    let unit = unit(rt.alloc(), HEADER, marked)?;
-    check_registers(&rt, rt.alloc(), slice(&unit))?;
+    let unit = unit(alloc, HEADER, marked)?;
+    check_registers(rt, alloc, slice(&unit))?;
     Ok(())
+}
+
+#[test]
+fn registers_reset_and_rebased(rt: HostRuntime) {
+    check_equal(
+        &rt,
+        steps_of_registers_reset_and_rebased(&rt, rt.alloc()),
+        Ok(()),
+    );
 }
 
 /// The registers of a row of one-byte addresses after each of these steps.

@@ -2,12 +2,11 @@
 
 use crate::equality::{check, check_equal};
 use crate::units::{DEMO_PROGRAM, HEADER, changed, file_count, program, slice, unit};
-use gimli_core::{Reader, Result};
+use gimli_core::{Error, Reader, Result};
 use gimli_line::{CompleteLineProgram, LineRow, LineSequence, ResumedLineRows};
 use gimli_lookup::Lookup;
 use std::alloc::{AllocError, Global};
 use std::process::Abort;
-use std::test::Fail;
 
 /// Two adjacent rows.
 type Pair = (LineRow, LineRow);
@@ -171,10 +170,9 @@ fn check_address<R: Reader>(
 ) {
     let name = case.name;
     let (counted, probes) = lookup.find_counted(a);
-    assert_eq!(rt; counted, plain, "{name}: {a}");
-    assert_eq!(rt; lookup.find(a), plain, "{name}: {a}");
-    assert!(rt; case.least <= probes, "{name}: {a}");
-    assert!(rt; probes <= case.most, "{name}: {a}");
+    assert!(rt; counted == plain, "{name}: {a}");
+    check_equal(rt, lookup.find(a), plain);
+    check(rt, case.least <= probes && probes <= case.most);
 }
 
 /// Addresses round the rows of the demo unit, and the greatest ones of four and of eight bytes.
@@ -195,44 +193,60 @@ const FAR: [u64; 10] = [
 fn check_case<R: Reader>(rt: &impl Abort, alloc: Global, unit: R, case: &Case) -> Result<()> {
     let lookup = Lookup::new(program(alloc, unit, 4)?)?;
     let (program, sequences) = program(alloc, unit, 4)?.sequences()?;
-    assert_eq!(rt; sequences.len(), case.sequences);
-    assert_eq!(rt; lookup.sequences().len(), case.sequences);
-    assert_eq!(rt; file_count(lookup.header()), file_count(program.header()));
-    for a in 0..300 {
-        let plain = plain_pair(&program, &sequences, a)?;
-        check_address(rt, &lookup, plain, a, case);
+    check_equal(rt, sequences.len(), case.sequences);
+    check_equal(rt, lookup.sequences().len(), case.sequences);
+    check_equal(
+        rt,
+        file_count(lookup.header()),
+        file_count(program.header()),
+    );
+    check_addresses(rt, &lookup, &program, &sequences, case)
+}
+
+/// The lookup, and the plain scan over the sequences, answer the same for each address.
+fn check_addresses<R: Reader>(
+    rt: &impl Abort,
+    lookup: &Lookup<R>,
+    program: &CompleteLineProgram<R>,
+    sequences: &[LineSequence<R>],
+    case: &Case,
+) -> Result<()> {
+    for a in (0..300).chain(FAR) {
+        let plain = plain_pair(program, sequences, a)?;
+        check_address(rt, lookup, plain, a, case);
     }
-    for a in FAR {
-        let plain = plain_pair(&program, &sequences, a)?;
-        check_address(rt, &lookup, plain, a, case);
+    Ok(())
+}
+
+fn steps_of_each_address_of_small_programs(rt: &impl Abort, alloc: Global) -> Result<()> {
+    for case in &CASES {
+        let unit = unit(alloc, HEADER, case.program)?;
+        check_case(rt, alloc, slice(&unit), case)?;
     }
     Ok(())
 }
 
 #[test]
-fn each_address_of_small_programs(rt: HostRuntime) -> std::result::Result<(), Fail> {
-    for case in &CASES {
-        let unit = unit(rt.alloc(), HEADER, case.program)?;
-        check_case(&rt, rt.alloc(), slice(&unit), case)?;
-    }
-    Ok(())
+fn each_address_of_small_programs(rt: HostRuntime) {
+    check_equal(
+        &rt,
+        steps_of_each_address_of_small_programs(&rt, rt.alloc()),
+        Ok(()),
+    );
 }
 
 // ---- the rows that one run keeps
 
 /// A resumed sequence gives these rows, and no more.
-fn check_rows<R: Reader>(
-    rt: &impl Abort,
-    resumed: ResumedLineRows<'_, R>,
-    kept: &[LineRow],
-) -> Result<()> {
+fn check_rows<R: Reader>(rt: &impl Abort, resumed: ResumedLineRows<'_, R>, kept: &[LineRow]) {
     let mut resumed = resumed;
     for row in kept {
-        let found = resumed.next_row()?.map(|(_, row)| *row);
-        check_equal(rt, found, Some(*row));
+        match resumed.next_row() {
+            Ok(Some((_, found))) => check_equal(rt, *found, *row),
+            _ => check(rt, false),
+        }
     }
-    check(rt, resumed.next_row()?.is_none());
-    Ok(())
+    check(rt, matches!(resumed.next_row(), Ok(None)));
 }
 
 /// `sequences_with_rows` answers what `sequences` does, and the rows that each sequence gives when it is resumed.
@@ -248,25 +262,29 @@ fn check_kept<R: Reader>(rt: &impl Abort, alloc: Global, unit: R, case: &Case) -
     );
     for ((sequence, other), kept) in sequences.iter().zip(&same).zip(&rows) {
         check_equal(rt, (other.start, other.end), (sequence.start, sequence.end));
-        check_rows(rt, complete.resume_from(sequence), kept)?;
-        check_rows(rt, with_rows.resume_from(other), kept)?;
+        check_rows(rt, complete.resume_from(sequence), kept);
+        check_rows(rt, with_rows.resume_from(other), kept);
+    }
+    Ok(())
+}
+
+fn steps_of_rows_of_one_run(rt: &impl Abort, alloc: Global) -> Result<()> {
+    for case in &CASES {
+        let unit = unit(alloc, HEADER, case.program)?;
+        check_kept(rt, alloc, slice(&unit), case)?;
     }
     Ok(())
 }
 
 #[test]
-fn rows_of_one_run(rt: HostRuntime) -> std::result::Result<(), Fail> {
-    for case in &CASES {
-        let unit = unit(rt.alloc(), HEADER, case.program)?;
-        check_kept(&rt, rt.alloc(), slice(&unit), case)?;
-    }
-    Ok(())
+fn rows_of_one_run(rt: HostRuntime) {
+    check_equal(&rt, steps_of_rows_of_one_run(&rt, rt.alloc()), Ok(()));
 }
 
 // ---- a lookup of many rows
 
 /// A program of one sequence of a thousand rows: at each address from 0x11 on a row, the last one an end.
-fn program_of_a_thousand_rows(alloc: Global) -> std::result::Result<Vec<u8>, AllocError> {
+fn bytes_of_a_thousand_rows(alloc: Global) -> std::result::Result<Vec<u8>, AllocError> {
     let mut program = Vec::from_slice(alloc, b"\0\x05\x02\x10\0\0\0")?;
     for _ in 0..999 {
         program.push(0x20)?;
@@ -275,19 +293,23 @@ fn program_of_a_thousand_rows(alloc: Global) -> std::result::Result<Vec<u8>, All
     Ok(program)
 }
 
+/// Its bytes, or `OutOfMemory`.
+fn program_of_a_thousand_rows(alloc: Global) -> Result<Vec<u8>> {
+    bytes_of_a_thousand_rows(alloc).map_err(|_| Error::OutOfMemory)
+}
+
 /// The addresses of two rows.
 fn addresses(pair: Option<Pair>) -> Option<(u64, u64)> {
     pair.map(|(first, second)| (first.address(), second.address()))
 }
 
 /// The row at each address is found, and the one after it, with at most ten probes.
-#[test]
-fn each_address_of_a_thousand_rows(rt: HostRuntime) -> std::result::Result<(), Fail> {
-    let bytes = program_of_a_thousand_rows(rt.alloc())?;
-    let unit = unit(rt.alloc(), HEADER, &bytes)?;
+fn steps_of_each_address_of_a_thousand_rows(rt: &impl Abort, alloc: Global) -> Result<()> {
+    let bytes = program_of_a_thousand_rows(alloc)?;
+    let unit = unit(alloc, HEADER, &bytes)?;
     // The unit has 1048 bytes, which one byte doesn't tell.
-    let unit = changed(rt.alloc(), &unit, &[(0, 0x14), (1, 4)])?;
-    let lookup = Lookup::new(program(rt.alloc(), slice(&unit), 4)?)?;
+    let unit = changed(alloc, &unit, &[(0, 0x14), (1, 4)])?;
+    let lookup = Lookup::new(program(alloc, slice(&unit), 4)?)?;
     for a in 0..1100 {
         let is_covered = 0x11 <= a && a < 0x3f8;
         let expected = is_covered.then_some((a, a + 1));
@@ -297,4 +319,13 @@ fn each_address_of_a_thousand_rows(rt: HostRuntime) -> std::result::Result<(), F
         assert!(rt; 1 <= probes && probes <= 10, "at {a}");
     }
     Ok(())
+}
+
+#[test]
+fn each_address_of_a_thousand_rows(rt: HostRuntime) {
+    check_equal(
+        &rt,
+        steps_of_each_address_of_a_thousand_rows(&rt, rt.alloc()),
+        Ok(()),
+    );
 }

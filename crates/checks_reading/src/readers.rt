@@ -7,7 +7,6 @@ use gimli_core::{EndianSlice, Error, Format, Reader, ReaderOffset, ReaderOffsetI
 use std::alloc::Global;
 use std::borrow::CowSlice;
 use std::process::Abort;
-use std::test::Fail;
 
 // ---- each call once
 
@@ -143,32 +142,28 @@ const LARGE_LENGTH: &[u8] = &[0xff, 0xff, 0xff, 0xff, 0, 0, 0, 0, 1, 0, 0, 0, 9]
 
 const LARGE_WORD: &[u8] = &[0, 0, 0, 1, 0, 0, 0, 0, 9];
 
-fn check_large_length(rt: &impl Abort, alloc: Global) {
-    let slice = EndianSlice::new(LARGE_LENGTH, Little);
-    check_equal(
-        rt,
-        initial_length(slice),
-        (Ok((0x1_0000_0000, Format::Dwarf64)), 1),
-    );
-    let narrow = NarrowReader::new(alloc, LARGE_LENGTH, Little);
-    check_equal(
-        rt,
-        initial_length(narrow),
-        (Err(Error::UnsupportedOffset), 1),
-    );
+fn check_large_length<R: Reader>(rt: &impl Abort, reader: R, wanted: Result<(u64, Format)>) {
+    let (length, left) = initial_length(reader);
+    check_equal(rt, length, wanted);
+    check_equal(rt, left, 1);
 }
 
-fn check_large_word(rt: &impl Abort, alloc: Global) {
-    let slice = EndianSlice::new(LARGE_WORD, Big);
-    check_equal(rt, long_word(slice), (Ok(0x1_0000_0000), 1));
-    let narrow = NarrowReader::new(alloc, LARGE_WORD, Big);
-    check_equal(rt, long_word(narrow), (Err(Error::UnsupportedOffset), 1));
+fn check_large_word<R: Reader>(rt: &impl Abort, reader: R, wanted: Result<u64>) {
+    let (word, left) = long_word(reader);
+    check_equal(rt, word, wanted);
+    check_equal(rt, left, 1);
 }
 
 #[test]
 fn words_that_an_offset_does_not_hold(rt: HostRuntime) {
-    check_large_length(&rt, rt.alloc());
-    check_large_word(&rt, rt.alloc());
+    let slice = EndianSlice::new(LARGE_LENGTH, Little);
+    check_large_length(&rt, slice, Ok((0x1_0000_0000, Format::Dwarf64)));
+    let narrow = NarrowReader::new(rt.alloc(), LARGE_LENGTH, Little);
+    check_large_length(&rt, narrow, Err(Error::UnsupportedOffset));
+    let slice = EndianSlice::new(LARGE_WORD, Big);
+    check_large_word(&rt, slice, Ok(0x1_0000_0000));
+    let narrow = NarrowReader::new(rt.alloc(), LARGE_WORD, Big);
+    check_large_word(&rt, narrow, Err(Error::UnsupportedOffset));
 }
 
 // ---- parts of readers
@@ -247,51 +242,63 @@ fn places<R: Reader>(reader: R, one: R::Offset, two: R::Offset) -> Result<(u64, 
     ))
 }
 
-#[test]
-fn places_in_a_reader(rt: HostRuntime) -> Result<()> {
+fn steps_of_places_in_a_reader(rt: &impl Abort, alloc: Global) -> Result<()> {
     let bytes: &[u8] = &[5, 6, 7, 0, 8];
     check_equal(
-        &rt,
+        rt,
         places(EndianSlice::new(bytes, Little), 1, 2),
         Ok((3, 6, 2, 1)),
     );
     check_equal(
-        &rt,
+        rt,
         places(
-            NarrowReader::new(rt.alloc(), bytes, Little),
+            NarrowReader::new(alloc, bytes, Little),
             Narrow(1),
             Narrow(2),
         ),
         Ok((3, 6, 2, 1)),
     );
     check_equal(
-        &rt,
+        rt,
         EndianSlice::new(bytes, Little).find(9),
         Err(Error::UnexpectedEof(ReaderOffsetId(5))),
     );
     check_equal(
-        &rt,
-        NarrowReader::new(rt.alloc(), bytes, Little).find(9),
+        rt,
+        NarrowReader::new(alloc, bytes, Little).find(9),
         Err(Error::UnexpectedEof(ReaderOffsetId(5))),
     );
     Ok(())
 }
 
 #[test]
-fn slices_are_lent_or_copied(rt: HostRuntime) -> std::result::Result<(), Fail> {
+fn places_in_a_reader(rt: HostRuntime) {
+    check_equal(&rt, steps_of_places_in_a_reader(&rt, rt.alloc()), Ok(()));
+}
+
+fn steps_of_slices_are_lent_or_copied(rt: &impl Abort, alloc: Global) -> Result<()> {
     let bytes: &[u8] = &[1, 2, 3];
     let reader = EndianSlice::new(bytes, Little);
     let CowSlice::Borrowed(lent) = reader.to_slice()? else {
-        return Err(Fail::from("copied"));
+        return Err(Error::OutOfMemory);
     };
-    check_equal(&rt, lent, bytes);
-    check_equal(&rt, reader.slice(), bytes);
-    let narrow = NarrowReader::new(rt.alloc(), bytes, Little);
+    check_equal(rt, lent, bytes);
+    check_equal(rt, reader.slice(), bytes);
+    let narrow = NarrowReader::new(alloc, bytes, Little);
     let CowSlice::Owned(copied) = narrow.to_slice()? else {
-        return Err(Fail::from("lent"));
+        return Err(Error::OutOfMemory);
     };
-    check_equal(&rt, copied.as_slice(), bytes);
+    check_equal(rt, copied.as_slice(), bytes);
     Ok(())
+}
+
+#[test]
+fn slices_are_lent_or_copied(rt: HostRuntime) {
+    check_equal(
+        &rt,
+        steps_of_slices_are_lent_or_copied(&rt, rt.alloc()),
+        Ok(()),
+    );
 }
 
 #[test]

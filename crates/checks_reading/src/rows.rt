@@ -6,7 +6,6 @@ use gimli_core::{Error, Reader, ReaderOffsetId};
 use gimli_line::{LineProgramHeader, LineRow, OneShotLineRows, ResumedLineRows};
 use std::alloc::Global;
 use std::process::Abort;
-use std::test::Fail;
 
 /// What `next_row` answers.
 #[derive(Clone, Copy, Debug, PartialEq, Eq)]
@@ -94,14 +93,25 @@ const RUNS: [(&[u8], u8, &[Event]); 7] = [
     ),
 ];
 
-#[test]
-fn behind_the_last_row_and_behind_a_refusal(rt: HostRuntime) -> Result<(), Fail> {
+fn steps_of_behind_the_last_row_and_behind_a_refusal(
+    rt: &impl Abort,
+    alloc: Global,
+) -> gimli_core::Result<()> {
     for (bytes, size, events) in RUNS {
-        let unit = unit(rt.alloc(), HEADER, bytes)?;
-        let found = unit_gives(rt.alloc(), slice(&unit), size, events)?;
+        let unit = unit(alloc, HEADER, bytes)?;
+        let found = unit_gives(alloc, slice(&unit), size, events)?;
         assert!(rt; found, "at {bytes:?}");
     }
     Ok(())
+}
+
+#[test]
+fn behind_the_last_row_and_behind_a_refusal(rt: HostRuntime) {
+    check_equal(
+        &rt,
+        steps_of_behind_the_last_row_and_behind_a_refusal(&rt, rt.alloc()),
+        Ok(()),
+    );
 }
 
 // ---- faults of cutting
@@ -139,19 +149,23 @@ const UNCUT: [(&[u8], u8, Option<Error>); 4] = [
     (b"", 4, None),
 ];
 
-#[test]
-fn first_fault_of_cutting(rt: HostRuntime) -> Result<(), Fail> {
+fn steps_of_first_fault_of_cutting(rt: &impl Abort, alloc: Global) -> gimli_core::Result<()> {
     for (bytes, size, refused) in UNCUT {
-        let unit = unit(rt.alloc(), HEADER, bytes)?;
-        let found = refusal(rt.alloc(), slice(&unit), size);
+        let unit = unit(alloc, HEADER, bytes)?;
+        let found = refusal(alloc, slice(&unit), size);
         assert_eq!(rt; found, refused, "at {bytes:?}");
-        check_equal(
-            &rt,
-            refusal_with_rows(rt.alloc(), slice(&unit), size),
-            refused,
-        );
+        check_equal(rt, refusal_with_rows(alloc, slice(&unit), size), refused);
     }
     Ok(())
+}
+
+#[test]
+fn first_fault_of_cutting(rt: HostRuntime) {
+    check_equal(
+        &rt,
+        steps_of_first_fault_of_cutting(&rt, rt.alloc()),
+        Ok(()),
+    );
 }
 
 // ---- files at a row
@@ -184,19 +198,14 @@ fn check_files<R: Reader>(rt: &impl Abort, alloc: Global, unit: R) -> gimli_core
 }
 
 /// The three rows of a sequence are in the defined file.
-fn check_rows_of_sequence<R: Reader>(
-    rt: &impl Abort,
-    rows: ResumedLineRows<'_, R>,
-) -> gimli_core::Result<()> {
+fn check_rows_of_sequence<R: Reader>(rt: &impl Abort, rows: ResumedLineRows<'_, R>) {
     let mut rows = rows;
     for _ in 0..3 {
-        let named = match rows.next_row()? {
-            Some((header, row)) => is_in_file(header, row, b"b.c"),
-            None => false,
-        };
-        assert!(rt; named);
+        match rows.next_row() {
+            Ok(Some((header, row))) => check(rt, is_in_file(header, row, b"b.c")),
+            _ => check(rt, false),
+        }
     }
-    Ok(())
 }
 
 /// A program of two files and one sequence, whose rows are in the second.
@@ -209,17 +218,28 @@ fn check_files_of_sequence<R: Reader>(
     check_equal(rt, file_count(program.header()), 2);
     check_equal(rt, sequences.len(), 1);
     for sequence in &sequences {
-        check_rows_of_sequence(rt, program.resume_from(sequence))?;
+        check_rows_of_sequence(rt, program.resume_from(sequence));
     }
     Ok(())
 }
 
-#[test]
-fn files_before_and_behind_a_definition(rt: HostRuntime) -> Result<(), Fail> {
-    let unit = unit(rt.alloc(), HEADER, DEFINES_BEHIND_A_ROW)?;
-    check_files(&rt, rt.alloc(), slice(&unit))?;
-    check_files_of_sequence(&rt, rt.alloc(), slice(&unit))?;
+fn steps_of_files_before_and_behind_a_definition(
+    rt: &impl Abort,
+    alloc: Global,
+) -> gimli_core::Result<()> {
+    let unit = unit(alloc, HEADER, DEFINES_BEHIND_A_ROW)?;
+    check_files(rt, alloc, slice(&unit))?;
+    check_files_of_sequence(rt, alloc, slice(&unit))?;
     Ok(())
+}
+
+#[test]
+fn files_before_and_behind_a_definition(rt: HostRuntime) {
+    check_equal(
+        &rt,
+        steps_of_files_before_and_behind_a_definition(&rt, rt.alloc()),
+        Ok(()),
+    );
 }
 
 // ---- copies of runs
@@ -272,7 +292,7 @@ fn check_copied_sequences<R: Reader>(
 }
 
 /// A copy of a run gives the same rows, as the run does afterwards.
-fn check_copied_run<R: Reader>(rt: &impl Abort, alloc: Global, unit: R) -> Result<(), Fail> {
+fn check_copied_run<R: Reader>(rt: &impl Abort, alloc: Global, unit: R) -> gimli_core::Result<()> {
     let program = program(alloc, unit, 4)?;
     let mut copy = program.clone()?.rows();
     check(rt, gives(&mut copy, &DEMO_ROWS));
@@ -284,10 +304,18 @@ fn check_copied_run<R: Reader>(rt: &impl Abort, alloc: Global, unit: R) -> Resul
     Ok(())
 }
 
-#[test]
-fn copies_of_runs_and_sequences(rt: HostRuntime) -> Result<(), Fail> {
+fn steps_of_copies_of_runs_and_sequences(rt: &impl Abort, alloc: Global) -> gimli_core::Result<()> {
     let unit = slice(crate::units::DEMO_UNIT);
-    check_copied_run(&rt, rt.alloc(), unit)?;
-    check_copied_sequences(&rt, rt.alloc(), unit)?;
+    check_copied_run(rt, alloc, unit)?;
+    check_copied_sequences(rt, alloc, unit)?;
     Ok(())
+}
+
+#[test]
+fn copies_of_runs_and_sequences(rt: HostRuntime) {
+    check_equal(
+        &rt,
+        steps_of_copies_of_runs_and_sequences(&rt, rt.alloc()),
+        Ok(()),
+    );
 }

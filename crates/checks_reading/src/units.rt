@@ -49,18 +49,22 @@ pub const UNIT_OF_VERSION_4: &[u8] =
       \0\0\0\0\0\0\0\0\0\0\0\0\0\0\0\0";
 
 /// A unit of fewer than 260 bytes: a header, whose unit length is set, and a program.
-pub fn unit(
-    alloc: Global,
-    header: &[u8],
-    program: &[u8],
-) -> std::result::Result<Vec<u8>, AllocError> {
-    let mut unit = Vec::from_slice(alloc, header)?;
-    unit.extend_from_slice(program)?;
+pub fn unit(alloc: Global, header: &[u8], program: &[u8]) -> Result<Vec<u8>> {
+    let Ok(mut unit) = joined(alloc, header, program) else {
+        return Err(Error::OutOfMemory);
+    };
     let length = unit.len().saturating_sub(4);
     if let Some(place) = unit.first_mut() {
         *place = u8::try_from(length).unwrap_or(0xff);
     }
     Ok(unit)
+}
+
+/// Bytes, and those after them.
+fn joined(alloc: Global, first: &[u8], second: &[u8]) -> std::result::Result<Vec<u8>, AllocError> {
+    let mut bytes = Vec::from_slice(alloc, first)?;
+    bytes.extend_from_slice(second)?;
+    Ok(bytes)
 }
 
 /// A unit with other bytes at some places.

@@ -13,7 +13,6 @@ use gimli_write::{
 };
 use std::alloc::Global;
 use std::process::Abort;
-use std::test::Fail;
 
 /// A text of one byte.
 fn text(alloc: Global, byte: u8) -> Result<LineString>
@@ -60,6 +59,11 @@ fn program_by(alloc: Global, lines: LineEncoding) -> Result<LineProgram>
     LineProgram::new(alloc, encoding, lines, working_dir, None, source_file, None)
 }
 
+/// A check of a program that wasn't built fails.
+fn check_not_built(rt: &impl Abort, error: Error) {
+    check_equal(rt, Err(error), Ok(()));
+}
+
 fn put_directory(program: &mut LineProgram, alloc: Global, name: u8) -> Result<DirectoryId>
     requires program { program.old.is_none ≡ false }
     requires name { 0 < name }
@@ -94,18 +98,22 @@ fn put_name(program: &mut LineProgram, alloc: Global, name: u8) -> Result<FileId
     put_file(program, alloc, name, None)
 }
 
-#[test]
-fn accessors(rt: HostRuntime) -> std::result::Result<(), Fail> {
-    let program = program(rt.alloc())?;
-    check(&rt, !program.is_none());
-    check_equal(&rt, program.version(), 4);
-    check_equal(&rt, program.address_size(), 4);
-    check_equal(&rt, program.format(), Format::Dwarf32);
-    check_equal(&rt, program.encoding().version, 4);
-    check(&rt, !program.file_has_md5);
+fn steps_of_accessors(rt: &impl Abort, alloc: Global) -> Result<()> {
+    let program = program(alloc)?;
+    check(rt, !program.is_none());
+    check_equal(rt, program.version(), 4);
+    check_equal(rt, program.address_size(), 4);
+    check_equal(rt, program.format(), Format::Dwarf32);
+    check_equal(rt, program.encoding().version, 4);
+    check(rt, !program.file_has_md5);
     let working = program.get_directory(program.default_directory());
-    check_equal(&rt, first_byte(working), b'w');
+    check_equal(rt, first_byte(working), b'w');
     Ok(())
+}
+
+#[test]
+fn accessors(rt: HostRuntime) {
+    check_equal(&rt, steps_of_accessors(&rt, rt.alloc()), Ok(()));
 }
 
 #[test]
@@ -116,17 +124,33 @@ fn no_program(rt: HostRuntime) {
     check(&rt, none.is_empty());
 }
 
-#[test]
-fn directories_twice(rt: HostRuntime) -> std::result::Result<(), Fail> {
-    let mut program = program(rt.alloc())?;
-    let first = put_directory(&mut program, rt.alloc(), b'i')?;
-    let again = put_directory(&mut program, rt.alloc(), b'i')?;
-    check_equal(&rt, first, again);
-    let working = put_directory(&mut program, rt.alloc(), b'w')?;
-    check_equal(&rt, working, program.default_directory());
-    check(&rt, first != working);
-    check_equal(&rt, first_byte(program.get_directory(working)), b'w');
+fn steps_of_directories_twice(
+    rt: &impl Abort,
+    alloc: Global,
+    program: &mut LineProgram,
+) -> Result<()>
+    requires { program.old.is_none ≡ false }
+{
+    let first = put_directory(program, alloc, b'i')?;
+    let again = put_directory(program, alloc, b'i')?;
+    check_equal(rt, first, again);
+    let working = put_directory(program, alloc, b'w')?;
+    check_equal(rt, working, program.default_directory());
+    check(rt, first != working);
+    check_equal(rt, first_byte(program.get_directory(working)), b'w');
     Ok(())
+}
+
+#[test]
+fn directories_twice(rt: HostRuntime) {
+    match program(rt.alloc()) {
+        Ok(mut program) => check_equal(
+            &rt,
+            steps_of_directories_twice(&rt, rt.alloc(), &mut program),
+            Ok(()),
+        ),
+        Err(error) => check_not_built(&rt, error),
+    }
 }
 
 /// Adds another directory, after which the old id still has its own.
@@ -149,14 +173,26 @@ fn put_behind(
 }
 
 /// In a copy an id has its own directory too, whatever is added to the program.
-#[test]
-fn ids_stay(rt: HostRuntime) -> std::result::Result<(), Fail> {
-    let mut program = program(rt.alloc())?;
-    let old = put_directory(&mut program, rt.alloc(), b'i')?;
+fn steps_of_ids_stay(rt: &impl Abort, alloc: Global, program: &mut LineProgram) -> Result<()>
+    requires { program.old.is_none ≡ false }
+{
+    let old = put_directory(program, alloc, b'i')?;
     let copy = program.clone()?;
-    put_behind(&rt, rt.alloc(), &mut program, old, b'j')?;
-    assert_eq!(rt; first_byte(copy.get_directory(old)), b'i');
+    check_equal(rt, put_behind(rt, alloc, program, old, b'j'), Ok(()));
+    check_equal(rt, first_byte(copy.get_directory(old)), b'i');
     Ok(())
+}
+
+#[test]
+fn ids_stay(rt: HostRuntime) {
+    match program(rt.alloc()) {
+        Ok(mut program) => check_equal(
+            &rt,
+            steps_of_ids_stay(&rt, rt.alloc(), &mut program),
+            Ok(()),
+        ),
+        Err(error) => check_not_built(&rt, error),
+    }
 }
 
 /// Files `a` and `b`.
@@ -191,13 +227,25 @@ fn put_first_again(
     Ok(())
 }
 
-#[test]
-fn files_twice(rt: HostRuntime) -> std::result::Result<(), Fail> {
-    let mut program = program(rt.alloc())?;
-    let (first, second) = put_two_files(&mut program, rt.alloc())?;
-    put_first_again(&rt, rt.alloc(), &mut program, first)?;
-    check_numbers(&rt, first, second);
+fn steps_of_files_twice(rt: &impl Abort, alloc: Global, program: &mut LineProgram) -> Result<()>
+    requires { program.old.is_none ≡ false }
+{
+    let (first, second) = put_two_files(program, alloc)?;
+    put_first_again(rt, alloc, program, first)?;
+    check_numbers(rt, first, second);
     Ok(())
+}
+
+#[test]
+fn files_twice(rt: HostRuntime) {
+    match program(rt.alloc()) {
+        Ok(mut program) => check_equal(
+            &rt,
+            steps_of_files_twice(&rt, rt.alloc(), &mut program),
+            Ok(()),
+        ),
+        Err(error) => check_not_built(&rt, error),
+    }
 }
 
 /// The name of the next file, or 0 at the end.
@@ -215,12 +263,24 @@ fn check_names(rt: &impl Abort, program: &LineProgram) {
     check_equal(rt, next_name(&mut files), 0);
 }
 
-#[test]
-fn files_in_order(rt: HostRuntime) -> std::result::Result<(), Fail> {
-    let mut program = program(rt.alloc())?;
-    put_two_files(&mut program, rt.alloc())?;
-    check_names(&rt, &program);
+fn steps_of_files_in_order(rt: &impl Abort, alloc: Global, program: &mut LineProgram) -> Result<()>
+    requires { program.old.is_none ≡ false }
+{
+    put_two_files(program, alloc)?;
+    check_names(rt, program);
     Ok(())
+}
+
+#[test]
+fn files_in_order(rt: HostRuntime) {
+    match program(rt.alloc()) {
+        Ok(mut program) => check_equal(
+            &rt,
+            steps_of_files_in_order(&rt, rt.alloc(), &mut program),
+            Ok(()),
+        ),
+        Err(error) => check_not_built(&rt, error),
+    }
 }
 
 /// Adds the file `a`, of this size.
@@ -241,19 +301,31 @@ fn set_size(program: &mut LineProgram, file: FileId, size: u64)
     program.get_file_info_mut(file).size = size;
 }
 
-#[test]
-fn details(rt: HostRuntime) -> std::result::Result<(), Fail> {
-    let mut program = program(rt.alloc())?;
-    let file = put_sized(&mut program, rt.alloc(), 2)?;
-    check_equal(&rt, program.get_file_info(file).size, 2);
-    set_size(&mut program, file, 3);
-    let again = put_name(&mut program, rt.alloc(), b'a')?;
-    check_equal(&rt, again, file);
-    check_equal(&rt, program.get_file_info(again).size, 3);
-    let again = put_sized(&mut program, rt.alloc(), 2)?;
-    check_equal(&rt, again, file);
-    check_equal(&rt, program.get_file_info(again).size, 2);
+fn steps_of_details(rt: &impl Abort, alloc: Global, program: &mut LineProgram) -> Result<()>
+    requires { program.old.is_none ≡ false }
+{
+    let file = put_sized(program, alloc, 2)?;
+    check_equal(rt, program.get_file_info(file).size, 2);
+    set_size(program, file, 3);
+    let again = put_name(program, alloc, b'a')?;
+    check_equal(rt, again, file);
+    check_equal(rt, program.get_file_info(again).size, 3);
+    let again = put_sized(program, alloc, 2)?;
+    check_equal(rt, again, file);
+    check_equal(rt, program.get_file_info(again).size, 2);
     Ok(())
+}
+
+#[test]
+fn details(rt: HostRuntime) {
+    match program(rt.alloc()) {
+        Ok(mut program) => check_equal(
+            &rt,
+            steps_of_details(&rt, rt.alloc(), &mut program),
+            Ok(()),
+        ),
+        Err(error) => check_not_built(&rt, error),
+    }
 }
 
 // ---- rows that may follow
@@ -322,25 +394,33 @@ const PLACES: [((u8, u8), (u64, u64), (u64, u64), bool); 14] = [
     ((2, 1), (0, 0), (u64::MAX, 0), false),
 ];
 
-#[test]
-fn rows_that_may_follow(rt: HostRuntime) -> std::result::Result<(), Fail> {
+fn steps_of_rows_that_may_follow(rt: &impl Abort, alloc: Global) -> Result<()> {
     for (lengths, previous, place, can) in PLACES {
-        let found = can_follow(rt.alloc(), lengths, previous, place)?;
+        let found = can_follow(alloc, lengths, previous, place)?;
         assert_eq!(rt; found, (can, can), "{lengths:?} {previous:?} {place:?}");
     }
     Ok(())
 }
 
-/// A line may have 63 bits, and an end has none.
 #[test]
-fn farthest_rows(rt: HostRuntime) -> std::result::Result<(), Fail> {
-    let mut program = program(rt.alloc())?;
+fn rows_that_may_follow(rt: HostRuntime) {
+    check_equal(&rt, steps_of_rows_that_may_follow(&rt, rt.alloc()), Ok(()));
+}
+
+/// A line may have 63 bits, and an end has none.
+fn steps_of_farthest_rows(rt: &impl Abort, alloc: Global) -> Result<()> {
+    let mut program = program(alloc)?;
     for (line, can) in [(0, true), (0x7fff_ffff_ffff_ffff, true), (1 << 63, false)] {
         set_row(&mut program, u64::MAX, line);
         assert_eq!(rt; program.can_generate_row(), can, "line {line}");
         assert!(rt; program.can_end_sequence(u64::MAX), "line {line}");
     }
     Ok(())
+}
+
+#[test]
+fn farthest_rows(rt: HostRuntime) {
+    check_equal(&rt, steps_of_farthest_rows(&rt, rt.alloc()), Ok(()));
 }
 
 // ---- items
@@ -426,25 +506,41 @@ fn check_items(rt: &impl Abort, program: &LineProgram) {
 
 /// A row at the set address, and one four bytes after it. A body of `generate_row` that always answers that
 /// memory is missing fails here.
-#[test]
-fn items_in_order(rt: HostRuntime) -> std::result::Result<(), Fail> {
-    let mut program = begun(&rt, rt.alloc())?;
-    put_two_rows(&rt, &mut program)?;
-    put_last_end(&rt, &mut program)?;
-    check_items(&rt, &program);
+fn steps_of_items_in_order(rt: &impl Abort, program: &mut LineProgram) -> Result<()>
+    requires { program.old.is_none ≡ false }
+{
+    put_two_rows(rt, program)?;
+    put_last_end(rt, program)?;
+    check_items(rt, program);
     Ok(())
 }
 
 #[test]
-fn cleared_registers(rt: HostRuntime) -> std::result::Result<(), Fail> {
-    let mut program = program(rt.alloc())?;
+fn items_in_order(rt: HostRuntime) {
+    match begun(&rt, rt.alloc()) {
+        Ok(mut program) => check_equal(&rt, steps_of_items_in_order(&rt, &mut program), Ok(())),
+        Err(error) => check_not_built(&rt, error),
+    }
+}
+
+fn steps_of_cleared_registers(rt: &impl Abort, program: &mut LineProgram) -> Result<()>
+    requires { program.old.is_none ≡ false }
+{
     program.row().discriminator = 5;
-    check(&rt, put_row(&mut program, 4, 3)?);
-    check_equal(&rt, program.row().discriminator, 0);
-    check_equal(&rt, program.row().line, 3);
-    check(&rt, put_end(&mut program, 8)?);
-    check_equal(&rt, program.row().line, 1);
+    check(rt, put_row(program, 4, 3)?);
+    check_equal(rt, program.row().discriminator, 0);
+    check_equal(rt, program.row().line, 3);
+    check(rt, put_end(program, 8)?);
+    check_equal(rt, program.row().line, 1);
     Ok(())
+}
+
+#[test]
+fn cleared_registers(rt: HostRuntime) {
+    match program(rt.alloc()) {
+        Ok(mut program) => check_equal(&rt, steps_of_cleared_registers(&rt, &mut program), Ok(())),
+        Err(error) => check_not_built(&rt, error),
+    }
 }
 
 fn set_address(program: &mut LineProgram, address: u64) -> Result<()>
@@ -454,44 +550,77 @@ fn set_address(program: &mut LineProgram, address: u64) -> Result<()>
     program.set_address(Address::Constant(address))
 }
 
-#[test]
-fn address_in_mid_sequence(rt: HostRuntime) -> std::result::Result<(), Fail> {
-    let mut program = program(rt.alloc())?;
-    set_row(&mut program, 7, 1);
-    set_address(&mut program, 16)?;
-    check_equal(&rt, program.row().address_offset, 7);
-    check(&rt, put_row(&mut program, 7, 1)?);
-    set_address(&mut program, 32)?;
-    check_equal(&rt, program.row().address_offset, 0);
-    check(&rt, put_row(&mut program, 0, 1)?);
+fn steps_of_address_in_mid_sequence(rt: &impl Abort, program: &mut LineProgram) -> Result<()>
+    requires { program.old.is_none ≡ false }
+{
+    set_row(program, 7, 1);
+    set_address(program, 16)?;
+    check_equal(rt, program.row().address_offset, 7);
+    check(rt, put_row(program, 7, 1)?);
+    set_address(program, 32)?;
+    check_equal(rt, program.row().address_offset, 0);
+    check(rt, put_row(program, 0, 1)?);
     Ok(())
 }
 
 #[test]
-fn copies(rt: HostRuntime) -> std::result::Result<(), Fail> {
-    let mut program = program(rt.alloc())?;
-    put_name(&mut program, rt.alloc(), b'a')?;
-    set_address(&mut program, 16)?;
+fn address_in_mid_sequence(rt: HostRuntime) {
+    match program(rt.alloc()) {
+        Ok(mut program) => check_equal(
+            &rt,
+            steps_of_address_in_mid_sequence(&rt, &mut program),
+            Ok(()),
+        ),
+        Err(error) => check_not_built(&rt, error),
+    }
+}
+
+fn steps_of_copies(rt: &impl Abort, alloc: Global, program: &mut LineProgram) -> Result<()>
+    requires { program.old.is_none ≡ false }
+{
+    put_name(program, alloc, b'a')?;
+    set_address(program, 16)?;
     let copy = program.clone()?;
-    check(&rt, copy.in_sequence());
+    check(rt, copy.in_sequence());
     let (kind, number) = item_number(copy.items().next());
-    check_equal(&rt, kind, 1);
-    check_equal(&rt, number, 16);
-    check_equal(&rt, next_name(&mut copy.files()), b'a');
+    check_equal(rt, kind, 1);
+    check_equal(rt, number, 16);
+    check_equal(rt, next_name(&mut copy.files()), b'a');
     Ok(())
+}
+
+#[test]
+fn copies(rt: HostRuntime) {
+    match program(rt.alloc()) {
+        Ok(mut program) => check_equal(&rt, steps_of_copies(&rt, rt.alloc(), &mut program), Ok(())),
+        Err(error) => check_not_built(&rt, error),
+    }
 }
 
 /// A sequence without an address is no item, and can be ended.
-#[test]
-fn sequence_without_an_address(rt: HostRuntime) -> std::result::Result<(), Fail> {
-    let mut program = program(rt.alloc())?;
+fn steps_of_sequence_without_an_address(rt: &impl Abort, program: &mut LineProgram) -> Result<()>
+    requires program { program.old.is_none ≡ false }
+    requires outside { program.old.in_sequence ≡ false }
+{
     program.begin_sequence(None)?;
-    check(&rt, program.is_empty());
-    check(&rt, program.in_sequence());
-    check(&rt, put_end(&mut program, 0)?);
-    check(&rt, !program.is_empty());
-    check(&rt, !program.in_sequence());
+    check(rt, program.is_empty());
+    check(rt, program.in_sequence());
+    check(rt, put_end(program, 0)?);
+    check(rt, !program.is_empty());
+    check(rt, !program.in_sequence());
     Ok(())
+}
+
+#[test]
+fn sequence_without_an_address(rt: HostRuntime) {
+    match program(rt.alloc()) {
+        Ok(mut program) => check_equal(
+            &rt,
+            steps_of_sequence_without_an_address(&rt, &mut program),
+            Ok(()),
+        ),
+        Err(error) => check_not_built(&rt, error),
+    }
 }
 
 // ---- texts
@@ -515,28 +644,42 @@ fn check_new_text(
     Ok(())
 }
 
-#[test]
-fn forms_of_texts(rt: HostRuntime) -> std::result::Result<(), Fail> {
-    let mut line_strings = LineStringTable::default(rt.alloc());
-    check_new_text(&rt, 4, &mut line_strings, DW_FORM_string, 0)?;
-    check_new_text(&rt, 5, &mut line_strings, DW_FORM_line_strp, 1)?;
-    check_new_text(&rt, 5, &mut line_strings, DW_FORM_line_strp, 1)?;
+fn steps_of_forms_of_texts(rt: &impl Abort, alloc: Global) -> Result<()> {
+    let mut line_strings = LineStringTable::default(alloc);
+    check_new_text(rt, 4, &mut line_strings, DW_FORM_string, 0)?;
+    check_new_text(rt, 5, &mut line_strings, DW_FORM_line_strp, 1)?;
+    check_new_text(rt, 5, &mut line_strings, DW_FORM_line_strp, 1)?;
     assert_eq!(rt; LineString::StringRef(StringId(0)).form(), DW_FORM_strp);
     Ok(())
 }
 
-/// Each form finds its text.
 #[test]
-fn bytes_of_texts(rt: HostRuntime) -> std::result::Result<(), Fail> {
-    let mut strings = StringTable::default(rt.alloc());
-    let mut line_strings = LineStringTable::default(rt.alloc());
+fn forms_of_texts(rt: HostRuntime) {
+    check_equal(&rt, steps_of_forms_of_texts(&rt, rt.alloc()), Ok(()));
+}
+
+/// Each form finds its text.
+fn steps_of_bytes_of_texts(
+    rt: &impl Abort,
+    alloc: Global,
+    strings: &mut StringTable,
+    line_strings: &mut LineStringTable,
+) -> Result<()> {
     let one = LineString::StringRef(strings.add(b"one")?);
     let two = LineString::LineStringRef(line_strings.add(b"two")?);
-    let three = LineString::String(b"three".to_vec(rt.alloc())?);
-    check_equal(&rt, one.get(&strings, &line_strings), b"one".as_slice());
-    check_equal(&rt, two.get(&strings, &line_strings), b"two".as_slice());
-    check_equal(&rt, three.get(&strings, &line_strings), b"three".as_slice());
+    let three = LineString::String(b"three".to_vec(alloc)?);
+    check_equal(rt, one.get(strings, line_strings), b"one".as_slice());
+    check_equal(rt, two.get(strings, line_strings), b"two".as_slice());
+    check_equal(rt, three.get(strings, line_strings), b"three".as_slice());
     Ok(())
+}
+
+#[test]
+fn bytes_of_texts(rt: HostRuntime) {
+    let mut strings = StringTable::default(rt.alloc());
+    let mut line_strings = LineStringTable::default(rt.alloc());
+    let steps = steps_of_bytes_of_texts(&rt, rt.alloc(), &mut strings, &mut line_strings);
+    check_equal(&rt, steps, Ok(()));
 }
 
 // ---- equal ids, rows and items
@@ -601,31 +744,59 @@ fn items_of(row: BuiltRow, file: FileId) -> [BuiltItem; 7] {
 }
 
 /// Equal ids hash alike.
-#[test]
-fn equal_ids(rt: HostRuntime) -> std::result::Result<(), Fail> {
-    let mut program = program(rt.alloc())?;
-    let directory = put_directory(&mut program, rt.alloc(), b'i')?;
+fn steps_of_equal_ids(rt: &impl Abort, alloc: Global, program: &mut LineProgram) -> Result<()>
+    requires { program.old.is_none ≡ false }
+{
+    let directory = put_directory(program, alloc, b'i')?;
     let directories = [program.default_directory(), directory];
-    check_distinct(&rt, "directory", &directories);
-    check_alike(&rt, "directory", &directories, &directories);
-    let (first, second) = put_two_files(&mut program, rt.alloc())?;
-    check_distinct(&rt, "file", &[first, second]);
-    check_alike(&rt, "file", &[first, second], &[first, second]);
+    check_distinct(rt, "directory", &directories);
+    check_alike(rt, "directory", &directories, &directories);
+    let (first, second) = put_two_files(program, alloc)?;
+    check_distinct(rt, "file", &[first, second]);
+    check_alike(rt, "file", &[first, second], &[first, second]);
     Ok(())
 }
 
-/// The current row is a sequence's first, in the first file.
 #[test]
-fn equal_rows_and_items(rt: HostRuntime) -> std::result::Result<(), Fail> {
-    let mut program = program(rt.alloc())?;
-    let (first, second) = put_two_files(&mut program, rt.alloc())?;
+fn equal_ids(rt: HostRuntime) {
+    match program(rt.alloc()) {
+        Ok(mut program) => check_equal(
+            &rt,
+            steps_of_equal_ids(&rt, rt.alloc(), &mut program),
+            Ok(()),
+        ),
+        Err(error) => check_not_built(&rt, error),
+    }
+}
+
+/// The current row is a sequence's first, in the first file.
+fn steps_of_equal_rows_and_items(
+    rt: &impl Abort,
+    alloc: Global,
+    program: &mut LineProgram,
+) -> Result<()>
+    requires { program.old.is_none ≡ false }
+{
+    let (first, second) = put_two_files(program, alloc)?;
     let row = *program.row();
-    check_equal(&rt, row.file, first);
+    check_equal(rt, row.file, first);
     check(
-        &rt,
+        rt,
         row.is_statement && row.line == 1 && row.address_offset == 0,
     );
-    check_distinct(&rt, "row", &rows_of(row, second));
-    check_distinct(&rt, "item", &items_of(row, second));
+    check_distinct(rt, "row", &rows_of(row, second));
+    check_distinct(rt, "item", &items_of(row, second));
     Ok(())
+}
+
+#[test]
+fn equal_rows_and_items(rt: HostRuntime) {
+    match program(rt.alloc()) {
+        Ok(mut program) => check_equal(
+            &rt,
+            steps_of_equal_rows_and_items(&rt, rt.alloc(), &mut program),
+            Ok(()),
+        ),
+        Err(error) => check_not_built(&rt, error),
+    }
 }

@@ -83,12 +83,21 @@ pub fn demo_at(alloc: Global, address: Address) -> Result<LineProgram>
     ensures { IfOk result (λ program. CanWrite program [] []) }
 {
     let mut program = empty_program(alloc)?;
-    put_file(&mut program, alloc)?;
-    program.set_address(address)?;
-    put_row(&mut program, 0, 1)?;
-    put_row(&mut program, 4, 3)?;
-    put_end(&mut program, 8)?;
+    put_demo(&mut program, alloc, address)?;
     Ok(program)
+}
+
+/// Adds the file, and the rows from this address on, to a program that has none.
+fn put_demo(program: &mut LineProgram, alloc: Global, address: Address) -> Result<()>
+    requires can { CanWrite program.old [] [] }
+    requires files { program.old.files ≡ [] }
+    ensures { OnOk result (CanWrite program.new [] []) }
+{
+    put_file(program, alloc)?;
+    program.set_address(address)?;
+    put_row(program, 0, 1)?;
+    put_row(program, 4, 3)?;
+    put_end(program, 8)
 }
 
 /// The program of the demo unit.

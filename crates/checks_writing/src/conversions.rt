@@ -2,7 +2,9 @@
 //! what stands after a refusal.
 
 use crate::equality::{check, check_equal};
-use gimli_core::{DebugLineOffset, Encoding, EndianSlice, Format, LittleEndian, Reader};
+use gimli_core::{
+    DebugLineOffset, Encoding, EndianSlice, Format, LittleEndian, Reader, ReaderOffset,
+};
 use gimli_line::{DebugLine, IncompleteLineProgram};
 use gimli_write::{
     Address, BuiltItem, ConvertError, ConvertLineProgram, ConvertLineRow, ConvertLineSequence,
@@ -11,7 +13,6 @@ use gimli_write::{
 };
 use std::alloc::Global;
 use std::process::Abort;
-use std::test::Fail;
 
 /// A unit of version 4 with the file `a.c`: an address of 0x10 with a row, an address of 0x20 with a row, and an end 4 bytes
 /// after it.
@@ -32,13 +33,19 @@ const OPEN: &[u8] =
 const LINE_BASE: &[u8] =
     b"\x21\0\0\0\x04\0\x1b\0\0\0\x01\x01\x01\x01\x0e\x0d\0\x01\x01\x01\x01\0\0\0\x01\0\0\x01\0a.c\0\0\0\0\0";
 
-/// The program of a unit, without a directory or a name from outside.
-fn program_of<'i>(
+/// A reader of bytes.
+fn slice(bytes: &[u8]) -> EndianSlice<'_, LittleEndian> {
+    EndianSlice::new(bytes, LittleEndian)
+}
+
+/// The program of a unit, with this working directory and without a name from outside.
+fn program_of<R: Reader>(
     alloc: Global,
-    unit: &'i [u8],
-) -> gimli_core::Result<IncompleteLineProgram<EndianSlice<'i, LittleEndian>>> {
-    let section = DebugLine::new(unit, LittleEndian);
-    section.program(alloc, DebugLineOffset(0), 4, None, None)
+    unit: R,
+    directory: Option<R>,
+) -> gimli_core::Result<IncompleteLineProgram<R>> {
+    let offset = DebugLineOffset(R::Offset::from_u8(0));
+    DebugLine::from(unit).program(alloc, offset, 4, directory, None)
 }
 
 /// A conversion of a unit as it is, whose header tells all texts.
@@ -150,14 +157,24 @@ fn end_built(item: Option<&BuiltItem>) -> Option<(u64, u64)> {
     }
 }
 
+fn steps_of_builder_calls(
+    rt: &impl Abort,
+    alloc: Global,
+    line_strings: &mut LineStringTable,
+    strings: &mut StringTable,
+) -> ConvertResult<()> {
+    let program = program_of(alloc, slice(TWO_ADDRESSES), None)?;
+    let built = built_by_hand(rt, program, line_strings, strings)?;
+    check_two_addresses(rt, &built);
+    Ok(())
+}
+
 #[test]
-fn builder_calls(rt: HostRuntime) -> Result<(), Fail> {
-    let program = program_of(rt.alloc(), TWO_ADDRESSES)?;
+fn builder_calls(rt: HostRuntime) {
     let mut line_strings = LineStringTable::default(rt.alloc());
     let mut strings = StringTable::default(rt.alloc());
-    let built = built_by_hand(&rt, program, &mut line_strings, &mut strings)?;
-    check_two_addresses(&rt, &built);
-    Ok(())
+    let steps = steps_of_builder_calls(&rt, rt.alloc(), &mut line_strings, &mut strings);
+    check_equal(&rt, steps, Ok(()));
 }
 
 /// A second begin, a row of operation 1, a row of line 2^63, and a row and an end at a lower offset: each is refused after
@@ -199,29 +216,48 @@ fn refused_by_hand<R: Reader>(
 }
 
 /// The program after them: its one row, which is the current one too, in a sequence.
+fn steps_of_builder_calls_outside_their_conditions(
+    rt: &impl Abort,
+    alloc: Global,
+    line_strings: &mut LineStringTable,
+    strings: &mut StringTable,
+) -> ConvertResult<()> {
+    let program = program_of(alloc, slice(TWO_ADDRESSES), None)?;
+    let mut built = refused_by_hand(rt, program, line_strings, strings)?;
+    let current = *built.row();
+    check_equal(rt, (current.address_offset, current.line), (4, 7));
+    check_equal(rt, current.op_index, 0);
+    check(rt, built.in_sequence());
+    let mut items = built.items();
+    check_equal(rt, row_built(items.next()), Some((4, 7)));
+    check(rt, items.next().is_none());
+    Ok(())
+}
+
 #[test]
-fn builder_calls_outside_their_conditions(rt: HostRuntime) -> Result<(), Fail> {
-    let program = program_of(rt.alloc(), TWO_ADDRESSES)?;
+fn builder_calls_outside_their_conditions(rt: HostRuntime) {
     let mut line_strings = LineStringTable::default(rt.alloc());
     let mut strings = StringTable::default(rt.alloc());
-    let mut built = refused_by_hand(&rt, program, &mut line_strings, &mut strings)?;
-    let current = *built.row();
-    check_equal(&rt, (current.address_offset, current.line), (4, 7));
-    check_equal(&rt, current.op_index, 0);
-    check(&rt, built.in_sequence());
-    let mut items = built.items();
-    check_equal(&rt, row_built(items.next()), Some((4, 7)));
-    check(&rt, items.next().is_none());
-    Ok(())
+    let steps = steps_of_builder_calls_outside_their_conditions(
+        &rt,
+        rt.alloc(),
+        &mut line_strings,
+        &mut strings,
+    );
+    check_equal(&rt, steps, Ok(()));
 }
 
 // ---- reads
 
-/// The sequence that was read; none is refused.
-fn sequence_of(sequence: Option<ConvertLineSequence>) -> ConvertResult<ConvertLineSequence> {
-    match sequence {
-        Some(sequence) => Ok(sequence),
-        None => Err(ConvertError::InvalidAttributeValue),
+/// A sequence without an address of its own was read: one row, up to the second address.
+fn ends_at_second(read: ConvertResult<Option<ConvertLineSequence>>) -> bool {
+    match read {
+        Ok(Some(sequence)) => {
+            sequence.start.is_none()
+                && sequence.rows.len() == 1
+                && sequence.end == ConvertLineSequenceEnd::Address(32)
+        }
+        _ => false,
     }
 }
 
@@ -234,26 +270,32 @@ fn check_mixed_reads<R: Reader>(
 ) -> ConvertResult<()> {
     let mut conversion = conversion_of(program, line_strings, strings)?;
     check_equal(rt, conversion.read_row(), Ok(FIRST));
-    let sequence = sequence_of(conversion.read_sequence()?)?;
-    check_equal(rt, sequence.start, None);
-    check_equal(rt, sequence.rows.len(), 1);
-    check_equal(rt, sequence.end, ConvertLineSequenceEnd::Address(32));
+    check(rt, ends_at_second(conversion.read_sequence()));
     check_equal(rt, conversion.read_row(), Ok(SECOND));
     let row = row_of(conversion.read_row()?)?;
     check_equal(rt, (row.address_offset, row.line), (0, 1));
     check_equal(rt, conversion.read_row(), Ok(END));
     check_equal(rt, conversion.read_row(), Ok(None));
-    check(rt, conversion.read_sequence()?.is_none());
+    check(rt, matches!(conversion.read_sequence(), Ok(None)));
     Ok(())
 }
 
+fn steps_of_reads_of_either_kind(
+    rt: &impl Abort,
+    alloc: Global,
+    line_strings: &mut LineStringTable,
+    strings: &mut StringTable,
+) -> ConvertResult<()> {
+    let program = program_of(alloc, slice(TWO_ADDRESSES), None)?;
+    check_mixed_reads(rt, program, line_strings, strings)
+}
+
 #[test]
-fn reads_of_either_kind(rt: HostRuntime) -> Result<(), Fail> {
-    let program = program_of(rt.alloc(), TWO_ADDRESSES)?;
+fn reads_of_either_kind(rt: HostRuntime) {
     let mut line_strings = LineStringTable::default(rt.alloc());
     let mut strings = StringTable::default(rt.alloc());
-    check_mixed_reads(&rt, program, &mut line_strings, &mut strings)?;
-    Ok(())
+    let steps = steps_of_reads_of_either_kind(&rt, rt.alloc(), &mut line_strings, &mut strings);
+    check_equal(&rt, steps, Ok(()));
 }
 
 /// A file number that isn't there is told by every later read, and by `convert`.
@@ -274,13 +316,22 @@ fn check_repeated<R: Reader>(
     Ok(())
 }
 
+fn steps_of_refused_read_is_repeated(
+    rt: &impl Abort,
+    alloc: Global,
+    line_strings: &mut LineStringTable,
+    strings: &mut StringTable,
+) -> ConvertResult<()> {
+    let program = program_of(alloc, slice(MISSING_FILE), None)?;
+    check_repeated(rt, program, line_strings, strings)
+}
+
 #[test]
-fn refused_read_is_repeated(rt: HostRuntime) -> Result<(), Fail> {
-    let program = program_of(rt.alloc(), MISSING_FILE)?;
+fn refused_read_is_repeated(rt: HostRuntime) {
     let mut line_strings = LineStringTable::default(rt.alloc());
     let mut strings = StringTable::default(rt.alloc());
-    check_repeated(&rt, program, &mut line_strings, &mut strings)?;
-    Ok(())
+    let steps = steps_of_refused_read_is_repeated(&rt, rt.alloc(), &mut line_strings, &mut strings);
+    check_equal(&rt, steps, Ok(()));
 }
 
 /// A sequence without an end is told by every later read.
@@ -298,13 +349,22 @@ fn check_open<R: Reader>(
     Ok(())
 }
 
+fn steps_of_missing_end_is_repeated(
+    rt: &impl Abort,
+    alloc: Global,
+    line_strings: &mut LineStringTable,
+    strings: &mut StringTable,
+) -> ConvertResult<()> {
+    let program = program_of(alloc, slice(OPEN), None)?;
+    check_open(rt, program, line_strings, strings)
+}
+
 #[test]
-fn missing_end_is_repeated(rt: HostRuntime) -> Result<(), Fail> {
-    let program = program_of(rt.alloc(), OPEN)?;
+fn missing_end_is_repeated(rt: HostRuntime) {
     let mut line_strings = LineStringTable::default(rt.alloc());
     let mut strings = StringTable::default(rt.alloc());
-    check_open(&rt, program, &mut line_strings, &mut strings)?;
-    Ok(())
+    let steps = steps_of_missing_end_is_repeated(&rt, rt.alloc(), &mut line_strings, &mut strings);
+    check_equal(&rt, steps, Ok(()));
 }
 
 // ---- closures that know no address
@@ -324,14 +384,24 @@ fn refusal_of<R: Reader, F: Fn(u64) -> Option<Address>>(
     }
 }
 
+fn steps_of_address_that_is_no_other(
+    rt: &impl Abort,
+    alloc: Global,
+    line_strings: &mut LineStringTable,
+    strings: &mut StringTable,
+) -> ConvertResult<()> {
+    let program = program_of(alloc, slice(TWO_ADDRESSES), None)?;
+    let refused = refusal_of(program, line_strings, strings, |_| None);
+    check_equal(rt, refused, Some(ConvertError::InvalidAddress));
+    Ok(())
+}
+
 #[test]
-fn address_that_is_no_other(rt: HostRuntime) -> Result<(), Fail> {
-    let program = program_of(rt.alloc(), TWO_ADDRESSES)?;
+fn address_that_is_no_other(rt: HostRuntime) {
     let mut line_strings = LineStringTable::default(rt.alloc());
     let mut strings = StringTable::default(rt.alloc());
-    let refused = refusal_of(program, &mut line_strings, &mut strings, |_| None);
-    check_equal(&rt, refused, Some(ConvertError::InvalidAddress));
-    Ok(())
+    let steps = steps_of_address_that_is_no_other(&rt, rt.alloc(), &mut line_strings, &mut strings);
+    check_equal(&rt, steps, Ok(()));
 }
 
 /// An address that is kept up to 16.
@@ -343,14 +413,29 @@ fn below_17(address: u64) -> Option<Address> {
     }
 }
 
+fn steps_of_second_address_that_is_no_other(
+    rt: &impl Abort,
+    alloc: Global,
+    line_strings: &mut LineStringTable,
+    strings: &mut StringTable,
+) -> ConvertResult<()> {
+    let program = program_of(alloc, slice(TWO_ADDRESSES), None)?;
+    let refused = refusal_of(program, line_strings, strings, below_17);
+    check_equal(rt, refused, Some(ConvertError::InvalidAddress));
+    Ok(())
+}
+
 #[test]
-fn second_address_that_is_no_other(rt: HostRuntime) -> Result<(), Fail> {
-    let program = program_of(rt.alloc(), TWO_ADDRESSES)?;
+fn second_address_that_is_no_other(rt: HostRuntime) {
     let mut line_strings = LineStringTable::default(rt.alloc());
     let mut strings = StringTable::default(rt.alloc());
-    let refused = refusal_of(program, &mut line_strings, &mut strings, below_17);
-    check_equal(&rt, refused, Some(ConvertError::InvalidAddress));
-    Ok(())
+    let steps = steps_of_second_address_that_is_no_other(
+        &rt,
+        rt.alloc(),
+        &mut line_strings,
+        &mut strings,
+    );
+    check_equal(&rt, steps, Ok(()));
 }
 
 // ---- tables
@@ -393,44 +478,63 @@ fn refusal_in_version_5<R: Reader>(
     }
 }
 
-/// The program of a unit of version 4, whose working directory is `/w`.
-fn program_in_a_directory<'i>(
-    alloc: Global,
-    unit: &'i [u8],
-    directory: &'i [u8],
-) -> gimli_core::Result<IncompleteLineProgram<EndianSlice<'i, LittleEndian>>> {
-    let section = DebugLine::new(unit, LittleEndian);
-    let directory = EndianSlice::new(directory, LittleEndian);
-    section.program(alloc, DebugLineOffset(0), 4, Some(directory), None)
-}
-
 /// A conversion that isn't begun, in tables with a text.
-#[test]
-fn old_texts_first_after_a_refused_start(rt: HostRuntime) -> Result<(), Fail> {
-    let mut line_strings = LineStringTable::default(rt.alloc());
-    let mut strings = StringTable::default(rt.alloc());
+fn steps_of_old_texts_first_after_a_refused_start(
+    rt: &impl Abort,
+    alloc: Global,
+    line_strings: &mut LineStringTable,
+    strings: &mut StringTable,
+) -> ConvertResult<()> {
     line_strings.add(b"old")?;
     strings.add(b"old")?;
-    let program = program_in_a_directory(rt.alloc(), LINE_BASE, b"/w")?;
-    let name = EndianSlice::new(b"a.c", LittleEndian);
-    let refused = refusal_in_version_5(program, name, &mut line_strings, &mut strings);
-    check_equal(&rt, refused, Some(ConvertError::InvalidLineBase));
-    check_old_texts(&rt, &line_strings, &strings);
+    let program = program_of(alloc, slice(LINE_BASE), Some(slice(b"/w")))?;
+    let name = slice(b"a.c");
+    let refused = refusal_in_version_5(program, name, line_strings, strings);
+    check_equal(rt, refused, Some(ConvertError::InvalidLineBase));
+    check_old_texts(rt, line_strings, strings);
     Ok(())
+}
+
+#[test]
+fn old_texts_first_after_a_refused_start(rt: HostRuntime) {
+    let mut line_strings = LineStringTable::default(rt.alloc());
+    let mut strings = StringTable::default(rt.alloc());
+    let steps = steps_of_old_texts_first_after_a_refused_start(
+        &rt,
+        rt.alloc(),
+        &mut line_strings,
+        &mut strings,
+    );
+    check_equal(&rt, steps, Ok(()));
 }
 
 /// A conversion that is refused at its second address, in tables with a text: `/w` and `a.c` come after it.
-#[test]
-fn old_texts_first_after_a_refused_conversion(rt: HostRuntime) -> Result<(), Fail> {
-    let mut line_strings = LineStringTable::default(rt.alloc());
-    let mut strings = StringTable::default(rt.alloc());
+fn steps_of_old_texts_first_after_a_refused_conversion(
+    rt: &impl Abort,
+    alloc: Global,
+    line_strings: &mut LineStringTable,
+    strings: &mut StringTable,
+) -> ConvertResult<()> {
     line_strings.add(b"old")?;
     strings.add(b"old")?;
-    let program = program_in_a_directory(rt.alloc(), TWO_ADDRESSES, b"/w")?;
-    let name = EndianSlice::new(b"a.c", LittleEndian);
-    let refused = refusal_in_version_5(program, name, &mut line_strings, &mut strings);
-    check_equal(&rt, refused, Some(ConvertError::InvalidAddress));
-    check_old_texts(&rt, &line_strings, &strings);
-    check_equal(&rt, (line_strings.count(), strings.count()), (3, 1));
+    let program = program_of(alloc, slice(TWO_ADDRESSES), Some(slice(b"/w")))?;
+    let name = slice(b"a.c");
+    let refused = refusal_in_version_5(program, name, line_strings, strings);
+    check_equal(rt, refused, Some(ConvertError::InvalidAddress));
+    check_old_texts(rt, line_strings, strings);
+    check_equal(rt, (line_strings.count(), strings.count()), (3, 1));
     Ok(())
+}
+
+#[test]
+fn old_texts_first_after_a_refused_conversion(rt: HostRuntime) {
+    let mut line_strings = LineStringTable::default(rt.alloc());
+    let mut strings = StringTable::default(rt.alloc());
+    let steps = steps_of_old_texts_first_after_a_refused_conversion(
+        &rt,
+        rt.alloc(),
+        &mut line_strings,
+        &mut strings,
+    );
+    check_equal(&rt, steps, Ok(()));
 }

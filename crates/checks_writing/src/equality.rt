@@ -5,7 +5,6 @@ use std::alloc::{AllocError, Global};
 use std::fmt::Debug;
 use std::hash::{DefaultHasher, Hash, Hasher};
 use std::process::Abort;
-use std::test::Fail;
 
 /// A condition holds.
 ///
@@ -75,20 +74,31 @@ fn texts(alloc: Global) -> std::result::Result<[LineString; 7], AllocError> {
     ])
 }
 
-#[test]
-fn equal_addresses_and_texts(rt: HostRuntime) -> std::result::Result<(), Fail> {
-    check_distinct(&rt, "address", &ADDRESSES);
-    check_alike(&rt, "address", &ADDRESSES, &ADDRESSES);
+fn steps_of_equal_addresses_and_texts(
+    rt: &impl Abort,
+    alloc: Global,
+) -> std::result::Result<(), AllocError> {
+    check_distinct(rt, "address", &ADDRESSES);
+    check_alike(rt, "address", &ADDRESSES, &ADDRESSES);
     let ids = [StringId(0), StringId(1)];
-    check_distinct(&rt, "string", &ids);
-    check_alike(&rt, "string", &ids, &ids);
+    check_distinct(rt, "string", &ids);
+    check_alike(rt, "string", &ids, &ids);
     let ids = [LineStringId(0), LineStringId(1)];
-    check_distinct(&rt, "line string", &ids);
-    check_alike(&rt, "line string", &ids, &ids);
-    let texts_now = texts(rt.alloc())?;
-    check_distinct(&rt, "text", &texts_now);
-    check_alike(&rt, "text", &texts_now, &texts(rt.alloc())?);
+    check_distinct(rt, "line string", &ids);
+    check_alike(rt, "line string", &ids, &ids);
+    let texts_now = texts(alloc)?;
+    check_distinct(rt, "text", &texts_now);
+    check_alike(rt, "text", &texts_now, &texts(alloc)?);
     Ok(())
+}
+
+#[test]
+fn equal_addresses_and_texts(rt: HostRuntime) {
+    check_equal(
+        &rt,
+        steps_of_equal_addresses_and_texts(&rt, rt.alloc()),
+        Ok(()),
+    );
 }
 
 /// Details of files, each two of which differ in one part.
@@ -145,11 +155,15 @@ fn check_copies(rt: &impl Abort, alloc: Global) -> std::result::Result<(), Alloc
     Ok(())
 }
 
-#[test]
-fn equal_details(rt: HostRuntime) -> std::result::Result<(), Fail> {
-    let infos = details(rt.alloc())?;
-    check_distinct(&rt, "info", &infos);
-    assert!(rt; infos == details(rt.alloc())?);
-    check_copies(&rt, rt.alloc())?;
+fn steps_of_equal_details(rt: &impl Abort, alloc: Global) -> std::result::Result<(), AllocError> {
+    let infos = details(alloc)?;
+    check_distinct(rt, "info", &infos);
+    assert!(rt; infos == details(alloc)?);
+    check_copies(rt, alloc)?;
     Ok(())
+}
+
+#[test]
+fn equal_details(rt: HostRuntime) {
+    check_equal(&rt, steps_of_equal_details(&rt, rt.alloc()), Ok(()));
 }

@@ -3,8 +3,8 @@
 use crate::equality::check_equal;
 use gimli_core::{DwEhPe, Error as ReadError};
 use gimli_write::{ConvertError, ConvertResult, Error, Result};
-use std::alloc::AllocError;
-use std::test::Fail;
+use std::alloc::{AllocError, Global};
+use std::process::Abort;
 
 // ---- texts
 
@@ -77,22 +77,40 @@ const TEXTS_OF_WRITING: [(Error, &str); 20] = [
     (Error::OutOfMemory, "Not enough memory."),
 ];
 
-#[test]
-fn texts_of_writing(rt: HostRuntime) -> std::result::Result<(), Fail> {
+fn steps_of_texts_of_writing(
+    rt: &impl Abort,
+    alloc: Global,
+) -> std::result::Result<(), AllocError> {
     for (error, text) in TEXTS_OF_WRITING {
-        assert_eq!(rt; error.to_string(rt.alloc())?.as_str(), text);
+        assert_eq!(rt; error.to_string(alloc)?.as_str(), text);
     }
     Ok(())
 }
 
-/// What a pointer encoding prints stands between these words.
 #[test]
-fn text_of_a_pointer_encoding(rt: HostRuntime) -> std::result::Result<(), Fail> {
+fn texts_of_writing(rt: HostRuntime) {
+    check_equal(&rt, steps_of_texts_of_writing(&rt, rt.alloc()), Ok(()));
+}
+
+/// What a pointer encoding prints stands between these words.
+fn steps_of_text_of_a_pointer_encoding(
+    rt: &impl Abort,
+    alloc: Global,
+) -> std::result::Result<(), AllocError> {
     let encoding = DwEhPe(0x30);
-    let text = Error::UnsupportedPointerEncoding(encoding).to_string(rt.alloc())?;
-    let want = format!(in rt.alloc(); "Unsupported eh_frame pointer encoding ({encoding}).")?;
+    let text = Error::UnsupportedPointerEncoding(encoding).to_string(alloc)?;
+    let want = format!(in alloc; "Unsupported eh_frame pointer encoding ({encoding}).")?;
     assert_eq!(rt; text.as_str(), want.as_str());
     Ok(())
+}
+
+#[test]
+fn text_of_a_pointer_encoding(rt: HostRuntime) {
+    check_equal(
+        &rt,
+        steps_of_text_of_a_pointer_encoding(&rt, rt.alloc()),
+        Ok(()),
+    );
 }
 
 /// Errors of conversion, and their texts.
@@ -184,28 +202,39 @@ const TEXTS_OF_CONVERSION: [(ConvertError, &str); 22] = [
     (ConvertError::OutOfMemory, "Not enough memory."),
 ];
 
-#[test]
-fn texts_of_conversion(rt: HostRuntime) -> std::result::Result<(), Fail> {
+fn steps_of_texts_of_conversion(
+    rt: &impl Abort,
+    alloc: Global,
+) -> std::result::Result<(), AllocError> {
     for (error, text) in TEXTS_OF_CONVERSION {
-        assert_eq!(rt; error.to_string(rt.alloc())?.as_str(), text);
+        assert_eq!(rt; error.to_string(alloc)?.as_str(), text);
     }
     Ok(())
 }
 
-/// A refusal of reading or writing prints as it does by itself.
 #[test]
-fn texts_of_others(rt: HostRuntime) -> std::result::Result<(), Fail> {
+fn texts_of_conversion(rt: HostRuntime) {
+    check_equal(&rt, steps_of_texts_of_conversion(&rt, rt.alloc()), Ok(()));
+}
+
+/// A refusal of reading or writing prints as it does by itself.
+fn steps_of_texts_of_others(rt: &impl Abort, alloc: Global) -> std::result::Result<(), AllocError> {
     let read = ReadError::AddressOverflow;
-    let want = read.to_string(rt.alloc())?;
-    let text = ConvertError::Read(read).to_string(rt.alloc())?;
-    check_equal(&rt, text.as_str(), want.as_str());
-    let text = ConvertError::Write(Error::NeedVersion(4)).to_string(rt.alloc())?;
+    let want = read.to_string(alloc)?;
+    let text = ConvertError::Read(read).to_string(alloc)?;
+    check_equal(rt, text.as_str(), want.as_str());
+    let text = ConvertError::Write(Error::NeedVersion(4)).to_string(alloc)?;
     check_equal(
-        &rt,
+        rt,
         text.as_str(),
         "A requested feature requires a DWARF version 4.",
     );
     Ok(())
+}
+
+#[test]
+fn texts_of_others(rt: HostRuntime) {
+    check_equal(&rt, steps_of_texts_of_others(&rt, rt.alloc()), Ok(()));
 }
 
 // ---- errors of errors

@@ -10,13 +10,12 @@ use gimli_core::{
 };
 use gimli_line::{ColumnType, LineRow};
 use gimli_write::{
-    Address, DebugLine, DebugLineStr, DebugStr, EndianVec, Error, Leb128, LineProgram,
-    LineStringTable, Result, RoundTrip, StringTable, Writer, round_trip,
+    Address, ConvertResult, DebugLine, DebugLineStr, DebugStr, EndianVec, Error, Leb128,
+    LineProgram, LineStringTable, Result, RoundTrip, StringTable, Writer, round_trip,
 };
 use std::alloc::Global;
 use std::num::NonZeroU64;
 use std::process::Abort;
-use std::test::Fail;
 
 // ---- vectors
 
@@ -37,14 +36,22 @@ fn check_take(rt: &impl Abort, w: &mut EndianVec<BigEndian>) -> Result<()> {
     Ok(())
 }
 
-#[test]
-fn copies_and_taken_bytes(rt: HostRuntime) -> std::result::Result<(), Fail> {
-    let mut w = EndianVec::new(rt.alloc(), BigEndian);
+fn steps_of_copies_and_taken_bytes(rt: &impl Abort, alloc: Global) -> Result<()> {
+    let mut w = EndianVec::new(alloc, BigEndian);
     assert_eq!(rt; w.endian(), BigEndian);
     w.write(b"abc")?;
-    check_copy(&rt, &w)?;
-    check_take(&rt, &mut w)?;
+    check_copy(rt, &w)?;
+    check_take(rt, &mut w)?;
     Ok(())
+}
+
+#[test]
+fn copies_and_taken_bytes(rt: HostRuntime) {
+    check_equal(
+        &rt,
+        steps_of_copies_and_taken_bytes(&rt, rt.alloc()),
+        Ok(()),
+    );
 }
 
 /// The numbers of DWARF 5, section 7.6.
@@ -62,36 +69,48 @@ fn numbers_by_themselves(rt: HostRuntime) {
 
 /// The offset of a section is that of what is appended next.
 #[test]
-fn offsets_of_sections(rt: HostRuntime) -> std::result::Result<(), Fail> {
+fn offset_of_lines(rt: HostRuntime) {
     let mut lines = DebugLine::from(EndianVec::new(rt.alloc(), LittleEndian));
-    let mut strings = DebugStr::from(EndianVec::new(rt.alloc(), BigEndian));
-    let mut line_strings = DebugLineStr::from(EndianVec::new(rt.alloc(), BigEndian));
     check_equal(&rt, lines.offset(), DebugLineOffset(0));
-    lines.0.write(b"abc")?;
-    strings.0.write(b"ab")?;
-    line_strings.0.write(b"a")?;
+    check_equal(&rt, lines.0.write(b"abc"), Ok(()));
     check_equal(&rt, lines.offset(), DebugLineOffset(3));
+}
+
+#[test]
+fn offset_of_strings(rt: HostRuntime) {
+    let mut strings = DebugStr::from(EndianVec::new(rt.alloc(), BigEndian));
+    check_equal(&rt, strings.0.write(b"ab"), Ok(()));
     check_equal(&rt, strings.offset(), DebugStrOffset(2));
+}
+
+#[test]
+fn offset_of_line_strings(rt: HostRuntime) {
+    let mut line_strings = DebugLineStr::from(EndianVec::new(rt.alloc(), BigEndian));
+    check_equal(&rt, line_strings.0.write(b"a"), Ok(()));
     check_equal(&rt, line_strings.offset(), DebugLineStrOffset(1));
+}
+
+/// The tables of a section hold ids, texts and offsets.
+fn put_texts(rt: &impl Abort, table: &mut LineStringTable) -> Result<()> {
+    let directory = table.add(b"/w")?;
+    let file = table.add(b"a.c")?;
+    check(rt, table.add(b"/w")? == directory && directory != file);
+    check(rt, directory.0 < table.count() && file.0 < table.count());
+    check_equal(rt, table.get(file), b"a.c".as_slice());
+    check_equal(rt, table.offset(file), DebugLineStrOffset(3));
+    check_equal(rt, table.count(), 2);
     Ok(())
 }
 
-/// The tables of a section hold ids, texts and offsets, and are written after what is there.
+/// They are written after what is there.
 #[test]
-fn tables_of_texts(rt: HostRuntime) -> std::result::Result<(), Fail> {
+fn tables_of_texts(rt: HostRuntime) {
     let mut table = LineStringTable::default(rt.alloc());
-    let directory = table.add(b"/w")?;
-    let file = table.add(b"a.c")?;
-    check(&rt, table.add(b"/w")? == directory && directory != file);
-    check(&rt, directory.0 < table.count() && file.0 < table.count());
-    check_equal(&rt, table.get(file), b"a.c".as_slice());
-    check_equal(&rt, table.offset(file), DebugLineStrOffset(3));
-    check_equal(&rt, table.count(), 2);
+    check_equal(&rt, put_texts(&rt, &mut table), Ok(()));
     let mut section = DebugLineStr::from(EndianVec::new(*table.allocator(), BigEndian));
-    section.0.write(b"..")?;
-    table.write(&mut section)?;
+    check_equal(&rt, section.0.write(b".."), Ok(()));
+    check_equal(&rt, table.write(&mut section), Ok(()));
     check_equal(&rt, section.0.slice(), b"../w\0a.c\0".as_slice());
-    Ok(())
 }
 
 // ---- units after other bytes
@@ -139,20 +158,29 @@ fn check_written(rt: &impl Abort, alloc: Global, program: &LineProgram) -> Resul
     requires { CanWrite program.now [] [] }
 {
     let mut section = section_of_three(alloc)?;
-    check_equal(rt, write(alloc, program, &mut section)?, DebugLineOffset(3));
+    let answer = write(alloc, program, &mut section);
+    check_equal(rt, answer, Ok(DebugLineOffset(3)));
     check(rt, section.0.slice().starts_with(b"\xaa\xbb\xcc"));
     check(rt, section.0.slice().ends_with(DEMO_UNIT));
     check_equal(rt, section.0.len(), 54);
     Ok(())
 }
 
-#[test]
-fn units_behind_other_bytes(rt: HostRuntime) -> std::result::Result<(), Fail> {
-    let program = demo(rt.alloc())?;
-    check_written(&rt, rt.alloc(), &program)?;
-    check_incompatible(&rt, rt.alloc(), &program)?;
-    check_refused(&rt, rt.alloc())?;
+fn steps_of_units_behind_other_bytes(rt: &impl Abort, alloc: Global) -> Result<()> {
+    let program = demo(alloc)?;
+    check_equal(rt, check_written(rt, alloc, &program), Ok(()));
+    check_equal(rt, check_incompatible(rt, alloc, &program), Ok(()));
+    check_equal(rt, check_refused(rt, alloc), Ok(()));
     Ok(())
+}
+
+#[test]
+fn units_behind_other_bytes(rt: HostRuntime) {
+    check_equal(
+        &rt,
+        steps_of_units_behind_other_bytes(&rt, rt.alloc()),
+        Ok(()),
+    );
 }
 
 /// A row of the first file has this address and this line, and its other numbers are those of a new row.
@@ -182,33 +210,42 @@ fn check_read(rt: &impl Abort, answer: &RoundTrip) {
     }
 }
 
-/// A round trip after three bytes.
-fn check_round_trip(
-    rt: &impl Abort,
+/// A round trip of a program that names no text of a table.
+fn round_trip_alone(
     alloc: Global,
     program: &LineProgram,
-) -> std::result::Result<(), Fail>
+    section: &mut DebugLine<EndianVec<LittleEndian>>,
+) -> ConvertResult<RoundTrip>
     requires { CanWrite program.now [] [] }
 {
     let mut strings = StringTable::default(alloc);
     let mut line_strings = LineStringTable::default(alloc);
-    let mut section = section_of_three(alloc)?;
     let encoding = program.encoding();
-    let answer = round_trip(
-        program,
-        &mut section,
-        encoding,
-        &mut line_strings,
-        &mut strings,
-    )?;
+    round_trip(program, section, encoding, &mut line_strings, &mut strings)
+}
+
+/// A round trip after three bytes.
+fn check_round_trip(rt: &impl Abort, alloc: Global, program: &LineProgram) -> ConvertResult<()>
+    requires { CanWrite program.now [] [] }
+{
+    let mut section = section_of_three(alloc)?;
+    let answer = round_trip_alone(alloc, program, &mut section)?;
     check_read(rt, &answer);
     check(rt, section.0.slice().starts_with(b"\xaa\xbb\xcc"));
     check(rt, section.0.slice().ends_with(DEMO_UNIT));
     Ok(())
 }
 
+fn steps_of_round_trip_behind_other_bytes(rt: &impl Abort, alloc: Global) -> ConvertResult<()> {
+    let program = demo(alloc)?;
+    check_round_trip(rt, alloc, &program)
+}
+
 #[test]
-fn round_trip_behind_other_bytes(rt: HostRuntime) -> std::result::Result<(), Fail> {
-    let program = demo(rt.alloc())?;
-    check_round_trip(&rt, rt.alloc(), &program)
+fn round_trip_behind_other_bytes(rt: HostRuntime) {
+    check_equal(
+        &rt,
+        steps_of_round_trip_behind_other_bytes(&rt, rt.alloc()),
+        Ok(()),
+    );
 }

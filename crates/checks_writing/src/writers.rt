@@ -15,7 +15,6 @@ use gimli_write::{
 };
 use std::alloc::Global;
 use std::process::Abort;
-use std::test::Fail;
 
 // ---- an array
 
@@ -100,12 +99,12 @@ fn check_array(rt: &impl Abort, alloc: Global, program: &LineProgram, len: usize
     let mut section = DebugLine::from(array_section(len));
     let answer = write(alloc, program, &mut section);
     let before = section.0.bytes.get(..len).unwrap_or(&[]);
-    assert!(rt; before.iter().all(|byte| *byte == 0xaa), "at {len}");
+    check(rt, before.iter().all(|byte| *byte == 0xaa));
     if len <= 13 {
         check_equal(rt, answer, Ok(DebugLineOffset(len)));
         check_equal(rt, section.0.bytes.get(len..section.0.len), Some(DEMO_UNIT));
     } else {
-        assert_eq!(rt; answer, Err(Error::LengthOutOfBounds), "at {len}");
+        check_equal(rt, answer, Err(Error::LengthOutOfBounds));
     }
 }
 
@@ -215,8 +214,8 @@ fn is_demo(bytes: &[u8], length: u8, address: &[u8]) -> bool {
 fn is_noted(alloc: Global, address: Address, length: u8, noted: &[u8]) -> Result<bool> {
     let program = demo_at(alloc, address)?;
     let mut section = new_noting(alloc);
-    write(alloc, &program, &mut section)?;
-    Ok(is_demo(section.0.section.slice(), length, noted))
+    let is_written = write(alloc, &program, &mut section).is_ok();
+    Ok(is_written && is_demo(section.0.section.slice(), length, noted))
 }
 
 const SYMBOL: Address = Address::Symbol {
@@ -225,14 +224,22 @@ const SYMBOL: Address = Address::Symbol {
 };
 
 /// An address is written by `write_address`, with the size of addresses, also where it is a symbol.
-#[test]
-fn addresses_by_their_own_call(rt: HostRuntime) -> std::result::Result<(), Fail> {
+fn steps_of_addresses_by_their_own_call(rt: &impl Abort, alloc: Global) -> Result<()> {
     check(
-        &rt,
-        is_noted(rt.alloc(), Address::Constant(0x1000), 0x2d, b"C\x04")?,
+        rt,
+        is_noted(alloc, Address::Constant(0x1000), 0x2d, b"C\x04")?,
     );
-    check(&rt, is_noted(rt.alloc(), SYMBOL, 0x2e, b"Y\x04\x07")?);
+    check(rt, is_noted(alloc, SYMBOL, 0x2e, b"Y\x04\x07")?);
     Ok(())
+}
+
+#[test]
+fn addresses_by_their_own_call(rt: HostRuntime) {
+    check_equal(
+        &rt,
+        steps_of_addresses_by_their_own_call(&rt, rt.alloc()),
+        Ok(()),
+    );
 }
 
 /// Whether a text is in one of these tables, or in the program.
@@ -276,33 +283,49 @@ fn referring(
 }
 
 /// The section of a directory in the line strings and a file in the strings.
-fn references(alloc: Global) -> Result<Vec<u8>> {
-    let mut strings = StringTable::default(alloc);
-    let mut line_strings = LineStringTable::default(alloc);
+fn references(
+    alloc: Global,
+    strings: &mut StringTable,
+    line_strings: &mut LineStringTable,
+) -> Result<Vec<u8>> {
     strings.add(b"pp")?;
     line_strings.add(b"q")?;
     let file = LineString::StringRef(strings.add(b"a.c")?);
     let directory = LineString::LineStringRef(line_strings.add(b"/w")?);
-    let program = referring(alloc, &strings, &line_strings, directory, file)?;
+    let program = referring(alloc, strings, line_strings, directory, file)?;
+    noted(alloc, &program, strings, line_strings)
+}
+
+/// The section of a program.
+fn noted(
+    alloc: Global,
+    program: &LineProgram,
+    strings: &mut StringTable,
+    line_strings: &mut LineStringTable,
+) -> Result<Vec<u8>>
+    requires { CanWrite program.now strings.old line_strings.old }
+{
     let mut section = new_noting(alloc);
-    program.write(
-        &mut section,
-        program.encoding(),
-        &mut line_strings,
-        &mut strings,
-    )?;
+    program.write(&mut section, program.encoding(), line_strings, strings)?;
     let Noting { section } = section.0;
     Ok(section.into_vec())
 }
 
+/// The unit of both, with what is noted for each text.
+const NOTED_REFERENCES: &[u8] =
+    b"\x2b\0\0\0\x05\0\x08\0\x23\0\0\0\x01\x01\x01\xfb\x0e\x0d\0\x01\x01\x01\x01\0\0\0\x01\0\0\x01\
+    \x01\x01\x1f\x01L\x04\x02\x02\x01\x0e\x02\x0f\x01S\x04\x03\0";
+
 /// A reference to a text is written by `write_offset`, with the section that the text is in and the size of words.
 #[test]
-fn references_by_their_own_call(rt: HostRuntime) -> std::result::Result<(), Fail> {
-    let unit =
-        b"\x2b\0\0\0\x05\0\x08\0\x23\0\0\0\x01\x01\x01\xfb\x0e\x0d\0\x01\x01\x01\x01\0\0\0\x01\0\0\x01\
-        \x01\x01\x1f\x01L\x04\x02\x02\x01\x0e\x02\x0f\x01S\x04\x03\0";
-    assert_eq!(rt; references(rt.alloc())?.as_slice(), unit.as_slice());
-    Ok(())
+fn references_by_their_own_call(rt: HostRuntime) {
+    let mut strings = StringTable::default(rt.alloc());
+    let mut line_strings = LineStringTable::default(rt.alloc());
+    let found = references(rt.alloc(), &mut strings, &mut line_strings);
+    check(
+        &rt,
+        found.is_ok_and(|unit| unit.as_slice() == NOTED_REFERENCES),
+    );
 }
 
 // ---- a writer that isn't steady
@@ -365,14 +388,13 @@ fn check_tired(rt: &impl Abort, alloc: Global, program: &LineProgram, calls: usi
     let mut section = DebugLine::from(tired_after(alloc, calls)?);
     let answer = write(alloc, program, &mut section);
     let bytes = section.0.section.slice();
-    assert!(rt; bytes.starts_with(b"\xaa\xbb\xcc"), "after {calls}");
-    match answer {
-        Ok(offset) => {
-            assert_eq!(rt; offset, DebugLineOffset(3));
-            assert!(rt; bytes.ends_with(DEMO_UNIT), "after {calls}");
-            assert_eq!(rt; bytes.len(), 54, "after {calls}");
-        }
-        Err(error) => assert_eq!(rt; error, Error::MissingBaseAddress, "after {calls}"),
+    check(rt, bytes.starts_with(b"\xaa\xbb\xcc"));
+    if answer.is_ok() {
+        check_equal(rt, answer, Ok(DebugLineOffset(3)));
+        check(rt, bytes.ends_with(DEMO_UNIT));
+        check_equal(rt, bytes.len(), 54);
+    } else {
+        check_equal(rt, answer, Err(Error::MissingBaseAddress));
     }
     Ok(answer.is_ok())
 }
@@ -382,23 +404,39 @@ fn check_fresh(rt: &impl Abort, alloc: Global, program: &LineProgram) -> Result<
     requires { CanWrite program.now [] [] }
 {
     let mut section = DebugLine::from(EndianVec::new(alloc, LittleEndian));
-    check_equal(rt, write(alloc, program, &mut section)?, DebugLineOffset(0));
+    let answer = write(alloc, program, &mut section);
+    check_equal(rt, answer, Ok(DebugLineOffset(0)));
     check_equal(rt, section.0.slice(), DEMO_UNIT);
     Ok(())
 }
 
-/// Each call of the writer is refused in turn, until none is.
-#[test]
-fn writer_that_refuses_each_call(rt: HostRuntime) -> std::result::Result<(), Fail> {
-    let program = demo(rt.alloc())?;
+/// Each call of the writer is refused in turn, until none is: how many are.
+fn count_refused(rt: &impl Abort, alloc: Global, program: &LineProgram) -> Result<usize>
+    requires { CanWrite program.now [] [] }
+{
     let mut refused = 0;
     for calls in 0..100usize {
-        if !check_tired(&rt, rt.alloc(), &program, calls)? {
-            assert_eq!(rt; refused, calls);
+        if !check_tired(rt, alloc, program, calls)? {
+            check_equal(rt, refused, calls);
             refused = calls + 1;
-            check_fresh(&rt, rt.alloc(), &program)?;
+            check_fresh(rt, alloc, program)?;
         }
     }
-    assert!(rt; refused > 20 && refused < 100, "{refused}");
+    Ok(refused)
+}
+
+fn steps_of_writer_that_refuses_each_call(rt: &impl Abort, alloc: Global) -> Result<()> {
+    let program = demo(alloc)?;
+    let refused = count_refused(rt, alloc, &program);
+    check(rt, matches!(refused, Ok(21..=99)));
     Ok(())
+}
+
+#[test]
+fn writer_that_refuses_each_call(rt: HostRuntime) {
+    check_equal(
+        &rt,
+        steps_of_writer_that_refuses_each_call(&rt, rt.alloc()),
+        Ok(()),
+    );
 }
