@@ -7,7 +7,7 @@ use Rattle.gimli_core.specs.declared.error.Error.{Error}
 use Rattle.gimli_core.specs.declared.error.Error.TheVariants.{OutOfMemory}
 
 -- what a call answered, its value seen by view, and the bytes that it left are what reading gives, unless memory
--- was wanting
+-- was missing
 abbrev pub IsOutcome : {X Y : Type 0} → (X → Y) → Result X Error → List ℕ → Read Y → Type 0
 IsOutcome view (Ok x) left read = read ≡ (Ok (view x), left)
 IsOutcome view (Err e) left read = e ≢ OutOfMemory → read.0 ≡ Err e

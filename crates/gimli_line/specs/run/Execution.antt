@@ -14,7 +14,7 @@ use Rattle.gimli_line.specs.run.Machine.{stepped, is_refused}
 abbrev pub OverflowIs : Parameters → Ins → LineRow → LineRow → Error → Type 0
 OverflowIs parameters i old new e = e ≡ AddressOverflow → (is_refused parameters i old ≡ true) × (new ≡ stepped parameters i old)
 
--- any other refusal: memory was wanting to add the file that the instruction defines, and no register changes
+-- any other refusal: memory was missing to add the file that the instruction defines, and no register changes
 abbrev pub OtherRefusalIs : Bool → Ins → LineRow → LineRow → Error → Type 0
 OtherRefusalIs appends i old new e = e ≢ AddressOverflow → (e ≡ OutOfMemory) × (appends ≡ true) × (defines_file i ≡ true) × (new ≡ old)
 

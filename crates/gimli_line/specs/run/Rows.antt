@@ -65,7 +65,7 @@ RowIs old new r files =
 abbrev pub EndIs : RunState → RunState → Type 0
 EndIs old new = (events_left old ≡ []) × (events_left new ≡ []) × (new.unread.bytes ≡ []) × (new.files ≡ files_at_end old)
 
--- memory was wanting for a file, whose definition comes after instructions that give nothing; the files are those of
+-- memory was missing for a file, whose definition comes after instructions that give nothing; the files are those of
 -- its place, and nothing comes after it
 pub record WantsMemory (old new : RunState) : Type 0 where
   pub place : RunState
