@@ -10,10 +10,12 @@ pub mod TablesInside
 pub mod LentDetails
 pub mod FirstTables
 pub mod Built
+pub mod Calls
 pub mod SameRow
 pub mod FormatWord
 pub mod Joined
 pub mod Writes
+pub mod Gains
 pub mod Items
 pub mod Sizes
 pub mod Conditions

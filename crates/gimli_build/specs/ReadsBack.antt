@@ -99,3 +99,8 @@ pub record IsReadWell (notation : Notation) (unit_entry : UnitEntry) (sections :
   -- and from version 5 on, a text may be an offset
   pub texts_held : 5 ≤ p.encoding.version → p.encoding.format ≡ Dwarf64
       → All (λ t. IsOffsetHeld notation.limit strings line_strings t.1) (emitted_texts p strings line_strings)
+
+-- whoever reads these bytes well reads the program back
+abbrev pub IsReadAs : Bool → Built → List (List ℕ) → List (List ℕ) → List ℕ → Type 0
+IsReadAs big p strings line_strings unit = (notation : Notation) (unit_entry : UnitEntry) (sections : Sections)
+    → IsReadWell notation unit_entry sections big p strings line_strings unit → ReadsBack notation unit_entry sections p strings line_strings unit
