@@ -17,8 +17,10 @@ pub mod Joined
 pub mod Writes
 pub mod Gains
 pub mod Items
-pub mod Sizes
 pub mod Conditions
+pub mod Runs
+pub mod UnitReader
+pub mod Sizes
 pub mod BuiltInside
 pub mod LentRow
 pub mod Version4Tables

@@ -199,9 +199,11 @@ impl LineProgram {
         requires text { HasNoZero (line_text directory) }
         requires not_empty { self.old.encoding.version ≤ 4 → IsNotEmpty (line_text directory) }
         ensures ok { OnOk result (self.new ≡ after_directory (line_text directory) self.old) }
-        ensures id { IfOk result (λ id. id ≡ place_of_directory self.old.directories (line_text directory)) }
+        ensures id { IfOk result (λ id.
+            id ≡ place_of_directory self.old.directories (line_text directory)) }
         ensures within { IfOk result (λ id. id < length self.new.directories) }
-        ensures found { IfOk result (λ id. slice_get self.new.directories id ≡ Some (line_text directory)) }
+        ensures found { IfOk result (λ id.
+            slice_get self.new.directories id ≡ Some (line_text directory)) }
         ensures keeps { OnOk result (Keeps self.old.directories self.new.directories) }
         ensures err { OnErr result (self.new ≡ self.old) }
         ensures memory { IfErr result (λ e. e ≡ Error.OutOfMemory) }
@@ -242,7 +244,8 @@ impl LineProgram {
         requires within { directory < length self.old.directories }
         ensures ok { OnOk result (self.new
             ≡ after_file (line_text file, directory) (option_map details info) self.old) }
-        ensures id { IfOk result (λ id. id ≡ place_of_file self.old.files (line_text file, directory)) }
+        ensures id { IfOk result (λ id.
+            id ≡ place_of_file self.old.files (line_text file, directory)) }
         ensures within { IfOk result (λ id. id < length self.new.files) }
         ensures found { IfOk result (λ id.
             slice_get (keys_of self.new.files) id ≡ Some (line_text file, directory)) }
@@ -285,7 +288,8 @@ impl LineProgram {
     pub fn get_file_info_mut(&mut self, id: FileId) -> &mut FileInfo
         requires { id < length self.old.files }
         ensures* lends { sem 𝓛 (lends_info self.entry id result) }
-        ensures value { option_map (λ f. f.1) (slice_get self.old.files id) ≡ Some (details result.now) }
+        ensures value { option_map (λ f. f.1) (slice_get self.old.files id)
+            ≡ Some (details result.now) }
     {
         self.tables.get_file_info_mut(id)
     }

@@ -60,11 +60,13 @@ impl LineProgram {
         ensures strings { OnOk result (strings.new ≡ strings_behind self.now strings.old) }
         ensures line_strings { OnOk result
             (line_strings.new ≡ line_strings_behind self.now line_strings.old) }
-        ensures strings_kept { (strings.new ≡ strings.old) ⊎ (strings.new ≡ strings_behind self.now strings.old) }
+        ensures strings_kept { (strings.new ≡ strings.old)
+            ⊎ (strings.new ≡ strings_behind self.now strings.old) }
         ensures line_strings_kept { (line_strings.new ≡ line_strings.old)
             ⊎ (line_strings.new ≡ line_strings_behind self.now line_strings.old) }
         ensures old_strings { self.now.encoding.version ≤ 4 → strings.new ≡ strings.old }
-        ensures old_line_strings { self.now.encoding.version ≤ 4 → line_strings.new ≡ line_strings.old }
+        ensures old_line_strings { self.now.encoding.version ≤ 4 →
+            line_strings.new ≡ line_strings.old }
     {
         if is_incompatible(encoding, self.encoding()) {
             return Err(Error::IncompatibleLineProgramEncoding);
