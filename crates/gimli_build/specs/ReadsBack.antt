@@ -104,6 +104,6 @@ pub record IsReadWell (notation : Notation) (unit_entry : UnitEntry) (sections :
       → All (λ t. IsOffsetHeld notation.limit strings line_strings t.1) (emitted_texts p strings line_strings)
 
 -- whoever reads these bytes well reads the program back
-abbrev pub IsReadAs : Bool → Built → List (List ℕ) → List (List ℕ) → List ℕ → Type 0
-IsReadAs big p strings line_strings unit = (notation : Notation) (unit_entry : UnitEntry) (sections : Sections)
+abbrev pub ReadsBackAs : Bool → Built → List (List ℕ) → List (List ℕ) → List ℕ → Type 0
+ReadsBackAs big p strings line_strings unit = (notation : Notation) (unit_entry : UnitEntry) (sections : Sections)
     → IsReadWell notation unit_entry sections big p strings line_strings unit → ReadsBack notation unit_entry sections p strings line_strings unit

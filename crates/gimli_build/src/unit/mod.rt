@@ -8,7 +8,7 @@ ghost use Rattle.gimli_build.specs.Version5Tables.{strings_behind, line_strings_
 ghost use Rattle.gimli_build.specs.EmptySource.{StandsForNone};
 ghost use Rattle.gimli_build.specs.Unit.{version_bytes, opening_bytes, inside_bytes, whole_bytes, is_incompatible, unit_bytes};
 ghost use Rattle.gimli_build.specs.Cause.{first_cause, IsWriteRefusal};
-ghost use Rattle.gimli_build.specs.ReadsBack.{IsReadAs};
+ghost use Rattle.gimli_build.specs.ReadsBack.{ReadsBackAs};
 ghost use Rattle.gimli_build.specs.Gains.{Gains, GainedIs};
 ghost use Rattle.gimli_build.specs.Writes.{Writes};
 
@@ -50,7 +50,7 @@ impl LineProgram {
         ensures unit { IsTrue W.keeps_bytes → OnOk result (Gains W.Writer w.old.0 w.new.0
             (unit_bytes (W.big w.old.0) encoding self.now strings.old line_strings.old)) }
         ensures reads_back { IsTrue W.keeps_bytes → OnOk result (GainedIs W.Writer w.old.0 w.new.0
-            (IsReadAs (W.big w.old.0) self.now strings.new line_strings.new)) }
+            (ReadsBackAs (W.big w.old.0) self.now strings.new line_strings.new)) }
         ensures no_cause { IsTrue W.keeps_bytes → OnOk result
             (first_cause (W.big w.old.0) encoding self.now strings.old line_strings.old ≡ None) }
         ensures err { IsTrue W.keeps_bytes → IsTrue W.fails_for_memory_alone → IfErr result
