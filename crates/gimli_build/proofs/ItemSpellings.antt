@@ -1,9 +1,10 @@
 -- The bytes of built items spell their instructions.
-use Rattle.std.proofs.Common.{◌≡◌, ℕ, ◌<◌, ◌^◌, List, [], ◌∷◌, ◌++◌, Ok, Err, refl, sym, ap, ◌∙◌, append_assoc, lit<}
-use Rattle.std.specs.Prelude.{Result}
+use Rattle.std.proofs.Common.{◌≡◌, ℕ, ◌<◌, ◌^◌, List, [], ◌∷◌, ◌++◌, Ok, Err, refl, sym, subst, ap, ◌∙◌, append_assoc, lit<}
+use Rattle.std.specs.Prelude.{Result, IfOk}
 use Rattle.std.proofs.lemmas.List.{append-nil}
 use Rattle.gimli_core.specs.Notation.{Notation}
 use Rattle.gimli_core.specs.Production.{Each}
+use Rattle.gimli_core.specs.declared.common.Encoding.{Encoding}
 use Rattle.gimli_core.specs.declared.common.LineEncoding.{LineEncoding}
 use Rattle.gimli_bytes.specs.declared.address.Address.TheVariants.{Constant, Symbol}
 use Rattle.gimli_bytes.specs.declared.error.Error.{Error}
@@ -65,3 +66,16 @@ module _ (notation : Notation) (h : Header) (base : h.parameters.opcode_base ≡
       let own = each-spelled notation h base wide (end_instructions e previous o i) (all_end e previous o i built.0) in
       each_joined p.0 p.1 bytes (end_instructions e previous o i) (items_instructions version e next items) p.4
       (rw (same_bytes (instructions_bytes (end_instructions e previous o i)) p.0 p.2) own) (items-spelled next items p.1 (lit< tt) built.1 fit.1 p.3)
+
+-- the same where the header has this encoding
+pub items-spelled-under : (notation : Notation) (h : Header) (encoding : Encoding) (e : LineEncoding) (previous : LineRow) (items : List BuiltItem) (bytes : List ℕ)
+    → h.parameters.encoding ≡ encoding → h.parameters.opcode_base ≡ 13 → 11 < notation.limit → CanEncode e → previous.line < 2 ^ 63 → AreBuilt e (previous.address_offset, previous.op_index) items
+    → AreFit encoding.version items → items_bytes notation.big encoding e previous items ≡ Ok bytes → Each (SpellsInstruction notation h) bytes (items_instructions encoding.version e previous items)
+items-spelled-under notation h encoding e previous items bytes same base wide can line built fit written =
+    subst (λ (x : Encoding). AreFit x.version items → items_bytes notation.big x e previous items ≡ Ok bytes → Each (SpellsInstruction notation h) bytes (items_instructions x.version e previous items))
+    same (items-spelled notation h base wide e can previous items bytes line built) fit written
+
+-- what is true of bytes wherever they are written
+pub if_written : (written : Result (List ℕ) Error) (Is : List ℕ → Type 0) → ((bytes : List ℕ) → written ≡ Ok bytes → Is bytes) → IfOk written Is
+if_written (Ok bytes) Is given = given bytes refl
+if_written (Err e) Is given = tt

@@ -1,5 +1,5 @@
 -- Why a unit can't be written: the first cause, in the order of what is written.
-use Rattle.std.specs.Prelude.{ℕ, ◌+◌, ◌^◌, List, [], ◌∷◌, ◌++◌, length, map, flat_map, drop, sum_by, unwrap_or, Bool, not, ◌&&◌, nat_eq, nat_le, nat_lt, if◌then◌else◌, Option, Some, None, Result, Ok, Err}
+use Rattle.std.specs.Prelude.{◌≡◌, ◌⊎◌, ℕ, ◌+◌, ◌^◌, List, [], ◌∷◌, ◌++◌, length, map, flat_map, drop, sum_by, unwrap_or, Bool, not, ◌&&◌, nat_eq, nat_le, nat_lt, if◌then◌else◌, Option, Some, None, Result, Ok, Err}
 use Rattle.gimli_core.specs.Numbers.{word_size}
 use Rattle.gimli_core.specs.declared.common.Encoding.{Encoding}
 use Rattle.gimli_core.specs.declared.common.Format.{Format}
@@ -7,7 +7,7 @@ use Rattle.gimli_core.specs.declared.common.Format.TheVariants.{Dwarf32, Dwarf64
 use Rattle.gimli_bytes.specs.Number.{uleb}
 use Rattle.gimli_bytes.specs.declared.address.Address.TheVariants.{Constant, Symbol}
 use Rattle.gimli_bytes.specs.declared.error.Error.{Error}
-use Rattle.gimli_bytes.specs.declared.error.Error.TheVariants.{IncompatibleLineProgramEncoding, UnsupportedVersion, NeedVersion, LineStringFormMismatch, ValueTooLarge, InvalidAddress, InitialLengthOverflow}
+use Rattle.gimli_bytes.specs.declared.error.Error.TheVariants.{OutOfMemory, IncompatibleLineProgramEncoding, UnsupportedVersion, NeedVersion, LineStringFormMismatch, ValueTooLarge, InvalidAddress, InitialLengthOverflow}
 use Rattle.gimli_bytes.specs.Texts.{offset_of}
 use Rattle.gimli_build.specs.LineText.{LineText, Inline, InStrings, InLineStrings}
 use Rattle.gimli_build.specs.Tables.{File}
@@ -126,3 +126,7 @@ first_cause big unit p handed_strings handed_line_strings =
     ∷ first_of (map (item_cause p.encoding.address_size) p.items)
     ∷ unit_length_cause p.encoding.format (unit_length big p strings line_strings)
     ∷ [])
+
+-- such a write is refused by this error: memory is missing, or it is the first cause
+abbrev pub IsWriteRefusal : Bool → Encoding → Built → List (List ℕ) → List (List ℕ) → Error → Type 0
+IsWriteRefusal big unit p strings line_strings e = (e ≡ OutOfMemory) ⊎ (first_cause big unit p strings line_strings ≡ Some e)

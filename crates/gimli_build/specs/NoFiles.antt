@@ -1,11 +1,18 @@
 -- A run that defines no file.
-use Rattle.std.specs.Prelude.{◌≡◌, false, List, None, All}
+use Rattle.std.specs.Prelude.{◌≡◌, ℕ, Bool, false, List, None, All}
+use Rattle.gimli_core.specs.Notation.{Notation}
+use Rattle.gimli_line.specs.header.Header.{Header}
 use Rattle.gimli_line.specs.run.Instruction.{Ins, defines_file}
 use Rattle.gimli_line.specs.run.InstructionGrammar.{Decodes}
 use Rattle.gimli_line.specs.run.RunState.{RunState}
+use Rattle.gimli_line.specs.run.Rows.{started}
 
 -- what is left of the program is whole instructions, and none of them defines a file
 pub record DefinesNoFile (a : RunState) : Type 0 where
   pub list : List Ins
   pub decoding : Decodes a.unread.notation a.fixed a.unread.bytes list None
   pub none : All (λ i. defines_file i ≡ false) list
+
+-- rows at the start of the program of a header
+abbrev pub program_started : Bool → Header → Notation → ℕ → RunState
+program_started appends h notation offset = started appends h notation offset (record { bytes = h.program; notation = notation })

@@ -18,8 +18,8 @@ use Rattle.gimli_build.specs.LineText.{LineText, Inline, InStrings, InLineString
 use Rattle.gimli_build.specs.Tables.{File}
 use Rattle.gimli_build.specs.Texts.{Sections, IsText, IsOptionalText, OneByOne}
 use Rattle.gimli_build.specs.Stored.{stored}
-use Rattle.gimli_build.specs.Rows.{initial_row}
-use Rattle.gimli_build.specs.Items.{items_instructions, AddressesFit}
+use Rattle.gimli_build.specs.Items.{AddressesFit}
+use Rattle.gimli_build.specs.Runs.{program_instructions}
 use Rattle.gimli_build.specs.SameRow.{built_rules, RowsMatch}
 use Rattle.gimli_build.specs.Built.{Built}
 use Rattle.gimli_build.specs.Unit.{operand_counts}
@@ -62,6 +62,10 @@ pub record IsFile (sections : Sections) (p : Built) (strings line_strings : List
   pub md5 : read.md5 ≡ (stored p strings line_strings built.1).md5
   pub source : IsOptionalText sections read.source (stored p strings line_strings built.1).source
 
+-- the program of a header is the instructions of a built program, and nothing else
+abbrev pub DecodesAs : Notation → Header → Built → Type 0
+DecodesAs notation h p = Decodes notation h h.program (program_instructions p) None
+
 -- the bytes are a unit, and what is read of it is what was built: the encodings, the directories and the files with
 -- these tables and these sections, and the instructions of each item, up to the end of the program. Where addresses hold
 -- the items, and none hides, its events are the built rows and ends
@@ -73,8 +77,7 @@ pub record ReadsBack (notation : Notation) (unit_entry : UnitEntry) (sections : 
   pub formats : nat_le p.encoding.version 4 ≡ false → AreFormats p header
   pub directories : OneByOne (IsDirectory sections strings line_strings) (directories_from_zero header) p.directories
   pub files : OneByOne (IsFile sections p strings line_strings) header.files p.files
-  pub decoding : Decodes notation header header.program
-      (items_instructions p.encoding.version p.line_encoding (initial_row p.encoding.version p.line_encoding.default_is_stmt) p.items) None
+  pub decoding : DecodesAs notation header p
   pub rows : AddressesFit p.encoding.address_size 0 (0, 0) p.items
       → (rows : List ReadRow) × Events notation header header.program (map row rows) × RowsMatch p.encoding.version [] p.items rows
 
@@ -99,3 +102,8 @@ pub record IsReadWell (notation : Notation) (unit_entry : UnitEntry) (sections :
   -- and from version 5 on, a text may be an offset
   pub texts_held : 5 ≤ p.encoding.version → p.encoding.format ≡ Dwarf64
       → All (λ t. IsOffsetHeld notation.limit strings line_strings t.1) (emitted_texts p strings line_strings)
+
+-- whoever reads these bytes well reads the program back
+abbrev pub ReadsBackAs : Bool → Built → List (List ℕ) → List (List ℕ) → List ℕ → Type 0
+ReadsBackAs big p strings line_strings unit = (notation : Notation) (unit_entry : UnitEntry) (sections : Sections)
+    → IsReadWell notation unit_entry sections big p strings line_strings unit → ReadsBack notation unit_entry sections p strings line_strings unit

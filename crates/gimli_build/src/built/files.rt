@@ -149,7 +149,7 @@ impl FileTable {
     ghost use Rattle.gimli_build.specs.LineText.{line_text, HasNoZero};
     ghost use Rattle.gimli_build.specs.Tables.{AreTables, with_directory, place_of_directory, with_file, place_of_file, numbered, keys_of};
     ghost use Rattle.gimli_build.specs.TablesInside.{details};
-    ghost use Rattle.gimli_build.specs.FirstTables.{first_directories, first_files};
+    ghost use Rattle.gimli_build.specs.FirstTables.{first_tables};
     ghost use Rattle.gimli_build.specs.LentDetails.{lends_details};
 
     /// No directory and no file.
@@ -174,11 +174,8 @@ impl FileTable {
         requires working_dir_ends { HasNoZero (line_text working_dir) }
         requires source_dir_ends { IfSome source_dir (λ dir. HasNoZero (line_text dir)) }
         requires source_file_ends { HasNoZero (line_text source_file) }
-        ensures directories { IfOk result (λ tables. tables.directories
-            ≡ first_directories version (line_text working_dir) (option_map line_text source_dir)) }
-        ensures files { IfOk result (λ tables. tables.files
-            ≡ first_files version (line_text working_dir) (option_map line_text source_dir)
-            (line_text source_file) (option_map details source_file_info)) }
+        ensures ok { IfOk result (λ tables.
+            tables ≡ first_tables version working_dir source_dir source_file source_file_info) }
         ensures memory { IfErr result (λ e. e ≡ Error.OutOfMemory) }
     {
         let mut tables = FileTable::new(alloc);

@@ -1,5 +1,4 @@
 ghost use Rattle.std.specs.Prelude.{◌≡◌, ◌≢◌, ℕ, ◌+◌, ◌/◌, ◌%◌, ◌<◌, ◌≤◌, ◌^◌, Bool, true, false, nat_eq, List, [], ◌∷◌, ◌++◌, length, option_map, slice_get, IfOk, IfErr, OnOk, OnErr, IfSome, Some, None, IsTrue, ◌↔◌};
-ghost use Rattle.std.specs.Option.{option_to_list};
 ghost use Rattle.gimli_core.specs.Numbers.{is_address_size};
 ghost use Rattle.gimli_build.specs.Advance.{CanEncode, CanFollow};
 
@@ -48,11 +47,10 @@ impl Model for LineProgram {
 }
 
 impl LineProgram {
-    ghost use Rattle.gimli_build.specs.Rows.{initial_row};
-    ghost use Rattle.gimli_build.specs.LineText.{line_text, HasNoZero, IsNotEmpty};
-    ghost use Rattle.gimli_build.specs.TablesInside.{details};
-    ghost use Rattle.gimli_build.specs.Built.{started, no_program};
-    ghost use Rattle.gimli_build.specs.FirstTables.{first_directories, first_files};
+    ghost use Rattle.gimli_build.specs.LineText.{line_text, HasNoZero};
+    ghost use Rattle.gimli_build.specs.Built.{no_program};
+    ghost use Rattle.gimli_build.specs.Calls.{new_program};
+    ghost use Rattle.gimli_build.specs.FirstTables.{first_tables};
     ghost use Rattle.gimli_build.specs.Conditions.{Accepts};
 
     /// Whether a program may have these encodings: addresses of 1, 2, 4 or 8 bytes, and numbers by which
@@ -79,10 +77,8 @@ impl LineProgram {
         requires working_dir_ends { HasNoZero (line_text working_dir) }
         requires source_dir_ends { IfSome source_dir (λ dir. HasNoZero (line_text dir)) }
         requires source_file_ends { HasNoZero (line_text source_file) }
-        ensures ok { IfOk result (λ program. program ≡ started false encoding line_encoding
-            (first_directories encoding.version (line_text working_dir) (option_map line_text source_dir))
-            (first_files encoding.version (line_text working_dir) (option_map line_text source_dir)
-            (line_text source_file) (option_map details source_file_info))) }
+        ensures ok { IfOk result (λ program. program ≡ new_program encoding line_encoding
+            (first_tables encoding.version working_dir source_dir source_file source_file_info)) }
         ensures memory { IfErr result (λ e. e ≡ Error.OutOfMemory) }
     {
         let version = encoding.version;
@@ -181,8 +177,9 @@ impl LineProgram {
 impl LineProgram {
     ghost use Rattle.std.specs.Borrow.{sem};
     ghost use Rattle.gimli_build.specs.LineText.{line_text, HasNoZero, IsNotEmpty};
-    ghost use Rattle.gimli_build.specs.Tables.{with_directory, place_of_directory, with_file, place_of_file, numbered, keys_of, Keeps, AreTables};
+    ghost use Rattle.gimli_build.specs.Tables.{place_of_directory, place_of_file, numbered, keys_of, Keeps, AreTables};
     ghost use Rattle.gimli_build.specs.TablesInside.{details};
+    ghost use Rattle.gimli_build.specs.Calls.{after_directory, after_file};
     ghost use Rattle.gimli_build.specs.LentRow.{lends_info};
 
     /// The id of the working directory, 0.
@@ -201,12 +198,12 @@ impl LineProgram {
         requires program { self.old.is_none ≡ false }
         requires text { HasNoZero (line_text directory) }
         requires not_empty { self.old.encoding.version ≤ 4 → IsNotEmpty (line_text directory) }
-        ensures ok { OnOk result (self.new ≡ record self.old {
-          directories = with_directory self.old.directories (line_text directory);
-        }) }
-        ensures id { IfOk result (λ id. id ≡ place_of_directory self.old.directories (line_text directory)) }
+        ensures ok { OnOk result (self.new ≡ after_directory (line_text directory) self.old) }
+        ensures id { IfOk result (λ id.
+            id ≡ place_of_directory self.old.directories (line_text directory)) }
         ensures within { IfOk result (λ id. id < length self.new.directories) }
-        ensures found { IfOk result (λ id. slice_get self.new.directories id ≡ Some (line_text directory)) }
+        ensures found { IfOk result (λ id.
+            slice_get self.new.directories id ≡ Some (line_text directory)) }
         ensures keeps { OnOk result (Keeps self.old.directories self.new.directories) }
         ensures err { OnErr result (self.new ≡ self.old) }
         ensures memory { IfErr result (λ e. e ≡ Error.OutOfMemory) }
@@ -245,10 +242,10 @@ impl LineProgram {
         requires text { HasNoZero (line_text file) }
         requires not_empty { self.old.encoding.version ≤ 4 → IsNotEmpty (line_text file) }
         requires within { directory < length self.old.directories }
-        ensures ok { OnOk result (self.new ≡ record self.old {
-          files = with_file self.old.files (line_text file, directory) (option_map details info);
-        }) }
-        ensures id { IfOk result (λ id. id ≡ place_of_file self.old.files (line_text file, directory)) }
+        ensures ok { OnOk result (self.new
+            ≡ after_file (line_text file, directory) (option_map details info) self.old) }
+        ensures id { IfOk result (λ id.
+            id ≡ place_of_file self.old.files (line_text file, directory)) }
         ensures within { IfOk result (λ id. id < length self.new.files) }
         ensures found { IfOk result (λ id.
             slice_get (keys_of self.new.files) id ≡ Some (line_text file, directory)) }
@@ -291,7 +288,8 @@ impl LineProgram {
     pub fn get_file_info_mut(&mut self, id: FileId) -> &mut FileInfo
         requires { id < length self.old.files }
         ensures* lends { sem 𝓛 (lends_info self.entry id result) }
-        ensures value { option_map (λ f. f.1) (slice_get self.old.files id) ≡ Some (details result.now) }
+        ensures value { option_map (λ f. f.1) (slice_get self.old.files id)
+            ≡ Some (details result.now) }
     {
         self.tables.get_file_info_mut(id)
     }
@@ -299,10 +297,8 @@ impl LineProgram {
 
 impl LineProgram {
     ghost use Rattle.std.specs.Borrow.{sem};
-    ghost use Rattle.gimli_build.specs.declared.built.items.BuiltItem.{BuiltItem};
-    ghost use Rattle.gimli_build.specs.Rows.{initial_row};
-    ghost use Rattle.gimli_build.specs.Rows.{cleared, restarted};
     ghost use Rattle.gimli_build.specs.Built.{previous_place};
+    ghost use Rattle.gimli_build.specs.Calls.{after_begin, after_address, after_row, after_end};
     ghost use Rattle.gimli_build.specs.Conditions.{CanGenerateRow, CanEndSequence, AreBuilt, IsProgram};
     ghost use Rattle.gimli_build.specs.Tables.{keys_of, AreTables};
     ghost use Rattle.gimli_build.specs.LentRow.{lends_row};
@@ -312,10 +308,7 @@ impl LineProgram {
     pub fn begin_sequence(&mut self, address: Option<Address>) -> Result<()>
         requires program { self.old.is_none ≡ false }
         requires outside { self.old.in_sequence ≡ false }
-        ensures ok { OnOk result (self.new ≡ record self.old {
-          items = self.old.items ++ option_to_list (option_map BuiltItem.SetAddress address);
-          in_sequence = true;
-        }) }
+        ensures ok { OnOk result (self.new ≡ after_begin address self.old) }
         ensures err { OnErr result (self.new ≡ self.old) }
         ensures memory { IfErr result (λ e. e ≡ Error.OutOfMemory) }
     {
@@ -334,11 +327,7 @@ impl LineProgram {
     /// changes.
     pub fn set_address(&mut self, address: Address) -> Result<()>
         requires { self.old.is_none ≡ false }
-        ensures ok { OnOk result (self.new ≡ record self.old {
-          items = self.old.items ++ BuiltItem.SetAddress address ∷ [];
-          row = restarted self.old.in_sequence self.old.row;
-          in_sequence = true;
-        }) }
+        ensures ok { OnOk result (self.new ≡ after_address address self.old) }
         ensures err { OnErr result (self.new ≡ self.old) }
         ensures memory { IfErr result (λ e. e ≡ Error.OutOfMemory) }
     {
@@ -389,11 +378,7 @@ impl LineProgram {
     pub fn generate_row(&mut self) -> Result<()>
         requires program { self.old.is_none ≡ false }
         requires can { CanGenerateRow self.old }
-        ensures ok { OnOk result (self.new ≡ record self.old {
-          items = self.old.items ++ BuiltItem.Row self.old.row ∷ [];
-          row = cleared self.old.row;
-          in_sequence = true;
-        }) }
+        ensures ok { OnOk result (self.new ≡ after_row self.old.row self.old) }
         ensures err { OnErr result (self.new ≡ self.old) }
         ensures memory { IfErr result (λ e. e ≡ Error.OutOfMemory) }
     {
@@ -425,11 +410,7 @@ impl LineProgram {
     pub fn end_sequence(&mut self, address_offset: u64) -> Result<()>
         requires program { self.old.is_none ≡ false }
         requires can { CanEndSequence self.old address_offset }
-        ensures ok { OnOk result (self.new ≡ record self.old {
-          items = self.old.items ++ BuiltItem.End address_offset self.old.row.op_index ∷ [];
-          row = initial_row self.old.encoding.version self.old.line_encoding.default_is_stmt;
-          in_sequence = false;
-        }) }
+        ensures ok { OnOk result (self.new ≡ after_end address_offset self.old) }
         ensures err { OnErr result (self.new ≡ self.old) }
         ensures memory { IfErr result (λ e. e ≡ Error.OutOfMemory) }
     {

@@ -1,5 +1,8 @@
-use Rattle.gimli_build.proofs.ItemSpellings.{items-spelled}
+use Rattle.gimli_build.specs.UnitReader.{bytes_of_items}
+use Rattle.gimli_build.proofs.ItemSpellings.{if_written, items-spelled-under}
 use Rattle.gimli_build.proofs.laws.items_are_spelled.Goals as goal
 
 pub returns : goal.returns
-returns c = λ notation h e previous items bytes base wide can line built fit is. items-spelled notation h base wide e can previous items bytes line built fit is
+returns c = λ u here items can.
+    if_written (bytes_of_items u here items) _ (λ bytes written.
+    items-spelled-under u.notation u.header here.encoding here.line_encoding here.previous items bytes can.encoding u.opcode_base u.longest can.encode can.line_before can.built can.fit written)

@@ -2,4 +2,4 @@ use Rattle.gimli_build.proofs.NoFiles.{items-none}
 use Rattle.gimli_build.proofs.laws.items_define_no_file.Goals as goal
 
 pub returns : goal.returns
-returns c = items-none
+returns c = λ here items. items-none here.encoding.version here.line_encoding here.previous items

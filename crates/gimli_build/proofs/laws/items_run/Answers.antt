@@ -2,4 +2,5 @@ use Rattle.gimli_build.proofs.ItemRuns.{items-run}
 use Rattle.gimli_build.proofs.laws.items_run.Goals as goal
 
 pub returns : goal.returns
-returns c = λ encoding e base previous items known can version place line built held. items-run encoding e known can version base previous items place line built held
+returns c = λ here items way next.
+    items-run here.encoding here.line_encoding way.accepts.address_size way.accepts.lines next.version here.base here.previous items way.place next.line_before next.built next.addresses

@@ -3,6 +3,6 @@ use Rattle.gimli_build.proofs.laws.moving_rows_are_short.Goals as goal
 
 pub returns : goal.returns
 returns c = record {
-  one = λ encoding e previous built can only has. one_byte encoding e previous built can only has;
-  two = λ encoding e previous built constant can only is has. two_bytes encoding e previous built can only constant is has;
+  one = λ here r move has. one_byte here.encoding here.line_encoding here.previous r move.encode move.only has;
+  two = λ here r move has. two_bytes here.encoding here.line_encoding here.previous r move.encode move.only has.constant has.is has.special;
 }

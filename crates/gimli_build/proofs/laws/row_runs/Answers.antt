@@ -2,4 +2,5 @@ use Rattle.gimli_build.proofs.RowRuns.{row-runs}
 use Rattle.gimli_build.proofs.laws.row_runs.Goals as goal
 
 pub returns : goal.returns
-returns c = λ encoding e base previous built list known can place follows from to held. row-runs encoding e base previous built known can place follows from to held list
+returns c = λ here r way next.
+    row-runs here.encoding here.line_encoding here.base here.previous r way.accepts.address_size way.accepts.lines way.place next.follows next.line_before next.line next.address

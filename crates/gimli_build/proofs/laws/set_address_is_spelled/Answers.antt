@@ -1,5 +1,8 @@
+use Rattle.gimli_build.specs.UnitReader.{bytes_of_address}
+use Rattle.gimli_build.proofs.ItemSpellings.{if_written}
 use Rattle.gimli_build.proofs.Spellings.{address-spelled}
 use Rattle.gimli_build.proofs.laws.set_address_is_spelled.Goals as goal
 
 pub returns : goal.returns
-returns c = λ notation h address bytes base wide written. address-spelled notation h base wide address bytes written
+returns c = λ u address.
+    if_written (bytes_of_address u address) _ (λ bytes written. address-spelled u.notation u.header u.opcode_base u.longest address bytes written)

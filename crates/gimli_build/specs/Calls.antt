@@ -1,0 +1,48 @@
+-- A program after a call of the builder that is answered by Ok.
+use Rattle.std.specs.Prelude.{ℕ, true, false, [], ◌∷◌, ◌++◌, Option, option_map}
+use Rattle.std.specs.Option.{option_to_list}
+use Rattle.gimli_core.specs.declared.common.Encoding.{Encoding}
+use Rattle.gimli_core.specs.declared.common.LineEncoding.{LineEncoding}
+use Rattle.gimli_bytes.specs.declared.address.Address.{Address}
+use Rattle.gimli_build.specs.LineText.{LineText}
+use Rattle.gimli_build.specs.Tables.{FileKey, Details, Tables, with_directory, with_file}
+use Rattle.gimli_build.specs.Rows.{initial_row, cleared, restarted}
+use Rattle.gimli_build.specs.Built.{Built, started}
+use Rattle.gimli_build.specs.declared.built.row.LineRow.{LineRow}
+use Rattle.gimli_build.specs.declared.built.items.BuiltItem.TheVariants.{SetAddress, Row, End}
+
+-- after `new`: these tables, and nothing else is built yet
+abbrev pub new_program : Encoding → LineEncoding → Tables → Built
+new_program encoding line_encoding tables = started false encoding line_encoding tables.directories tables.files
+
+-- ---- tables
+
+-- after `add_directory`
+abbrev pub after_directory : LineText → Built → Built
+after_directory t p = record p { directories = with_directory p.directories t }
+
+-- after `add_file`, with details or without
+abbrev pub after_file : FileKey → Option Details → Built → Built
+after_file key given p = record p { files = with_file p.files key given }
+
+-- ---- items
+
+-- after `begin_sequence`, with an address or without
+abbrev pub after_begin : Option Address → Built → Built
+after_begin address p = record p { items = p.items ++ option_to_list (option_map SetAddress address); in_sequence = true }
+
+-- after `set_address`
+abbrev pub after_address : Address → Built → Built
+after_address address p = record p { items = p.items ++ SetAddress address ∷ []; row = restarted p.in_sequence p.row; in_sequence = true }
+
+-- after `generate_row`, where this was the current row
+abbrev pub after_row : LineRow → Built → Built
+after_row row p = record p { items = p.items ++ Row row ∷ []; row = cleared row; in_sequence = true }
+
+-- after `end_sequence` at this offset
+abbrev pub after_end : ℕ → Built → Built
+after_end offset p = record p {
+  items = p.items ++ End offset p.row.op_index ∷ [];
+  row = initial_row p.encoding.version p.line_encoding.default_is_stmt;
+  in_sequence = false;
+}

@@ -1,0 +1,59 @@
+-- How the instructions of a built program are spelled in a unit.
+use Rattle.std.specs.Prelude.{◌≡◌, ℕ, ◌<◌, ◌^◌, List, Result}
+use Rattle.gimli_core.specs.Notation.{Notation}
+use Rattle.gimli_core.specs.Production.{Each}
+use Rattle.gimli_bytes.specs.declared.address.Address.TheVariants.{Constant}
+use Rattle.gimli_bytes.specs.declared.error.Error.{Error}
+use Rattle.gimli_line.specs.header.Header.{Header}
+use Rattle.gimli_line.specs.run.Instruction.{Ins}
+use Rattle.gimli_line.specs.run.InstructionGrammar.{SpellsInstruction}
+use Rattle.gimli_build.specs.declared.built.row.LineRow.{LineRow}
+use Rattle.gimli_build.specs.declared.built.items.BuiltItem.{BuiltItem}
+use Rattle.gimli_build.specs.Advance.{CanEncode}
+use Rattle.gimli_build.specs.Conditions.{AreBuilt}
+use Rattle.gimli_build.specs.InstructionBytes.{set_address_bytes, FitsInstructions}
+use Rattle.gimli_build.specs.Items.{items_bytes, AreFit}
+use Rattle.gimli_build.specs.Runs.{Run, Follows, place_of}
+
+-- a reader at a unit: the header has the opcode base 13, and the reader's offsets hold the length of the longest instruction
+pub record UnitReader : Type 0 where
+  pub notation : Notation
+  pub header : Header
+  pub opcode_base : header.parameters.opcode_base ≡ 13
+  pub longest : 11 < notation.limit
+
+-- the bytes are a spelling of the instruction there
+abbrev pub Spells : UnitReader → List ℕ → Ins → Type 0
+Spells u bytes i = SpellsInstruction u.notation u.header bytes i
+
+-- the bytes are the spellings of these instructions there, one after the other
+abbrev pub AreSpelled : UnitReader → List Ins → List ℕ → Type 0
+AreSpelled u instructions bytes = Each (Spells u) bytes instructions
+
+-- ---- what is written there
+
+-- the bytes of a set address, or their refusal
+abbrev pub bytes_of_address : UnitReader → ℕ → Result (List ℕ) Error
+bytes_of_address u address = set_address_bytes u.notation.big (Constant address) u.header.parameters.encoding.address_size
+
+-- the bytes of items, or the first refusal
+abbrev pub bytes_of_items : UnitReader → Run → List BuiltItem → Result (List ℕ) Error
+bytes_of_items u here items = items_bytes u.notation.big here.encoding here.line_encoding here.previous items
+
+-- ---- what can be written
+
+-- a row can be written next: rows can be encoded, it can follow, and 64 bits hold its numbers and the line before
+pub record IsWritableRow (here : Run) (r : LineRow) : Type 0 where
+  pub encode : CanEncode here.line_encoding
+  pub follows : Follows here r.address_offset r.op_index
+  pub line_before : here.previous.line < 2 ^ 63
+  pub fits : FitsInstructions here.encoding.version r
+
+-- items can be written next, in a unit of the run's encoding: rows can be encoded, each item can be built after the one
+-- before it, and 64 bits hold their numbers and the line before
+pub record AreWritable (u : UnitReader) (here : Run) (items : List BuiltItem) : Type 0 where
+  pub encoding : u.header.parameters.encoding ≡ here.encoding
+  pub encode : CanEncode here.line_encoding
+  pub built : AreBuilt here.line_encoding (place_of here) items
+  pub line_before : here.previous.line < 2 ^ 63
+  pub fit : AreFit here.encoding.version items
