@@ -9,7 +9,7 @@ mod numbers;
 mod reading;
 
 pub use building::{BuiltPlace, add_sequence, one_file, written};
-pub use converting::convert_and_read_back;
+pub use converting::{convert_and_read_back, first_of_conversion};
 pub use lookup::{Place, line_at, place_of};
 pub use numbers::first_number;
 pub use reading::{

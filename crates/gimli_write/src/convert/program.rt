@@ -28,7 +28,7 @@ use gimli_build::{BuiltItem, FileId, LineProgram, LineRow};
 use gimli_bytes::{Address, LineStringTable, StringTable};
 use gimli_core::{Encoding, LineEncoding, Reader};
 use gimli_line::IncompleteLineProgram;
-use std::marker::PhantomData;
+use std::marker::{Model, PhantomData};
 
 /// A line program that is read and built again.
 ///
@@ -42,44 +42,96 @@ pub struct ConvertLineProgram<'a, 'b, R: Reader, P = Conversion<R>> {
     reader: PhantomData<R>,
 }
 
-/// What is made of the header of a source, in the tables that are handed.
-fn started<R: Reader>(
-    debug_str: R,
-    debug_line_str: R,
-    from_program: IncompleteLineProgram<R>,
-    from_comp_name: Option<R>,
-    encoding: Option<Encoding>,
-    line_encoding: Option<LineEncoding>,
-    line_strings: &mut LineStringTable,
-) -> ConvertResult<Conversion<R>>
-    requires address_size { IfSome encoding (λ e. IsTrue (is_address_size e.address_size)) }
-    requires lines { IfSome line_encoding CanEncode }
-    ensures ok { IfOk result (λ conversion. prepared
-        (record { strings = R.bytes debug_str; line_strings = R.bytes debug_line_str }) from_program.meaning
-        (handed encoding line_encoding (option_map R.bytes from_comp_name)) line_strings.old
-        ≡ Ok (lists_with line_strings.new conversion.lists)) }
-    ensures err { IfErr result (IsRefusedBy (prepared
-        (record { strings = R.bytes debug_str; line_strings = R.bytes debug_line_str }) from_program.meaning
-        (handed encoding line_encoding (option_map R.bytes from_comp_name)) line_strings.old)) }
-    ensures reads { IfOk result (λ conversion. Reads from_program.notation
-        (record { strings = R.bytes debug_str; line_strings = R.bytes debug_line_str }) from_program.meaning
-        (lists_with line_strings.new conversion.lists) from_program.meaning.program
-        (still_to_read conversion line_strings.new)) }
-    ensures stays { KeepsTexts line_strings.old line_strings.new }
-{
-    let sections = TextSections {
-        strings: debug_str,
-        line_strings: debug_line_str,
-    };
-    let lists = prepare(
-        &sections,
-        from_program.header(),
-        from_comp_name,
-        encoding,
-        line_encoding,
-        line_strings,
-    )?;
-    Ok(Conversion::start(sections, from_program, lists))
+/// The header of a source, made into the directories and files of a program that is to be built. It borrows no table.
+#[derive(Drop)]
+#[derive_where(Debug; R, R::Offset)]
+pub struct ConvertLineHeader<R: Reader> {
+    conversion: Conversion<R>,
+}
+
+impl<R: Reader> Model for ConvertLineHeader<R> {
+    ghost use Rattle.gimli_write.specs.convert.ConversionState.{ConversionState};
+
+    ghost Value = { ConversionState };
+
+    ghost view = { λ a. a.conversion };
+}
+
+impl<R: Reader> ConvertLineHeader<R> {
+    /// The first half of `ConvertLineProgram::new`: all of it that can be refused. The directories and files of the source
+    /// are added to the program that is built, by the encodings that are handed, else by the source's own. Requires
+    /// encodings that a program may have, where they are handed. Refused, in this order: for the working directory, the
+    /// source file, the encoding of lines, the directories and the files; or by `OutOfMemory`. The table keeps its texts,
+    /// also then.
+    pub fn new(
+        debug_str: R,
+        debug_line_str: R,
+        from_program: IncompleteLineProgram<R>,
+        from_comp_name: Option<R>,
+        encoding: Option<Encoding>,
+        line_encoding: Option<LineEncoding>,
+        line_strings: &mut LineStringTable,
+    ) -> ConvertResult<Self>
+        requires address_size { IfSome encoding (λ e. IsTrue (is_address_size e.address_size)) }
+        requires lines { IfSome line_encoding CanEncode }
+        ensures ok { IfOk result (λ header. prepared
+            (record { strings = R.bytes debug_str; line_strings = R.bytes debug_line_str }) from_program.meaning
+            (handed encoding line_encoding (option_map R.bytes from_comp_name)) line_strings.old
+            ≡ Ok (lists_with line_strings.new header.lists)) }
+        ensures err { IfErr result (IsRefusedBy (prepared
+            (record { strings = R.bytes debug_str; line_strings = R.bytes debug_line_str }) from_program.meaning
+            (handed encoding line_encoding (option_map R.bytes from_comp_name)) line_strings.old)) }
+        ensures reads { IfOk result (λ header. Reads from_program.notation
+            (record { strings = R.bytes debug_str; line_strings = R.bytes debug_line_str }) from_program.meaning
+            (lists_with line_strings.new header.lists) from_program.meaning.program
+            (still_to_read header line_strings.new)) }
+        ensures stays { KeepsTexts line_strings.old line_strings.new }
+    {
+        let sections = TextSections {
+            strings: debug_str,
+            line_strings: debug_line_str,
+        };
+        let lists = prepare(
+            &sections,
+            from_program.header(),
+            from_comp_name,
+            encoding,
+            line_encoding,
+            line_strings,
+        )?;
+        let conversion = Conversion::start(sections, from_program, lists);
+        Ok(ConvertLineHeader { conversion })
+    }
+
+    /// The second half of `ConvertLineProgram::new`, which is never refused: the conversion of the program behind the
+    /// header. It holds both tables until it is dropped, and so far they are as they were. The line strings have to be the
+    /// table that `new` was handed, since directories and files name texts by their place there: with another table the
+    /// program that is built has other names.
+    pub fn converter<'a, 'b>(
+        self,
+        line_strings: &'a mut LineStringTable,
+        strings: &'b mut StringTable,
+    ) -> ConvertLineProgram<'a, 'b, R>
+        ensures header { result.conversion ≡ self }
+        ensures line_strings { result.line_strings.now ≡ line_strings.old }
+        ensures strings { result.strings.now ≡ strings.old }
+        ensures same_line_strings { result.line_strings.ghost_name ≡ line_strings.entry.ghost_name }
+        ensures same_strings { result.strings.ghost_name ≡ strings.entry.ghost_name }
+    {
+        ConvertLineProgram {
+            line_strings,
+            strings,
+            conversion: self.conversion,
+            reader: PhantomData,
+        }
+    }
+
+    /// The conversion of the program behind the header.
+    fn into_conversion(self) -> Conversion<R>
+        ensures { result ≡ self }
+    {
+        self.conversion
+    }
 }
 
 impl<'a, 'b, R: Reader> ConvertLineProgram<'a, 'b, R, Conversion<R>> {
@@ -117,7 +169,7 @@ impl<'a, 'b, R: Reader> ConvertLineProgram<'a, 'b, R, Conversion<R>> {
             ≡ line_strings.entry.ghost_name) }
         ensures same_strings { IfOk result (λ convert. convert.strings.ghost_name ≡ strings.entry.ghost_name) }
     {
-        let conversion = started(
+        let header = ConvertLineHeader::new(
             debug_str,
             debug_line_str,
             from_program,
@@ -126,12 +178,7 @@ impl<'a, 'b, R: Reader> ConvertLineProgram<'a, 'b, R, Conversion<R>> {
             line_encoding,
             line_strings,
         )?;
-        Ok(ConvertLineProgram {
-            line_strings,
-            strings,
-            conversion,
-            reader: PhantomData,
-        })
+        Ok(header.converter(line_strings, strings))
     }
 
     /// Begins a sequence in the program that is built. Refused as `UnsupportedLineInstruction` where one has begun, or
@@ -333,7 +380,7 @@ pub fn convert_program<R: Reader, F: Fn(u64) -> Option<Address>>(
 {
     // The program names no text of this table.
     let _strings = strings;
-    let conversion = started(
+    let header = ConvertLineHeader::new(
         debug_str,
         debug_line_str,
         from_program,
@@ -342,5 +389,5 @@ pub fn convert_program<R: Reader, F: Fn(u64) -> Option<Address>>(
         line_encoding,
         line_strings,
     )?;
-    convert_all(conversion, line_strings, convert_address)
+    convert_all(header.into_conversion(), line_strings, convert_address)
 }
