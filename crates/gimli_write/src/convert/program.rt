@@ -34,12 +34,27 @@ use std::marker::{Model, PhantomData};
 ///
 /// It holds the tables of strings until it is dropped. What owns memory stands at the last type parameter, which is
 /// never written.
-#[derive(Debug, Drop)]
+#[derive(Debug)]
 pub struct ConvertLineProgram<'a, 'b, R: Reader, P = Conversion<R>> {
     line_strings: &'a mut LineStringTable,
     strings: &'b mut StringTable,
     conversion: P,
     reader: PhantomData<R>,
+}
+
+impl<R: Reader, P: Drop> Drop for ConvertLineProgram<'_, '_, R, P> {
+    /// Leaves both tables as they are. A derived `Drop` wouldn't say so to a caller.
+    fn drop(self)
+        ensures line_strings { self.exit.0.now ≡ self.entry.line_strings.now }
+        ensures strings { self.exit.1.0.now ≡ self.entry.strings.now }
+    {
+        let ConvertLineProgram {
+            line_strings: _line_strings,
+            strings: _strings,
+            conversion: _conversion,
+            reader: _reader,
+        } = self;
+    }
 }
 
 /// The header of a source, made into the directories and files of a program that is to be built. It borrows no table.
