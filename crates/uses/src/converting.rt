@@ -44,6 +44,20 @@ pub fn convert_and_read_back<R: Reader, E: Endianity>(
     Ok((answer, files))
 }
 
+/// The first address, row or end that a conversion gives after its header. The texts that the tables had stay first in
+/// them, also where the read is refused.
+fn first_after<R: Reader>(
+    header: ConvertLineHeader<R>,
+    line_strings: &mut LineStringTable,
+    strings: &mut StringTable,
+) -> ConvertResult<Option<ConvertLineRow>>
+    ensures line_strings { KeepsTexts line_strings.old line_strings.new }
+    ensures strings { strings.new ≡ strings.old }
+{
+    let mut converter = header.converter(line_strings, strings);
+    converter.read_row()
+}
+
 /// The first address, row or end that a conversion with a program's own encodings gives. The texts that the tables had
 /// stay first in them, also where the header or the read is refused.
 pub fn first_of_conversion<R: Reader>(
@@ -65,6 +79,5 @@ pub fn first_of_conversion<R: Reader>(
         None,
         line_strings,
     )?;
-    let mut converter = header.converter(line_strings, strings);
-    converter.read_row()
+    first_after(header, line_strings, strings)
 }

@@ -1,5 +1,5 @@
 //! Callers of the libraries, as the CALLING pages show them. Each is proved. The proof files hold the invariants of loops,
-//! and what the search doesn't find of `convert_and_read_back` and of `rows_of_unit`.
+//! and what the search doesn't find of `convert_and_read_back`, `first_of_conversion` and `rows_of_unit`.
 #![tactic(auto)]
 
 mod building;
