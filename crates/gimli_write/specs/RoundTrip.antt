@@ -1,5 +1,5 @@
 -- What is answered of a unit that was written and read again.
-use Rattle.std.specs.Prelude.{◌≡◌, ℕ, ◌^◌, List, ◌++◌, map, slice_get, Option, Some, None, option_map, Bool, All}
+use Rattle.std.specs.Prelude.{◌≡◌, ℕ, ◌^◌, List, [], ◌++◌, map, slice_get, Option, Some, None, option_map, Bool, All}
 use Rattle.gimli_core.specs.Notation.{Notation}
 use Rattle.gimli_line.specs.header.Header.{Header, UnitEntry}
 use Rattle.gimli_line.specs.header.HeaderGrammar.{SpellsUnit}
@@ -16,6 +16,8 @@ use Rattle.gimli_build.specs.Texts.{Sections, IsText, IsOptionalText, OneByOne}
 use Rattle.gimli_write.specs.TextReading.{HasText, HasFileTexts}
 use Rattle.gimli_build.specs.ReadsBack.{IsUnit, directories_from_zero, ReadsBack, IsReadWell}
 use Rattle.gimli_build.specs.Built.{Built}
+use Rattle.gimli_build.specs.Items.{AddressesFit}
+use Rattle.gimli_build.specs.SameRow.{RowsMatch}
 use Rattle.gimli_write.specs.declared.convert_error.ConvertError.{ConvertError}
 use Rattle.gimli_write.specs.declared.convert_error.ConvertError.TheVariants.{Read, Write, OutOfMemory}
 use Rattle.gimli_write.specs.declared.read_back.RoundTrip.{RoundTrip}
@@ -122,6 +124,14 @@ built_file p strings line_strings f = record {
   md5 = (stored p strings line_strings f.1).md5;
   source = (stored p strings line_strings f.1).source;
 }
+
+-- the addresses of a program fit its address size, and none of them hides
+abbrev pub HasFittingAddresses : Built → Type 0
+HasFittingAddresses p = AddressesFit p.encoding.address_size 0 (0, 0) p.items
+
+-- rows are the rows and ends that were built, one by one, where the addresses fit
+abbrev pub AreBuiltRows : Built → List ReadRow → Type 0
+AreBuiltRows p rows = HasFittingAddresses p → RowsMatch p.encoding.version [] p.items rows
 
 -- ---- refusals
 

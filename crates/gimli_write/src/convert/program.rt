@@ -1,20 +1,16 @@
 //! The conversion of a line program, as its callers see it.
 
-ghost use Rattle.std.specs.Prelude.{◌≡◌, ◌⊎◌, ℕ, false, [], Option, Some, None, Ok, Err, option_map, IfErr, IfOk, IfSome, IsTrue, OnErr, OnOk};
+ghost use Rattle.std.specs.Prelude.{◌≡◌, ℕ, false, Option, Some, None, Err, IfErr, IfOk, IfSome, IsTrue, OnErr, OnOk};
 ghost use Rattle.gimli_core.specs.Numbers.{is_address_size};
 ghost use Rattle.gimli_bytes.specs.Texts.{KeepsTexts};
-ghost use Rattle.gimli_bytes.specs.declared.address.Address.{Address};
 ghost use Rattle.gimli_build.specs.Advance.{CanEncode};
 ghost use Rattle.gimli_build.specs.Built.{previous_place};
 ghost use Rattle.gimli_build.specs.Conditions.{CanBuild, CanEndSequence};
-ghost use Rattle.gimli_write.specs.convert.Texts.{IsRefusedBy};
-ghost use Rattle.gimli_write.specs.convert.Lists.{lists_with};
-ghost use Rattle.gimli_write.specs.convert.Offers.{Reads};
-ghost use Rattle.gimli_write.specs.convert.Mapped.{CanBeFaithful, IsFaithful};
-ghost use Rattle.gimli_write.specs.convert.Preparation.{handed, prepared};
-ghost use Rattle.gimli_write.specs.convert.Feeding.{behind_address, behind_row, behind_end, converted};
-ghost use Rattle.gimli_write.specs.convert.ConversionState.{lists_of, still_to_read, HandsOut, IsReadRefusal, AddsFiles, IsBuildRefusal, IsConverted, begun, with_program};
-ghost use Rattle.gimli_write.specs.convert.Sequences.{gathered, sequence_read};
+ghost use Rattle.gimli_write.specs.convert.Sources.{source_of};
+ghost use Rattle.gimli_write.specs.convert.Mapped.{IsFaithfulWhereItCan};
+ghost use Rattle.gimli_write.specs.convert.Feeding.{behind_address, behind_row, behind_end};
+ghost use Rattle.gimli_write.specs.convert.ConversionState.{still_to_read, IsPrepared, IsHeaderRefusal, ReadsWhole, GivesNext, IsReadRefusal, AddsFiles, IsBuildRefusal, begun, with_program, conversion_of, ConvertsTo, IsConvertRefusal, RestConvertsTo, IsRestRefusal};
+ghost use Rattle.gimli_write.specs.convert.Sequences.{GathersNext, IsGatherRefusal};
 
 use crate::convert::conversion::Conversion;
 use crate::convert::feeding::convert_all;
@@ -89,17 +85,12 @@ impl<R: Reader> ConvertLineHeader<R> {
     ) -> ConvertResult<Self>
         requires address_size { IfSome encoding (λ e. IsTrue (is_address_size e.address_size)) }
         requires lines { IfSome line_encoding CanEncode }
-        ensures ok { IfOk result (λ header. prepared
-            (record { strings = R.bytes debug_str; line_strings = R.bytes debug_line_str }) from_program.meaning
-            (handed encoding line_encoding (option_map R.bytes from_comp_name)) line_strings.old
-            ≡ Ok (lists_with line_strings.new header.lists)) }
-        ensures err { IfErr result (IsRefusedBy (prepared
-            (record { strings = R.bytes debug_str; line_strings = R.bytes debug_line_str }) from_program.meaning
-            (handed encoding line_encoding (option_map R.bytes from_comp_name)) line_strings.old)) }
-        ensures reads { IfOk result (λ header. Reads from_program.notation
-            (record { strings = R.bytes debug_str; line_strings = R.bytes debug_line_str }) from_program.meaning
-            (lists_with line_strings.new header.lists) from_program.meaning.program
-            (still_to_read header line_strings.new)) }
+        ensures ok { IfOk result (λ header. IsPrepared (source_of R.bytes debug_str debug_line_str
+            from_program from_comp_name encoding line_encoding) line_strings.old header line_strings.new) }
+        ensures err { IfErr result (IsHeaderRefusal (source_of R.bytes debug_str debug_line_str
+            from_program from_comp_name encoding line_encoding) line_strings.old) }
+        ensures reads { IfOk result (λ header. ReadsWhole (source_of R.bytes debug_str debug_line_str
+            from_program from_comp_name encoding line_encoding) header line_strings.new) }
         ensures stays { KeepsTexts line_strings.old line_strings.new }
     {
         let sections = TextSections {
@@ -167,17 +158,12 @@ impl<'a, 'b, R: Reader> ConvertLineProgram<'a, 'b, R, Conversion<R>> {
     ) -> ConvertResult<Self>
         requires address_size { IfSome encoding (λ e. IsTrue (is_address_size e.address_size)) }
         requires lines { IfSome line_encoding CanEncode }
-        ensures ok { IfOk result (λ convert. prepared
-            (record { strings = R.bytes debug_str; line_strings = R.bytes debug_line_str }) from_program.meaning
-            (handed encoding line_encoding (option_map R.bytes from_comp_name)) line_strings.old
-            ≡ Ok (lists_with convert.line_strings.now convert.conversion.lists)) }
-        ensures err { IfErr result (IsRefusedBy (prepared
-            (record { strings = R.bytes debug_str; line_strings = R.bytes debug_line_str }) from_program.meaning
-            (handed encoding line_encoding (option_map R.bytes from_comp_name)) line_strings.old)) }
-        ensures reads { IfOk result (λ convert. Reads from_program.notation
-            (record { strings = R.bytes debug_str; line_strings = R.bytes debug_line_str }) from_program.meaning
-            (lists_with convert.line_strings.now convert.conversion.lists) from_program.meaning.program
-            (still_to_read convert.conversion convert.line_strings.now)) }
+        ensures ok { IfOk result (λ convert. IsPrepared (source_of R.bytes debug_str debug_line_str from_program
+            from_comp_name encoding line_encoding) line_strings.old convert.conversion convert.line_strings.now) }
+        ensures err { IfErr result (IsHeaderRefusal (source_of R.bytes debug_str debug_line_str
+            from_program from_comp_name encoding line_encoding) line_strings.old) }
+        ensures reads { IfOk result (λ convert. ReadsWhole (source_of R.bytes debug_str debug_line_str
+            from_program from_comp_name encoding line_encoding) convert.conversion convert.line_strings.now) }
         ensures stays { IfOk result (λ convert. KeepsTexts line_strings.old convert.line_strings.now) }
         ensures strings { IfOk result (λ convert. convert.strings.now ≡ strings.old) }
         ensures same_line_strings { IfOk result (λ convert. convert.line_strings.ghost_name
@@ -291,9 +277,8 @@ impl<'a, 'b, R: Reader> ConvertLineProgram<'a, 'b, R, Conversion<R>> {
     /// as `Read` for a fault of the source, as `InvalidFileIndex` for a row of no file, as a file that is defined is, or
     /// by `OutOfMemory` where this read defines one; every later read repeats the refusal. The tables keep their texts.
     pub fn read_row(&mut self) -> ConvertResult<Option<ConvertLineRow>>
-        ensures ok { IfOk result (λ row. HandsOut (still_to_read self.old.conversion self.old.line_strings.now) row
-            (lists_of self.new.conversion self.new.line_strings.now)
-            (still_to_read self.new.conversion self.new.line_strings.now)) }
+        ensures ok { IfOk result (λ row. GivesNext self.old.conversion self.old.line_strings.now
+            row self.new.conversion self.new.line_strings.now) }
         ensures err { IfErr result (IsReadRefusal (still_to_read self.old.conversion self.old.line_strings.now)) }
         ensures repeats { (e : ConvertError) → self.old.conversion.failed ≡ Some e → result ≡ Err e }
         ensures failed { IfErr result (λ e. self.new.conversion.failed ≡ Some e) }
@@ -310,11 +295,9 @@ impl<'a, 'b, R: Reader> ConvertLineProgram<'a, 'b, R, Conversion<R>> {
     /// first. Refused as `read_row` is, as `MissingLineEndSequence` for rows without an end, or by `OutOfMemory`; every
     /// later read repeats the refusal. The tables keep their texts.
     pub fn read_sequence(&mut self) -> ConvertResult<Option<ConvertLineSequence>>
-        ensures ok { IfOk result (λ sequence.
-            gathered None [] (still_to_read self.old.conversion self.old.line_strings.now)
-            ≡ Ok (option_map sequence_read sequence, still_to_read self.new.conversion self.new.line_strings.now)) }
-        ensures err { IfErr result (IsRefusedBy
-            (gathered None [] (still_to_read self.old.conversion self.old.line_strings.now))) }
+        ensures ok { IfOk result (λ sequence. GathersNext self.old.conversion self.old.line_strings.now
+            sequence self.new.conversion self.new.line_strings.now) }
+        ensures err { IfErr result (IsGatherRefusal self.old.conversion self.old.line_strings.now) }
         ensures repeats { (e : ConvertError) → self.old.conversion.failed ≡ Some e → result ≡ Err e }
         ensures failed { IfErr result (λ e. self.new.conversion.failed ≡ Some e) }
         ensures well { OnOk result (self.new.conversion.failed ≡ None) }
@@ -337,13 +320,10 @@ impl<'a, 'b, R: Reader> ConvertLineProgram<'a, 'b, R, Conversion<R>> {
         convert_address: F,
     ) -> ConvertResult<(LineProgram, Vec<FileId>)>
         requires { F.IsAlwaysCallable convert_address }
-        ensures ok { (g : ℕ → Option Address) → ((a : ℕ) (r : Option Address) → F.post convert_address a r → r ≡ g a)
-            → IfOk result (λ answer. converted g (still_to_read self.entry.conversion self.entry.line_strings.now)
-            self.entry.conversion.lists.program
-            ≡ Ok (record { program = answer.0; file_ids = answer.1.items; line_strings = self.exit.0.now })) }
-        ensures err { (g : ℕ → Option Address) → ((a : ℕ) (r : Option Address) → F.post convert_address a r → r ≡ g a)
-            → IfErr result (IsRefusedBy (converted g (still_to_read self.entry.conversion self.entry.line_strings.now)
-            self.entry.conversion.lists.program)) }
+        ensures ok { IfOk result (λ answer. RestConvertsTo (F.post convert_address)
+            self.entry.conversion self.entry.line_strings.now (conversion_of answer self.exit.0.now)) }
+        ensures err { IfErr result (IsRestRefusal (F.post convert_address)
+            self.entry.conversion self.entry.line_strings.now) }
         ensures stays { KeepsTexts self.entry.line_strings.now self.exit.0.now }
         ensures strings { self.exit.1.0.now ≡ self.entry.strings.now }
     {
@@ -375,21 +355,12 @@ pub fn convert_program<R: Reader, F: Fn(u64) -> Option<Address>>(
     requires address_size { IfSome encoding (λ e. IsTrue (is_address_size e.address_size)) }
     requires lines { IfSome line_encoding CanEncode }
     requires callable { F.IsAlwaysCallable convert_address }
-    ensures ok { (g : ℕ → Option Address) → ((a : ℕ) (r : Option Address) → F.post convert_address a r → r ≡ g a)
-        → IfOk result (λ answer. IsConverted g from_program.notation
-        (record { strings = R.bytes debug_str; line_strings = R.bytes debug_line_str }) from_program.meaning
-        (handed encoding line_encoding (option_map R.bytes from_comp_name)) line_strings.old
-        (Ok (record { program = answer.0; file_ids = answer.1.items; line_strings = line_strings.new }))) }
-    ensures err { (g : ℕ → Option Address) → ((a : ℕ) (r : Option Address) → F.post convert_address a r → r ≡ g a)
-        → IfErr result (λ e. (e ≡ ConvertError.OutOfMemory) ⊎ IsConverted g from_program.notation
-        (record { strings = R.bytes debug_str; line_strings = R.bytes debug_line_str }) from_program.meaning
-        (handed encoding line_encoding (option_map R.bytes from_comp_name)) line_strings.old (Err e)) }
-    ensures faithful { (g : ℕ → Option Address) → ((a : ℕ) (r : Option Address) → F.post convert_address a r → r ≡ g a)
-        → CanBeFaithful g from_program.notation from_program.meaning
-        (handed encoding line_encoding (option_map R.bytes from_comp_name))
-        → IfOk result (λ answer. IsFaithful from_program.notation
-        (record { strings = R.bytes debug_str; line_strings = R.bytes debug_line_str }) from_program.meaning strings.new
-        (record { program = answer.0; file_ids = answer.1.items; line_strings = line_strings.new })) }
+    ensures ok { IfOk result (λ answer. ConvertsTo (F.post convert_address) (source_of R.bytes debug_str debug_line_str
+        from_program from_comp_name encoding line_encoding) line_strings.old (conversion_of answer line_strings.new)) }
+    ensures err { IfErr result (IsConvertRefusal (F.post convert_address) (source_of R.bytes debug_str debug_line_str
+        from_program from_comp_name encoding line_encoding) line_strings.old) }
+    ensures faithful { IfOk result (λ answer. IsFaithfulWhereItCan (F.post convert_address) (source_of R.bytes debug_str
+        debug_line_str from_program from_comp_name encoding line_encoding) strings.new (conversion_of answer line_strings.new)) }
     ensures stays { KeepsTexts line_strings.old line_strings.new }
     ensures strings { strings.new ≡ strings.old }
 {
