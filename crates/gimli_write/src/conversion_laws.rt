@@ -12,7 +12,7 @@ ghost use Rattle.gimli_write.specs.RoundTrip.{HasFittingAddresses, AreBuiltRows}
 ghost use Rattle.gimli_write.specs.convert.Feeding.{can_build};
 ghost use Rattle.gimli_write.specs.convert.Mapped.{IsMapped};
 ghost use Rattle.gimli_write.specs.convert.Preparation.{encoding_of};
-ghost use Rattle.gimli_write.specs.convert.DoneConversions.{DoneConversion, IsToBeFaithful, SourceGives, AreReadAs, UnitReadBack, UnitGives, SourceFilesAre, AreFilesReadBack};
+ghost use Rattle.gimli_write.specs.convert.DoneConversions.{DoneConversion, IsToBeFaithful, SourceGives, AreReadAs, UnitReadBack, GivesBack, SourceFilesAre, AreFilesReadBack};
 
 /// A conversion asks of each row and end what the builder's own calls ask.
 pub fn conversions_ask_what_the_builder_asks()
@@ -47,7 +47,7 @@ pub fn converted_rows_are_read_back()
     ensures answered { (d : DoneConversion) (rows back : List ReadRow) → IsToBeFaithful d → SourceGives d rows
         → AreBuiltRows d.outcome.program back → AreReadAs d rows back }
     ensures written { (d : DoneConversion) (rows : List ReadRow) → IsToBeFaithful d → SourceGives d rows
-        → (u : UnitReadBack d.outcome.program) → (found : List ReadRow) × UnitGives u found × AreReadAs d rows found }
+        → (unit : UnitReadBack d.outcome.program) → GivesBack d rows unit }
 {}
 
 /// And the files that it answers have the paths of those of the source: each file number of the source has an id, which is

@@ -150,9 +150,10 @@ AnswersAs map convert_address = (a : ℕ) (r : Option Address) → map a r → r
 abbrev pub conversion_of : Built × Vec ℕ Global → List (List ℕ) → Conversion
 conversion_of answer line_strings = record { program = answer.0; file_ids = answer.1.items; line_strings = line_strings }
 
--- a source is converted to this
-abbrev pub ConvertsTo : (ℕ → Option Address → Type 0) → Source → List (List ℕ) → Conversion → Type 0
-ConvertsTo map s line_strings c = (g : ℕ → Option Address) → AnswersAs map g → IsConverted g s line_strings (Ok c)
+-- a source is converted to this answer, and the line strings after these are then those
+abbrev pub ConvertsTo : (ℕ → Option Address → Type 0) → Source → List (List ℕ) → Built × Vec ℕ Global → List (List ℕ) → Type 0
+ConvertsTo map s old answer new =
+    (g : ℕ → Option Address) → AnswersAs map g → IsConverted g s old (Ok (conversion_of answer new))
 
 -- why a source isn't converted: what refuses it, or want of memory
 abbrev pub IsConvertRefusal : (ℕ → Option Address → Type 0) → Source → List (List ℕ) → ConvertError → Type 0
@@ -163,10 +164,10 @@ IsConvertRefusal map s line_strings e =
 abbrev pub rest_converted : (ℕ → Option Address) → ConversionState → List (List ℕ) → Result Conversion ConvertError
 rest_converted convert_address c line_strings = converted convert_address (still_to_read c line_strings) c.lists.program
 
--- all that is still to be read is converted to this
-abbrev pub RestConvertsTo : (ℕ → Option Address → Type 0) → ConversionState → List (List ℕ) → Conversion → Type 0
-RestConvertsTo map c line_strings outcome =
-    (g : ℕ → Option Address) → AnswersAs map g → rest_converted g c line_strings ≡ Ok outcome
+-- all that is still to be read is converted to this answer, and the line strings after these are then those
+abbrev pub RestConvertsTo : (ℕ → Option Address → Type 0) → ConversionState → List (List ℕ) → Built × Vec ℕ Global → List (List ℕ) → Type 0
+RestConvertsTo map c old answer new =
+    (g : ℕ → Option Address) → AnswersAs map g → rest_converted g c old ≡ Ok (conversion_of answer new)
 
 -- why it isn't converted: what refuses it, or want of memory
 abbrev pub IsRestRefusal : (ℕ → Option Address → Type 0) → ConversionState → List (List ℕ) → ConvertError → Type 0

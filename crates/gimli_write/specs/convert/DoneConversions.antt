@@ -54,6 +54,10 @@ pub record UnitReadBack (p : Built) : Type 0 where
 abbrev pub UnitGives : {p : Built} → UnitReadBack p → List ReadRow → Type 0
 UnitGives unit rows = Events unit.notation unit.back.header unit.back.header.program (map row rows)
 
+-- it gives rows that say what these rows of the source of a conversion say
+abbrev pub GivesBack : (d : DoneConversion) → List ReadRow → UnitReadBack d.outcome.program → Type 0
+GivesBack d rows unit = (found : List ReadRow) × UnitGives unit found × AreReadAs d rows found
+
 -- ---- files
 
 -- the files of its source where the program ends

@@ -1,6 +1,8 @@
 -- What it means that a converted program says what its source says, and what is asked of the source for it.
 use Rattle.std.specs.Prelude.{◌≡◌, ◌≢◌, ℕ, ◌+◌, ◌≤◌, Bool, true, false, not, ◌&&◌, ◌||◌, if◌then◌else◌, List, [], ◌∷◌, ◌++◌, map, slice_get, Option, Some, None, option_map}
 use Rattle.std.specs.List.{AllByRecursion}
+use Rattle.std.specs.declared.vec.Vec.{Vec}
+use Rattle.std.specs.declared.alloc.Global.{Global}
 use Rattle.gimli_core.specs.Notation.{Notation}
 use Rattle.gimli_core.specs.Values.{Value}
 use Rattle.gimli_core.specs.declared.error.Error.{Error}
@@ -15,7 +17,7 @@ use Rattle.gimli_line.specs.run.EventsWithFiles.{FilesAtEnd}
 use Rattle.gimli_line.specs.run.Instruction.{Ins, is_end, makes_row}
 use Rattle.gimli_line.specs.run.InstructionGrammar.{Decodes}
 use Rattle.gimli_line.specs.run.OperationPointer.{is_hidden}
-use Rattle.gimli_build.specs.Built.{address_value}
+use Rattle.gimli_build.specs.Built.{Built, address_value}
 use Rattle.gimli_build.specs.FileNumber.{file_number}
 use Rattle.gimli_build.specs.LineText.{LineText, bytes_in}
 use Rattle.gimli_build.specs.Conditions.{CanWrite}
@@ -29,7 +31,7 @@ use Rattle.gimli_write.specs.RoundTrip.{FileAnswer, HasFittingAddresses}
 use Rattle.gimli_write.specs.convert.Feeding.{Conversion}
 use Rattle.gimli_write.specs.convert.Preparation.{encoding_of}
 use Rattle.gimli_write.specs.convert.Sources.{Source}
-use Rattle.gimli_write.specs.convert.ConversionState.{AnswersAs}
+use Rattle.gimli_write.specs.convert.ConversionState.{AnswersAs, conversion_of}
 
 -- ---- what is asked
 
@@ -176,7 +178,8 @@ pub record IsFaithful (s : Source) (strings : List (List ℕ)) (c : Conversion) 
       → RowsMatch c.program.encoding.version [] c.program.items back
       → OneByOne (IsReadAs s.header.parameters.encoding.version c.program.encoding.version c.file_ids) rows back
 
--- a conversion is faithful where what is asked of its source, of what is handed and of the map of addresses holds
-abbrev pub IsFaithfulWhereItCan : (ℕ → Option Address → Type 0) → Source → List (List ℕ) → Conversion → Type 0
-IsFaithfulWhereItCan map s strings c =
-    (g : ℕ → Option Address) → AnswersAs map g → CanBeFaithful g s → IsFaithful s strings c
+-- where what is asked of a source, of what is handed and of the map of addresses holds, what was answered is faithful, with
+-- these tables after it
+abbrev pub IsFaithfulIfItCan : (ℕ → Option Address → Type 0) → Source → List (List ℕ) → Built × Vec ℕ Global → List (List ℕ) → Type 0
+IsFaithfulIfItCan map s strings answer line_strings =
+    (g : ℕ → Option Address) → AnswersAs map g → CanBeFaithful g s → IsFaithful s strings (conversion_of answer line_strings)

@@ -5,7 +5,7 @@ ghost use Rattle.gimli_bytes.specs.Texts.{KeepsTexts};
 ghost use Rattle.gimli_bytes.specs.declared.address.Address.{Address};
 ghost use Rattle.gimli_write.specs.convert.Texts.{IsRefusedBy};
 ghost use Rattle.gimli_write.specs.convert.Feeding.{fed, without_items};
-ghost use Rattle.gimli_write.specs.convert.ConversionState.{with_program, AnswersAs, conversion_of, RestConvertsTo, IsRestRefusal};
+ghost use Rattle.gimli_write.specs.convert.ConversionState.{with_program, AnswersAs, RestConvertsTo, IsRestRefusal};
 
 use crate::convert::conversion::Conversion;
 use crate::convert::offer::ConvertLineRow;
@@ -52,7 +52,7 @@ pub(crate) fn convert_all<R: Reader, F: Fn(u64) -> Option<Address>>(
 ) -> ConvertResult<(LineProgram, Vec<FileId>)>
     requires { F.IsAlwaysCallable convert_address }
     ensures ok { IfOk result (λ answer. RestConvertsTo (F.post convert_address)
-        conversion line_strings.old (conversion_of answer line_strings.new)) }
+        conversion line_strings.old answer line_strings.new) }
     ensures err { IfErr result (IsRestRefusal (F.post convert_address) conversion line_strings.old) }
     ensures stays { KeepsTexts line_strings.old line_strings.new }
 {

@@ -7,9 +7,9 @@ ghost use Rattle.gimli_build.specs.Advance.{CanEncode};
 ghost use Rattle.gimli_build.specs.Built.{previous_place};
 ghost use Rattle.gimli_build.specs.Conditions.{CanBuild, CanEndSequence};
 ghost use Rattle.gimli_write.specs.convert.Sources.{source_of};
-ghost use Rattle.gimli_write.specs.convert.Mapped.{IsFaithfulWhereItCan};
+ghost use Rattle.gimli_write.specs.convert.Mapped.{IsFaithfulIfItCan};
 ghost use Rattle.gimli_write.specs.convert.Feeding.{behind_address, behind_row, behind_end};
-ghost use Rattle.gimli_write.specs.convert.ConversionState.{still_to_read, IsPrepared, IsHeaderRefusal, ReadsWhole, GivesNext, IsReadRefusal, AddsFiles, IsBuildRefusal, begun, with_program, conversion_of, ConvertsTo, IsConvertRefusal, RestConvertsTo, IsRestRefusal};
+ghost use Rattle.gimli_write.specs.convert.ConversionState.{still_to_read, IsPrepared, IsHeaderRefusal, ReadsWhole, GivesNext, IsReadRefusal, AddsFiles, IsBuildRefusal, begun, with_program, ConvertsTo, IsConvertRefusal, RestConvertsTo, IsRestRefusal};
 ghost use Rattle.gimli_write.specs.convert.Sequences.{GathersNext, IsGatherRefusal};
 
 use crate::convert::conversion::Conversion;
@@ -69,11 +69,11 @@ impl<R: Reader> Model for ConvertLineHeader<R> {
 }
 
 impl<R: Reader> ConvertLineHeader<R> {
-    /// The first half of `ConvertLineProgram::new`: all of it that can be refused. The directories and files of the source
-    /// are added to the program that is built, by the encodings that are handed, else by the source's own. Requires
-    /// encodings that a program may have, where they are handed. Refused, in this order: for the working directory, the
-    /// source file, the encoding of lines, the directories and the files; or by `OutOfMemory`. The table keeps its texts,
-    /// also then.
+    /// The first half of `ConvertLineProgram::new`: all of it that can be refused. The directories and files of the
+    /// source are added to the program that is built, by the encodings that are handed, else by the source's own.
+    /// Requires encodings that a program may have, where they are handed. Refused, in this order: for the working
+    /// directory, the source file, the encoding of lines, the directories and the files; or by `OutOfMemory`. The table
+    /// keeps its texts, also then.
     pub fn new(
         debug_str: R,
         debug_line_str: R,
@@ -109,10 +109,10 @@ impl<R: Reader> ConvertLineHeader<R> {
         Ok(ConvertLineHeader { conversion })
     }
 
-    /// The second half of `ConvertLineProgram::new`, which is never refused: the conversion of the program behind the
-    /// header. It holds both tables until it is dropped, and so far they are as they were. The line strings have to be the
-    /// table that `new` was handed, since directories and files name texts by their place there: with another table the
-    /// program that is built has other names.
+    /// The second half of `ConvertLineProgram::new`, which is never refused: the conversion of the program after the
+    /// header. It holds both tables until it is dropped, and so far they are as they were. The line strings have to be
+    /// the table that `new` was handed, since directories and files name texts by their place there: with another table
+    /// the program that is built has other names.
     pub fn converter<'a, 'b>(
         self,
         line_strings: &'a mut LineStringTable,
@@ -132,7 +132,7 @@ impl<R: Reader> ConvertLineHeader<R> {
         }
     }
 
-    /// The conversion of the program behind the header.
+    /// The conversion of the program after the header.
     fn into_conversion(self) -> Conversion<R>
         ensures { result ≡ self }
     {
@@ -321,7 +321,7 @@ impl<'a, 'b, R: Reader> ConvertLineProgram<'a, 'b, R, Conversion<R>> {
     ) -> ConvertResult<(LineProgram, Vec<FileId>)>
         requires { F.IsAlwaysCallable convert_address }
         ensures ok { IfOk result (λ answer. RestConvertsTo (F.post convert_address)
-            self.entry.conversion self.entry.line_strings.now (conversion_of answer self.exit.0.now)) }
+            self.entry.conversion self.entry.line_strings.now answer self.exit.0.now) }
         ensures err { IfErr result (IsRestRefusal (F.post convert_address)
             self.entry.conversion self.entry.line_strings.now) }
         ensures stays { KeepsTexts self.entry.line_strings.now self.exit.0.now }
@@ -356,11 +356,11 @@ pub fn convert_program<R: Reader, F: Fn(u64) -> Option<Address>>(
     requires lines { IfSome line_encoding CanEncode }
     requires callable { F.IsAlwaysCallable convert_address }
     ensures ok { IfOk result (λ answer. ConvertsTo (F.post convert_address) (source_of R.bytes debug_str debug_line_str
-        from_program from_comp_name encoding line_encoding) line_strings.old (conversion_of answer line_strings.new)) }
+        from_program from_comp_name encoding line_encoding) line_strings.old answer line_strings.new) }
     ensures err { IfErr result (IsConvertRefusal (F.post convert_address) (source_of R.bytes debug_str debug_line_str
         from_program from_comp_name encoding line_encoding) line_strings.old) }
-    ensures faithful { IfOk result (λ answer. IsFaithfulWhereItCan (F.post convert_address) (source_of R.bytes debug_str
-        debug_line_str from_program from_comp_name encoding line_encoding) strings.new (conversion_of answer line_strings.new)) }
+    ensures faithful { IfOk result (λ answer. IsFaithfulIfItCan (F.post convert_address) (source_of R.bytes debug_str
+        debug_line_str from_program from_comp_name encoding line_encoding) strings.new answer line_strings.new) }
     ensures stays { KeepsTexts line_strings.old line_strings.new }
     ensures strings { strings.new ≡ strings.old }
 {
