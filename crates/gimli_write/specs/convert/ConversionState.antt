@@ -112,11 +112,12 @@ begun address p = record p { items = p.items ++ option_to_list (option_map SetAd
 
 -- ---- a conversion from its start on
 
--- the header of a source is made into these lists, and the line strings after these into those
+-- the directories and files of a source are added, by the steps of its header; the old line strings are those before it,
+-- the new ones those after it
 abbrev pub IsPrepared : Source → List (List ℕ) → ConversionState → List (List ℕ) → Type 0
 IsPrepared s old c new = prepared s.sections s.header s.given old ≡ Ok (lists_with new c.lists)
 
--- why the header of a source isn't made into lists: what refuses a step, or want of memory
+-- why they aren't added: what refuses a step, or want of memory
 abbrev pub IsHeaderRefusal : Source → List (List ℕ) → ConvertError → Type 0
 IsHeaderRefusal s line_strings = IsRefusedBy (prepared s.sections s.header s.given line_strings)
 
@@ -142,7 +143,7 @@ GivesNext old old_strings row new new_strings =
 
 -- ---- with a map of addresses that is handed in
 
--- a map, by what is known of its answers, answers as a function does
+-- whatever the map may answer for an address is what this function gives for it
 abbrev pub AnswersAs : (ℕ → Option Address → Type 0) → (ℕ → Option Address) → Type 0
 AnswersAs map convert_address = (a : ℕ) (r : Option Address) → map a r → r ≡ convert_address a
 
@@ -150,12 +151,12 @@ AnswersAs map convert_address = (a : ℕ) (r : Option Address) → map a r → r
 abbrev pub conversion_of : Built × Vec ℕ Global → List (List ℕ) → Conversion
 conversion_of answer line_strings = record { program = answer.0; file_ids = answer.1.items; line_strings = line_strings }
 
--- a source is converted to this answer, and the line strings after these are then those
+-- by such a map a source is converted to this answer; the old line strings are those before it, the new ones those after it
 abbrev pub ConvertsTo : (ℕ → Option Address → Type 0) → Source → List (List ℕ) → Built × Vec ℕ Global → List (List ℕ) → Type 0
 ConvertsTo map s old answer new =
     (g : ℕ → Option Address) → AnswersAs map g → IsConverted g s old (Ok (conversion_of answer new))
 
--- why a source isn't converted: what refuses it, or want of memory
+-- why a source isn't converted by such a map: what refuses it, or want of memory
 abbrev pub IsConvertRefusal : (ℕ → Option Address → Type 0) → Source → List (List ℕ) → ConvertError → Type 0
 IsConvertRefusal map s line_strings e =
     (g : ℕ → Option Address) → AnswersAs map g → (e ≡ OutOfMemory) ⊎ IsConverted g s line_strings (Err e)
@@ -164,12 +165,12 @@ IsConvertRefusal map s line_strings e =
 abbrev pub rest_converted : (ℕ → Option Address) → ConversionState → List (List ℕ) → Result Conversion ConvertError
 rest_converted convert_address c line_strings = converted convert_address (still_to_read c line_strings) c.lists.program
 
--- all that is still to be read is converted to this answer, and the line strings after these are then those
+-- by such a map all that is still to be read is converted to this answer
 abbrev pub RestConvertsTo : (ℕ → Option Address → Type 0) → ConversionState → List (List ℕ) → Built × Vec ℕ Global → List (List ℕ) → Type 0
 RestConvertsTo map c old answer new =
     (g : ℕ → Option Address) → AnswersAs map g → rest_converted g c old ≡ Ok (conversion_of answer new)
 
--- why it isn't converted: what refuses it, or want of memory
+-- why it isn't: what refuses it, or want of memory
 abbrev pub IsRestRefusal : (ℕ → Option Address → Type 0) → ConversionState → List (List ℕ) → ConvertError → Type 0
 IsRestRefusal map c line_strings e =
     (g : ℕ → Option Address) → AnswersAs map g → IsRefusedBy (rest_converted g c line_strings) e
