@@ -1,24 +1,22 @@
 -- What a conversion reads, handed to the builder.
 use Rattle.std.proofs.Common.{◌≡◌, ◌⊎◌, ℕ, suc, ◌<◌, arith, false, true, Bool, if◌then◌else◌, List, refl, sym, ap, ◌∙◌, subst, inl, inr}
 use Rattle.std.specs.Prelude.{Option, Some, None, Result, Ok, Err}
-use Rattle.gimli_core.specs.Notation.{Notation}
 use Rattle.gimli_core.specs.declared.error.Error.TheVariants.{AddressOverflow}
 use Rattle.gimli_bytes.specs.declared.address.Address.{Address}
-use Rattle.gimli_line.specs.header.Header.{Header}
 use Rattle.gimli_line.specs.header.Parameters.{Parameters}
 use Rattle.gimli_line.specs.declared.run.instruction.LineInstruction.TheVariants.{DefineFile}
 use Rattle.gimli_line.specs.run.Instruction.{Ins}
 use Rattle.gimli_line.specs.run.OperationPointer.{overflows}
 use Rattle.gimli_build.specs.Built.{Built}
 use Rattle.gimli_build.specs.LineText.{LineText}
-use Rattle.gimli_build.specs.Texts.{Sections}
 use Rattle.gimli_write.specs.declared.convert_error.ConvertError.{ConvertError}
 use Rattle.gimli_write.specs.declared.convert_error.ConvertError.TheVariants.{MissingLineEndSequence, OutOfMemory, Read}
 use Rattle.gimli_write.specs.declared.convert.offer.ConvertLineRow.{ConvertLineRow}
 use Rattle.gimli_write.specs.convert.Texts.{◌>>=◌, IsRefusedBy}
 use Rattle.gimli_write.specs.convert.Lists.{Converted, Lists}
 use Rattle.gimli_write.specs.convert.Offers.{Reading, ends, stops, defines, offers, address_offered, reading_at, with_definition, after_definitions, Reads}
-use Rattle.gimli_write.specs.convert.Preparation.{Handed, prepared}
+use Rattle.gimli_write.specs.convert.Preparation.{prepared}
+use Rattle.gimli_write.specs.convert.Sources.{Source}
 use Rattle.gimli_write.specs.convert.SourceState.{reading_left}
 use Rattle.gimli_write.specs.convert.Feeding.{Conversion, fed, with_tables, ended, converted, without_items}
 use Rattle.gimli_write.specs.convert.ConversionState.{ConversionState, lists_of, version_of_source, held_first, unless_failed, still_to_read, HandsOut, AddsFiles, IsReadRefusal, IsConverted, with_program}
@@ -135,16 +133,16 @@ module _ (m : ℕ → Option Address) (old mid : ConversionState) (before after 
 
 -- ---- a whole conversion
 
-module _ (m : ℕ → Option Address) (notation : Notation) (sections : Sections) (h : Header) (given : Handed) (line_strings : List (List ℕ)) where
-  pub all_converted : (first : Lists) (reading : Reading) (outcome : Result Conversion ConvertError) → prepared sections h given line_strings ≡ Ok first
-      → Reads notation sections h first h.program reading → converted m reading first.program ≡ outcome → IsConverted m notation sections h given line_strings outcome
+module _ (m : ℕ → Option Address) (s : Source) (line_strings : List (List ℕ)) where
+  pub all_converted : (first : Lists) (reading : Reading) (outcome : Result Conversion ConvertError) → prepared s.sections s.header s.given line_strings ≡ Ok first
+      → Reads s.notation s.sections s.header first s.header.program reading → converted m reading first.program ≡ outcome → IsConverted m s line_strings outcome
   all_converted first reading outcome is reads comes = (reading, rw is (reads, comes))
 
-  pub header_refused : (e : ConvertError) → IsRefusedBy (prepared sections h given line_strings) e → (e ≡ OutOfMemory) ⊎ IsConverted m notation sections h given line_strings (Err e)
+  pub header_refused : (e : ConvertError) → IsRefusedBy (prepared s.sections s.header s.given line_strings) e → (e ≡ OutOfMemory) ⊎ IsConverted m s line_strings (Err e)
   header_refused e (inl memory) = inl memory
   header_refused e (inr is) = inr (stops e, rw is refl)
 
-  pub rows_refused : (first : Lists) (reading : Reading) (e : ConvertError) → prepared sections h given line_strings ≡ Ok first → Reads notation sections h first h.program reading
-      → IsRefusedBy (converted m reading first.program) e → (e ≡ OutOfMemory) ⊎ IsConverted m notation sections h given line_strings (Err e)
+  pub rows_refused : (first : Lists) (reading : Reading) (e : ConvertError) → prepared s.sections s.header s.given line_strings ≡ Ok first → Reads s.notation s.sections s.header first s.header.program reading
+      → IsRefusedBy (converted m reading first.program) e → (e ≡ OutOfMemory) ⊎ IsConverted m s line_strings (Err e)
   rows_refused first reading e is reads (inl memory) = inl memory
   rows_refused first reading e is reads (inr refused) = inr (all_converted first reading (Err e) is reads refused)

@@ -8,7 +8,7 @@ use Rattle.gimli_bytes.specs.declared.address.Address.{Address}
 use Rattle.gimli_bytes.specs.Texts.{KeepsTexts, with_text}
 use Rattle.gimli_bytes.proofs.TextLemmas.{with_text-KeepsTexts}
 use Rattle.gimli_line.specs.declared.run.row.LineRow.{LineRow as ReadRow}
-use Rattle.gimli_line.specs.header.Header.{Header, UnitEntry}
+use Rattle.gimli_line.specs.header.Header.{Header}
 use Rattle.gimli_line.specs.run.Events.{Event, row, Events, program_events, defined_files, behind}
 use Rattle.gimli_line.specs.run.EventsWithFiles.{FilesAtEnd}
 use Rattle.gimli_line.specs.header.File.{File}
@@ -18,9 +18,8 @@ use Rattle.gimli_build.specs.Built.{Built}
 use Rattle.gimli_build.specs.Conditions.{CanWrite}
 use Rattle.gimli_build.specs.Items.{AddressesFit}
 use Rattle.gimli_build.specs.LineText.{LineText, Inline, InStrings, InLineStrings, IsWithin, bytes_in}
-use Rattle.gimli_build.specs.ReadsBack.{ReadsBack}
 use Rattle.gimli_build.specs.SameRow.{RowsMatch}
-use Rattle.gimli_build.specs.Texts.{Sections, OneByOne}
+use Rattle.gimli_build.specs.Texts.{OneByOne}
 use Rattle.gimli_build.specs.Version5Tables.{needs_empty, first_form, sources, line_strings_behind}
 use Rattle.gimli_write.specs.RoundTrip.{FileAnswer, built_file}
 use Rattle.gimli_write.specs.declared.convert_error.ConvertError.{ConvertError}
@@ -29,26 +28,28 @@ use Rattle.gimli_write.specs.convert.Feeding.{Conversion, converted}
 use Rattle.gimli_write.specs.convert.Lists.{Lists}
 use Rattle.gimli_write.specs.convert.Mapped.{CanBeFaithful, IsMapped, IsReadAs, AreRowsMapped, HasPaths, AreFilesMapped, AreFilesReadAs}
 use Rattle.gimli_write.specs.convert.Offers.{Reading, Reads}
-use Rattle.gimli_write.specs.convert.Preparation.{Handed, encoding_of, prepared}
+use Rattle.gimli_write.specs.convert.Preparation.{encoding_of, prepared}
+use Rattle.gimli_write.specs.convert.Sources.{Source}
+use Rattle.gimli_write.specs.convert.DoneConversions.{UnitReadBack, UnitGives}
 use Rattle.gimli_write.proofs.ConvertSteps.{kept_self}
 use Rattle.gimli_write.proofs.MappedEnds.{can_write, encoding_kept, files_same}
-use Rattle.gimli_write.proofs.MappedPrograms.{is_mapped, addresses_fit, rows_again}
+use Rattle.gimli_write.proofs.MappedPrograms.{rows_mapped, addresses_fit, rows_again}
 
 -- the parts of a conversion that was done
-record WasConverted (convert_address : ℕ → Option Address) (notation : Notation) (sections : Sections) (h : Header) (given : Handed) (line_strings : List (List ℕ)) (c : Conversion) : Type 0 where
+record WasConverted (convert_address : ℕ → Option Address) (s : Source) (line_strings : List (List ℕ)) (c : Conversion) : Type 0 where
   reading : Reading
   first : Lists
-  ready : prepared sections h given line_strings ≡ Ok first
-  reads : Reads notation sections h first h.program reading
+  ready : prepared s.sections s.header s.given line_strings ≡ Ok first
+  reads : Reads s.notation s.sections s.header first s.header.program reading
   is : converted convert_address reading first.program ≡ Ok c
 
-was_converted : (convert_address : ℕ → Option Address) (notation : Notation) (sections : Sections) (h : Header) (given : Handed) (line_strings : List (List ℕ)) (c : Conversion)
-    → IsConverted convert_address notation sections h given line_strings (Ok c) → WasConverted convert_address notation sections h given line_strings c
-was_converted convert_address notation sections h given line_strings c so = by (prepared sections h given line_strings) refl so.1
+was_converted : (convert_address : ℕ → Option Address) (s : Source) (line_strings : List (List ℕ)) (c : Conversion)
+    → IsConverted convert_address s line_strings (Ok c) → WasConverted convert_address s line_strings c
+was_converted convert_address s line_strings c so = by (prepared s.sections s.header s.given line_strings) refl so.1
   where
-    by : (r : Result Lists ConvertError) → prepared sections h given line_strings ≡ r
-        → MatchResult r (λ first. Reads notation sections h first h.program so.0 × (converted convert_address so.0 first.program ≡ Ok c)) (λ e. (let o : Result Conversion ConvertError = Ok c in o) ≡ Err e)
-        → WasConverted convert_address notation sections h given line_strings c
+    by : (r : Result Lists ConvertError) → prepared s.sections s.header s.given line_strings ≡ r
+        → MatchResult r (λ first. Reads s.notation s.sections s.header first s.header.program so.0 × (converted convert_address so.0 first.program ≡ Ok c)) (λ e. (let o : Result Conversion ConvertError = Ok c in o) ≡ Err e)
+        → WasConverted convert_address s line_strings c
     by (Ok first) ready m = record { reading = so.0; first = first; ready = ready; reads = m.0; is = m.1 }
     by (Err e) ready m = absurd cc
 
@@ -87,57 +88,66 @@ element P xs i x all is = subst P (get_or_from_slice_get xs i x x is) (all i x (
 
 -- ---- the laws
 
-module _ (convert_address : ℕ → Option Address) (notation : Notation) (sections : Sections) (h : Header) (given : Handed) (line_strings : List (List ℕ)) (c : Conversion)
-    (so : IsConverted convert_address notation sections h given line_strings (Ok c)) where
+module _ (convert_address : ℕ → Option Address) (s : Source) (line_strings : List (List ℕ)) (c : Conversion)
+    (so : IsConverted convert_address s line_strings (Ok c)) where
   pub conversion_written : (strings : List (List ℕ)) → CanWrite c.program strings c.line_strings
   conversion_written =
-      let w = was_converted convert_address notation sections h given line_strings c so in
-      can_write notation sections h given line_strings w.first h.program w.reading convert_address c w.ready w.reads w.is
+      let w = was_converted convert_address s line_strings c so in
+      can_write s.notation s.sections s.header s.given line_strings w.first s.header.program w.reading convert_address c w.ready w.reads w.is
 
-  pub conversion_encoded : c.program.encoding ≡ encoding_of h given
+  pub conversion_encoded : c.program.encoding ≡ encoding_of s.header s.given
   conversion_encoded =
-      let w = was_converted convert_address notation sections h given line_strings c so in
-      encoding_kept notation sections h given line_strings w.first h.program w.reading convert_address c w.ready w.reads w.is
+      let w = was_converted convert_address s line_strings c so in
+      encoding_kept s.notation s.sections s.header s.given line_strings w.first s.header.program w.reading convert_address c w.ready w.reads w.is
 
-  module _ (can : CanBeFaithful convert_address notation h given) where
-    pub conversion_mapped : (strings : List (List ℕ)) → IsMapped notation sections h h.program strings c
-    conversion_mapped =
-        let w = was_converted convert_address notation sections h given line_strings c so in
-        is_mapped notation sections h given line_strings w.first h.program w.reading convert_address c w.ready w.reads can.itself can.wide can.ends_seen w.is
+  module _ (can : CanBeFaithful convert_address s) where
+    mapped_rows : AreRowsMapped s.notation s.header s.header.program c
+    mapped_rows =
+        let w = was_converted convert_address s line_strings c so in
+        rows_mapped s.notation s.sections s.header s.given line_strings w.first s.header.program w.reading convert_address c w.ready w.reads can.itself can.wide can.ends_seen w.is
+
+    pub conversion_mapped : (strings : List (List ℕ)) → IsMapped s strings c
+    conversion_mapped strings =
+        let w = was_converted convert_address s line_strings c so in
+        record {
+          rows = mapped_rows;
+          source_files = defined_files s.header.files (behind [] w.reads.list);
+          at_end = record { list = w.reads.list; end = w.reads.end; decoding = w.reads.decoding; given = refl };
+          files = files_same s.notation s.sections s.header s.given line_strings w.first s.header.program w.reading convert_address c w.ready w.reads w.is strings;
+        }
 
     pub conversion_fits : AddressesFit c.program.encoding.address_size 0 (0, 0) c.program.items
     conversion_fits =
-        let w = was_converted convert_address notation sections h given line_strings c so in
-        addresses_fit notation sections h given line_strings w.first h.program w.reading convert_address c w.ready w.reads can.itself can.wide can.ends_seen w.is
+        let w = was_converted convert_address s line_strings c so in
+        addresses_fit s.notation s.sections s.header s.given line_strings w.first s.header.program w.reading convert_address c w.ready w.reads can.itself can.wide can.ends_seen w.is
 
-    pub conversion_back : (rows back : List ReadRow) → Events notation h h.program (map row rows)
+    pub conversion_back : (rows back : List ReadRow) → Events s.notation s.header s.header.program (map row rows)
         → (AddressesFit c.program.encoding.address_size 0 (0, 0) c.program.items → RowsMatch c.program.encoding.version [] c.program.items back)
-        → OneByOne (IsReadAs h.parameters.encoding.version c.program.encoding.version c.file_ids) rows back
+        → OneByOne (IsReadAs s.header.parameters.encoding.version c.program.encoding.version c.file_ids) rows back
     conversion_back rows back events built =
-        let mapped : AreRowsMapped notation h h.program c = (conversion_mapped []).rows in
-        let same : mapped.rows ≡ rows = same_rows mapped.rows rows (events_once notation h h.program (map row mapped.rows) (map row rows) mapped.events events) in
-        subst (λ (source : List ReadRow). OneByOne (IsReadAs h.parameters.encoding.version c.program.encoding.version c.file_ids) source back) same
-        (rows_again h.parameters.encoding.version c.program.encoding.version c.file_ids [] c.program.items mapped.rows back mapped.mapped (built conversion_fits))
+        let mapped : AreRowsMapped s.notation s.header s.header.program c = mapped_rows in
+        let same : mapped.rows ≡ rows = same_rows mapped.rows rows (events_once s.notation s.header s.header.program (map row mapped.rows) (map row rows) mapped.events events) in
+        subst (λ (source : List ReadRow). OneByOne (IsReadAs s.header.parameters.encoding.version c.program.encoding.version c.file_ids) source back) same
+        (rows_again s.header.parameters.encoding.version c.program.encoding.version c.file_ids [] c.program.items mapped.rows back mapped.mapped (built conversion_fits))
 
     -- the same of a unit that is read back
-    pub unit_back : (rows : List ReadRow) → Events notation h h.program (map row rows)
-        → (again : Notation) (unit_entry : UnitEntry) (texts : Sections) (strings after : List (List ℕ)) (unit : List ℕ) (back : ReadsBack again unit_entry texts c.program strings after unit)
-        → (found : List ReadRow) × Events again back.header back.header.program (map row found) × OneByOne (IsReadAs h.parameters.encoding.version c.program.encoding.version c.file_ids) rows found
-    unit_back rows events again unit_entry texts strings after unit back =
-        let found = back.rows conversion_fits in
+    pub unit_back : (rows : List ReadRow) → Events s.notation s.header s.header.program (map row rows)
+        → (u : UnitReadBack c.program) → (found : List ReadRow) × UnitGives u found
+        × OneByOne (IsReadAs s.header.parameters.encoding.version c.program.encoding.version c.file_ids) rows found
+    unit_back rows events u =
+        let found = u.back.rows conversion_fits in
         (found.0, found.1, conversion_back rows found.0 events (λ fit. found.2))
 
-  pub files_back : (strings : List (List ℕ)) (files : List File) (answers : List FileAnswer) (directories : List (List ℕ)) → FilesAtEnd notation true h h.program files
-      → answers ≡ map (built_file c.program strings (line_strings_behind c.program c.line_strings)) c.program.files
-      → directories ≡ map (bytes_in strings (line_strings_behind c.program c.line_strings)) c.program.directories
-      → AreFilesReadAs sections h files c.file_ids directories answers
-  files_back strings files answers directories at_end answered directories_answered =
-      let w = was_converted convert_address notation sections h given line_strings c so in
-      let once = one_decoding notation h h.program w.reads.list w.reads.end w.reads.decoding ∙ sym (one_decoding notation h h.program at_end.list at_end.end at_end.decoding) in
-      let same : defined_files h.files (behind [] w.reads.list) ≡ files = ap (λ (p : List Ins × Option Error). defined_files h.files (behind [] p.0)) once ∙ sym at_end.given in
-      let mapped : AreFilesMapped sections h files strings c =
-      subst (λ (files : List File). AreFilesMapped sections h files strings c) same
-      (files_same notation sections h given line_strings w.first h.program w.reading convert_address c w.ready w.reads w.is strings) in
+  pub files_back : (strings : List (List ℕ)) (files : List File) → FilesAtEnd s.notation true s.header s.header.program files
+      → AreFilesReadAs s.sections s.header files c.file_ids (map (bytes_in strings (line_strings_behind c.program c.line_strings)) c.program.directories)
+      (map (built_file c.program strings (line_strings_behind c.program c.line_strings)) c.program.files)
+  files_back strings files at_end =
+      let w = was_converted convert_address s line_strings c so in
+      let once = one_decoding s.notation s.header s.header.program w.reads.list w.reads.end w.reads.decoding ∙ sym (one_decoding s.notation s.header s.header.program at_end.list at_end.end at_end.decoding) in
+      let same : defined_files s.header.files (behind [] w.reads.list) ≡ files = ap (λ (p : List Ins × Option Error). defined_files s.header.files (behind [] p.0)) once ∙ sym at_end.given in
+      let mapped : AreFilesMapped s.sections s.header files strings c =
+      subst (λ (files : List File). AreFilesMapped s.sections s.header files strings c) same
+      (files_same s.notation s.sections s.header s.given line_strings w.first s.header.program w.reading convert_address c w.ready w.reads w.is strings) in
       let can : CanWrite c.program strings c.line_strings = conversion_written strings in
       let after = line_strings_behind c.program c.line_strings in
       let keeps : KeepsTexts c.line_strings after = keeps_behind c.program c.line_strings in
@@ -155,12 +165,12 @@ module _ (convert_address : ℕ → Option Address) (notation : Notation) (secti
               found.1,
               (
                 answer,
-                ap (λ (l : List FileAnswer). slice_get l found.0) answered ∙ slice_get-map built c.program.files found.0 ∙ ap (option_map built) m.there,
+                slice_get-map built c.program.files found.0 ∙ ap (option_map built) m.there,
                 record {
                   directory = bytes_in strings after m.directory;
-                  directory_there = ap (λ (l : List (List ℕ)). slice_get l m.built.0.1) directories_answered ∙ slice_get-map (bytes_in strings after) c.program.directories m.built.0.1 ∙ ap (option_map (bytes_in strings after)) m.directory_there;
-                  has = subst (λ (path : List ℕ). HasPaths sections h path (bytes_in strings after m.directory) f) (sym path)
-                      (subst (λ (d : List ℕ). HasPaths sections h (bytes_in strings c.line_strings m.built.0.0) d f) (sym directory) m.has);
+                  directory_there = slice_get-map (bytes_in strings after) c.program.directories m.built.0.1 ∙ ap (option_map (bytes_in strings after)) m.directory_there;
+                  has = subst (λ (path : List ℕ). HasPaths s.sections s.header path (bytes_in strings after m.directory) f) (sym path)
+                      (subst (λ (d : List ℕ). HasPaths s.sections s.header (bytes_in strings c.line_strings m.built.0.0) d f) (sym directory) m.has);
                 },
               ),
             );

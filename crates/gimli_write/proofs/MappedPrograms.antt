@@ -9,7 +9,6 @@ use Rattle.gimli_core.specs.declared.common.Encoding.{Encoding}
 use Rattle.gimli_bytes.specs.declared.address.Address.{Address}
 use Rattle.gimli_line.specs.declared.run.row.LineRow.{LineRow as ReadRow}
 use Rattle.gimli_line.specs.header.Header.{Header}
-use Rattle.gimli_line.specs.run.Events.{defined_files, behind}
 use Rattle.gimli_line.specs.run.Instruction.{Ins}
 use Rattle.gimli_line.specs.run.InstructionGrammar.{Decodes}
 use Rattle.gimli_line.proofs.InstructionLaws.{one_decoding}
@@ -25,9 +24,9 @@ use Rattle.gimli_write.specs.convert.Lists.{Lists}
 use Rattle.gimli_write.specs.convert.Preparation.{Handed, encoding_of, prepared}
 use Rattle.gimli_write.specs.convert.Offers.{Reading, Reads}
 use Rattle.gimli_write.specs.convert.Feeding.{Conversion, converted}
-use Rattle.gimli_write.specs.convert.Mapped.{MapsToItself, SeesEnds, SeesEndsBehind, RowsMapped, AreRowsMapped, IsMapped, IsReadAs}
+use Rattle.gimli_write.specs.convert.Mapped.{MapsToItself, SeesEnds, SeesEndsBehind, RowsMapped, AreRowsMapped, IsReadAs}
 use Rattle.gimli_write.proofs.MappedAddresses.{follows_start}
-use Rattle.gimli_write.proofs.MappedEnds.{encoding_kept, files_same}
+use Rattle.gimli_write.proofs.MappedEnds.{encoding_kept}
 use Rattle.gimli_write.proofs.MappedLists.{IsReady, prepared_ready}
 use Rattle.gimli_write.proofs.MappedRows.{Rest, rest_mapped}
 
@@ -78,14 +77,6 @@ module _ (notation : Notation) (sections : Sections) (h : Header) (given : Hande
   addresses_fit =
       subst (λ (e : Encoding). AddressesFit e.address_size 0 (0, 0) c.program.items) (sym (encoding_kept notation sections h given line_strings first bytes reading convert_address c ready reads is))
       (subst (λ (items : List BuiltItem). AddressesFit (encoding_of h given).address_size 0 (0, 0) items) (sym all_items) whole.fit)
-
-  pub is_mapped : (strings : List (List ℕ)) → IsMapped notation sections h bytes strings c
-  is_mapped strings = record {
-    rows = rows_mapped;
-    source_files = defined_files h.files (behind [] reads.list);
-    at_end = record { list = reads.list; end = reads.end; decoding = reads.decoding; given = refl };
-    files = files_same notation sections h given line_strings first bytes reading convert_address c ready reads is strings;
-  }
 
 -- ---- what is read back of it
 

@@ -1,6 +1,7 @@
 -- What is answered of a unit that was written and read again.
-use Rattle.std.specs.Prelude.{◌≡◌, ℕ, ◌^◌, List, ◌++◌, map, slice_get, Option, Some, None, option_map, Bool, All}
+use Rattle.std.specs.Prelude.{◌≡◌, ℕ, ◌^◌, List, [], ◌++◌, map, slice_get, Option, Some, None, option_map, Bool, All}
 use Rattle.gimli_core.specs.Notation.{Notation}
+use Rattle.gimli_core.specs.declared.common.Encoding.{Encoding}
 use Rattle.gimli_line.specs.header.Header.{Header, UnitEntry}
 use Rattle.gimli_line.specs.header.HeaderGrammar.{SpellsUnit}
 use Rattle.gimli_line.specs.header.File.{File as ReadFile}
@@ -16,6 +17,9 @@ use Rattle.gimli_build.specs.Texts.{Sections, IsText, IsOptionalText, OneByOne}
 use Rattle.gimli_write.specs.TextReading.{HasText, HasFileTexts}
 use Rattle.gimli_build.specs.ReadsBack.{IsUnit, directories_from_zero, ReadsBack, IsReadWell}
 use Rattle.gimli_build.specs.Built.{Built}
+use Rattle.gimli_build.specs.Cause.{first_cause}
+use Rattle.gimli_build.specs.Items.{AddressesFit}
+use Rattle.gimli_build.specs.SameRow.{RowsMatch}
 use Rattle.gimli_write.specs.declared.convert_error.ConvertError.{ConvertError}
 use Rattle.gimli_write.specs.declared.convert_error.ConvertError.TheVariants.{Read, Write, OutOfMemory}
 use Rattle.gimli_write.specs.declared.read_back.RoundTrip.{RoundTrip}
@@ -123,6 +127,14 @@ built_file p strings line_strings f = record {
   source = (stored p strings line_strings f.1).source;
 }
 
+-- the addresses of a program fit its address size, and none of them hides
+abbrev pub HasFittingAddresses : Built → Type 0
+HasFittingAddresses p = AddressesFit p.encoding.address_size 0 (0, 0) p.items
+
+-- rows are the rows and ends that were built, one by one, where the addresses fit
+abbrev pub AreBuiltRows : Built → List ReadRow → Type 0
+AreBuiltRows p rows = HasFittingAddresses p → RowsMatch p.encoding.version [] p.items rows
+
 -- ---- refusals
 
 -- the bytes begin with a unit that has this header
@@ -158,6 +170,20 @@ IsRefusal big cause unit_entry old new (Write e) = cause ≡ Some e
 IsRefusal big cause unit_entry old new (Read fault) =
     (bytes : List ℕ) × (new ≡ old ++ bytes) × RefusesUnit (slice_notation big) unit_entry bytes (Read fault)
 IsRefusal big cause unit_entry old new e = ⊥
+
+-- both tables of strings, as texts
+pub record TableTexts : Type 0 where
+  pub strings : List (List ℕ)
+  pub line_strings : List (List ℕ)
+
+abbrev pub tables : List (List ℕ) → List (List ℕ) → TableTexts
+tables strings line_strings = record { strings = strings; line_strings = line_strings }
+
+-- why a program isn't written in this order and encoding, or not read again, where these were the tables before and after
+abbrev pub IsRoundTripRefusal : Bool → Encoding → Built → TableTexts → TableTexts → List ℕ → List ℕ → ConvertError → Type 0
+IsRoundTripRefusal big encoding p before after old new =
+    IsRefusal big (first_cause big encoding p before.strings before.line_strings)
+    (unit_entry_of p after.strings after.line_strings) old new
 
 -- why a program isn't written: the cause why it can't be, if there is one, or want of memory
 abbrev pub IsWriteRefusal : Option Error → ConvertError → Type 0

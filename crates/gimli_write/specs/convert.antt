@@ -2,9 +2,11 @@
 pub mod Texts
 pub mod Lists
 pub mod Preparation
+pub mod Sources
 pub mod Offers
 pub mod SourceState
 pub mod Feeding
 pub mod Mapped
 pub mod ConversionState
+pub mod DoneConversions
 pub mod Sequences

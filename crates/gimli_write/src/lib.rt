@@ -11,7 +11,7 @@ mod read_back;
 mod text;
 
 pub use convert::offer::ConvertLineRow;
-pub use convert::program::{ConvertLineProgram, convert_program};
+pub use convert::program::{ConvertLineHeader, ConvertLineProgram, convert_program};
 pub use convert::sequence::{ConvertLineSequence, ConvertLineSequenceEnd};
 pub use convert_error::{ConvertError, ConvertResult};
 pub use gimli_build::{

@@ -9,8 +9,6 @@ ghost use Rattle.gimli_line.specs.header.File.{file_seen};
 ghost use Rattle.gimli_line.specs.run.Events.{Events, row};
 ghost use Rattle.gimli_build.specs.LineText.{IsWithin, bytes_in};
 ghost use Rattle.gimli_build.specs.Conditions.{CanWrite};
-ghost use Rattle.gimli_build.specs.Items.{AddressesFit};
-ghost use Rattle.gimli_build.specs.SameRow.{RowsMatch};
 ghost use Rattle.gimli_build.specs.Unit.{unit_bytes};
 ghost use Rattle.gimli_bytes.specs.Texts.{byte_count};
 ghost use Rattle.gimli_build.specs.Version5Tables.{strings_behind, line_strings_behind};
@@ -62,7 +60,7 @@ pub struct RoundTripFile {
     pub source: Option<Vec<u8>>,
 }
 
-ghost use Rattle.gimli_write.specs.RoundTrip.{answers, file_answer, IsFileAnswer, AreAnswers, HasTexts, slice_notation, unit_entry_of, sections_of, IsRunRefusal, RefusesUnit, IsRefusal, IsWriteRefusal, built_file, IsUnitOf, AnswersProgram, unit_entry_with, BeginsUnit, CanRead};
+ghost use Rattle.gimli_write.specs.RoundTrip.{answers, file_answer, IsFileAnswer, AreAnswers, HasTexts, slice_notation, unit_entry_of, sections_of, IsRunRefusal, RefusesUnit, tables, IsRoundTripRefusal, IsWriteRefusal, built_file, HasFittingAddresses, AreBuiltRows, IsUnitOf, AnswersProgram, unit_entry_with, BeginsUnit, CanRead};
 
 /// The working directory of a program.
 fn working_directory<'a>(
@@ -337,10 +335,8 @@ fn read_unit<E: Endianity>(
         ≡ map (bytes_in strings.now line_strings.now) program.now.directories) }
     ensures files { IfOk result (λ answer. map file_answer answer.files.items
         ≡ map (built_file program.now strings.now line_strings.now) program.now.files) }
-    ensures built { IfOk result (λ answer. AddressesFit program.now.encoding.address_size 0 (0, 0) program.now.items
-        → RowsMatch program.now.encoding.version [] program.now.items answer.rows.items) }
-    ensures never_read { AddressesFit program.now.encoding.address_size 0 (0, 0) program.now.items
-        → IfErr result (λ e. e ≡ ConvertError.OutOfMemory) }
+    ensures built { IfOk result (λ answer. AreBuiltRows program.now answer.rows.items) }
+    ensures never_read { HasFittingAddresses program.now → IfErr result (λ e. e ≡ ConvertError.OutOfMemory) }
 {
     let alloc = *line_strings.allocator();
     let endian = section.endian();
@@ -378,25 +374,21 @@ pub fn round_trip<E: Endianity>(
     ensures keeps { Begins w.old.0.bytes w.new.0.bytes }
     ensures ordered { E.big w.new.0.endian ≡ E.big w.old.0.endian }
     ensures offset { IfOk result (λ answer. answer.offset.0 ≡ length w.old.0.bytes) }
-    ensures unit { OnOk result (Appends
-        (unit_bytes (E.big w.old.0.endian) encoding program.now strings.old line_strings.old)
-        w.old.0.bytes w.new.0.bytes) }
+    ensures unit { OnOk result (Appends (unit_bytes (E.big w.old.0.endian) encoding program.now
+        strings.old line_strings.old) w.old.0.bytes w.new.0.bytes) }
     ensures answers { IfOk result (λ answer. (unit : List ℕ) × (w.new.0.bytes ≡ w.old.0.bytes ++ unit)
         × AnswersProgram (E.big w.old.0.endian) program.now strings.new line_strings.new unit answer) }
     ensures directories { IfOk result (λ answer. map (λ text. text.items) answer.directories.items
         ≡ map (bytes_in strings.new line_strings.new) program.now.directories) }
     ensures files { IfOk result (λ answer. map file_answer answer.files.items
         ≡ map (built_file program.now strings.new line_strings.new) program.now.files) }
-    ensures built { IfOk result (λ answer. AddressesFit program.now.encoding.address_size 0 (0, 0) program.now.items
-        → RowsMatch program.now.encoding.version [] program.now.items answer.rows.items) }
+    ensures built { IfOk result (λ answer. AreBuiltRows program.now answer.rows.items) }
     ensures no_cause { OnOk result (first_cause (E.big w.old.0.endian) encoding program.now
         strings.old line_strings.old ≡ None) }
-    ensures never_read { AddressesFit program.now.encoding.address_size 0 (0, 0) program.now.items
-        → IfErr result (IsWriteRefusal (first_cause (E.big w.old.0.endian) encoding program.now
-        strings.old line_strings.old)) }
-    ensures refusal { IfErr result (IsRefusal (E.big w.old.0.endian)
-        (first_cause (E.big w.old.0.endian) encoding program.now strings.old line_strings.old)
-        (unit_entry_of program.now strings.new line_strings.new) w.old.0.bytes w.new.0.bytes) }
+    ensures never_read { HasFittingAddresses program.now → IfErr result (IsWriteRefusal
+        (first_cause (E.big w.old.0.endian) encoding program.now strings.old line_strings.old)) }
+    ensures refusal { IfErr result (IsRoundTripRefusal (E.big w.old.0.endian) encoding program.now
+        (tables strings.old line_strings.old) (tables strings.new line_strings.new) w.old.0.bytes w.new.0.bytes) }
     ensures strings { OnOk result (strings.new ≡ strings_behind program.now strings.old) }
     ensures line_strings { OnOk result (line_strings.new ≡ line_strings_behind program.now line_strings.old) }
     ensures strings_kept { (strings.new ≡ strings.old) ⊎ (strings.new ≡ strings_behind program.now strings.old) }

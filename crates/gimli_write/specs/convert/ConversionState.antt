@@ -1,9 +1,9 @@
 -- A conversion, as far as it got, and what it has still to read.
 use Rattle.std.specs.Prelude.{◌≡◌, ◌⊎◌, ℕ, true, List, ◌++◌, Option, Some, None, option_map, Result, Ok, Err, MatchResult}
 use Rattle.std.specs.Option.{option_to_list}
-use Rattle.gimli_core.specs.Notation.{Notation}
+use Rattle.std.specs.declared.vec.Vec.{Vec}
+use Rattle.std.specs.declared.alloc.Global.{Global}
 use Rattle.gimli_bytes.specs.declared.address.Address.{Address}
-use Rattle.gimli_line.specs.header.Header.{Header}
 use Rattle.gimli_build.specs.Built.{Built}
 use Rattle.gimli_build.specs.Texts.{Sections}
 use Rattle.gimli_build.specs.declared.built.items.BuiltItem.TheVariants.{SetAddress}
@@ -15,7 +15,9 @@ use Rattle.gimli_write.specs.convert.Lists.{Converted, Lists, lists_with}
 use Rattle.gimli_write.specs.convert.Offers.{Reading, ends, stops, offers, address_offered, place_offered, defines_first, after_definitions, Reads}
 use Rattle.gimli_write.specs.convert.SourceState.{SourceState, reading_left}
 use Rattle.gimli_write.specs.convert.Feeding.{Conversion, converted, without_items}
-use Rattle.gimli_write.specs.convert.Preparation.{Handed, prepared}
+use Rattle.gimli_write.specs.convert.Preparation.{prepared}
+use Rattle.gimli_write.specs.convert.Sources.{Source}
+use Rattle.gimli_write.specs.convert.Texts.{IsRefusedBy}
 
 pub record ConversionState : Type 0 where
   pub sections : Sections
@@ -108,12 +110,67 @@ with_program p c = record c { lists = record c.lists { program = p } }
 abbrev pub begun : Option Address → Built → Built
 begun address p = record p { items = p.items ++ option_to_list (option_map SetAddress address); in_sequence = true }
 
--- ---- a whole conversion
+-- ---- a conversion from its start on
 
--- what comes of a source with this header, where nothing is built before: the refusal of a step of its header, else what
--- comes of reading its program
-abbrev pub IsConverted : (ℕ → Option Address) → Notation → Sections → Header → Handed → List (List ℕ) → Result Conversion ConvertError → Type 0
-IsConverted convert_address notation sections h given line_strings outcome =
-    (reading : Reading) × MatchResult (prepared sections h given line_strings)
-    (λ first. Reads notation sections h first h.program reading × (converted convert_address reading first.program ≡ outcome))
+-- the directories and files of a source are added, by the steps of its header; the old line strings are those before it,
+-- the new ones those after it
+abbrev pub IsPrepared : Source → List (List ℕ) → ConversionState → List (List ℕ) → Type 0
+IsPrepared s old c new = prepared s.sections s.header s.given old ≡ Ok (lists_with new c.lists)
+
+-- why they aren't added: what refuses a step, or want of memory
+abbrev pub IsHeaderRefusal : Source → List (List ℕ) → ConvertError → Type 0
+IsHeaderRefusal s line_strings = IsRefusedBy (prepared s.sections s.header s.given line_strings)
+
+-- the whole program of a source is still to be read, with these lists at its start
+abbrev pub ReadsWhole : Source → ConversionState → List (List ℕ) → Type 0
+ReadsWhole s c line_strings =
+    Reads s.notation s.sections s.header (lists_with line_strings c.lists) s.header.program (still_to_read c line_strings)
+
+-- what comes of a source, where nothing is built before: the refusal of a step of its header, else what comes of reading
+-- its program
+abbrev pub IsConverted : (ℕ → Option Address) → Source → List (List ℕ) → Result Conversion ConvertError → Type 0
+IsConverted convert_address s line_strings outcome =
+    (reading : Reading) × MatchResult (prepared s.sections s.header s.given line_strings)
+    (λ first. Reads s.notation s.sections s.header first s.header.program reading × (converted convert_address reading first.program ≡ outcome))
     (λ e. outcome ≡ Err e)
+
+-- ---- reads, from one state to the next
+
+-- a read hands this out, and leaves what is still to be read after it
+abbrev pub GivesNext : ConversionState → List (List ℕ) → Option ConvertLineRow → ConversionState → List (List ℕ) → Type 0
+GivesNext old old_strings row new new_strings =
+    HandsOut (still_to_read old old_strings) row (lists_of new new_strings) (still_to_read new new_strings)
+
+-- ---- with a map of addresses that is handed in
+
+-- whatever the map may answer for an address is what this function gives for it
+abbrev pub AnswersAs : (ℕ → Option Address → Type 0) → (ℕ → Option Address) → Type 0
+AnswersAs map convert_address = (a : ℕ) (r : Option Address) → map a r → r ≡ convert_address a
+
+-- what was answered of a conversion, and the line strings after it
+abbrev pub conversion_of : Built × Vec ℕ Global → List (List ℕ) → Conversion
+conversion_of answer line_strings = record { program = answer.0; file_ids = answer.1.items; line_strings = line_strings }
+
+-- by such a map a source is converted to this answer; the old line strings are those before it, the new ones those after it
+abbrev pub ConvertsTo : (ℕ → Option Address → Type 0) → Source → List (List ℕ) → Built × Vec ℕ Global → List (List ℕ) → Type 0
+ConvertsTo map s old answer new =
+    (g : ℕ → Option Address) → AnswersAs map g → IsConverted g s old (Ok (conversion_of answer new))
+
+-- why a source isn't converted by such a map: what refuses it, or want of memory
+abbrev pub IsConvertRefusal : (ℕ → Option Address → Type 0) → Source → List (List ℕ) → ConvertError → Type 0
+IsConvertRefusal map s line_strings e =
+    (g : ℕ → Option Address) → AnswersAs map g → (e ≡ OutOfMemory) ⊎ IsConverted g s line_strings (Err e)
+
+-- what comes of all that is still to be read
+abbrev pub rest_converted : (ℕ → Option Address) → ConversionState → List (List ℕ) → Result Conversion ConvertError
+rest_converted convert_address c line_strings = converted convert_address (still_to_read c line_strings) c.lists.program
+
+-- by such a map all that is still to be read is converted to this answer
+abbrev pub RestConvertsTo : (ℕ → Option Address → Type 0) → ConversionState → List (List ℕ) → Built × Vec ℕ Global → List (List ℕ) → Type 0
+RestConvertsTo map c old answer new =
+    (g : ℕ → Option Address) → AnswersAs map g → rest_converted g c old ≡ Ok (conversion_of answer new)
+
+-- why it isn't: what refuses it, or want of memory
+abbrev pub IsRestRefusal : (ℕ → Option Address → Type 0) → ConversionState → List (List ℕ) → ConvertError → Type 0
+IsRestRefusal map c line_strings e =
+    (g : ℕ → Option Address) → AnswersAs map g → IsRefusedBy (rest_converted g c line_strings) e

@@ -1,6 +1,8 @@
 -- What it means that a converted program says what its source says, and what is asked of the source for it.
 use Rattle.std.specs.Prelude.{◌≡◌, ◌≢◌, ℕ, ◌+◌, ◌≤◌, Bool, true, false, not, ◌&&◌, ◌||◌, if◌then◌else◌, List, [], ◌∷◌, ◌++◌, map, slice_get, Option, Some, None, option_map}
 use Rattle.std.specs.List.{AllByRecursion}
+use Rattle.std.specs.declared.vec.Vec.{Vec}
+use Rattle.std.specs.declared.alloc.Global.{Global}
 use Rattle.gimli_core.specs.Notation.{Notation}
 use Rattle.gimli_core.specs.Values.{Value}
 use Rattle.gimli_core.specs.declared.error.Error.{Error}
@@ -15,20 +17,21 @@ use Rattle.gimli_line.specs.run.EventsWithFiles.{FilesAtEnd}
 use Rattle.gimli_line.specs.run.Instruction.{Ins, is_end, makes_row}
 use Rattle.gimli_line.specs.run.InstructionGrammar.{Decodes}
 use Rattle.gimli_line.specs.run.OperationPointer.{is_hidden}
-use Rattle.gimli_build.specs.Built.{address_value}
+use Rattle.gimli_build.specs.Built.{Built, address_value}
 use Rattle.gimli_build.specs.FileNumber.{file_number}
 use Rattle.gimli_build.specs.LineText.{LineText, bytes_in}
 use Rattle.gimli_build.specs.Conditions.{CanWrite}
-use Rattle.gimli_build.specs.Items.{AddressesFit}
 use Rattle.gimli_build.specs.SameRow.{read_row, RowsMatch}
 use Rattle.gimli_build.specs.Tables.{File as BuiltFile}
 use Rattle.gimli_build.specs.Texts.{Sections, IsText, IsOptionalText, OneByOne}
 use Rattle.gimli_build.specs.declared.built.row.LineRow.{LineRow}
 use Rattle.gimli_build.specs.declared.built.items.BuiltItem.{BuiltItem}
 use Rattle.gimli_build.specs.declared.built.items.BuiltItem.TheVariants.{SetAddress, Row, End}
-use Rattle.gimli_write.specs.RoundTrip.{FileAnswer}
+use Rattle.gimli_write.specs.RoundTrip.{FileAnswer, HasFittingAddresses}
 use Rattle.gimli_write.specs.convert.Feeding.{Conversion}
-use Rattle.gimli_write.specs.convert.Preparation.{Handed, encoding_of}
+use Rattle.gimli_write.specs.convert.Preparation.{encoding_of}
+use Rattle.gimli_write.specs.convert.Sources.{Source}
+use Rattle.gimli_write.specs.convert.ConversionState.{AnswersAs, conversion_of}
 
 -- ---- what is asked
 
@@ -55,10 +58,10 @@ pub record SeesEnds (notation : Notation) (h : Header) (bytes : List ℕ) : Type
   pub seen : SeesEndsBehind h.parameters [] list
 
 -- what is asked of a source and of what is handed, so that a conversion is faithful
-pub record CanBeFaithful (convert_address : ℕ → Option Address) (notation : Notation) (h : Header) (given : Handed) : Type 0 where
+pub record CanBeFaithful (convert_address : ℕ → Option Address) (s : Source) : Type 0 where
   pub itself : MapsToItself convert_address
-  pub wide : h.parameters.encoding.address_size ≤ (encoding_of h given).address_size
-  pub ends_seen : SeesEnds notation h h.program
+  pub wide : s.header.parameters.encoding.address_size ≤ (encoding_of s.header s.given).address_size
+  pub ends_seen : SeesEnds s.notation s.header s.header.program
 
 -- ---- rows and ends
 
@@ -135,11 +138,11 @@ pub record AreFilesMapped (sections : Sections) (h : Header) (files : List File)
 -- ---- all of it
 
 -- a converted program says what its source says: its rows and ends, and its files, those that the program defines too
-pub record IsMapped (notation : Notation) (sections : Sections) (h : Header) (bytes : List ℕ) (strings : List (List ℕ)) (c : Conversion) : Type 0 where
-  pub rows : AreRowsMapped notation h bytes c
+pub record IsMapped (s : Source) (strings : List (List ℕ)) (c : Conversion) : Type 0 where
+  pub rows : AreRowsMapped s.notation s.header s.header.program c
   pub source_files : List File
-  pub at_end : FilesAtEnd notation true h bytes source_files
-  pub files : AreFilesMapped sections h source_files strings c
+  pub at_end : FilesAtEnd s.notation true s.header s.header.program source_files
+  pub files : AreFilesMapped s.sections s.header source_files strings c
 
 -- ---- what is read back
 
@@ -167,10 +170,16 @@ pub record AreFilesReadAs (sections : Sections) (h : Header) (files : List File)
 
 -- a converted program can be written; it says what its source says, in addresses that fit and hide nothing; and rows that
 -- are read back as it was built say what the rows of the source say
-pub record IsFaithful (notation : Notation) (sections : Sections) (h : Header) (strings : List (List ℕ)) (c : Conversion) : Type 0 where
+pub record IsFaithful (s : Source) (strings : List (List ℕ)) (c : Conversion) : Type 0 where
   pub can_write : CanWrite c.program strings c.line_strings
-  pub mapped : IsMapped notation sections h h.program strings c
-  pub addresses : AddressesFit c.program.encoding.address_size 0 (0, 0) c.program.items
-  pub read_back : (rows back : List ReadRow) → Events notation h h.program (map row rows)
+  pub mapped : IsMapped s strings c
+  pub addresses : HasFittingAddresses c.program
+  pub read_back : (rows back : List ReadRow) → Events s.notation s.header s.header.program (map row rows)
       → RowsMatch c.program.encoding.version [] c.program.items back
-      → OneByOne (IsReadAs h.parameters.encoding.version c.program.encoding.version c.file_ids) rows back
+      → OneByOne (IsReadAs s.header.parameters.encoding.version c.program.encoding.version c.file_ids) rows back
+
+-- where what is asked of a source, of what is handed and of the map of addresses holds, what was answered is faithful, with
+-- these tables after it
+abbrev pub IsFaithfulIfItCan : (ℕ → Option Address → Type 0) → Source → List (List ℕ) → Built × Vec ℕ Global → List (List ℕ) → Type 0
+IsFaithfulIfItCan map s strings answer line_strings =
+    (g : ℕ → Option Address) → AnswersAs map g → CanBeFaithful g s → IsFaithful s strings (conversion_of answer line_strings)

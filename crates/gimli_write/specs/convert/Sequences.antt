@@ -1,5 +1,5 @@
 -- The sequences of what a conversion reads.
-use Rattle.std.specs.Prelude.{ℕ, List, [], ◌∷◌, ◌++◌, Option, Some, None, Result, Ok, Err}
+use Rattle.std.specs.Prelude.{◌≡◌, ℕ, List, [], ◌∷◌, ◌++◌, Option, Some, None, option_map, Result, Ok, Err}
 use Rattle.gimli_build.specs.declared.built.row.LineRow.{LineRow}
 use Rattle.gimli_write.specs.declared.convert_error.ConvertError.{ConvertError}
 use Rattle.gimli_write.specs.declared.convert_error.ConvertError.TheVariants.{MissingLineEndSequence}
@@ -9,6 +9,8 @@ use Rattle.gimli_write.specs.declared.convert.sequence.ConvertLineSequenceEnd.{C
 use Rattle.gimli_write.specs.declared.convert.sequence.ConvertLineSequenceEnd.TheVariants.{Length, Address}
 use Rattle.gimli_write.specs.convert.Lists.{Lists}
 use Rattle.gimli_write.specs.convert.Offers.{Reading, ends, stops, defines, offers}
+use Rattle.gimli_write.specs.convert.Texts.{IsRefusedBy}
+use Rattle.gimli_write.specs.convert.ConversionState.{ConversionState, still_to_read}
 
 -- rows whose offsets count from one address
 pub record SequenceRead : Type 0 where
@@ -38,3 +40,12 @@ gathered start rows (offers (EndSequence length) lists rest) = Ok (Some (sequenc
 gathered start [] (offers (SetAddress a) lists rest) = gathered (Some a) [] rest
 gathered start (row ∷ rows) (offers (SetAddress a) lists rest) =
     Ok (Some (sequence_with start (row ∷ rows) (Address a)), offers (SetAddress a) lists rest)
+
+-- a read gathers this sequence, and leaves what is still to be read after it
+abbrev pub GathersNext : ConversionState → List (List ℕ) → Option ConvertLineSequence → ConversionState → List (List ℕ) → Type 0
+GathersNext old old_strings sequence new new_strings =
+    gathered None [] (still_to_read old old_strings) ≡ Ok (option_map sequence_read sequence, still_to_read new new_strings)
+
+-- why a read gathers none: what refuses it, or want of memory
+abbrev pub IsGatherRefusal : ConversionState → List (List ℕ) → ConvertError → Type 0
+IsGatherRefusal c line_strings = IsRefusedBy (gathered None [] (still_to_read c line_strings))

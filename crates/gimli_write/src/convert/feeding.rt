@@ -4,8 +4,8 @@ ghost use Rattle.std.specs.Prelude.{◌≡◌, ℕ, Ok, Option, IfErr, IfOk, OnO
 ghost use Rattle.gimli_bytes.specs.Texts.{KeepsTexts};
 ghost use Rattle.gimli_bytes.specs.declared.address.Address.{Address};
 ghost use Rattle.gimli_write.specs.convert.Texts.{IsRefusedBy};
-ghost use Rattle.gimli_write.specs.convert.Feeding.{fed, converted, without_items};
-ghost use Rattle.gimli_write.specs.convert.ConversionState.{still_to_read, with_program};
+ghost use Rattle.gimli_write.specs.convert.Feeding.{fed, without_items};
+ghost use Rattle.gimli_write.specs.convert.ConversionState.{with_program, AnswersAs, RestConvertsTo, IsRestRefusal};
 
 use crate::convert::conversion::Conversion;
 use crate::convert::offer::ConvertLineRow;
@@ -24,11 +24,9 @@ impl<R: Reader> Conversion<R> {
         convert_address: &F,
     ) -> ConvertResult<()>
         requires { F.IsAlwaysCallable convert_address.now }
-        ensures ok { (g : ℕ → Option Address)
-            → ((a : ℕ) (r : Option Address) → F.post convert_address.now a r → r ≡ g a)
+        ensures ok { (g : ℕ → Option Address) → AnswersAs (F.post convert_address.now) g
             → OnOk result (fed g row self.old.lists.program ≡ Ok self.new.lists.program) }
-        ensures err { (g : ℕ → Option Address)
-            → ((a : ℕ) (r : Option Address) → F.post convert_address.now a r → r ≡ g a)
+        ensures err { (g : ℕ → Option Address) → AnswersAs (F.post convert_address.now) g
             → IfErr result (IsRefusedBy (fed g row self.old.lists.program)) }
         ensures kept { OnOk result (self.new ≡ with_program self.new.lists.program self.old) }
         ensures items { OnOk result (without_items self.new.lists.program ≡ without_items self.old.lists.program) }
@@ -53,12 +51,9 @@ pub(crate) fn convert_all<R: Reader, F: Fn(u64) -> Option<Address>>(
     convert_address: F,
 ) -> ConvertResult<(LineProgram, Vec<FileId>)>
     requires { F.IsAlwaysCallable convert_address }
-    ensures ok { (g : ℕ → Option Address) → ((a : ℕ) (r : Option Address) → F.post convert_address a r → r ≡ g a)
-        → IfOk result (λ answer. converted g (still_to_read conversion line_strings.old) conversion.lists.program
-        ≡ Ok (record { program = answer.0; file_ids = answer.1.items; line_strings = line_strings.new })) }
-    ensures err { (g : ℕ → Option Address) → ((a : ℕ) (r : Option Address) → F.post convert_address a r → r ≡ g a)
-        → IfErr result (IsRefusedBy
-        (converted g (still_to_read conversion line_strings.old) conversion.lists.program)) }
+    ensures ok { IfOk result (λ answer. RestConvertsTo (F.post convert_address)
+        conversion line_strings.old answer line_strings.new) }
+    ensures err { IfErr result (IsRestRefusal (F.post convert_address) conversion line_strings.old) }
     ensures stays { KeepsTexts line_strings.old line_strings.new }
 {
     let mut conversion = conversion;

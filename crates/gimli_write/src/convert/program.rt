@@ -1,20 +1,16 @@
 //! The conversion of a line program, as its callers see it.
 
-ghost use Rattle.std.specs.Prelude.{◌≡◌, ◌⊎◌, ℕ, false, [], Option, Some, None, Ok, Err, option_map, IfErr, IfOk, IfSome, IsTrue, OnErr, OnOk};
+ghost use Rattle.std.specs.Prelude.{◌≡◌, ℕ, false, Option, Some, None, Err, IfErr, IfOk, IfSome, IsTrue, OnErr, OnOk};
 ghost use Rattle.gimli_core.specs.Numbers.{is_address_size};
 ghost use Rattle.gimli_bytes.specs.Texts.{KeepsTexts};
-ghost use Rattle.gimli_bytes.specs.declared.address.Address.{Address};
 ghost use Rattle.gimli_build.specs.Advance.{CanEncode};
 ghost use Rattle.gimli_build.specs.Built.{previous_place};
 ghost use Rattle.gimli_build.specs.Conditions.{CanBuild, CanEndSequence};
-ghost use Rattle.gimli_write.specs.convert.Texts.{IsRefusedBy};
-ghost use Rattle.gimli_write.specs.convert.Lists.{lists_with};
-ghost use Rattle.gimli_write.specs.convert.Offers.{Reads};
-ghost use Rattle.gimli_write.specs.convert.Mapped.{CanBeFaithful, IsFaithful};
-ghost use Rattle.gimli_write.specs.convert.Preparation.{handed, prepared};
-ghost use Rattle.gimli_write.specs.convert.Feeding.{behind_address, behind_row, behind_end, converted};
-ghost use Rattle.gimli_write.specs.convert.ConversionState.{lists_of, still_to_read, HandsOut, IsReadRefusal, AddsFiles, IsBuildRefusal, IsConverted, begun, with_program};
-ghost use Rattle.gimli_write.specs.convert.Sequences.{gathered, sequence_read};
+ghost use Rattle.gimli_write.specs.convert.Sources.{source_of};
+ghost use Rattle.gimli_write.specs.convert.Mapped.{IsFaithfulIfItCan};
+ghost use Rattle.gimli_write.specs.convert.Feeding.{behind_address, behind_row, behind_end};
+ghost use Rattle.gimli_write.specs.convert.ConversionState.{still_to_read, IsPrepared, IsHeaderRefusal, ReadsWhole, GivesNext, IsReadRefusal, AddsFiles, IsBuildRefusal, begun, with_program, ConvertsTo, IsConvertRefusal, RestConvertsTo, IsRestRefusal};
+ghost use Rattle.gimli_write.specs.convert.Sequences.{GathersNext, IsGatherRefusal};
 
 use crate::convert::conversion::Conversion;
 use crate::convert::feeding::convert_all;
@@ -28,13 +24,13 @@ use gimli_build::{BuiltItem, FileId, LineProgram, LineRow};
 use gimli_bytes::{Address, LineStringTable, StringTable};
 use gimli_core::{Encoding, LineEncoding, Reader};
 use gimli_line::IncompleteLineProgram;
-use std::marker::PhantomData;
+use std::marker::{Model, PhantomData};
 
 /// A line program that is read and built again.
 ///
 /// It holds the tables of strings until it is dropped. What owns memory stands at the last type parameter, which is
 /// never written.
-#[derive(Debug, Drop)]
+#[derive(Debug)]
 pub struct ConvertLineProgram<'a, 'b, R: Reader, P = Conversion<R>> {
     line_strings: &'a mut LineStringTable,
     strings: &'b mut StringTable,
@@ -42,44 +38,106 @@ pub struct ConvertLineProgram<'a, 'b, R: Reader, P = Conversion<R>> {
     reader: PhantomData<R>,
 }
 
-/// What is made of the header of a source, in the tables that are handed.
-fn started<R: Reader>(
-    debug_str: R,
-    debug_line_str: R,
-    from_program: IncompleteLineProgram<R>,
-    from_comp_name: Option<R>,
-    encoding: Option<Encoding>,
-    line_encoding: Option<LineEncoding>,
-    line_strings: &mut LineStringTable,
-) -> ConvertResult<Conversion<R>>
-    requires address_size { IfSome encoding (λ e. IsTrue (is_address_size e.address_size)) }
-    requires lines { IfSome line_encoding CanEncode }
-    ensures ok { IfOk result (λ conversion. prepared
-        (record { strings = R.bytes debug_str; line_strings = R.bytes debug_line_str }) from_program.meaning
-        (handed encoding line_encoding (option_map R.bytes from_comp_name)) line_strings.old
-        ≡ Ok (lists_with line_strings.new conversion.lists)) }
-    ensures err { IfErr result (IsRefusedBy (prepared
-        (record { strings = R.bytes debug_str; line_strings = R.bytes debug_line_str }) from_program.meaning
-        (handed encoding line_encoding (option_map R.bytes from_comp_name)) line_strings.old)) }
-    ensures reads { IfOk result (λ conversion. Reads from_program.notation
-        (record { strings = R.bytes debug_str; line_strings = R.bytes debug_line_str }) from_program.meaning
-        (lists_with line_strings.new conversion.lists) from_program.meaning.program
-        (still_to_read conversion line_strings.new)) }
-    ensures stays { KeepsTexts line_strings.old line_strings.new }
-{
-    let sections = TextSections {
-        strings: debug_str,
-        line_strings: debug_line_str,
-    };
-    let lists = prepare(
-        &sections,
-        from_program.header(),
-        from_comp_name,
-        encoding,
-        line_encoding,
-        line_strings,
-    )?;
-    Ok(Conversion::start(sections, from_program, lists))
+impl<R: Reader, P: Drop> Drop for ConvertLineProgram<'_, '_, R, P> {
+    /// Leaves both tables as they are. A derived `Drop` wouldn't say so to a caller.
+    fn drop(self)
+        ensures line_strings { self.exit.0.now ≡ self.entry.line_strings.now }
+        ensures strings { self.exit.1.0.now ≡ self.entry.strings.now }
+    {
+        let ConvertLineProgram {
+            line_strings: _line_strings,
+            strings: _strings,
+            conversion: _conversion,
+            reader: _reader,
+        } = self;
+    }
+}
+
+/// The header of a source, made into the directories and files of a program that is to be built. It borrows no table.
+#[derive(Drop)]
+#[derive_where(Debug; R, R::Offset)]
+pub struct ConvertLineHeader<R: Reader> {
+    conversion: Conversion<R>,
+}
+
+impl<R: Reader> Model for ConvertLineHeader<R> {
+    ghost use Rattle.gimli_write.specs.convert.ConversionState.{ConversionState};
+
+    ghost Value = { ConversionState };
+
+    ghost view = { λ a. a.conversion };
+}
+
+impl<R: Reader> ConvertLineHeader<R> {
+    /// The first half of `ConvertLineProgram::new`: all of it that can be refused. The directories and files of the
+    /// source are added to the program that is built, by the encodings that are handed, else by the source's own.
+    /// Requires encodings that a program may have, where they are handed. Refused, in this order: for the working
+    /// directory, the source file, the encoding of lines, the directories and the files; or by `OutOfMemory`. The table
+    /// keeps its texts, also then.
+    pub fn new(
+        debug_str: R,
+        debug_line_str: R,
+        from_program: IncompleteLineProgram<R>,
+        from_comp_name: Option<R>,
+        encoding: Option<Encoding>,
+        line_encoding: Option<LineEncoding>,
+        line_strings: &mut LineStringTable,
+    ) -> ConvertResult<Self>
+        requires address_size { IfSome encoding (λ e. IsTrue (is_address_size e.address_size)) }
+        requires lines { IfSome line_encoding CanEncode }
+        ensures ok { IfOk result (λ header. IsPrepared (source_of R.bytes debug_str debug_line_str
+            from_program from_comp_name encoding line_encoding) line_strings.old header line_strings.new) }
+        ensures err { IfErr result (IsHeaderRefusal (source_of R.bytes debug_str debug_line_str
+            from_program from_comp_name encoding line_encoding) line_strings.old) }
+        ensures reads { IfOk result (λ header. ReadsWhole (source_of R.bytes debug_str debug_line_str
+            from_program from_comp_name encoding line_encoding) header line_strings.new) }
+        ensures stays { KeepsTexts line_strings.old line_strings.new }
+    {
+        let sections = TextSections {
+            strings: debug_str,
+            line_strings: debug_line_str,
+        };
+        let lists = prepare(
+            &sections,
+            from_program.header(),
+            from_comp_name,
+            encoding,
+            line_encoding,
+            line_strings,
+        )?;
+        let conversion = Conversion::start(sections, from_program, lists);
+        Ok(ConvertLineHeader { conversion })
+    }
+
+    /// The second half of `ConvertLineProgram::new`, which is never refused: the conversion of the program after the
+    /// header. It holds both tables until it is dropped, and so far they are as they were. The line strings have to be
+    /// the table that `new` was handed, since directories and files name texts by their place there: with another table
+    /// the program that is built has other names.
+    pub fn converter<'a, 'b>(
+        self,
+        line_strings: &'a mut LineStringTable,
+        strings: &'b mut StringTable,
+    ) -> ConvertLineProgram<'a, 'b, R>
+        ensures header { result.conversion ≡ self }
+        ensures line_strings { result.line_strings.now ≡ line_strings.old }
+        ensures strings { result.strings.now ≡ strings.old }
+        ensures same_line_strings { result.line_strings.ghost_name ≡ line_strings.entry.ghost_name }
+        ensures same_strings { result.strings.ghost_name ≡ strings.entry.ghost_name }
+    {
+        ConvertLineProgram {
+            line_strings,
+            strings,
+            conversion: self.conversion,
+            reader: PhantomData,
+        }
+    }
+
+    /// The conversion of the program after the header.
+    fn into_conversion(self) -> Conversion<R>
+        ensures { result ≡ self }
+    {
+        self.conversion
+    }
 }
 
 impl<'a, 'b, R: Reader> ConvertLineProgram<'a, 'b, R, Conversion<R>> {
@@ -100,24 +158,19 @@ impl<'a, 'b, R: Reader> ConvertLineProgram<'a, 'b, R, Conversion<R>> {
     ) -> ConvertResult<Self>
         requires address_size { IfSome encoding (λ e. IsTrue (is_address_size e.address_size)) }
         requires lines { IfSome line_encoding CanEncode }
-        ensures ok { IfOk result (λ convert. prepared
-            (record { strings = R.bytes debug_str; line_strings = R.bytes debug_line_str }) from_program.meaning
-            (handed encoding line_encoding (option_map R.bytes from_comp_name)) line_strings.old
-            ≡ Ok (lists_with convert.line_strings.now convert.conversion.lists)) }
-        ensures err { IfErr result (IsRefusedBy (prepared
-            (record { strings = R.bytes debug_str; line_strings = R.bytes debug_line_str }) from_program.meaning
-            (handed encoding line_encoding (option_map R.bytes from_comp_name)) line_strings.old)) }
-        ensures reads { IfOk result (λ convert. Reads from_program.notation
-            (record { strings = R.bytes debug_str; line_strings = R.bytes debug_line_str }) from_program.meaning
-            (lists_with convert.line_strings.now convert.conversion.lists) from_program.meaning.program
-            (still_to_read convert.conversion convert.line_strings.now)) }
+        ensures ok { IfOk result (λ convert. IsPrepared (source_of R.bytes debug_str debug_line_str from_program
+            from_comp_name encoding line_encoding) line_strings.old convert.conversion convert.line_strings.now) }
+        ensures err { IfErr result (IsHeaderRefusal (source_of R.bytes debug_str debug_line_str
+            from_program from_comp_name encoding line_encoding) line_strings.old) }
+        ensures reads { IfOk result (λ convert. ReadsWhole (source_of R.bytes debug_str debug_line_str
+            from_program from_comp_name encoding line_encoding) convert.conversion convert.line_strings.now) }
         ensures stays { IfOk result (λ convert. KeepsTexts line_strings.old convert.line_strings.now) }
         ensures strings { IfOk result (λ convert. convert.strings.now ≡ strings.old) }
         ensures same_line_strings { IfOk result (λ convert. convert.line_strings.ghost_name
             ≡ line_strings.entry.ghost_name) }
         ensures same_strings { IfOk result (λ convert. convert.strings.ghost_name ≡ strings.entry.ghost_name) }
     {
-        let conversion = started(
+        let header = ConvertLineHeader::new(
             debug_str,
             debug_line_str,
             from_program,
@@ -126,12 +179,7 @@ impl<'a, 'b, R: Reader> ConvertLineProgram<'a, 'b, R, Conversion<R>> {
             line_encoding,
             line_strings,
         )?;
-        Ok(ConvertLineProgram {
-            line_strings,
-            strings,
-            conversion,
-            reader: PhantomData,
-        })
+        Ok(header.converter(line_strings, strings))
     }
 
     /// Begins a sequence in the program that is built. Refused as `UnsupportedLineInstruction` where one has begun, or
@@ -229,9 +277,8 @@ impl<'a, 'b, R: Reader> ConvertLineProgram<'a, 'b, R, Conversion<R>> {
     /// as `Read` for a fault of the source, as `InvalidFileIndex` for a row of no file, as a file that is defined is, or
     /// by `OutOfMemory` where this read defines one; every later read repeats the refusal. The tables keep their texts.
     pub fn read_row(&mut self) -> ConvertResult<Option<ConvertLineRow>>
-        ensures ok { IfOk result (λ row. HandsOut (still_to_read self.old.conversion self.old.line_strings.now) row
-            (lists_of self.new.conversion self.new.line_strings.now)
-            (still_to_read self.new.conversion self.new.line_strings.now)) }
+        ensures ok { IfOk result (λ row. GivesNext self.old.conversion self.old.line_strings.now
+            row self.new.conversion self.new.line_strings.now) }
         ensures err { IfErr result (IsReadRefusal (still_to_read self.old.conversion self.old.line_strings.now)) }
         ensures repeats { (e : ConvertError) → self.old.conversion.failed ≡ Some e → result ≡ Err e }
         ensures failed { IfErr result (λ e. self.new.conversion.failed ≡ Some e) }
@@ -248,11 +295,9 @@ impl<'a, 'b, R: Reader> ConvertLineProgram<'a, 'b, R, Conversion<R>> {
     /// first. Refused as `read_row` is, as `MissingLineEndSequence` for rows without an end, or by `OutOfMemory`; every
     /// later read repeats the refusal. The tables keep their texts.
     pub fn read_sequence(&mut self) -> ConvertResult<Option<ConvertLineSequence>>
-        ensures ok { IfOk result (λ sequence.
-            gathered None [] (still_to_read self.old.conversion self.old.line_strings.now)
-            ≡ Ok (option_map sequence_read sequence, still_to_read self.new.conversion self.new.line_strings.now)) }
-        ensures err { IfErr result (IsRefusedBy
-            (gathered None [] (still_to_read self.old.conversion self.old.line_strings.now))) }
+        ensures ok { IfOk result (λ sequence. GathersNext self.old.conversion self.old.line_strings.now
+            sequence self.new.conversion self.new.line_strings.now) }
+        ensures err { IfErr result (IsGatherRefusal self.old.conversion self.old.line_strings.now) }
         ensures repeats { (e : ConvertError) → self.old.conversion.failed ≡ Some e → result ≡ Err e }
         ensures failed { IfErr result (λ e. self.new.conversion.failed ≡ Some e) }
         ensures well { OnOk result (self.new.conversion.failed ≡ None) }
@@ -275,13 +320,10 @@ impl<'a, 'b, R: Reader> ConvertLineProgram<'a, 'b, R, Conversion<R>> {
         convert_address: F,
     ) -> ConvertResult<(LineProgram, Vec<FileId>)>
         requires { F.IsAlwaysCallable convert_address }
-        ensures ok { (g : ℕ → Option Address) → ((a : ℕ) (r : Option Address) → F.post convert_address a r → r ≡ g a)
-            → IfOk result (λ answer. converted g (still_to_read self.entry.conversion self.entry.line_strings.now)
-            self.entry.conversion.lists.program
-            ≡ Ok (record { program = answer.0; file_ids = answer.1.items; line_strings = self.exit.0.now })) }
-        ensures err { (g : ℕ → Option Address) → ((a : ℕ) (r : Option Address) → F.post convert_address a r → r ≡ g a)
-            → IfErr result (IsRefusedBy (converted g (still_to_read self.entry.conversion self.entry.line_strings.now)
-            self.entry.conversion.lists.program)) }
+        ensures ok { IfOk result (λ answer. RestConvertsTo (F.post convert_address)
+            self.entry.conversion self.entry.line_strings.now answer self.exit.0.now) }
+        ensures err { IfErr result (IsRestRefusal (F.post convert_address)
+            self.entry.conversion self.entry.line_strings.now) }
         ensures stays { KeepsTexts self.entry.line_strings.now self.exit.0.now }
         ensures strings { self.exit.1.0.now ≡ self.entry.strings.now }
     {
@@ -313,27 +355,18 @@ pub fn convert_program<R: Reader, F: Fn(u64) -> Option<Address>>(
     requires address_size { IfSome encoding (λ e. IsTrue (is_address_size e.address_size)) }
     requires lines { IfSome line_encoding CanEncode }
     requires callable { F.IsAlwaysCallable convert_address }
-    ensures ok { (g : ℕ → Option Address) → ((a : ℕ) (r : Option Address) → F.post convert_address a r → r ≡ g a)
-        → IfOk result (λ answer. IsConverted g from_program.notation
-        (record { strings = R.bytes debug_str; line_strings = R.bytes debug_line_str }) from_program.meaning
-        (handed encoding line_encoding (option_map R.bytes from_comp_name)) line_strings.old
-        (Ok (record { program = answer.0; file_ids = answer.1.items; line_strings = line_strings.new }))) }
-    ensures err { (g : ℕ → Option Address) → ((a : ℕ) (r : Option Address) → F.post convert_address a r → r ≡ g a)
-        → IfErr result (λ e. (e ≡ ConvertError.OutOfMemory) ⊎ IsConverted g from_program.notation
-        (record { strings = R.bytes debug_str; line_strings = R.bytes debug_line_str }) from_program.meaning
-        (handed encoding line_encoding (option_map R.bytes from_comp_name)) line_strings.old (Err e)) }
-    ensures faithful { (g : ℕ → Option Address) → ((a : ℕ) (r : Option Address) → F.post convert_address a r → r ≡ g a)
-        → CanBeFaithful g from_program.notation from_program.meaning
-        (handed encoding line_encoding (option_map R.bytes from_comp_name))
-        → IfOk result (λ answer. IsFaithful from_program.notation
-        (record { strings = R.bytes debug_str; line_strings = R.bytes debug_line_str }) from_program.meaning strings.new
-        (record { program = answer.0; file_ids = answer.1.items; line_strings = line_strings.new })) }
+    ensures ok { IfOk result (λ answer. ConvertsTo (F.post convert_address) (source_of R.bytes debug_str debug_line_str
+        from_program from_comp_name encoding line_encoding) line_strings.old answer line_strings.new) }
+    ensures err { IfErr result (IsConvertRefusal (F.post convert_address) (source_of R.bytes debug_str debug_line_str
+        from_program from_comp_name encoding line_encoding) line_strings.old) }
+    ensures faithful { IfOk result (λ answer. IsFaithfulIfItCan (F.post convert_address) (source_of R.bytes debug_str
+        debug_line_str from_program from_comp_name encoding line_encoding) strings.new answer line_strings.new) }
     ensures stays { KeepsTexts line_strings.old line_strings.new }
     ensures strings { strings.new ≡ strings.old }
 {
     // The program names no text of this table.
     let _strings = strings;
-    let conversion = started(
+    let header = ConvertLineHeader::new(
         debug_str,
         debug_line_str,
         from_program,
@@ -342,5 +375,5 @@ pub fn convert_program<R: Reader, F: Fn(u64) -> Option<Address>>(
         line_encoding,
         line_strings,
     )?;
-    convert_all(conversion, line_strings, convert_address)
+    convert_all(header.into_conversion(), line_strings, convert_address)
 }

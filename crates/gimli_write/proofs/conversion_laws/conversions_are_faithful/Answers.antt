@@ -3,8 +3,6 @@ use Rattle.gimli_write.proofs.conversion_laws.conversions_are_faithful.Goals as 
 
 pub returns : goal.returns
 returns c = record {
-  mapped = λ convert_address notation sections h given line_strings strings conversion can so.
-      conversion_mapped convert_address notation sections h given line_strings conversion so can strings;
-  addresses = λ convert_address notation sections h given line_strings conversion can so.
-      conversion_fits convert_address notation sections h given line_strings conversion so can;
+  mapped = λ d strings can. conversion_mapped d.convert_address d.source d.line_strings d.outcome d.is can strings;
+  addresses = λ d can. conversion_fits d.convert_address d.source d.line_strings d.outcome d.is can;
 }

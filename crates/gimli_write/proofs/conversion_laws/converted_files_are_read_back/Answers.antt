@@ -1,6 +1,6 @@
+use Rattle.std.proofs.Common.{refl}
 use Rattle.gimli_write.proofs.MappedLaws.{files_back}
 use Rattle.gimli_write.proofs.conversion_laws.converted_files_are_read_back.Goals as goal
 
 pub returns : goal.returns
-returns c = λ convert_address notation sections h given line_strings strings conversion files answers directories so at_end answered directories_answered.
-    files_back convert_address notation sections h given line_strings conversion so strings files answers directories at_end answered directories_answered
+returns c = λ d strings files at_end. files_back d.convert_address d.source d.line_strings d.outcome d.is strings files at_end

@@ -2,5 +2,4 @@ use Rattle.gimli_write.proofs.MappedLaws.{conversion_written}
 use Rattle.gimli_write.proofs.conversion_laws.converted_programs_can_be_written.Goals as goal
 
 pub returns : goal.returns
-returns c = λ convert_address notation sections h given line_strings strings conversion so.
-    conversion_written convert_address notation sections h given line_strings conversion so strings
+returns c = λ d strings. conversion_written d.convert_address d.source d.line_strings d.outcome d.is strings

@@ -3,8 +3,6 @@ use Rattle.gimli_write.proofs.conversion_laws.converted_rows_are_read_back.Goals
 
 pub returns : goal.returns
 returns c = record {
-  answered = λ convert_address notation sections h given line_strings conversion rows back can so events built.
-      conversion_back convert_address notation sections h given line_strings conversion so can rows back events built;
-  written = λ convert_address notation sections h given line_strings conversion rows can so events again unit_entry texts strings after unit back.
-      unit_back convert_address notation sections h given line_strings conversion so can rows events again unit_entry texts strings after unit back;
+  answered = λ d rows back can events built. conversion_back d.convert_address d.source d.line_strings d.outcome d.is can rows back events built;
+  written = λ d rows can events u. unit_back d.convert_address d.source d.line_strings d.outcome d.is can rows events u;
 }

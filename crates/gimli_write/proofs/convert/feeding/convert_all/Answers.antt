@@ -8,13 +8,13 @@ use Rattle.gimli_write.proofs.Feedings.{fed_next, fed_fewer, feed_refused, read_
 use Rattle.gimli_write.proofs.convert.feeding.convert_all.Goals as goal
 
 pub returns-in_err-row-clause-err : goal.returns-in_err-row-clause-err
-returns-in_err-row-clause-err g c = λ m says.
+returns-in_err-row-clause-err g c =
     let old = c.rows.conversion in
     let before = c.rows.line_strings in
     let e = c.in_err-row.field-0.0 in
     let p = err_from_is_err_and c.from_residual.result c.from_residual.ensures.1 in
-    rw (p.1, p.2)
-    (refused_same (converted m (still_to_read old before) old.lists.program) (converted m (still_to_read c.args.conversion c.args.line_strings.now) c.args.conversion.lists.program) e
+    rw (p.1, p.2) (λ m says.
+    refused_same (converted m (still_to_read old before) old.lists.program) (converted m (still_to_read c.args.conversion c.args.line_strings.now) c.args.conversion.lists.program) e
     (c.rows.invariant.same m says) (read_refused m old c.read_row.new.self before c.read_row.new.line_strings e c.in_err-row.ensures.err))
 
 pub returns-in_err-row-clause-stays : goal.returns-in_err-row-clause-stays
@@ -39,14 +39,14 @@ rows-preserved g c =
     }
 
 pub returns-in_err-feed-in-Some-clause-err : goal.returns-in_err-feed-in-Some-clause-err
-returns-in_err-feed-in-Some-clause-err g c = λ m says.
+returns-in_err-feed-in-Some-clause-err g c =
     let old = c.rows.conversion in
     let before = c.rows.line_strings in
     let hands = rw c.in-Some.is at c.in_ok-row.ensures.ok in
     let e = c.in_err-feed-in-Some.field-0.0 in
     let p = err_from_is_err_and c.from_residual-in_err-feed-in-Some.result c.from_residual-in_err-feed-in-Some.ensures.1 in
-    rw (p.1, p.2)
-    (refused_same (converted m (still_to_read old before) old.lists.program) (converted m (still_to_read c.args.conversion c.args.line_strings.now) c.args.conversion.lists.program) e
+    rw (p.1, p.2) (λ m says.
+    refused_same (converted m (still_to_read old before) old.lists.program) (converted m (still_to_read c.args.conversion c.args.line_strings.now) c.args.conversion.lists.program) e
     (c.rows.invariant.same m says)
     (feed_refused m old c.read_row.new.self before c.read_row.new.line_strings c.in-Some.row hands c.in_ok-row.ensures.adds e (c.in_err-feed-in-Some.ensures.err m says)))
 

@@ -1,59 +1,53 @@
 use Rattle.std.proofs.lemmas.Result.{err_from_is_err_and, IfOk-weaker, IfErr-weaker}
-use Rattle.std.specs.Prelude.{option_map}
-use Rattle.gimli_build.specs.Texts.{Sections}
 use Rattle.gimli_write.specs.convert.Lists.{lists_with}
-use Rattle.gimli_write.specs.convert.Preparation.{handed}
+use Rattle.gimli_write.specs.convert.Sources.{Source, source_of}
 use Rattle.gimli_write.specs.convert.ConversionState.{still_to_read}
 use Rattle.gimli_write.proofs.ConvertSteps.{kept_then}
 use Rattle.gimli_write.proofs.Feedings.{all_converted, header_refused, rows_refused}
 use Rattle.gimli_write.proofs.MappedLaws.{conversion_mapped, conversion_fits, conversion_written, conversion_back}
 use Rattle.gimli_write.proofs.convert.program.convert_program.Goals as goal
 
-pub returns-in_err-conversion-clause-err : goal.returns-in_err-conversion-clause-err
-returns-in_err-conversion-clause-err g c = λ m says.
-    let sections : Sections = record { strings = g.R.Reader.bytes c.args.debug_str; line_strings = g.R.Reader.bytes c.args.debug_line_str } in
-    let given = handed c.args.encoding c.args.line_encoding (option_map g.R.Reader.bytes c.args.from_comp_name) in
+pub returns-in_err-header-clause-err : goal.returns-in_err-header-clause-err
+returns-in_err-header-clause-err g c =
+    let source : Source = source_of g.R.Reader.bytes c.args.debug_str c.args.debug_line_str c.args.from_program c.args.from_comp_name c.args.encoding c.args.line_encoding in
     let p = err_from_is_err_and c.from_residual.result c.from_residual.ensures.1 in
-    rw (p.1, p.2)
-    (header_refused m c.args.from_program.notation sections c.args.from_program.meaning given c.args.line_strings.now c.in_err-conversion.field-0.0 c.in_err-conversion.ensures.err)
+    rw (p.1, p.2) (λ m says. header_refused m source c.args.line_strings.now c.in_err-header.field-0.0 c.in_err-header.ensures.err)
 
 pub returns-clause-ok : goal.returns-clause-ok
-returns-clause-ok g c = λ m says.
-    let sections : Sections = record { strings = g.R.Reader.bytes c.args.debug_str; line_strings = g.R.Reader.bytes c.args.debug_line_str } in
-    let given = handed c.args.encoding c.args.line_encoding (option_map g.R.Reader.bytes c.args.from_comp_name) in
-    let conversion = c.in_ok-conversion.conversion in
-    let line_strings = c.started.new.line_strings in
+returns-clause-ok g c =
+    let source : Source = source_of g.R.Reader.bytes c.args.debug_str c.args.debug_line_str c.args.from_program c.args.from_comp_name c.args.encoding c.args.line_encoding in
+    let header = c.in_ok-header.header in
+    let line_strings = c.new.new.line_strings in
     IfOk-weaker c.convert_all.result _ _
-    (λ answer comes. all_converted m c.args.from_program.notation sections c.args.from_program.meaning given c.args.line_strings.now (lists_with line_strings conversion.lists)
-    (still_to_read conversion line_strings) _ c.in_ok-conversion.ensures.ok c.in_ok-conversion.ensures.reads comes)
-    (c.convert_all.ensures.ok m says)
+    (λ answer comes m says. all_converted m source c.args.line_strings.now (lists_with line_strings header.lists) (still_to_read header line_strings) _
+    c.in_ok-header.ensures.ok c.in_ok-header.ensures.reads (comes m says))
+    (rw c.into_conversion.ensures at c.convert_all.ensures.ok)
 
 pub returns-clause-err : goal.returns-clause-err
-returns-clause-err g c = λ m says.
-    let sections : Sections = record { strings = g.R.Reader.bytes c.args.debug_str; line_strings = g.R.Reader.bytes c.args.debug_line_str } in
-    let given = handed c.args.encoding c.args.line_encoding (option_map g.R.Reader.bytes c.args.from_comp_name) in
-    let conversion = c.in_ok-conversion.conversion in
-    let line_strings = c.started.new.line_strings in
+returns-clause-err g c =
+    let source : Source = source_of g.R.Reader.bytes c.args.debug_str c.args.debug_line_str c.args.from_program c.args.from_comp_name c.args.encoding c.args.line_encoding in
+    let header = c.in_ok-header.header in
+    let line_strings = c.new.new.line_strings in
     IfErr-weaker c.convert_all.result _ _
-    (λ e refused. rows_refused m c.args.from_program.notation sections c.args.from_program.meaning given c.args.line_strings.now (lists_with line_strings conversion.lists)
-    (still_to_read conversion line_strings) e c.in_ok-conversion.ensures.ok c.in_ok-conversion.ensures.reads refused)
-    (c.convert_all.ensures.err m says)
+    (λ e refused m says. rows_refused m source c.args.line_strings.now (lists_with line_strings header.lists) (still_to_read header line_strings) e
+    c.in_ok-header.ensures.ok c.in_ok-header.ensures.reads (refused m says))
+    (rw c.into_conversion.ensures at c.convert_all.ensures.err)
 
 pub returns-clause-stays : goal.returns-clause-stays
 returns-clause-stays g c =
-    kept_then c.args.line_strings.now c.started.new.line_strings c.convert_all.new.line_strings c.in_ok-conversion.ensures.stays c.convert_all.ensures.stays
+    kept_then c.args.line_strings.now c.new.new.line_strings c.convert_all.new.line_strings c.in_ok-header.ensures.stays c.convert_all.ensures.stays
 
 pub returns-clause-faithful : goal.returns-clause-faithful
-returns-clause-faithful g c = λ m says can.
-    let sections : Sections = record { strings = g.R.Reader.bytes c.args.debug_str; line_strings = g.R.Reader.bytes c.args.debug_line_str } in
-    let given = handed c.args.encoding c.args.line_encoding (option_map g.R.Reader.bytes c.args.from_comp_name) in
-    let h = c.args.from_program.meaning in
-    let n = c.args.from_program.notation in
+returns-clause-faithful g c =
+    let source : Source = source_of g.R.Reader.bytes c.args.debug_str c.args.debug_line_str c.args.from_program c.args.from_comp_name c.args.encoding c.args.line_encoding in
+    let before = c.args.line_strings.now in
     IfOk-weaker c.convert_all.result _ _
-    (λ answer made. record {
-      can_write = conversion_written m n sections h given c.args.line_strings.now _ made c.args.strings.now;
-      mapped = conversion_mapped m n sections h given c.args.line_strings.now _ made can c.args.strings.now;
-      addresses = conversion_fits m n sections h given c.args.line_strings.now _ made can;
-      read_back = λ rows back events built. conversion_back m n sections h given c.args.line_strings.now _ made can rows back events (λ fits. built);
+    (λ answer comes m says can.
+    let made = comes m says in
+    record {
+      can_write = conversion_written m source before _ made c.args.strings.now;
+      mapped = conversion_mapped m source before _ made can c.args.strings.now;
+      addresses = conversion_fits m source before _ made can;
+      read_back = λ rows back events built. conversion_back m source before _ made can rows back events (λ fits. built);
     })
-    (returns-clause-ok g c m says)
+    (returns-clause-ok g c)

@@ -8,7 +8,7 @@ use Rattle.gimli_write.specs.convert.SourceState.{started, reading_left}
 use Rattle.gimli_write.specs.convert.ConversionState.{plain}
 use Rattle.gimli_write.proofs.SourceReadings.{start_reads}
 use Rattle.gimli_write.proofs.Conversions.{prepared_plain}
-use Rattle.gimli_write.proofs.convert.program.started.Goals as goal
+use Rattle.gimli_write.proofs.convert.program.ConvertLineHeader.new.Goals as goal
 
 pub returns-clause-reads : goal.returns-clause-reads
 returns-clause-reads g c =
@@ -19,6 +19,6 @@ returns-clause-reads g c =
     let given = handed c.args.encoding c.args.line_encoding (option_map g.R.Reader.bytes c.args.from_comp_name) in
     let is = rw c.header.ensures at c.in_ok-lists.ensures.ok in
     let same : plain lists ≡ lists = prepared_plain sections h given c.args.line_strings.now lists is in
-    rw c.start.ensures
+    rw c.start-conversion.ensures
     (subst (λ (x : Lists). Reads notation sections h lists h.program (reading_left sections (started h (record { bytes = h.program; notation = notation })) x))
     (sym same) (start_reads notation sections h lists h.program))

@@ -1,0 +1,73 @@
+-- A conversion that was done, and what is read back of it.
+use Rattle.std.specs.Prelude.{ℕ, true, List, map, Option, Ok}
+use Rattle.gimli_core.specs.Notation.{Notation}
+use Rattle.gimli_bytes.specs.declared.address.Address.{Address}
+use Rattle.gimli_line.specs.declared.run.row.LineRow.{LineRow as ReadRow}
+use Rattle.gimli_line.specs.header.Header.{UnitEntry}
+use Rattle.gimli_line.specs.header.File.{File}
+use Rattle.gimli_line.specs.run.Events.{Events, row}
+use Rattle.gimli_line.specs.run.EventsWithFiles.{FilesAtEnd}
+use Rattle.gimli_build.specs.Built.{Built}
+use Rattle.gimli_build.specs.LineText.{bytes_in}
+use Rattle.gimli_build.specs.ReadsBack.{ReadsBack}
+use Rattle.gimli_build.specs.Texts.{Sections, OneByOne}
+use Rattle.gimli_build.specs.Version5Tables.{line_strings_behind}
+use Rattle.gimli_write.specs.RoundTrip.{built_file}
+use Rattle.gimli_write.specs.convert.ConversionState.{IsConverted}
+use Rattle.gimli_write.specs.convert.Feeding.{Conversion}
+use Rattle.gimli_write.specs.convert.Mapped.{CanBeFaithful, IsReadAs, AreFilesReadAs}
+use Rattle.gimli_write.specs.convert.Sources.{Source}
+
+-- a conversion that was done: the map of addresses, the source, the line strings before it, and what came of it
+pub record DoneConversion : Type 0 where
+  pub convert_address : ℕ → Option Address
+  pub source : Source
+  pub line_strings : List (List ℕ)
+  pub outcome : Conversion
+  pub is : IsConverted convert_address source line_strings (Ok outcome)
+
+-- what was asked holds, so that it is faithful
+abbrev pub IsToBeFaithful : DoneConversion → Type 0
+IsToBeFaithful d = CanBeFaithful d.convert_address d.source
+
+-- ---- rows
+
+-- its source gives these rows and no fault
+abbrev pub SourceGives : DoneConversion → List ReadRow → Type 0
+SourceGives d rows = Events d.source.notation d.source.header d.source.header.program (map row rows)
+
+-- rows that are read back of it say what rows of its source say, one by one
+abbrev pub AreReadAs : DoneConversion → List ReadRow → List ReadRow → Type 0
+AreReadAs d = OneByOne (IsReadAs d.source.header.parameters.encoding.version d.outcome.program.encoding.version d.outcome.file_ids)
+
+-- a unit of a program that is read back, with the tables after it was written
+pub record UnitReadBack (p : Built) : Type 0 where
+  pub notation : Notation
+  pub unit_entry : UnitEntry
+  pub sections : Sections
+  pub strings : List (List ℕ)
+  pub line_strings : List (List ℕ)
+  pub bytes : List ℕ
+  pub back : ReadsBack notation unit_entry sections p strings line_strings bytes
+
+-- it gives these rows and no fault
+abbrev pub UnitGives : {p : Built} → UnitReadBack p → List ReadRow → Type 0
+UnitGives unit rows = Events unit.notation unit.back.header unit.back.header.program (map row rows)
+
+-- it gives rows that say what these rows of the source of a conversion say
+abbrev pub GivesBack : (d : DoneConversion) → List ReadRow → UnitReadBack d.outcome.program → Type 0
+GivesBack d rows unit = (found : List ReadRow) × UnitGives unit found × AreReadAs d rows found
+
+-- ---- files
+
+-- the files of its source where the program ends
+abbrev pub SourceFilesAre : DoneConversion → List File → Type 0
+SourceFilesAre d files = FilesAtEnd d.source.notation true d.source.header d.source.header.program files
+
+-- each of these files has an id, which is the index of the file that is read back in its place, with the same paths
+abbrev pub AreFilesReadBack : DoneConversion → List (List ℕ) → List File → Type 0
+AreFilesReadBack d strings files =
+    let p = d.outcome.program in
+    let line_strings = line_strings_behind p d.outcome.line_strings in
+    AreFilesReadAs d.source.sections d.source.header files d.outcome.file_ids
+    (map (bytes_in strings line_strings) p.directories) (map (built_file p strings line_strings) p.files)
