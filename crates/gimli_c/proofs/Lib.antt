@@ -4,3 +4,4 @@ pub mod Files
 pub mod Runs
 pub mod Units
 pub mod Handings
+pub mod CauseLemmas

@@ -9,3 +9,4 @@ pub mod FileSeen
 pub mod Handed
 pub mod Handing
 pub mod Refused
+pub mod Causes

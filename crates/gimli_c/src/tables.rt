@@ -1,9 +1,10 @@
 //! The directories and the files of a unit that is written.
 
-ghost use Rattle.std.specs.Prelude.{◌≡◌, ◌<◌, [], All, IfErr, IfOk, IfSome, OnOk, Some, length, map, slice_get};
+ghost use Rattle.std.specs.Prelude.{◌≡◌, ◌≢◌, ◌<◌, [], All, Any, IfErr, IfOk, IfSome, OnOk, Some, length, map, slice_get};
 ghost use Rattle.gimli_build.specs.Conditions.{Accepts, CanWrite};
 ghost use Rattle.gimli_build.specs.LineText.{line_text, Inline};
 ghost use Rattle.gimli_build.specs.Tables.{place_of_file, with_file};
+ghost use Rattle.gimli_c.specs.Causes.{HasFileFault, HasTableFault, HasTextFault};
 ghost use Rattle.gimli_c.specs.Handed.{IsRefusal, IsInline, AddsDirectories, AddsFiles, details_handed, first_ids, key_handed, text_handed};
 
 use crate::status::{NO_SOURCE_FILE, NO_SUCH_DIRECTORY, OUT_OF_MEMORY};
@@ -44,6 +45,8 @@ pub(crate) fn started(
     ensures lines { IfOk result (λ program. program.line_encoding ≡ lines) }
     ensures items { IfOk result (λ program. program.items ≡ []) }
     ensures err { IfErr result IsRefusal }
+    ensures cause { IfErr result (λ s. s ≢ OUT_OF_MEMORY →
+        HasTableFault encoding.version texts.now directories.now files.now s) }
 {
     let version = encoding.version;
     if version <= 4 {
@@ -83,6 +86,7 @@ fn made(
     ensures lines { IfOk result (λ program. program.line_encoding ≡ lines) }
     ensures items { IfOk result (λ program. program.items ≡ []) }
     ensures err { IfErr result IsRefusal }
+    ensures memory { IfErr result (λ s. s ≡ OUT_OF_MEMORY) }
 {
     match LineProgram::new(alloc, encoding, lines, working, own, path, None) {
         Ok(program) => Ok(program),
@@ -118,6 +122,8 @@ pub(crate) fn add_directories(
     ensures ok { IfOk result (λ ids.
         AddsDirectories program.old program.new (map (text_handed texts.now) names.now) ids.items) }
     ensures err { IfErr result IsRefusal }
+    ensures cause { IfErr result (λ s. s ≢ OUT_OF_MEMORY →
+        Any (λ n. HasTextFault program.old.encoding.version texts.now n s) names.now) }
 {
     let version = program.version();
     let mut ids = first_ids(alloc, program)?;
@@ -140,6 +146,7 @@ fn first_ids(alloc: Global, program: &LineProgram) -> Result<Vec<DirectoryId>, u
     ensures ids { IfOk result (λ ids. ids.items ≡ first_ids program.now.encoding.version) }
     ensures within { IfOk result (λ ids. All (λ id. id < length program.now.directories) ids.items) }
     ensures err { IfErr result IsRefusal }
+    ensures memory { IfErr result (λ s. s ≡ OUT_OF_MEMORY) }
 {
     let mut ids = Vec::new(alloc);
     if program.version() <= 4 {
@@ -164,6 +171,8 @@ pub(crate) fn add_files(
     ensures ok { IfOk result (λ file_ids.
         AddsFiles program.old program.new texts.now ids.now files.now file_ids.items) }
     ensures err { IfErr result IsRefusal }
+    ensures cause { IfErr result (λ s. s ≢ OUT_OF_MEMORY →
+        Any (λ f. HasFileFault program.old.encoding.version texts.now (length ids.now) f s) files.now) }
 {
     let mut file_ids = Vec::new(alloc);
     for file in files {
@@ -192,6 +201,8 @@ fn add_file(
     ensures id { IfOk result (λ id.
         id ≡ place_of_file program.old.files (key_handed texts.now ids.now file.now)) }
     ensures err { IfErr result IsRefusal }
+    ensures cause { IfErr result (λ s. s ≢ OUT_OF_MEMORY →
+        HasFileFault program.old.encoding.version texts.now (length ids.now) file.now s) }
 {
     let directory = match directory_at(ids, file.directory) {
         Some(directory) => directory,

@@ -5,6 +5,7 @@ ghost use Rattle.gimli_build.specs.Cause.{first_cause};
 ghost use Rattle.gimli_build.specs.Conditions.{CanWrite};
 ghost use Rattle.gimli_bytes.specs.Written.{Appends};
 ghost use Rattle.gimli_build.specs.Unit.{unit_bytes};
+ghost use Rattle.gimli_c.specs.Causes.{HasCause};
 ghost use Rattle.gimli_c.specs.Handed.{IsRefusal};
 ghost use Rattle.gimli_c.specs.Refused.{encoding_fault, HasBadLines};
 ghost use Rattle.gimli_c.specs.Handing.{GivesUnitOf, IsBuiltOf, NeedsRoom, ReadAs, handed, program_with, write_status};
@@ -50,6 +51,8 @@ pub extern "C" fn gimli_line_write(
     ensures fault { (s : ℕ) → encoding_fault encoding.now ≡ Some s → result ≡ s }
     ensures bad_lines { HasBadLines encoding.now → result ≡ UNSUPPORTED_LINE_ENCODING }
     ensures number { result ≢ OK → result ≢ NO_ROOM → IsRefusal result }
+    ensures cause { result ≢ OK → result ≢ NO_ROOM → result ≢ OUT_OF_MEMORY → HasCause
+        (handed encoding.now big details texts.now directories.now files.now rows.now) result }
     ensures err { result ≢ OK → unit.new ≡ unit.old }
     ensures none { result ≢ OK → result ≢ NO_ROOM → size.new ≡ 0 }
 {
@@ -86,6 +89,8 @@ fn built(
     ensures fault { (s : ℕ) → encoding_fault encoding.now ≡ Some s → result ≡ Err s }
     ensures bad_lines { HasBadLines encoding.now → result ≡ Err UNSUPPORTED_LINE_ENCODING }
     ensures err { IfErr result IsRefusal }
+    ensures cause { (big : Bool) → IfErr result (λ s. s ≢ OUT_OF_MEMORY → HasCause
+        (handed encoding.now big details texts.now directories.now files.now rows.now) s) }
 {
     let (units, lines) = encodings(encoding)?;
     let start = started(alloc, units, lines, texts, directories, files)?;
