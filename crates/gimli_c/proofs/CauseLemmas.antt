@@ -1,5 +1,5 @@
 -- Causes of refusals, joined.
-use Rattle.std.proofs.Common.{◌≡◌, ℕ, ◌+◌, ◌≤◌, ◌<◌, List, length, Option, Some, None, slice_get, get_or, drop, sym, subst, inl, inr, ◌∙◌, arith}
+use Rattle.std.proofs.Common.{◌≡◌, ℕ, ◌+◌, ◌≤◌, ◌<◌, Bool, true, false, if◌then◌else◌, List, [], ◌∷◌, length, map, Option, Some, None, slice_get, get_or, drop, nat_le, refl, sym, ap, subst, inl, inr, ◌∙◌, arith, length-append}
 use Rattle.std.specs.Prelude.{Any}
 use Rattle.std.proofs.lemmas.Bool.Decides.{nat_tests}
 use Rattle.std.proofs.lemmas.List.{at_drop_more}
@@ -7,10 +7,16 @@ use Rattle.std.proofs.lemmas.Option.{slice_get_within, get_or_from_slice_get, sl
 use Rattle.gimli_core.specs.declared.common.Encoding.{Encoding}
 use Rattle.gimli_core.specs.declared.common.LineEncoding.{LineEncoding}
 use Rattle.gimli_build.specs.Built.{Built}
+use Rattle.gimli_build.specs.LineText.{LineText, Inline}
+use Rattle.gimli_build.specs.Tables.{File, with_directory, with_file}
 use Rattle.gimli_c.specs.declared.row.GimliRow.{GimliRow}
 use Rattle.gimli_c.specs.declared.text.GimliName.{GimliName}
-use Rattle.gimli_c.specs.Causes.{HasRowFault, HasRowsFault, first_index}
-use Rattle.gimli_c.specs.Handed.{base_of}
+use Rattle.gimli_c.specs.declared.tables.GimliFileName.{GimliFileName}
+use Rattle.gimli_c.specs.Causes.{HasCause, HasTextFault, HasFileFault, HasRowFault, HasRowsFault, first_index}
+use Rattle.gimli_c.specs.Causes.HasCause.{of_tables, of_rows}
+use Rattle.gimli_c.specs.Causes.HasTableFault.{directory_fault, file_fault}
+use Rattle.gimli_c.specs.Handed.{AddsDirectories, AddsFiles, base_of, details_handed, encoding_of, first_ids, ids_of_directories, ids_of_files, key_handed, line_encoding_of, text_handed}
+use Rattle.gimli_c.specs.Handing.{Handed}
 
 -- what holds of the element at an index holds of some element
 pub any_at : {X : Type 0} (P : X → Type 0) (xs : List X) (i : ℕ) (x : X) → slice_get xs i ≡ Some x → P x → Any P xs
@@ -34,3 +40,57 @@ row_of_rows now old files base place rows i d status same_lines same within faul
     let one : LineEncoding → Encoding → Type 0 = λ lines encoding. HasRowFault lines encoding.version files (base_of base (get_or rows i d)) place (get_or rows i d) status in
     subst all (sym (at_drop_more (λ xs. xs) rows i d within))
     (inl (subst (λ (lines : LineEncoding). one lines old.encoding) same_lines (subst (one now.line_encoding) same fault)))
+
+-- ---- how many ids there are
+
+count_of_directories : (directories : List LineText) (texts : List (List ℕ)) → length (ids_of_directories directories texts) ≡ length texts
+count_of_directories directories [] = refl
+count_of_directories directories (t ∷ texts) = let more = count_of_directories (with_directory directories (Inline t)) texts in omega arith
+
+count_of_names : (texts : List ℕ) (names : List GimliName) → length (map (text_handed texts) names) ≡ length names
+count_of_names texts [] = refl
+count_of_names texts (n ∷ names) = let more = count_of_names texts names in omega arith
+
+count_of_first : (version : ℕ) → length (first_ids version) ≡ first_index version
+count_of_first version = by (nat_le version 4)
+  where
+    by : (b : Bool) → length {A = ℕ} (if b then 0 ∷ [] else []) ≡ (if b then 1 else 0)
+    by true = refl
+    by false = refl
+
+count_of_files : (texts ids : List ℕ) (files : List File) (more : List GimliFileName) → length (ids_of_files texts ids files more) ≡ length more
+count_of_files texts ids files [] = refl
+count_of_files texts ids files (f ∷ more) =
+    let rest = count_of_files texts ids (with_file files (key_handed texts ids f) (Some (details_handed f))) more in omega arith
+
+-- each directory has an id, and so has that of the compilation up to version 4
+pub directory_ids : (old new : Built) (texts : List ℕ) (names : List GimliName) (ids : List ℕ) (version : ℕ) → AddsDirectories old new (map (text_handed texts) names) ids
+    → old.encoding.version ≡ version → length ids ≡ first_index version + length names
+directory_ids old new texts names ids version adds same =
+    let given = map (text_handed texts) names in
+    let first = count_of_first old.encoding.version ∙ ap first_index same in
+    let parts = ap (λ (xs : List ℕ). length xs) adds.ids_are ∙ length-append (first_ids old.encoding.version) (ids_of_directories old.directories given) in
+    omega (arith, parts, first, count_of_directories old.directories given, count_of_names texts names)
+
+-- each file has an id
+pub file_ids : (old new : Built) (texts ids : List ℕ) (files : List GimliFileName) (given : List ℕ) → AddsFiles old new texts ids files given → length given ≡ length files
+file_ids old new texts ids files given adds = ap (λ (xs : List ℕ). length xs) adds.ids_are ∙ count_of_files texts ids old.files files
+
+-- ---- causes of what is handed over
+
+pub names_refused : (h : Handed) (version status : ℕ) → version ≡ h.encoding.version → Any (λ n. HasTextFault version h.texts n status) h.directories → HasCause h status
+names_refused h version status same any = of_tables (directory_fault (subst (λ (v : ℕ). Any (λ n. HasTextFault v h.texts n status) h.directories) same any))
+
+pub files_refused : (h : Handed) (version end status : ℕ) → version ≡ h.encoding.version → end ≡ first_index h.encoding.version + length h.directories
+    → Any (λ f. HasFileFault version h.texts end f status) h.files → HasCause h status
+files_refused h version end status same ends any =
+    let some : ℕ → ℕ → Type 0 = λ v e. Any (λ f. HasFileFault v h.texts e f status) h.files in
+    of_tables (file_fault (subst (some h.encoding.version) ends (subst (λ (v : ℕ). some v end) same any)))
+
+pub rows_refused : (h : Handed) (p : Built) (files status : ℕ) → p.line_encoding ≡ line_encoding_of h.encoding → p.encoding ≡ encoding_of h.encoding → files ≡ length h.files
+    → HasRowsFault p.line_encoding p.encoding.version files None (0, 0) h.rows status → HasCause h status
+rows_refused h p files status lines same count fault =
+    let some : LineEncoding → Encoding → ℕ → Type 0 = λ l e n. HasRowsFault l e.version n None (0, 0) h.rows status in
+    of_rows (subst (some (line_encoding_of h.encoding) (encoding_of h.encoding)) count
+    (subst (λ (e : Encoding). some (line_encoding_of h.encoding) e files) same
+    (subst (λ (l : LineEncoding). some l p.encoding files) lines fault)))

@@ -1,6 +1,8 @@
-use Rattle.std.proofs.Common.{List, ℕ, map, subst, ◌∙◌}
-use Rattle.gimli_build.specs.Built.{Built}
+use Rattle.std.proofs.Common.{List, ℕ, length, map, ap, subst, ◌∙◌}
+use Rattle.std.proofs.lemmas.Result.{err_from_is_err_and}
+use Rattle.gimli_build.specs.Built.{Built, previous_place}
 use Rattle.gimli_c.specs.Handed.{AddsDirectories, AddsFiles, text_handed}
+use Rattle.gimli_c.proofs.CauseLemmas.{directory_ids, file_ids, names_refused, files_refused, rows_refused}
 use Rattle.gimli_c.proofs.Handings.{items_built, can_with}
 use Rattle.gimli_c.proofs.write.built.Goals as goal
 
@@ -35,3 +37,31 @@ returns-clause-ok c = λ big.
       others = c.in_ok-add_rows.ensures.ok.others;
       can = c.in_ok-add_rows.ensures.can;
     }
+
+pub returns-in_err-ids-clause-cause : goal.returns-in_err-ids-clause-cause
+returns-in_err-ids-clause-cause c = λ big.
+    let p = err_from_is_err_and c.from_residual-in_err-ids.result c.from_residual-in_err-ids.ensures.1 in
+    let encoding = ap (λ (q : Built). q.encoding) c.with_details-program.ensures ∙ c.in_ok-start.ensures.encoding ∙ c.in_ok-units.ensures.encoding in
+    rw (p.1, p.2) (λ s. names_refused _ _ _ (ap (λ e. e.version) encoding) (c.in_err-ids.ensures.cause s))
+
+pub returns-in_err-file_ids-clause-cause : goal.returns-in_err-file_ids-clause-cause
+returns-in_err-file_ids-clause-cause c = λ big.
+    let p = err_from_is_err_and c.from_residual-in_err-file_ids.result c.from_residual-in_err-file_ids.ensures.1 in
+    let started = ap (λ (q : Built). q.encoding) c.with_details-program.ensures ∙ c.in_ok-start.ensures.encoding ∙ c.in_ok-units.ensures.encoding in
+    let encoding = ap (λ (q : Built). q.encoding) c.in_ok-ids.ensures.ok.others ∙ started in
+    let ids = ap (λ (xs : List ℕ). length xs) c.as_slice.ensures.value ∙ directory_ids _ _ _ _ _ _ c.in_ok-ids.ensures.ok (ap (λ e. e.version) started) in
+    rw (p.1, p.2) (λ s. files_refused _ _ _ _ (ap (λ e. e.version) encoding) ids (c.in_err-file_ids.ensures.cause s))
+
+pub returns-in_err-add_rows-clause-cause : goal.returns-in_err-add_rows-clause-cause
+returns-in_err-add_rows-clause-cause c = λ big.
+    let p = err_from_is_err_and c.from_residual-in_err-add_rows.result c.from_residual-in_err-add_rows.ensures.1 in
+    let directories = c.in_ok-ids.ensures.ok.others in
+    let files = c.in_ok-file_ids.ensures.ok.others in
+    let details = c.with_details-program.ensures in
+    let lines = ap (λ (q : Built). q.line_encoding) files ∙ ap (λ (q : Built). q.line_encoding) directories ∙ ap (λ (q : Built). q.line_encoding) details
+    ∙ c.in_ok-start.ensures.lines ∙ c.in_ok-units.ensures.lines in
+    let encoding = ap (λ (q : Built). q.encoding) files ∙ ap (λ (q : Built). q.encoding) directories ∙ ap (λ (q : Built). q.encoding) details
+    ∙ c.in_ok-start.ensures.encoding ∙ c.in_ok-units.ensures.encoding in
+    let none = ap (λ (q : Built). q.items) files ∙ ap (λ (q : Built). q.items) directories ∙ ap (λ (q : Built). q.items) details ∙ c.in_ok-start.ensures.items in
+    let ids = ap (λ (xs : List ℕ). length xs) c.as_slice-2.ensures.value ∙ file_ids _ _ _ _ _ _ c.in_ok-file_ids.ensures.ok in
+    rw (p.1, p.2) (λ s. rows_refused _ c.add_files.new.program _ _ lines encoding ids (c.in_err-add_rows.ensures.cause (ap previous_place none) s))

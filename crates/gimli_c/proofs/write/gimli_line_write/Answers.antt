@@ -1,4 +1,6 @@
-use Rattle.std.proofs.Common.{List, ℕ, length, ap, ◌∙◌, arith}
+use Rattle.std.proofs.Common.{List, ℕ, length, inl, inr, ap, ◌∙◌, arith}
+use Rattle.gimli_c.specs.Causes.HasCause.{of_unit}
+use Rattle.gimli_c.specs.Handing.{write_status}
 use Rattle.gimli_c.specs.Written.{written}
 use Rattle.gimli_c.proofs.Handings.{appended, built_source}
 use Rattle.gimli_c.proofs.write.gimli_line_write.Goals as goal
@@ -33,3 +35,20 @@ returns-clause-ok c = λ _.
       written_is = c.copy_bytes.ensures ∙ ap (λ (xs : List ℕ). written xs c.args.unit.now) c.slice-bytes.ensures;
       size_is = same;
     }
+
+pub returns-in-Err-clause-cause : goal.returns-in-Err-clause-cause
+returns-in-Err-clause-cause c = λ _ _ s. c.in-Err.ensures.cause c.args.big s
+
+pub returns-in-Err-section_of-clause-cause : goal.returns-in-Err-section_of-clause-cause
+returns-in-Err-section_of-clause-cause c = λ _ _ s.
+    let number = c.write_status.ensures.number in
+    elim c.in-Err-section_of.ensures.err [
+      | inl memory ↦ absurd (s (number ∙ ap write_status memory))
+      | inr first ↦ of_unit (record {
+        program = c.in-Ok.program;
+        built = c.in-Ok.ensures.ok c.args.big;
+        cause = c.in-Err-section_of.e;
+        first = first;
+        status_is = number;
+      })
+    ]
