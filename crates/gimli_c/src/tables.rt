@@ -1,11 +1,14 @@
 //! The directories and the files of a unit that is written.
 
-ghost use Rattle.std.specs.Prelude.{◌≡◌, ◌≢◌, ◌<◌, [], All, Any, IfErr, IfOk, IfSome, OnOk, Some, length, map, slice_get};
+ghost use Rattle.std.specs.Prelude.{◌≡◌, ◌≢◌, ◌<◌, [], All, Any, IfErr, IfOk, IfSome, OnOk, None, Some, false, length, map, option_map, slice_get};
 ghost use Rattle.gimli_build.specs.Conditions.{Accepts, CanWrite};
+ghost use Rattle.gimli_build.specs.Built.{started};
+ghost use Rattle.gimli_build.specs.FirstTables.{first_directories, first_files};
 ghost use Rattle.gimli_build.specs.LineText.{line_text, Inline};
 ghost use Rattle.gimli_build.specs.Tables.{place_of_file, with_file};
 ghost use Rattle.gimli_c.specs.Causes.{HasFileFault, HasTableFault, HasTextFault};
 ghost use Rattle.gimli_c.specs.Handed.{IsRefusal, IsInline, AddsDirectories, AddsFiles, details_handed, first_ids, key_handed, text_handed};
+ghost use Rattle.gimli_c.specs.Start.{start_program};
 
 use crate::status::{NO_SOURCE_FILE, NO_SUCH_DIRECTORY, OUT_OF_MEMORY};
 use crate::text::{GimliName, text_of};
@@ -41,9 +44,8 @@ pub(crate) fn started(
 ) -> Result<LineProgram, u32>
     requires { Accepts encoding lines }
     ensures can { IfOk result (λ program. CanWrite program [] []) }
-    ensures encoding { IfOk result (λ program. program.encoding ≡ encoding) }
-    ensures lines { IfOk result (λ program. program.line_encoding ≡ lines) }
-    ensures items { IfOk result (λ program. program.items ≡ []) }
+    ensures start { IfOk result (λ program. program
+        ≡ start_program encoding lines texts.now directories.now files.now) }
     ensures err { IfErr result IsRefusal }
     ensures cause { IfErr result (λ s. s ≢ OUT_OF_MEMORY →
         HasTableFault encoding.version texts.now directories.now files.now s) }
@@ -82,9 +84,10 @@ fn made(
     requires own { IfSome own (λ own. IsInline (line_text own)) }
     requires path { IsInline (line_text path) }
     ensures can { IfOk result (λ program. CanWrite program [] []) }
-    ensures encoding { IfOk result (λ program. program.encoding ≡ encoding) }
-    ensures lines { IfOk result (λ program. program.line_encoding ≡ lines) }
-    ensures items { IfOk result (λ program. program.items ≡ []) }
+    ensures program { IfOk result (λ program. program ≡ started false encoding lines
+        (first_directories encoding.version (line_text working) (option_map line_text own))
+        (first_files encoding.version (line_text working) (option_map line_text own)
+        (line_text path) None)) }
     ensures err { IfErr result IsRefusal }
     ensures memory { IfErr result (λ s. s ≡ OUT_OF_MEMORY) }
 {

@@ -1,7 +1,10 @@
 use Rattle.std.proofs.Common.{List, ℕ, length, map, ap, subst, ◌∙◌}
 use Rattle.std.proofs.lemmas.Result.{err_from_is_err_and}
 use Rattle.gimli_build.specs.Built.{Built, previous_place}
-use Rattle.gimli_c.specs.Handed.{AddsDirectories, AddsFiles, text_handed}
+use Rattle.gimli_core.specs.declared.common.Encoding.{Encoding}
+use Rattle.gimli_core.specs.declared.common.LineEncoding.{LineEncoding}
+use Rattle.gimli_c.specs.Start.{start_program}
+use Rattle.gimli_c.specs.Handed.{encoding_of, AddsDirectories, AddsFiles, text_handed}
 use Rattle.gimli_c.proofs.CauseLemmas.{directory_ids, file_ids, names_refused, files_refused, rows_refused}
 use Rattle.gimli_c.proofs.Handings.{items_built, can_with}
 use Rattle.gimli_c.proofs.write.built.Goals as goal
@@ -13,7 +16,7 @@ pub returns-clause-ok : goal.returns-clause-ok
 returns-clause-ok c = λ big.
     let between = c.add_directories.new.program in
     let behind = c.add_files.new.program in
-    let encoding = c.in_ok-start.ensures.encoding ∙ c.in_ok-units.ensures.encoding in
+    let encoding = ap (λ (q : Built). q.encoding) c.in_ok-start.ensures.start ∙ c.in_ok-units.ensures.encoding in
     let directories = subst (λ (q : Built). AddsDirectories q between (map (text_handed c.args.texts.now) c.args.directories.now) c.in_ok-ids.ids.items)
     c.with_details-program.ensures c.in_ok-ids.ensures.ok in
     let files = subst (λ (ids : List ℕ). AddsFiles between behind c.args.texts.now ids c.args.files.now c.in_ok-file_ids.file_ids.items)
@@ -21,9 +24,9 @@ returns-clause-ok c = λ big.
     record {
       start = c.in_ok-start.start;
       is_start = record {
-        encoding_is = encoding;
-        lines_are = c.in_ok-start.ensures.lines ∙ c.in_ok-units.ensures.lines;
-        items_are = c.in_ok-start.ensures.items;
+        program_is = c.in_ok-start.ensures.start
+            ∙ ap (λ (e : Encoding). start_program e c.in_ok-units.lines c.args.texts.now c.args.directories.now c.args.files.now) c.in_ok-units.ensures.encoding
+            ∙ ap (λ (l : LineEncoding). start_program (encoding_of c.args.encoding.now) l c.args.texts.now c.args.directories.now c.args.files.now) c.in_ok-units.ensures.lines;
         can = c.in_ok-start.ensures.can;
       };
       directory_ids = c.in_ok-ids.ids.items;
@@ -33,7 +36,7 @@ returns-clause-ok c = λ big.
       directories = directories;
       files = files;
       items = items_built c.args.details c.args.encoding.now c.in_ok-start.start between behind c.add_rows.new.program _ _ _ _ _ _ c.as_slice-2.result.now c.args.rows.now
-          c.in_ok-start.ensures.items encoding directories files c.as_slice-2.ensures.value c.in_ok-add_rows.ensures.ok;
+          (ap (λ (q : Built). q.items) c.in_ok-start.ensures.start) encoding directories files c.as_slice-2.ensures.value c.in_ok-add_rows.ensures.ok;
       others = c.in_ok-add_rows.ensures.ok.others;
       can = c.in_ok-add_rows.ensures.can;
     }
@@ -41,13 +44,13 @@ returns-clause-ok c = λ big.
 pub returns-in_err-ids-clause-cause : goal.returns-in_err-ids-clause-cause
 returns-in_err-ids-clause-cause c = λ big.
     let p = err_from_is_err_and c.from_residual-in_err-ids.result c.from_residual-in_err-ids.ensures.1 in
-    let encoding = ap (λ (q : Built). q.encoding) c.with_details-program.ensures ∙ c.in_ok-start.ensures.encoding ∙ c.in_ok-units.ensures.encoding in
+    let encoding = ap (λ (q : Built). q.encoding) c.with_details-program.ensures ∙ ap (λ (q : Built). q.encoding) c.in_ok-start.ensures.start ∙ c.in_ok-units.ensures.encoding in
     rw (p.1, p.2) (λ s. names_refused _ _ _ (ap (λ e. e.version) encoding) (c.in_err-ids.ensures.cause s))
 
 pub returns-in_err-file_ids-clause-cause : goal.returns-in_err-file_ids-clause-cause
 returns-in_err-file_ids-clause-cause c = λ big.
     let p = err_from_is_err_and c.from_residual-in_err-file_ids.result c.from_residual-in_err-file_ids.ensures.1 in
-    let started = ap (λ (q : Built). q.encoding) c.with_details-program.ensures ∙ c.in_ok-start.ensures.encoding ∙ c.in_ok-units.ensures.encoding in
+    let started = ap (λ (q : Built). q.encoding) c.with_details-program.ensures ∙ ap (λ (q : Built). q.encoding) c.in_ok-start.ensures.start ∙ c.in_ok-units.ensures.encoding in
     let encoding = ap (λ (q : Built). q.encoding) c.in_ok-ids.ensures.ok.others ∙ started in
     let ids = ap (λ (xs : List ℕ). length xs) c.as_slice.ensures.value ∙ directory_ids _ _ _ _ _ _ c.in_ok-ids.ensures.ok (ap (λ e. e.version) started) in
     rw (p.1, p.2) (λ s. files_refused _ _ _ _ (ap (λ e. e.version) encoding) ids (c.in_err-file_ids.ensures.cause s))
@@ -59,9 +62,9 @@ returns-in_err-add_rows-clause-cause c = λ big.
     let files = c.in_ok-file_ids.ensures.ok.others in
     let details = c.with_details-program.ensures in
     let lines = ap (λ (q : Built). q.line_encoding) files ∙ ap (λ (q : Built). q.line_encoding) directories ∙ ap (λ (q : Built). q.line_encoding) details
-    ∙ c.in_ok-start.ensures.lines ∙ c.in_ok-units.ensures.lines in
+    ∙ ap (λ (q : Built). q.line_encoding) c.in_ok-start.ensures.start ∙ c.in_ok-units.ensures.lines in
     let encoding = ap (λ (q : Built). q.encoding) files ∙ ap (λ (q : Built). q.encoding) directories ∙ ap (λ (q : Built). q.encoding) details
-    ∙ c.in_ok-start.ensures.encoding ∙ c.in_ok-units.ensures.encoding in
-    let none = ap (λ (q : Built). q.items) files ∙ ap (λ (q : Built). q.items) directories ∙ ap (λ (q : Built). q.items) details ∙ c.in_ok-start.ensures.items in
+    ∙ ap (λ (q : Built). q.encoding) c.in_ok-start.ensures.start ∙ c.in_ok-units.ensures.encoding in
+    let none = ap (λ (q : Built). q.items) files ∙ ap (λ (q : Built). q.items) directories ∙ ap (λ (q : Built). q.items) details ∙ ap (λ (q : Built). q.items) c.in_ok-start.ensures.start in
     let ids = ap (λ (xs : List ℕ). length xs) c.as_slice-2.ensures.value ∙ file_ids _ _ _ _ _ _ c.in_ok-file_ids.ensures.ok in
     rw (p.1, p.2) (λ s. rows_refused _ c.add_files.new.program _ _ lines encoding ids (c.in_err-add_rows.ensures.cause (ap previous_place none) s))
