@@ -28,9 +28,9 @@ use std::alloc::Global;
 
 /// Writes a unit with these directories, files and rows to the front of `unit`; `size` is how many bytes it has. `NO_ROOM`
 /// where there are fewer in `unit`: then `size` says how many it takes, and nothing is written. Where another number than
-/// these is answered, `size` is 0. Texts stand among the bytes of `texts`. A directory or a file that comes twice is there
-/// once; rows have its number then. `details` is the sum of `HAS_TIMESTAMP`, `HAS_SIZE` and `HAS_MD5`, each where version 5
-/// is to have that detail.
+/// these is answered, `size` is 0; each but `OUT_OF_MEMORY` has its cause in what is handed over. Texts stand among the bytes
+/// of `texts`. A directory or a file that comes twice is there once; rows have its number then. `details` is the sum of
+/// `HAS_TIMESTAMP`, `HAS_SIZE` and `HAS_MD5`, each where version 5 is to have that detail.
 #[unsafe(no_mangle)]
 pub extern "C" fn gimli_line_write(
     alloc: Global,
