@@ -14,6 +14,10 @@ use Rattle.gimli_c.specs.Handed.{text_handed, line_encoding_of, ends, base_of, b
 use Rattle.gimli_c.specs.Handing.{Handed, IsBuiltOf, write_status}
 use Rattle.gimli_c.specs.Refused.{encoding_fault, HasBadLines}
 
+-- no number has a cause of this kind
+abbrev pub HasNone : (ℕ → Type 0) → Type 0
+HasNone HasFault = (status : ℕ) → HasFault status → ⊥
+
 -- the encoding is refused
 pub data HasEncodingFault (e : GimliEncoding) (status : ℕ) : Type 0 where
   bad_size : encoding_fault e ≡ Some status → HasEncodingFault e status
@@ -82,9 +86,13 @@ pub record HasUnitFault (h : Handed) (status : ℕ) : Type 0 where
   pub first : first_cause h.big program.encoding program [] [] ≡ Some cause
   pub status_is : status ≡ write_status cause
 
+-- the encoding, a directory, a file or a row is refused
+pub data HasHandedFault (h : Handed) (status : ℕ) : Type 0 where
+  of_encoding : HasEncodingFault h.encoding status → HasHandedFault h status
+  of_tables : HasTableFault h.encoding.version h.texts h.directories h.files status → HasHandedFault h status
+  of_rows : HasRowsFault (line_encoding_of h.encoding) h.encoding.version (length h.files) None (0, 0) h.rows status → HasHandedFault h status
+
 -- the cause of a number
 pub data HasCause (h : Handed) (status : ℕ) : Type 0 where
-  of_encoding : HasEncodingFault h.encoding status → HasCause h status
-  of_tables : HasTableFault h.encoding.version h.texts h.directories h.files status → HasCause h status
-  of_rows : HasRowsFault (line_encoding_of h.encoding) h.encoding.version (length h.files) None (0, 0) h.rows status → HasCause h status
+  of_handed : HasHandedFault h status → HasCause h status
   of_unit : HasUnitFault h status → HasCause h status

@@ -1,10 +1,10 @@
 //! The rows of a unit that is written.
 
-ghost use Rattle.std.specs.Prelude.{◌≡◌, ◌≢◌, ◌≤◌, ◌-◌, [], ◌∷◌, false, length, IfErr, IfNone, IfOk, OnOk, None, slice_get, unwrap_or};
+ghost use Rattle.std.specs.Prelude.{◌≡◌, ◌≢◌, ◌<◌, ◌≤◌, ◌-◌, [], ◌∷◌, false, true, length, IfErr, IfNone, IfOk, IfSome, OnOk, None, slice_get, unwrap_or};
 ghost use Rattle.gimli_build.specs.declared.built.items.BuiltItem.{BuiltItem};
 ghost use Rattle.gimli_build.specs.Conditions.{CanWrite};
 ghost use Rattle.gimli_build.specs.Built.{previous_place};
-ghost use Rattle.gimli_c.specs.Causes.{CanStand, HasRowFault, HasRowsFault, LacksFile, place_behind};
+ghost use Rattle.gimli_c.specs.Causes.{CanStand, HasNone, HasRowFault, HasRowsFault, LacksFile, place_behind};
 ghost use Rattle.gimli_c.specs.Handed.{IsRefusal, AddsItems, base_behind, base_of, ends, id_of_file, items_handed, items_of_row, items_of_start, row_handed, row_of_file};
 
 use crate::row::GimliRow;
@@ -22,6 +22,9 @@ pub(crate) fn add_rows(
     ensures can { CanWrite program.new [] [] }
     ensures ok { OnOk result (AddsItems program.old program.new
         (items_handed program.old.encoding.version ids.now None rows.now)) }
+    ensures well { previous_place program.old.items ≡ (0, 0) → OnOk result (HasNone
+        (HasRowsFault program.old.line_encoding program.old.encoding.version (length ids.now)
+        None (0, 0) rows.now)) }
     ensures err { IfErr result IsRefusal }
     ensures cause { previous_place program.old.items ≡ (0, 0) → IfErr result (λ s. s ≢ OUT_OF_MEMORY →
         HasRowsFault program.old.line_encoding program.old.encoding.version (length ids.now)
@@ -46,6 +49,9 @@ fn add_row(
     ensures ok { OnOk result (AddsItems program.old program.new
         (items_of_row program.old.encoding.version ids.now base row.now)) }
     ensures behind { IfOk result (λ behind. behind ≡ base_behind base row.now) }
+    ensures well { (base ≡ None → previous_place program.old.items ≡ (0, 0)) → OnOk result (HasNone
+        (HasRowFault program.old.line_encoding program.old.encoding.version (length ids.now)
+        (base_of base row.now) (previous_place program.old.items) row.now)) }
     ensures err { IfErr result IsRefusal }
     ensures place { OnOk result (previous_place program.new.items ≡ place_behind base row.now) }
     ensures cause { (base ≡ None → previous_place program.old.items ≡ (0, 0)) →
@@ -93,6 +99,8 @@ fn add_end(program: &mut LineProgram, start: u64, row: &GimliRow) -> Result<(), 
     ensures can { CanWrite program.new [] [] }
     ensures ok { OnOk result (AddsItems program.old program.new
         (BuiltItem.End (row.now.address - start) row.now.op_index ∷ [])) }
+    ensures well { ends row.now ≡ true → OnOk result
+        (CanStand program.old.line_encoding start (previous_place program.old.items) row.now) }
     ensures err { IfErr result IsRefusal }
     ensures order { IfErr result (λ s. s ≢ OUT_OF_MEMORY → s ≡ ROW_OUT_OF_ORDER) }
     ensures cause { IfErr result (λ s. s ≢ OUT_OF_MEMORY →
@@ -121,6 +129,11 @@ fn add_line(
     ensures can { CanWrite program.new [] [] }
     ensures ok { OnOk result (AddsItems program.old program.new
         (BuiltItem.Row (row_handed program.old.encoding.version ids.now start row.now) ∷ [])) }
+    ensures stands { OnOk result
+        (CanStand program.old.line_encoding start (previous_place program.old.items) row.now) }
+    ensures flags { OnOk result (row.now.flags < 32) }
+    ensures file { OnOk result
+        (LacksFile program.old.encoding.version (length ids.now) row.now.file → ⊥) }
     ensures err { IfErr result IsRefusal }
     ensures cause { ends row.now ≡ false → IfErr result (λ s. s ≢ OUT_OF_MEMORY →
         HasRowFault program.old.line_encoding program.old.encoding.version (length ids.now)
@@ -166,6 +179,7 @@ fn built_row(file: FileId, start: u64, row: &GimliRow) -> LineRow
 /// The id of the file of a number. No number wraps.
 fn file_id(version: u16, ids: &[FileId], number: u64) -> Option<FileId>
     ensures id { result ≡ id_of_file version ids.now number }
+    ensures some { IfSome result (λ _. LacksFile version (length ids.now) number → ⊥) }
     ensures none { IfNone result (LacksFile version (length ids.now) number) }
 {
     if version > 4 {

@@ -1,12 +1,12 @@
 //! The directories and the files of a unit that is written.
 
-ghost use Rattle.std.specs.Prelude.{◌≡◌, ◌≢◌, ◌<◌, [], All, Any, IfErr, IfOk, IfSome, OnOk, None, Some, false, length, map, option_map, slice_get};
+ghost use Rattle.std.specs.Prelude.{◌≡◌, ◌≢◌, ◌<◌, ◌≤◌, [], All, Any, IfErr, IfOk, IfSome, OnOk, None, Some, false, length, map, option_map, slice_get};
 ghost use Rattle.gimli_build.specs.Conditions.{Accepts, CanWrite};
 ghost use Rattle.gimli_build.specs.Built.{started};
 ghost use Rattle.gimli_build.specs.FirstTables.{first_directories, first_files};
 ghost use Rattle.gimli_build.specs.LineText.{line_text, Inline};
 ghost use Rattle.gimli_build.specs.Tables.{place_of_file, with_file};
-ghost use Rattle.gimli_c.specs.Causes.{HasFileFault, HasTableFault, HasTextFault};
+ghost use Rattle.gimli_c.specs.Causes.{HasFileFault, HasNone, HasTableFault, HasTextFault};
 ghost use Rattle.gimli_c.specs.Handed.{IsRefusal, IsInline, AddsDirectories, AddsFiles, details_handed, first_ids, key_handed, text_handed};
 ghost use Rattle.gimli_c.specs.Start.{start_program};
 
@@ -46,6 +46,8 @@ pub(crate) fn started(
     ensures can { IfOk result (λ program. CanWrite program [] []) }
     ensures start { IfOk result (λ program. program
         ≡ start_program encoding lines texts.now directories.now files.now) }
+    ensures source { 5 ≤ encoding.version →
+        OnOk result ((0 < length directories.now) × (0 < length files.now)) }
     ensures err { IfErr result IsRefusal }
     ensures cause { IfErr result (λ s. s ≢ OUT_OF_MEMORY →
         HasTableFault encoding.version texts.now directories.now files.now s) }
@@ -124,6 +126,8 @@ pub(crate) fn add_directories(
     ensures within { IfOk result (λ ids. All (λ id. id < length program.new.directories) ids.items) }
     ensures ok { IfOk result (λ ids.
         AddsDirectories program.old program.new (map (text_handed texts.now) names.now) ids.items) }
+    ensures well { OnOk result
+        (All (λ n. HasNone (HasTextFault program.old.encoding.version texts.now n)) names.now) }
     ensures err { IfErr result IsRefusal }
     ensures cause { IfErr result (λ s. s ≢ OUT_OF_MEMORY →
         Any (λ n. HasTextFault program.old.encoding.version texts.now n s) names.now) }
@@ -173,6 +177,8 @@ pub(crate) fn add_files(
     ensures can { OnOk result (CanWrite program.new [] []) }
     ensures ok { IfOk result (λ file_ids.
         AddsFiles program.old program.new texts.now ids.now files.now file_ids.items) }
+    ensures well { OnOk result (All (λ f. HasNone
+        (HasFileFault program.old.encoding.version texts.now (length ids.now) f)) files.now) }
     ensures err { IfErr result IsRefusal }
     ensures cause { IfErr result (λ s. s ≢ OUT_OF_MEMORY →
         Any (λ f. HasFileFault program.old.encoding.version texts.now (length ids.now) f s) files.now) }
@@ -203,6 +209,8 @@ fn add_file(
     }) }
     ensures id { IfOk result (λ id.
         id ≡ place_of_file program.old.files (key_handed texts.now ids.now file.now)) }
+    ensures well { OnOk result (HasNone
+        (HasFileFault program.old.encoding.version texts.now (length ids.now) file.now)) }
     ensures err { IfErr result IsRefusal }
     ensures cause { IfErr result (λ s. s ≢ OUT_OF_MEMORY →
         HasFileFault program.old.encoding.version texts.now (length ids.now) file.now s) }

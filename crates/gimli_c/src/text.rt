@@ -1,8 +1,8 @@
 //! Texts that are handed over.
 
-ghost use Rattle.std.specs.Prelude.{◌≡◌, ◌≢◌, ◌≤◌, All, Any, IfErr, IfOk, MatchBool};
+ghost use Rattle.std.specs.Prelude.{◌≡◌, ◌≢◌, ◌≤◌, All, Any, IfErr, IfOk, MatchBool, OnOk};
 ghost use Rattle.gimli_build.specs.LineText.{Inline, line_text, HasNoZero, IsNotEmpty};
-ghost use Rattle.gimli_c.specs.Causes.{HasTextFault};
+ghost use Rattle.gimli_c.specs.Causes.{HasNone, HasTextFault};
 ghost use Rattle.gimli_c.specs.Handed.{IsRefusal, text_handed};
 
 use crate::status::{EMPTY_TEXT, OUT_OF_MEMORY, TEXT_OUT_OF_BOUNDS, ZERO_IN_TEXT};
@@ -30,6 +30,7 @@ pub(crate) fn text_of(
     ensures ok { IfOk result (λ text. line_text text ≡ Inline (text_handed texts.now name)) }
     ensures no_zero { IfOk result (λ text. HasNoZero (line_text text)) }
     ensures not_empty { IfOk result (λ text. version ≤ 4 → IsNotEmpty (line_text text)) }
+    ensures well { OnOk result (HasNone (HasTextFault version texts.now name)) }
     ensures err { IfErr result IsRefusal }
     ensures cause { IfErr result (λ s. s ≢ OUT_OF_MEMORY → HasTextFault version texts.now name s) }
 {

@@ -1,11 +1,11 @@
 //! A unit of directories, files and rows that are handed over.
 
-ghost use Rattle.std.specs.Prelude.{◌≡◌, ◌≢◌, ◌⊎◌, ℕ, [], Bool, Err, IfErr, IfOk, Some, false};
+ghost use Rattle.std.specs.Prelude.{◌≡◌, ◌≢◌, ◌⊎◌, ℕ, [], Bool, Err, IfErr, IfOk, OnOk, Some, false};
 ghost use Rattle.gimli_build.specs.Cause.{first_cause};
 ghost use Rattle.gimli_build.specs.Conditions.{CanWrite};
 ghost use Rattle.gimli_bytes.specs.Written.{Appends};
 ghost use Rattle.gimli_build.specs.Unit.{unit_bytes};
-ghost use Rattle.gimli_c.specs.Causes.{HasCause};
+ghost use Rattle.gimli_c.specs.Causes.{HasCause, HasHandedFault, HasNone};
 ghost use Rattle.gimli_c.specs.Handed.{IsRefusal};
 ghost use Rattle.gimli_c.specs.Refused.{encoding_fault, HasBadLines};
 ghost use Rattle.gimli_c.specs.Handing.{GivesUnitOf, IsBuiltOf, NeedsRoom, ReadAs, handed, program_with, write_status};
@@ -53,6 +53,8 @@ pub extern "C" fn gimli_line_write(
     ensures number { result ≢ OK → result ≢ NO_ROOM → IsRefusal result }
     ensures cause { result ≢ OK → result ≢ NO_ROOM → result ≢ OUT_OF_MEMORY → HasCause
         (handed encoding.now big details texts.now directories.now files.now rows.now) result }
+    ensures refused { (s : ℕ) → HasHandedFault
+        (handed encoding.now big details texts.now directories.now files.now rows.now) s → IsRefusal result }
     ensures err { result ≢ OK → unit.new ≡ unit.old }
     ensures none { result ≢ OK → result ≢ NO_ROOM → size.new ≡ 0 }
 {
@@ -89,8 +91,10 @@ fn built(
     ensures fault { (s : ℕ) → encoding_fault encoding.now ≡ Some s → result ≡ Err s }
     ensures bad_lines { HasBadLines encoding.now → result ≡ Err UNSUPPORTED_LINE_ENCODING }
     ensures err { IfErr result IsRefusal }
-    ensures cause { (big : Bool) → IfErr result (λ s. s ≢ OUT_OF_MEMORY → HasCause
+    ensures cause { (big : Bool) → IfErr result (λ s. s ≢ OUT_OF_MEMORY → HasHandedFault
         (handed encoding.now big details texts.now directories.now files.now rows.now) s) }
+    ensures well { (big : Bool) → OnOk result (HasNone (HasHandedFault
+        (handed encoding.now big details texts.now directories.now files.now rows.now))) }
 {
     let (units, lines) = encodings(encoding)?;
     let start = started(alloc, units, lines, texts, directories, files)?;

@@ -1,5 +1,5 @@
 use Rattle.std.proofs.Common.{List, ℕ, length, inl, inr, ap, ◌∙◌, arith}
-use Rattle.gimli_c.specs.Causes.HasCause.{of_unit}
+use Rattle.gimli_c.specs.Causes.HasCause.{of_handed, of_unit}
 use Rattle.gimli_c.specs.Handing.{write_status}
 use Rattle.gimli_c.specs.Written.{written}
 use Rattle.gimli_c.proofs.Handings.{appended, built_source}
@@ -37,7 +37,7 @@ returns-clause-ok c = λ _.
     }
 
 pub returns-in-Err-clause-cause : goal.returns-in-Err-clause-cause
-returns-in-Err-clause-cause c = λ _ _ s. c.in-Err.ensures.cause c.args.big s
+returns-in-Err-clause-cause c = λ _ _ s. of_handed (c.in-Err.ensures.cause c.args.big s)
 
 pub returns-in-Err-section_of-clause-cause : goal.returns-in-Err-section_of-clause-cause
 returns-in-Err-section_of-clause-cause c = λ _ _ s.
@@ -52,3 +52,9 @@ returns-in-Err-section_of-clause-cause c = λ _ _ s.
         status_is = number;
       })
     ]
+
+pub returns-then-bytes-unit-clause-refused : goal.returns-then-bytes-unit-clause-refused
+returns-then-bytes-unit-clause-refused c = λ s fault. absurd (c.in-Ok.ensures.well c.args.big s fault)
+
+pub returns-clause-refused : goal.returns-clause-refused
+returns-clause-refused c = λ s fault. absurd (c.in-Ok.ensures.well c.args.big s fault)
