@@ -1,4 +1,4 @@
--- Why what is handed over to be written is refused, number by number.
+-- Why what is handed over to be written is refused, number by number (DWARF 5, sections 6.2.2 and 6.2.4).
 use Rattle.std.specs.Prelude.{◌≡◌, ◌⊎◌, ◌≤◌, ◌<◌, ℕ, ◌+◌, ◌-◌, ◌^◌, false, nat_le, if◌then◌else◌, List, [], ◌∷◌, length, Any, Option, Some, None}
 use Rattle.gimli_core.specs.declared.common.LineEncoding.{LineEncoding}
 use Rattle.gimli_bytes.specs.declared.error.Error.{Error}
@@ -18,12 +18,13 @@ use Rattle.gimli_c.specs.Refused.{encoding_fault, HasBadLines}
 abbrev pub HasNone : (ℕ → Type 0) → Type 0
 HasNone HasFault = (status : ℕ) → HasFault status → ⊥
 
--- the encoding is refused
+-- why an encoding is refused
 pub data HasEncodingFault (e : GimliEncoding) (status : ℕ) : Type 0 where
   bad_size : encoding_fault e ≡ Some status → HasEncodingFault e status
   bad_lines : status ≡ UNSUPPORTED_LINE_ENCODING → HasBadLines e → HasEncodingFault e status
 
--- a text doesn't stand among the bytes, it has a zero byte, or it is empty where that would end a table
+-- why a text is refused: it doesn't stand among the bytes, it has a zero byte, which would end it, or it is empty, which would
+-- end a table up to version 4
 pub data HasTextFault (version : ℕ) (texts : List ℕ) (name : GimliName) (status : ℕ) : Type 0 where
   out_of_bounds : status ≡ TEXT_OUT_OF_BOUNDS → length texts < name.place + name.size → HasTextFault version texts name status
   zero_byte : status ≡ ZERO_IN_TEXT → Any (λ b. b ≡ 0) (text_handed texts name) → HasTextFault version texts name status
@@ -31,17 +32,17 @@ pub data HasTextFault (version : ℕ) (texts : List ℕ) (name : GimliName) (sta
 
 -- ---- directories and files
 
--- the least index that one of a table has: up to version 4 the directory with the index 0 is that of the compilation, and
--- no file has it
+-- the index of the first directory and of the first file; up to version 4 the index 0 is that of the directory of the
+-- compilation, and of no file
 abbrev pub first_index : ℕ → ℕ
 first_index version = if nat_le version 4 then 1 else 0
 
--- a file has the index of no directory, which are all below `end`, or its path is refused
+-- why a file is refused: it has the index of no directory, as those are all below `end`, or its path is refused
 pub data HasFileFault (version : ℕ) (texts : List ℕ) (end : ℕ) (file : GimliFileName) (status : ℕ) : Type 0 where
   no_directory : status ≡ NO_SUCH_DIRECTORY → end ≤ file.directory → HasFileFault version texts end file status
   path_fault : HasTextFault version texts file.path status → HasFileFault version texts end file status
 
--- a directory or a file is refused, or there is none in version 5
+-- why the tables are refused: a directory or a file is, or there is none in version 5, which begins with one of each
 pub data HasTableFault (version : ℕ) (texts : List ℕ) (directories : List GimliName) (files : List GimliFileName) (status : ℕ) : Type 0 where
   no_source : status ≡ NO_SOURCE_FILE → 5 ≤ version → (directories ≡ []) ⊎ (files ≡ []) → HasTableFault version texts directories files status
   directory_fault : Any (λ n. HasTextFault version texts n status) directories → HasTableFault version texts directories files status
@@ -59,7 +60,7 @@ pub record CanStand (e : LineEncoding) (base : ℕ) (place : ℕ × ℕ) (r : Gi
   pub follows : CanFollow e place.0 place.1 (r.address - base) r.op_index
   pub line_fits : ends r ≡ false → r.line < 2 ^ 63
 
--- a row can't stand there, has an unknown flag, or has the number of no file
+-- why a row is refused: it can't stand there, or it isn't an end and has a flag that isn't known or the number of no file
 pub data HasRowFault (e : LineEncoding) (version files base : ℕ) (place : ℕ × ℕ) (r : GimliRow) (status : ℕ) : Type 0 where
   out_of_order : status ≡ ROW_OUT_OF_ORDER → (CanStand e base place r → ⊥) → HasRowFault e version files base place r status
   unknown_flag : status ≡ UNKNOWN_FLAG → ends r ≡ false → 32 ≤ r.flags → HasRowFault e version files base place r status
@@ -69,7 +70,7 @@ pub data HasRowFault (e : LineEncoding) (version files base : ℕ) (place : ℕ 
 abbrev pub place_behind : Option ℕ → GimliRow → ℕ × ℕ
 place_behind base r = if ends r then (0, 0) else (r.address - base_of base r, r.op_index)
 
--- one of these rows is refused, where the row before the first is at this place, and its sequence began at the address
+-- one of these rows is refused; the row before them is at this place, and its sequence, if it goes on, began at the address
 abbrev pub HasRowsFault : LineEncoding → ℕ → ℕ → Option ℕ → ℕ × ℕ → List GimliRow → ℕ → Type 0
 HasRowsFault e version files base place [] status = ⊥
 HasRowsFault e version files base place (r ∷ rows) status =
@@ -86,7 +87,7 @@ pub record HasUnitFault (h : Handed) (status : ℕ) : Type 0 where
   pub first : first_cause h.big program.encoding program [] [] ≡ Some cause
   pub status_is : status ≡ write_status cause
 
--- the encoding, a directory, a file or a row is refused
+-- why what is handed over is refused before anything is written
 pub data HasHandedFault (h : Handed) (status : ℕ) : Type 0 where
   of_encoding : HasEncodingFault h.encoding status → HasHandedFault h status
   of_tables : HasTableFault h.encoding.version h.texts h.directories h.files status → HasHandedFault h status
