@@ -5,3 +5,4 @@ pub mod Runs
 pub mod Units
 pub mod Handings
 pub mod CauseLemmas
+pub mod SamePrograms

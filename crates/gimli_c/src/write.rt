@@ -1,6 +1,6 @@
 //! A unit of directories, files and rows that are handed over.
 
-ghost use Rattle.std.specs.Prelude.{◌≡◌, ◌≢◌, ◌⊎◌, ℕ, [], Bool, Err, IfErr, IfOk, OnOk, Some, false};
+ghost use Rattle.std.specs.Prelude.{◌≡◌, ◌≢◌, ◌⊎◌, ℕ, [], Bool, Err, IfErr, IfOk, None, OnOk, Some, false};
 ghost use Rattle.gimli_build.specs.Cause.{first_cause};
 ghost use Rattle.gimli_build.specs.Conditions.{CanWrite};
 ghost use Rattle.gimli_bytes.specs.Written.{Appends};
@@ -53,7 +53,7 @@ pub extern "C" fn gimli_line_write(
     ensures number { result ≢ OK → result ≢ NO_ROOM → IsRefusal result }
     ensures cause { result ≢ OK → result ≢ NO_ROOM → result ≢ OUT_OF_MEMORY → HasCause
         (handed encoding.now big details texts.now directories.now files.now rows.now) result }
-    ensures refused { (s : ℕ) → HasHandedFault
+    ensures refused { (s : ℕ) → HasCause
         (handed encoding.now big details texts.now directories.now files.now rows.now) s → IsRefusal result }
     ensures err { result ≢ OK → unit.new ≡ unit.old }
     ensures none { result ≢ OK → result ≢ NO_ROOM → size.new ≡ 0 }
@@ -127,6 +127,8 @@ fn section_of(
     ensures unit { IfOk result (λ section.
         Appends (unit_bytes big program.now.encoding program.now [] []) [] section.bytes) }
     ensures reads_back { IfOk result (λ section. ReadAs big program.now [] [] section.bytes) }
+    ensures no_cause { OnOk result
+        (first_cause big program.now.encoding program.now [] [] ≡ None) }
     ensures err { IfErr result (λ e. (e ≡ Error.OutOfMemory)
         ⊎ (first_cause big program.now.encoding program.now [] [] ≡ Some e)) }
 {

@@ -2,6 +2,7 @@ use Rattle.std.proofs.Common.{List, ℕ, length, inl, inr, ap, ◌∙◌, arith}
 use Rattle.gimli_c.specs.Causes.HasCause.{of_handed, of_unit}
 use Rattle.gimli_c.specs.Handing.{write_status}
 use Rattle.gimli_c.specs.Written.{written}
+use Rattle.gimli_c.proofs.SamePrograms.{no_cause}
 use Rattle.gimli_c.proofs.Handings.{appended, built_source}
 use Rattle.gimli_c.proofs.write.gimli_line_write.Goals as goal
 
@@ -54,7 +55,9 @@ returns-in-Err-section_of-clause-cause c = λ _ _ s.
     ]
 
 pub returns-then-bytes-unit-clause-refused : goal.returns-then-bytes-unit-clause-refused
-returns-then-bytes-unit-clause-refused c = λ s fault. absurd (c.in-Ok.ensures.well c.args.big s fault)
+returns-then-bytes-unit-clause-refused c = λ s cause.
+    absurd (no_cause _ c.in-Ok.program s (c.in-Ok.ensures.well c.args.big) (c.in-Ok.ensures.ok c.args.big) c.in-Ok-section_of.ensures.no_cause cause)
 
 pub returns-clause-refused : goal.returns-clause-refused
-returns-clause-refused c = λ s fault. absurd (c.in-Ok.ensures.well c.args.big s fault)
+returns-clause-refused c = λ s cause.
+    absurd (no_cause _ c.in-Ok.program s (c.in-Ok.ensures.well c.args.big) (c.in-Ok.ensures.ok c.args.big) c.in-Ok-section_of.ensures.no_cause cause)
