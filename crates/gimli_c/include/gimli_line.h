@@ -198,7 +198,8 @@ typedef struct gimli_file_name {
 
 /* Writes a unit with these directories, files and rows to the front of `unit`, and its number of bytes to *size.
  * GIMLI_NO_ROOM where it is longer than `room`: *size is its length then, and nothing is written to `unit`. Where any other
- * number than 0 is answered, *size is 0, and nothing is written to `unit`.
+ * number than 0 is answered, *size is 0, and nothing is written to `unit`. Each of these but GIMLI_OUT_OF_MEMORY says what is
+ * wrong with what was handed over; where several things are, it is the number of one of them.
  *
  * The names of directories and files stand among the `text_length` bytes of `texts`. Both have the indices that gimli_file and
  * gimli_row have: up to version 4 from 1 on, in version 5 from 0 on. A directory or a file that comes twice is there once, and

@@ -4,3 +4,5 @@ pub mod Files
 pub mod Runs
 pub mod Units
 pub mod Handings
+pub mod CauseLemmas
+pub mod SamePrograms

@@ -14,6 +14,7 @@ use Rattle.gimli_c.specs.declared.text.GimliName.{GimliName}
 use Rattle.gimli_c.specs.declared.tables.GimliFileName.{GimliFileName}
 use Rattle.gimli_c.specs.declared.row.GimliRow.{GimliRow}
 use Rattle.gimli_c.specs.Handed.{encoding_of, line_encoding_of, has_flag, text_handed, items_handed, AddsDirectories, AddsFiles}
+use Rattle.gimli_c.specs.Start.{start_program}
 use Rattle.gimli_c.specs.Written.{written}
 
 -- all that is handed over but for the room
@@ -54,11 +55,9 @@ program_with details p = record p {
   file_has_source = false;
 }
 
--- a program of these encodings without rows
+-- a program of these encodings without rows, with the directories and the file that each starts with
 pub record IsStart (h : Handed) (p : Built) : Type 0 where
-  pub encoding_is : p.encoding ≡ encoding_of h.encoding
-  pub lines_are : p.line_encoding ≡ line_encoding_of h.encoding
-  pub items_are : p.items ≡ []
+  pub program_is : p ≡ start_program (encoding_of h.encoding) (line_encoding_of h.encoding) h.texts h.directories h.files
   pub can : CanWrite p [] []
 
 -- a program that is built of what is handed over

@@ -7,5 +7,7 @@ pub mod Unit
 pub mod Found
 pub mod FileSeen
 pub mod Handed
+pub mod Start
 pub mod Handing
 pub mod Refused
+pub mod Causes

@@ -2,6 +2,7 @@
 
 ghost use Rattle.std.specs.Prelude.{◌≡◌, ◌≤◌, ℕ, Err, IfErr, IfOk, None, Some};
 ghost use Rattle.gimli_build.specs.Conditions.{Accepts};
+ghost use Rattle.gimli_c.specs.Causes.{HasEncodingFault};
 ghost use Rattle.gimli_c.specs.Handed.{IsRefusal, encoding_of, line_encoding_of};
 ghost use Rattle.gimli_c.specs.Refused.{encoding_fault, HasBadLines};
 
@@ -43,6 +44,7 @@ pub(crate) fn encodings(given: &GimliEncoding) -> Result<(Encoding, LineEncoding
     ensures fault { (s : ℕ) → encoding_fault given.now ≡ Some s → result ≡ Err s }
     ensures bad_lines { HasBadLines given.now → result ≡ Err UNSUPPORTED_LINE_ENCODING }
     ensures err { IfErr result IsRefusal }
+    ensures cause { IfErr result (HasEncodingFault given.now) }
 {
     if given.version < 2 || given.version > 5 {
         return Err(UNKNOWN_VERSION);

@@ -1,9 +1,11 @@
 //! The rows of a unit that is written.
 
-ghost use Rattle.std.specs.Prelude.{◌≡◌, ◌≤◌, ◌-◌, [], ◌∷◌, IfErr, IfOk, OnOk, None, slice_get, unwrap_or};
+ghost use Rattle.std.specs.Prelude.{◌≡◌, ◌≢◌, ◌<◌, ◌≤◌, ◌-◌, [], ◌∷◌, false, true, length, IfErr, IfNone, IfOk, IfSome, OnOk, None, slice_get, unwrap_or};
 ghost use Rattle.gimli_build.specs.declared.built.items.BuiltItem.{BuiltItem};
 ghost use Rattle.gimli_build.specs.Conditions.{CanWrite};
-ghost use Rattle.gimli_c.specs.Handed.{IsRefusal, AddsItems, base_behind, id_of_file, items_handed, items_of_row, items_of_start, row_handed, row_of_file};
+ghost use Rattle.gimli_build.specs.Built.{previous_place};
+ghost use Rattle.gimli_c.specs.Causes.{CanStand, HasNone, HasRowFault, HasRowsFault, LacksFile, place_behind};
+ghost use Rattle.gimli_c.specs.Handed.{IsRefusal, AddsItems, base_behind, base_of, ends, id_of_file, items_handed, items_of_row, items_of_start, row_handed, row_of_file};
 
 use crate::row::GimliRow;
 use crate::status::{NO_SUCH_FILE, OUT_OF_MEMORY, ROW_OUT_OF_ORDER, UNKNOWN_FLAG};
@@ -20,7 +22,13 @@ pub(crate) fn add_rows(
     ensures can { CanWrite program.new [] [] }
     ensures ok { OnOk result (AddsItems program.old program.new
         (items_handed program.old.encoding.version ids.now None rows.now)) }
+    ensures well { previous_place program.old.items ≡ (0, 0) → OnOk result (HasNone
+        (HasRowsFault program.old.line_encoding program.old.encoding.version (length ids.now)
+        None (0, 0) rows.now)) }
     ensures err { IfErr result IsRefusal }
+    ensures cause { previous_place program.old.items ≡ (0, 0) → IfErr result (λ s. s ≢ OUT_OF_MEMORY →
+        HasRowsFault program.old.line_encoding program.old.encoding.version (length ids.now)
+        None (0, 0) rows.now s) }
 {
     let mut base = None;
     for row in rows {
@@ -41,7 +49,15 @@ fn add_row(
     ensures ok { OnOk result (AddsItems program.old program.new
         (items_of_row program.old.encoding.version ids.now base row.now)) }
     ensures behind { IfOk result (λ behind. behind ≡ base_behind base row.now) }
+    ensures well { (base ≡ None → previous_place program.old.items ≡ (0, 0)) → OnOk result (HasNone
+        (HasRowFault program.old.line_encoding program.old.encoding.version (length ids.now)
+        (base_of base row.now) (previous_place program.old.items) row.now)) }
     ensures err { IfErr result IsRefusal }
+    ensures place { OnOk result (previous_place program.new.items ≡ place_behind base row.now) }
+    ensures cause { (base ≡ None → previous_place program.old.items ≡ (0, 0)) →
+        IfErr result (λ s. s ≢ OUT_OF_MEMORY →
+        HasRowFault program.old.line_encoding program.old.encoding.version (length ids.now)
+        (base_of base row.now) (previous_place program.old.items) row.now s) }
 {
     let start = begin(program, base, row.address)?;
     if row.address < start {
@@ -63,6 +79,9 @@ fn begin(program: &mut LineProgram, base: Option<u64>, address: u64) -> Result<u
     ensures start { IfOk result (λ start. start ≡ unwrap_or base address) }
     ensures ok { OnOk result (AddsItems program.old program.new (items_of_start base address)) }
     ensures err { IfErr result IsRefusal }
+    ensures memory { IfErr result (λ s. s ≡ OUT_OF_MEMORY) }
+    ensures place { (base ≡ None → previous_place program.old.items ≡ (0, 0)) →
+        OnOk result (previous_place program.new.items ≡ previous_place program.old.items) }
 {
     match base {
         Some(base) => Ok(base),
@@ -80,7 +99,12 @@ fn add_end(program: &mut LineProgram, start: u64, row: &GimliRow) -> Result<(), 
     ensures can { CanWrite program.new [] [] }
     ensures ok { OnOk result (AddsItems program.old program.new
         (BuiltItem.End (row.now.address - start) row.now.op_index ∷ [])) }
+    ensures well { ends row.now ≡ true → OnOk result
+        (CanStand program.old.line_encoding start (previous_place program.old.items) row.now) }
     ensures err { IfErr result IsRefusal }
+    ensures order { IfErr result (λ s. s ≢ OUT_OF_MEMORY → s ≡ ROW_OUT_OF_ORDER) }
+    ensures cause { IfErr result (λ s. s ≢ OUT_OF_MEMORY →
+        CanStand program.old.line_encoding start (previous_place program.old.items) row.now → ⊥) }
 {
     let offset = row.address - start;
     program.row().op_index = row.op_index;
@@ -105,7 +129,15 @@ fn add_line(
     ensures can { CanWrite program.new [] [] }
     ensures ok { OnOk result (AddsItems program.old program.new
         (BuiltItem.Row (row_handed program.old.encoding.version ids.now start row.now) ∷ [])) }
+    ensures stands { OnOk result
+        (CanStand program.old.line_encoding start (previous_place program.old.items) row.now) }
+    ensures flags { OnOk result (row.now.flags < 32) }
+    ensures file { OnOk result
+        (LacksFile program.old.encoding.version (length ids.now) row.now.file → ⊥) }
     ensures err { IfErr result IsRefusal }
+    ensures cause { ends row.now ≡ false → IfErr result (λ s. s ≢ OUT_OF_MEMORY →
+        HasRowFault program.old.line_encoding program.old.encoding.version (length ids.now)
+        start (previous_place program.old.items) row.now s) }
 {
     if row.flags >= 32 {
         return Err(UNKNOWN_FLAG);
@@ -146,7 +178,9 @@ fn built_row(file: FileId, start: u64, row: &GimliRow) -> LineRow
 
 /// The id of the file of a number. No number wraps.
 fn file_id(version: u16, ids: &[FileId], number: u64) -> Option<FileId>
-    ensures { result ≡ id_of_file version ids.now number }
+    ensures id { result ≡ id_of_file version ids.now number }
+    ensures some { IfSome result (λ _. LacksFile version (length ids.now) number → ⊥) }
+    ensures none { IfNone result (LacksFile version (length ids.now) number) }
 {
     if version > 4 {
         return file_at(ids, number);

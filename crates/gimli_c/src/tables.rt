@@ -1,10 +1,14 @@
 //! The directories and the files of a unit that is written.
 
-ghost use Rattle.std.specs.Prelude.{◌≡◌, ◌<◌, [], All, IfErr, IfOk, IfSome, OnOk, Some, length, map, slice_get};
+ghost use Rattle.std.specs.Prelude.{◌≡◌, ◌≢◌, ◌<◌, ◌≤◌, [], All, Any, IfErr, IfOk, IfSome, OnOk, None, Some, false, length, map, option_map, slice_get};
 ghost use Rattle.gimli_build.specs.Conditions.{Accepts, CanWrite};
+ghost use Rattle.gimli_build.specs.Built.{started};
+ghost use Rattle.gimli_build.specs.FirstTables.{first_directories, first_files};
 ghost use Rattle.gimli_build.specs.LineText.{line_text, Inline};
 ghost use Rattle.gimli_build.specs.Tables.{place_of_file, with_file};
+ghost use Rattle.gimli_c.specs.Causes.{HasFileFault, HasNone, HasTableFault, HasTextFault};
 ghost use Rattle.gimli_c.specs.Handed.{IsRefusal, IsInline, AddsDirectories, AddsFiles, details_handed, first_ids, key_handed, text_handed};
+ghost use Rattle.gimli_c.specs.Start.{start_program};
 
 use crate::status::{NO_SOURCE_FILE, NO_SUCH_DIRECTORY, OUT_OF_MEMORY};
 use crate::text::{GimliName, text_of};
@@ -40,10 +44,13 @@ pub(crate) fn started(
 ) -> Result<LineProgram, u32>
     requires { Accepts encoding lines }
     ensures can { IfOk result (λ program. CanWrite program [] []) }
-    ensures encoding { IfOk result (λ program. program.encoding ≡ encoding) }
-    ensures lines { IfOk result (λ program. program.line_encoding ≡ lines) }
-    ensures items { IfOk result (λ program. program.items ≡ []) }
+    ensures start { IfOk result (λ program. program
+        ≡ start_program encoding lines texts.now directories.now files.now) }
+    ensures source { 5 ≤ encoding.version →
+        OnOk result ((0 < length directories.now) × (0 < length files.now)) }
     ensures err { IfErr result IsRefusal }
+    ensures cause { IfErr result (λ s. s ≢ OUT_OF_MEMORY →
+        HasTableFault encoding.version texts.now directories.now files.now s) }
 {
     let version = encoding.version;
     if version <= 4 {
@@ -79,10 +86,12 @@ fn made(
     requires own { IfSome own (λ own. IsInline (line_text own)) }
     requires path { IsInline (line_text path) }
     ensures can { IfOk result (λ program. CanWrite program [] []) }
-    ensures encoding { IfOk result (λ program. program.encoding ≡ encoding) }
-    ensures lines { IfOk result (λ program. program.line_encoding ≡ lines) }
-    ensures items { IfOk result (λ program. program.items ≡ []) }
+    ensures program { IfOk result (λ program. program ≡ started false encoding lines
+        (first_directories encoding.version (line_text working) (option_map line_text own))
+        (first_files encoding.version (line_text working) (option_map line_text own)
+        (line_text path) None)) }
     ensures err { IfErr result IsRefusal }
+    ensures memory { IfErr result (λ s. s ≡ OUT_OF_MEMORY) }
 {
     match LineProgram::new(alloc, encoding, lines, working, own, path, None) {
         Ok(program) => Ok(program),
@@ -117,7 +126,11 @@ pub(crate) fn add_directories(
     ensures within { IfOk result (λ ids. All (λ id. id < length program.new.directories) ids.items) }
     ensures ok { IfOk result (λ ids.
         AddsDirectories program.old program.new (map (text_handed texts.now) names.now) ids.items) }
+    ensures well { OnOk result
+        (All (λ n. HasNone (HasTextFault program.old.encoding.version texts.now n)) names.now) }
     ensures err { IfErr result IsRefusal }
+    ensures cause { IfErr result (λ s. s ≢ OUT_OF_MEMORY →
+        Any (λ n. HasTextFault program.old.encoding.version texts.now n s) names.now) }
 {
     let version = program.version();
     let mut ids = first_ids(alloc, program)?;
@@ -140,6 +153,7 @@ fn first_ids(alloc: Global, program: &LineProgram) -> Result<Vec<DirectoryId>, u
     ensures ids { IfOk result (λ ids. ids.items ≡ first_ids program.now.encoding.version) }
     ensures within { IfOk result (λ ids. All (λ id. id < length program.now.directories) ids.items) }
     ensures err { IfErr result IsRefusal }
+    ensures memory { IfErr result (λ s. s ≡ OUT_OF_MEMORY) }
 {
     let mut ids = Vec::new(alloc);
     if program.version() <= 4 {
@@ -163,7 +177,11 @@ pub(crate) fn add_files(
     ensures can { OnOk result (CanWrite program.new [] []) }
     ensures ok { IfOk result (λ file_ids.
         AddsFiles program.old program.new texts.now ids.now files.now file_ids.items) }
+    ensures well { OnOk result (All (λ f. HasNone
+        (HasFileFault program.old.encoding.version texts.now (length ids.now) f)) files.now) }
     ensures err { IfErr result IsRefusal }
+    ensures cause { IfErr result (λ s. s ≢ OUT_OF_MEMORY →
+        Any (λ f. HasFileFault program.old.encoding.version texts.now (length ids.now) f s) files.now) }
 {
     let mut file_ids = Vec::new(alloc);
     for file in files {
@@ -191,7 +209,11 @@ fn add_file(
     }) }
     ensures id { IfOk result (λ id.
         id ≡ place_of_file program.old.files (key_handed texts.now ids.now file.now)) }
+    ensures well { OnOk result (HasNone
+        (HasFileFault program.old.encoding.version texts.now (length ids.now) file.now)) }
     ensures err { IfErr result IsRefusal }
+    ensures cause { IfErr result (λ s. s ≢ OUT_OF_MEMORY →
+        HasFileFault program.old.encoding.version texts.now (length ids.now) file.now s) }
 {
     let directory = match directory_at(ids, file.directory) {
         Some(directory) => directory,

@@ -1,7 +1,8 @@
 //! Texts that are handed over.
 
-ghost use Rattle.std.specs.Prelude.{◌≡◌, ◌≢◌, ◌≤◌, All, IfErr, IfOk, IsTrue};
+ghost use Rattle.std.specs.Prelude.{◌≡◌, ◌≢◌, ◌≤◌, All, Any, IfErr, IfOk, MatchBool, OnOk};
 ghost use Rattle.gimli_build.specs.LineText.{Inline, line_text, HasNoZero, IsNotEmpty};
+ghost use Rattle.gimli_c.specs.Causes.{HasNone, HasTextFault};
 ghost use Rattle.gimli_c.specs.Handed.{IsRefusal, text_handed};
 
 use crate::status::{EMPTY_TEXT, OUT_OF_MEMORY, TEXT_OUT_OF_BOUNDS, ZERO_IN_TEXT};
@@ -29,14 +30,16 @@ pub(crate) fn text_of(
     ensures ok { IfOk result (λ text. line_text text ≡ Inline (text_handed texts.now name)) }
     ensures no_zero { IfOk result (λ text. HasNoZero (line_text text)) }
     ensures not_empty { IfOk result (λ text. version ≤ 4 → IsNotEmpty (line_text text)) }
+    ensures well { OnOk result (HasNone (HasTextFault version texts.now name)) }
     ensures err { IfErr result IsRefusal }
+    ensures cause { IfErr result (λ s. s ≢ OUT_OF_MEMORY → HasTextFault version texts.now name s) }
 {
     let count = texts.len() as u64;
     if name.place > count || name.size > count - name.place {
         return Err(TEXT_OUT_OF_BOUNDS);
     }
     let bytes = &texts[name.place as usize..(name.place + name.size) as usize];
-    if !are_no_zeros(bytes) {
+    if has_zero(bytes) {
         return Err(ZERO_IN_TEXT);
     }
     if version <= 4 && bytes.is_empty() {
@@ -48,9 +51,9 @@ pub(crate) fn text_of(
     }
 }
 
-/// Whether bytes have no zero.
-fn are_no_zeros(bytes: &[u8]) -> bool
-    ensures { IsTrue result → All (λ b. b ≢ 0) bytes.now }
+/// Whether one of these bytes is zero.
+fn has_zero(bytes: &[u8]) -> bool
+    ensures { MatchBool result (Any (λ b. b ≡ 0) bytes.now) (All (λ b. b ≢ 0) bytes.now) }
 {
-    bytes.iter().all(|byte| *byte != 0)
+    bytes.iter().any(|byte| *byte == 0)
 }

@@ -1,10 +1,11 @@
 //! A unit of directories, files and rows that are handed over.
 
-ghost use Rattle.std.specs.Prelude.{◌≡◌, ◌≢◌, ◌⊎◌, ℕ, [], Bool, Err, IfErr, IfOk, Some, false};
+ghost use Rattle.std.specs.Prelude.{◌≡◌, ◌≢◌, ◌⊎◌, ℕ, [], Bool, Err, IfErr, IfOk, None, OnOk, Some, false};
 ghost use Rattle.gimli_build.specs.Cause.{first_cause};
 ghost use Rattle.gimli_build.specs.Conditions.{CanWrite};
 ghost use Rattle.gimli_bytes.specs.Written.{Appends};
 ghost use Rattle.gimli_build.specs.Unit.{unit_bytes};
+ghost use Rattle.gimli_c.specs.Causes.{HasCause, HasHandedFault, HasNone};
 ghost use Rattle.gimli_c.specs.Handed.{IsRefusal};
 ghost use Rattle.gimli_c.specs.Refused.{encoding_fault, HasBadLines};
 ghost use Rattle.gimli_c.specs.Handing.{GivesUnitOf, IsBuiltOf, NeedsRoom, ReadAs, handed, program_with, write_status};
@@ -27,9 +28,9 @@ use std::alloc::Global;
 
 /// Writes a unit with these directories, files and rows to the front of `unit`; `size` is how many bytes it has. `NO_ROOM`
 /// where there are fewer in `unit`: then `size` says how many it takes, and nothing is written. Where another number than
-/// these is answered, `size` is 0. Texts stand among the bytes of `texts`. A directory or a file that comes twice is there
-/// once; rows have its number then. `details` is the sum of `HAS_TIMESTAMP`, `HAS_SIZE` and `HAS_MD5`, each where version 5
-/// is to have that detail.
+/// these is answered, `size` is 0; each but `OUT_OF_MEMORY` has its cause in what is handed over. Texts stand among the bytes
+/// of `texts`. A directory or a file that comes twice is there once; rows have its number then. `details` is the sum of
+/// `HAS_TIMESTAMP`, `HAS_SIZE` and `HAS_MD5`, each where version 5 is to have that detail.
 #[unsafe(no_mangle)]
 pub extern "C" fn gimli_line_write(
     alloc: Global,
@@ -50,6 +51,10 @@ pub extern "C" fn gimli_line_write(
     ensures fault { (s : ℕ) → encoding_fault encoding.now ≡ Some s → result ≡ s }
     ensures bad_lines { HasBadLines encoding.now → result ≡ UNSUPPORTED_LINE_ENCODING }
     ensures number { result ≢ OK → result ≢ NO_ROOM → IsRefusal result }
+    ensures cause { result ≢ OK → result ≢ NO_ROOM → result ≢ OUT_OF_MEMORY → HasCause
+        (handed encoding.now big details texts.now directories.now files.now rows.now) result }
+    ensures refused { (s : ℕ) → HasCause
+        (handed encoding.now big details texts.now directories.now files.now rows.now) s → IsRefusal result }
     ensures err { result ≢ OK → unit.new ≡ unit.old }
     ensures none { result ≢ OK → result ≢ NO_ROOM → size.new ≡ 0 }
 {
@@ -86,6 +91,10 @@ fn built(
     ensures fault { (s : ℕ) → encoding_fault encoding.now ≡ Some s → result ≡ Err s }
     ensures bad_lines { HasBadLines encoding.now → result ≡ Err UNSUPPORTED_LINE_ENCODING }
     ensures err { IfErr result IsRefusal }
+    ensures cause { (big : Bool) → IfErr result (λ s. s ≢ OUT_OF_MEMORY → HasHandedFault
+        (handed encoding.now big details texts.now directories.now files.now rows.now) s) }
+    ensures well { (big : Bool) → OnOk result (HasNone (HasHandedFault
+        (handed encoding.now big details texts.now directories.now files.now rows.now))) }
 {
     let (units, lines) = encodings(encoding)?;
     let start = started(alloc, units, lines, texts, directories, files)?;
@@ -118,6 +127,8 @@ fn section_of(
     ensures unit { IfOk result (λ section.
         Appends (unit_bytes big program.now.encoding program.now [] []) [] section.bytes) }
     ensures reads_back { IfOk result (λ section. ReadAs big program.now [] [] section.bytes) }
+    ensures no_cause { OnOk result
+        (first_cause big program.now.encoding program.now [] [] ≡ None) }
     ensures err { IfErr result (λ e. (e ≡ Error.OutOfMemory)
         ⊎ (first_cause big program.now.encoding program.now [] [] ≡ Some e)) }
 {

@@ -2,6 +2,7 @@ use Rattle.std.proofs.Common.{[], sym, subst, refl}
 use Rattle.gimli_build.specs.Built.{Built}
 use Rattle.gimli_build.specs.Conditions.{CanWrite}
 use Rattle.gimli_build.specs.LineText.{line_text}
+use Rattle.gimli_c.proofs.CauseLemmas.{file_is_well}
 use Rattle.gimli_c.proofs.Handings.{text_is_inline, file_can}
 use Rattle.gimli_c.proofs.tables.add_file.Goals as goal
 
@@ -10,3 +11,6 @@ returns-in-Ok-clause-can c =
     let path = line_text c.in_ok-path.path in
     subst (λ (p : Built). CanWrite p [] []) (sym c.in-Ok.ensures.ok)
     (file_can c.args.program.now (path, c.in-Some.directory) _ c.requires.can (text_is_inline path _ c.in_ok-path.ensures.ok c.in_ok-path.ensures.no_zero) refl)
+
+pub returns-in-Ok-clause-well : goal.returns-in-Ok-clause-well
+returns-in-Ok-clause-well c = file_is_well c.args.program.now.encoding.version c.args.texts.now c.args.ids.now _ c.args.file.now (rw c.version.ensures at c.in_ok-path.ensures.well) (sym c.in-Some.ensures)

@@ -1,5 +1,8 @@
-use Rattle.std.proofs.Common.{List, ℕ, length, ap, ◌∙◌, arith}
+use Rattle.std.proofs.Common.{List, ℕ, length, inl, inr, ap, ◌∙◌, arith}
+use Rattle.gimli_c.specs.Causes.HasCause.{of_handed, of_unit}
+use Rattle.gimli_c.specs.Handing.{write_status}
 use Rattle.gimli_c.specs.Written.{written}
+use Rattle.gimli_c.proofs.SamePrograms.{no_cause}
 use Rattle.gimli_c.proofs.Handings.{appended, built_source}
 use Rattle.gimli_c.proofs.write.gimli_line_write.Goals as goal
 
@@ -33,3 +36,28 @@ returns-clause-ok c = λ _.
       written_is = c.copy_bytes.ensures ∙ ap (λ (xs : List ℕ). written xs c.args.unit.now) c.slice-bytes.ensures;
       size_is = same;
     }
+
+pub returns-in-Err-clause-cause : goal.returns-in-Err-clause-cause
+returns-in-Err-clause-cause c = λ _ _ s. of_handed (c.in-Err.ensures.cause c.args.big s)
+
+pub returns-in-Err-section_of-clause-cause : goal.returns-in-Err-section_of-clause-cause
+returns-in-Err-section_of-clause-cause c = λ _ _ s.
+    let number = c.write_status.ensures.number in
+    elim c.in-Err-section_of.ensures.err [
+      | inl memory ↦ absurd (s (number ∙ ap write_status memory))
+      | inr first ↦ of_unit (record {
+        program = c.in-Ok.program;
+        built = c.in-Ok.ensures.ok c.args.big;
+        cause = c.in-Err-section_of.e;
+        first = first;
+        status_is = number;
+      })
+    ]
+
+pub returns-then-bytes-unit-clause-refused : goal.returns-then-bytes-unit-clause-refused
+returns-then-bytes-unit-clause-refused c = λ s cause.
+    absurd (no_cause _ c.in-Ok.program s (c.in-Ok.ensures.well c.args.big) (c.in-Ok.ensures.ok c.args.big) c.in-Ok-section_of.ensures.no_cause cause)
+
+pub returns-clause-refused : goal.returns-clause-refused
+returns-clause-refused c = λ s cause.
+    absurd (no_cause _ c.in-Ok.program s (c.in-Ok.ensures.well c.args.big) (c.in-Ok.ensures.ok c.args.big) c.in-Ok-section_of.ensures.no_cause cause)

@@ -1,0 +1,64 @@
+-- What is handed over determines the program that is built of it, but for the row that would be built next.
+use Rattle.std.proofs.Common.{◌≡◌, ℕ, Bool, List, [], ◌++◌, map, None, Option, refl, sym, ap, subst, ◌∙◌}
+use Rattle.std.proofs.lemmas.Option.{none-some}
+use Rattle.gimli_bytes.specs.declared.error.Error.{Error}
+use Rattle.gimli_build.specs.Built.{Built}
+use Rattle.gimli_build.specs.Cause.{first_cause}
+use Rattle.gimli_build.specs.LineText.{LineText}
+use Rattle.gimli_build.specs.Tables.{File}
+use Rattle.gimli_build.specs.declared.built.row.LineRow.{LineRow}
+use Rattle.gimli_build.specs.declared.built.items.BuiltItem.{BuiltItem}
+use Rattle.gimli_c.specs.Causes.{HasCause, HasHandedFault, HasNone}
+use Rattle.gimli_c.specs.Causes.HasCause.{of_handed, of_unit}
+use Rattle.gimli_c.specs.Handed.{AddsDirectories, encoding_of, line_encoding_of, directories_handed, files_handed, first_ids, ids_of_directories, ids_of_files, items_handed, text_handed}
+use Rattle.gimli_c.specs.Handing.{Handed, IsBuiltOf, program_with}
+use Rattle.gimli_c.specs.Start.{start_program}
+
+abbrev start : Handed → Built
+start h = program_with h.details (start_program (encoding_of h.encoding) (line_encoding_of h.encoding) h.texts h.directories h.files)
+
+abbrev names : Handed → List (List ℕ)
+names h = map (text_handed h.texts) h.directories
+
+abbrev ids : Handed → List ℕ
+ids h = first_ids h.encoding.version ++ ids_of_directories (start h).directories (names h)
+
+abbrev with_tables : Handed → Built
+with_tables h = record (start h) {
+  directories = directories_handed (start h).directories (names h);
+  files = files_handed h.texts (ids h) (start h).files h.files;
+}
+
+abbrev file_ids : Handed → List ℕ
+file_ids h = ids_of_files h.texts (ids h) (start h).files h.files
+
+abbrev program_of : Handed → LineRow → Bool → Built
+program_of h row in_sequence =
+    record (with_tables h) { items = items_handed h.encoding.version (file_ids h) None h.rows; row = row; in_sequence = in_sequence }
+
+is_program_of : (h : Handed) (p : Built) → IsBuiltOf h p → p ≡ program_of h p.row p.in_sequence
+is_program_of h p b =
+    let d = subst (λ (s : Built). AddsDirectories (program_with h.details s) b.between (names h) b.directory_ids) b.is_start.program_is b.directories in
+    let between = d.others ∙ ap (λ (ds : List LineText). let q : Built = record (start h) { directories = ds } in q) d.directories_are in
+    let files_between = ap (λ (q : Built). q.files) d.others in
+    let files = b.files.files_are ∙ ap (λ (xs : List ℕ). files_handed h.texts xs b.between.files h.files) d.ids_are
+    ∙ ap (λ (fs : List File). files_handed h.texts (ids h) fs h.files) files_between in
+    let behind = b.files.others ∙ ap (λ (q : Built). let r : Built = record q { files = b.behind.files } in r) between
+    ∙ ap (λ (fs : List File). let q : Built = record (with_tables h) { files = fs } in q) files in
+    let given = b.files.ids_are ∙ ap (λ (xs : List ℕ). ids_of_files h.texts xs b.between.files h.files) d.ids_are
+    ∙ ap (λ (fs : List File). ids_of_files h.texts (ids h) fs h.files) files_between in
+    let items = b.items ∙ ap (λ (xs : List ℕ). items_handed h.encoding.version xs None h.rows) given in
+    b.others ∙ ap (λ (q : Built). let r : Built = record q { items = p.items; row = p.row; in_sequence = p.in_sequence } in r) behind
+    ∙ ap (λ (xs : List BuiltItem). let r : Built = record (with_tables h) { items = xs; row = p.row; in_sequence = p.in_sequence } in r) items
+
+-- so each of them has the same first cause
+same_cause : (h : Handed) (big : Bool) (p q : Built) → IsBuiltOf h p → IsBuiltOf h q → first_cause big p.encoding p [] [] ≡ first_cause big q.encoding q [] []
+same_cause h big p q a b =
+    let cause : Built → Option Error = λ r. first_cause big r.encoding r [] [] in
+    let same : cause (program_of h p.row p.in_sequence) ≡ cause (program_of h q.row q.in_sequence) = refl in
+    ap cause (is_program_of h p a) ∙ same ∙ sym (ap cause (is_program_of h q b))
+
+-- where a program that is built was written, nothing has a cause
+pub no_cause : (h : Handed) (p : Built) (status : ℕ) → HasNone (HasHandedFault h) → IsBuiltOf h p → first_cause h.big p.encoding p [] [] ≡ None → HasCause h status → ⊥
+no_cause h p status well built none (of_handed fault) = well status fault
+no_cause h p status well built none (of_unit unit) = none-some unit.cause (sym none ∙ same_cause h h.big p unit.program built unit.built ∙ unit.first)

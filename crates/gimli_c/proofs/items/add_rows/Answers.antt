@@ -1,0 +1,34 @@
+use Rattle.std.proofs.Common.{ℕ, length, None, rules, ap, subst, arith}
+use Rattle.std.proofs.lemmas.Grind.{common_steps}
+use Rattle.std.proofs.lemmas.Result.{err_from_is_err_and}
+use Rattle.gimli_build.specs.Built.{Built}
+use Rattle.gimli_c.specs.Causes.{HasRowsFault}
+use Rattle.gimli_c.proofs.CauseLemmas.{row_of_rows, rows_left}
+use Rattle.gimli_c.proofs.items.add_rows.Goals as goal
+
+pub returns-in_err-base-clause-cause : goal.returns-in_err-base-clause-cause
+returns-in_err-base-clause-cause c = λ start.
+    let p = err_from_is_err_and c.from_residual.result c.from_residual.ensures.1 in
+    let old = c.args.program.now in
+    let so_far = c.loop-row.invariant in
+    rw (p.1, p.2) (λ s.
+    subst (λ (place : ℕ × ℕ). HasRowsFault old.line_encoding old.encoding.version (length c.args.ids.now) None place c.args.rows.now c.in_err-base.field-0.0) start
+    (so_far.faults _
+    (row_of_rows c.loop-row.program old _ _ _ _ _ _ _ (ap (λ (q : Built). q.line_encoding) so_far.others) (ap (λ (q : Built). q.encoding) so_far.others) c.loop-row-test.true
+    (c.in_err-base.ensures.cause (so_far.start start) s))))
+
+pub loop-row-preserved : goal.loop-row-preserved
+loop-row-preserved c =
+    let old = c.args.program.now in
+    let so_far = c.loop-row.invariant in
+    record {
+      can = first_of (search rules, grind (arith, common_steps));
+      items = first_of (search rules, grind (arith, common_steps));
+      start = first_of (search rules, grind (arith, common_steps));
+      faults = first_of (search rules, grind (arith, common_steps));
+      well = λ s start fault.
+          let left = rows_left c.loop-row.program old _ _ _ c.args.rows.now c.loop-row.row-index _ s (ap (λ (q : Built). q.line_encoding) so_far.others)
+          (ap (λ (q : Built). q.encoding) so_far.others) c.loop-row-test.true (c.in_ok-base.ensures.well (so_far.start start)) (so_far.well s start fault) in
+          rw (c.in_ok-base.ensures.behind, c.in_ok-base.ensures.place) left;
+      others = first_of (search rules, grind (arith, common_steps));
+    }
