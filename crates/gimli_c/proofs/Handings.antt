@@ -19,7 +19,8 @@ use Rattle.gimli_c.specs.declared.encoding.GimliEncoding.{GimliEncoding}
 use Rattle.gimli_c.specs.declared.tables.GimliFileName.{GimliFileName}
 use Rattle.gimli_c.specs.declared.row.GimliRow.{GimliRow}
 use Rattle.gimli_c.specs.Handed.{IsInline, AddsDirectories, AddsFiles, AddsItems, encoding_of, items_handed}
-use Rattle.gimli_c.specs.Handing.{Handed, IsBuiltOf, ReadAs, program_with}
+use Rattle.gimli_build.specs.ReadsBack.{ReadsBackAs}
+use Rattle.gimli_c.specs.Handing.{Handed, IsBuiltOf, program_with}
 
 -- ---- texts in the program itself
 
@@ -87,12 +88,12 @@ no_line_strings p is = ap (λ (b : Bool). if b && nat_eq (first_form (sources p.
 -- so what was written to an empty section with empty tables is read back with empty tables
 pub read_back : (written big : Bool) (p : Built) (strings line_strings : List (List ℕ)) (old new : List ℕ) → written ≡ big → old ≡ []
     → p.file_has_source ≡ false → strings ≡ strings_behind p [] → line_strings ≡ line_strings_behind p []
-    → (unit : List ℕ) × (new ≡ old ++ unit) × ReadAs written p strings line_strings unit → ReadAs big p [] [] new
+    → (unit : List ℕ) × (new ≡ old ++ unit) × ReadsBackAs written p strings line_strings unit → ReadsBackAs big p [] [] new
 read_back written big p strings line_strings old new big_is old_is none s_is l_is given =
-    subst (λ (b : Bool). ReadAs b p [] [] new) big_is
-    (subst (ReadAs written p [] []) (sym (given.1 ∙ ap (λ (xs : List ℕ). xs ++ given.0) old_is))
-    (subst (λ (l : List (List ℕ)). ReadAs written p [] l given.0) (l_is ∙ no_line_strings p none)
-    (subst (λ (s : List (List ℕ)). ReadAs written p s line_strings given.0) (s_is ∙ no_strings p none) given.2)))
+    subst (λ (b : Bool). ReadsBackAs b p [] [] new) big_is
+    (subst (ReadsBackAs written p [] []) (sym (given.1 ∙ ap (λ (xs : List ℕ). xs ++ given.0) old_is))
+    (subst (λ (l : List (List ℕ)). ReadsBackAs written p [] l given.0) (l_is ∙ no_line_strings p none)
+    (subst (λ (s : List (List ℕ)). ReadsBackAs written p s line_strings given.0) (s_is ∙ no_strings p none) given.2)))
 
 -- ---- the program that is built
 

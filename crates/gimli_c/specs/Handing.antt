@@ -1,13 +1,10 @@
 -- The unit of what C hands over.
 use Rattle.std.specs.Prelude.{◌≡◌, ◌≤◌, ◌<◌, ℕ, Bool, false, List, [], length, map, None, Ok}
-use Rattle.gimli_core.specs.Notation.{Notation}
-use Rattle.gimli_line.specs.header.Header.{UnitEntry}
 use Rattle.gimli_bytes.specs.declared.error.Error.{Error}
 use Rattle.gimli_bytes.specs.declared.error.Error.TheVariants.{UnsupportedVersion, NeedVersion, ValueTooLarge, InitialLengthOverflow}
 use Rattle.gimli_build.specs.Built.{Built}
 use Rattle.gimli_build.specs.Conditions.{CanWrite}
-use Rattle.gimli_build.specs.Texts.{Sections}
-use Rattle.gimli_build.specs.ReadsBack.{ReadsBack, IsReadWell}
+use Rattle.gimli_build.specs.ReadsBack.{ReadsBackAs}
 use Rattle.gimli_build.specs.Unit.{unit_bytes}
 use Rattle.gimli_c.specs.declared.encoding.GimliEncoding.{GimliEncoding}
 use Rattle.gimli_c.specs.declared.text.GimliName.{GimliName}
@@ -74,15 +71,10 @@ pub record IsBuiltOf (h : Handed) (p : Built) : Type 0 where
   pub others : p ≡ record behind { items = p.items; row = p.row; in_sequence = p.in_sequence }
   pub can : CanWrite p [] []
 
--- bytes that are read well with these tables are read as the program
-abbrev pub ReadAs : Bool → Built → List (List ℕ) → List (List ℕ) → List ℕ → Type 0
-ReadAs big p strings line_strings unit = (notation : Notation) (unit_entry : UnitEntry) (sections : Sections)
-    → IsReadWell notation unit_entry sections big p strings line_strings unit → ReadsBack notation unit_entry sections p strings line_strings unit
-
 -- bytes are the unit of a program whose texts all stand in it, and read back as it
 pub record IsUnitOf (big : Bool) (p : Built) (bytes : List ℕ) : Type 0 where
   pub unit : unit_bytes big p.encoding p [] [] ≡ Ok bytes
-  pub reads_back : ReadAs big p [] [] bytes
+  pub reads_back : ReadsBackAs big p [] [] bytes
 
 -- the unit stands at the front of the room
 pub record GivesUnitOf (h : Handed) (old new : List ℕ) (size : ℕ) : Type 0 where

@@ -2,13 +2,14 @@
 
 ghost use Rattle.std.specs.Prelude.{◌≡◌, ◌≢◌, ◌⊎◌, ℕ, [], Bool, Err, IfErr, IfOk, None, OnOk, Some, false};
 ghost use Rattle.gimli_build.specs.Cause.{first_cause};
+ghost use Rattle.gimli_build.specs.ReadsBack.{ReadsBackAs};
 ghost use Rattle.gimli_build.specs.Conditions.{CanWrite};
 ghost use Rattle.gimli_bytes.specs.Written.{Appends};
 ghost use Rattle.gimli_build.specs.Unit.{unit_bytes};
 ghost use Rattle.gimli_c.specs.Causes.{HasCause, HasHandedFault, HasNone};
 ghost use Rattle.gimli_c.specs.Handed.{IsRefusal};
 ghost use Rattle.gimli_c.specs.Refused.{encoding_fault, HasBadLines};
-ghost use Rattle.gimli_c.specs.Handing.{GivesUnitOf, IsBuiltOf, NeedsRoom, ReadAs, handed, program_with, write_status};
+ghost use Rattle.gimli_c.specs.Handing.{GivesUnitOf, IsBuiltOf, NeedsRoom, handed, program_with, write_status};
 
 use crate::encoding::{GimliEncoding, encodings};
 use crate::file::copy_bytes;
@@ -126,7 +127,7 @@ fn section_of(
     requires source { program.now.file_has_source ≡ false }
     ensures unit { IfOk result (λ section.
         Appends (unit_bytes big program.now.encoding program.now [] []) [] section.bytes) }
-    ensures reads_back { IfOk result (λ section. ReadAs big program.now [] [] section.bytes) }
+    ensures reads_back { IfOk result (λ section. ReadsBackAs big program.now [] [] section.bytes) }
     ensures no_cause { OnOk result
         (first_cause big program.now.encoding program.now [] [] ≡ None) }
     ensures err { IfErr result (λ e. (e ≡ Error.OutOfMemory)

@@ -5,17 +5,21 @@ pub use Rattle.gimli_bytes.specs.Written
 pub use Rattle.gimli_bytes.specs.Texts as StringTables
 pub use Rattle.gimli_build.specs.Advance
 pub use Rattle.gimli_build.specs.Built
+pub use Rattle.gimli_build.specs.Calls
 pub use Rattle.gimli_build.specs.Cause
 pub use Rattle.gimli_build.specs.Conditions
 pub use Rattle.gimli_build.specs.Encode
 pub use Rattle.gimli_build.specs.FileNumber
 pub use Rattle.gimli_build.specs.FirstTables
+pub use Rattle.gimli_build.specs.Gains
 pub use Rattle.gimli_build.specs.InstructionBytes
 pub use Rattle.gimli_build.specs.Items
 pub use Rattle.gimli_build.specs.LentRow
 pub use Rattle.gimli_build.specs.LineText
+pub use Rattle.gimli_build.specs.NoFiles
 pub use Rattle.gimli_build.specs.ReadsBack
 pub use Rattle.gimli_build.specs.Rows
+pub use Rattle.gimli_build.specs.Runs
 pub use Rattle.gimli_build.specs.SameRow
 pub use Rattle.gimli_build.specs.Sizes
 pub use Rattle.gimli_build.specs.Stored
@@ -23,6 +27,7 @@ pub use Rattle.gimli_build.specs.Tables
 pub use Rattle.gimli_build.specs.TablesInside
 pub use Rattle.gimli_build.specs.Texts
 pub use Rattle.gimli_build.specs.Unit
+pub use Rattle.gimli_build.specs.UnitReader
 pub use Rattle.gimli_build.specs.Version4Tables
 pub use Rattle.gimli_build.specs.Version5Tables
 pub use Rattle.gimli_build.specs.declared.built.items.BuiltItem
