@@ -393,8 +393,8 @@ fn write_file_entry<W: Writer>(
         → IsEmptySource program.now strings.now line_strings.now (line_text empty.now) }
     requires source_form { source_form.0 ≡ first_form (sources program.now.files) }
     ensures writes { Writes W.Writer w.old w.new result
-        (file_entry_bytes (W.big w.old) program.now.encoding.format
-        strings.now line_strings.now program.now ((line_text file.entry.0.now, file.entry.1), details file.entry.2.now)) }
+        (file_entry_bytes (W.big w.old) program.now.encoding.format strings.now line_strings.now program.now
+        ((line_text file.entry.0.now, file.entry.1), details file.entry.2.now)) }
     ensures fit { OnOk result (FitsFile ((line_text file.entry.0.now, file.entry.1), details file.entry.2.now)) }
 {
     let form = path_form(program.tables());

@@ -314,7 +314,8 @@ impl<R: Reader> LineInstructions<R> {
         row: &mut LineRow,
     ) -> Result<Option<bool>>
         ensures ok { IfOk result (λ found. IfSome found (λ made.
-            ExecutedWell header.now.meaning.parameters (ins_at self.old.notation header.now.meaning self.old.bytes) self.new.bytes row.old row.new made)) }
+            ExecutedWell header.now.meaning.parameters
+            (ins_at self.old.notation header.now.meaning self.old.bytes) self.new.bytes row.old row.new made)) }
         ensures none { IfOk result (λ found. IsNone found → (self.new ≡ self.old) × (row.new ≡ row.old)) }
         ensures err { IfErr result (λ e. (e ≡ Error.AddressOverflow)
             × Executed header.now.meaning.parameters

@@ -289,7 +289,8 @@ impl LineRow {
         input: &mut R,
     ) -> Option<bool>
         ensures executed { IfSome result (λ made. (n : Notation) → (h : Header) →
-            ExecutedWell h.parameters (standard_at n h opcode.0 (R.bytes input.old)) (R.bytes input.new) self.old self.new made) }
+            ExecutedWell h.parameters (standard_at n h opcode.0 (R.bytes input.old)) (R.bytes input.new)
+            self.old self.new made) }
         ensures some { IfSome result (λ _. 0 < opcode.0) }
         ensures none { IsNone result → self.new ≡ self.old }
         ensures order { R.big input.new ≡ R.big input.old }

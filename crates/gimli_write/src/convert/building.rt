@@ -131,10 +131,10 @@ impl<R: Reader> Conversion<R> {
     /// The same, of a conversion.
     pub(crate) fn generate_row(&mut self, row: LineRow) -> ConvertResult<()>
         ensures ok { OnOk result (self.new ≡ with_program (behind_row row self.old.lists.program) self.old) }
-        ensures can { OnOk result
-            (CanBuild self.old.lists.program.line_encoding (previous_place self.old.lists.program.items) (BuiltItem.Row row)) }
-        ensures err { IfErr result (IsBuildRefusal
-            (CanBuild self.old.lists.program.line_encoding (previous_place self.old.lists.program.items) (BuiltItem.Row row))) }
+        ensures can { OnOk result (CanBuild self.old.lists.program.line_encoding
+            (previous_place self.old.lists.program.items) (BuiltItem.Row row)) }
+        ensures err { IfErr result (IsBuildRefusal (CanBuild self.old.lists.program.line_encoding
+            (previous_place self.old.lists.program.items) (BuiltItem.Row row))) }
         ensures kept { OnErr result (self.new ≡ self.old) }
     {
         self.lists.generate_row(row)

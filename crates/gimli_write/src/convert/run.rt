@@ -146,7 +146,8 @@ impl<R: Reader> SourceRun<R> {
         ensures start { result ≡ started program.meaning
             (record { bytes = program.meaning.program; notation = program.notation }) }
         ensures reads { (sections : Sections) (first : Lists) →
-            Reads program.notation sections program.meaning first program.meaning.program (reading_left sections result first) }
+            Reads program.notation sections program.meaning first program.meaning.program
+            (reading_left sections result first) }
     {
         let header = program.header();
         let row = LineRow::new(header);
