@@ -4,9 +4,10 @@ ghost use Rattle.conversion_text.specs.Taken.{IsTaken};
 
 use crate::conversion::Conversion;
 use crate::item_text::{Item, Refused, Row};
+use gimli_core::Reader;
 use gimli_line::IncompleteLineProgram;
 use gimli_write::{
-    ConvertError, ConvertLineProgram, ConvertLineRow, ConvertLineSequence, ConvertLineSequenceEnd,
+    ConvertError, ConvertLineHeader, ConvertLineRow, ConvertLineSequence, ConvertLineSequenceEnd,
     ConvertResult, LineStringTable, StringTable,
 };
 use std::alloc::AllocError;
@@ -167,7 +168,7 @@ impl Conversion<'_> {
     ) -> Result<Ending, AllocError>
         requires { IsTaken self.target }
     {
-        let mut converter = match ConvertLineProgram::new(
+        let header = match ConvertLineHeader::new(
             self.strings,
             self.line_strings,
             program,
@@ -175,22 +176,33 @@ impl Conversion<'_> {
             self.target.encoding,
             self.target.line_encoding,
             line_strings,
-            strings,
         ) {
-            Ok(converter) => converter,
+            Ok(header) => header,
             Err(error) => return print_no_start(error, text),
         };
-        for _turn in 0..u64::MAX {
-            let part = match kind {
-                Kind::Items => Part::of_item(converter.read_row()),
-                Kind::Sequences => Part::of_sequence(converter.read_sequence()),
-            };
-            match part {
-                Ok(Some(part)) => part.print(text)?,
-                Ok(None) => return Ok(Ending::at_end()),
-                Err(error) => return print_no_more(error, converter.read_row().err(), text),
-            }
-        }
-        Ok(Ending::at_end())
+        print_program(kind, header, line_strings, strings, text)
     }
+}
+
+/// Prints what is read after a header.
+fn print_program<R: Reader>(
+    kind: Kind,
+    header: ConvertLineHeader<R>,
+    line_strings: &mut LineStringTable,
+    strings: &mut StringTable,
+    text: &mut String,
+) -> Result<Ending, AllocError> {
+    let mut converter = header.converter(line_strings, strings);
+    for _turn in 0..u64::MAX {
+        let part = match kind {
+            Kind::Items => Part::of_item(converter.read_row()),
+            Kind::Sequences => Part::of_sequence(converter.read_sequence()),
+        };
+        match part {
+            Ok(Some(part)) => part.print(text)?,
+            Ok(None) => return Ok(Ending::at_end()),
+            Err(error) => return print_no_more(error, converter.read_row().err(), text),
+        }
+    }
+    Ok(Ending::at_end())
 }
