@@ -13,7 +13,8 @@ use Rattle.gimli_c.specs.declared.unit.GimliUnit.{GimliUnit}
 use Rattle.gimli_c.specs.Place.{Place, notation_at, unit_entry_at, HasUnit}
 use Rattle.gimli_c.specs.Run.{rows_of, fault_of}
 use Rattle.gimli_c.specs.Status.{fault_status}
-use Rattle.gimli_c.specs.Unit.{length_field, unit_seen}
+use Rattle.section_units.specs.Units.{length_field, offset_after}
+use Rattle.gimli_c.specs.Unit.{unit_seen}
 
 -- the bytes of a length are as many as its format says
 field_long : (big : Bool) (bytes : List ℕ) (format : Format) (n : ℕ) → SpellsInitialLength big bytes format n → length bytes ≡ length_field format
@@ -66,7 +67,7 @@ field_some Dwarf64 = omega arith
 
 -- so what follows a unit has an offset that fits
 pub unit_fits : (p : Place) (h : Header) → HasUnit p h → length p.section < 2 ^ 64
-    → p.offset + length_field h.parameters.encoding.format + h.unit_length < 2 ^ 64
+    → offset_after p.offset h.parameters.encoding.format h.unit_length < 2 ^ 64
 unit_fits p h unit fits =
     omega (
       arith,

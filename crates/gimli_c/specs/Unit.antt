@@ -1,8 +1,7 @@
 -- What C sees of a unit.
-use Rattle.std.specs.Prelude.{◌≡◌, ◌+◌, ℕ, true, List, length}
+use Rattle.std.specs.Prelude.{◌≡◌, ℕ, true, List, length}
 use Rattle.gimli_core.specs.Numbers.{word_size}
-use Rattle.gimli_core.specs.declared.common.Format.{Format}
-use Rattle.gimli_core.specs.declared.common.Format.TheVariants.{Dwarf32, Dwarf64}
+use Rattle.section_units.specs.Units.{offset_after}
 use Rattle.gimli_line.specs.header.File.{File}
 use Rattle.gimli_line.specs.header.Header.{Header}
 use Rattle.gimli_core.specs.Notation.{Notation}
@@ -13,18 +12,13 @@ use Rattle.gimli_c.specs.Place.{Place, notation_at}
 use Rattle.gimli_c.specs.Run.{HasEvents, rows_of, fault_of}
 use Rattle.gimli_c.specs.Status.{fault_status}
 
--- how many bytes the length of a unit takes (DWARF 5, section 7.4)
-abbrev pub length_field : Format → ℕ
-length_field Dwarf32 = 4
-length_field Dwarf64 = 12
-
 -- the unit at an offset, with this header, whose program gives these events and has these files at its end
 abbrev pub unit_seen : ℕ → Header → List Event → List File → GimliUnit
 unit_seen offset h events files =
     let encoding = h.parameters.encoding in
     record {
       length = h.unit_length;
-      next = offset + length_field encoding.format + h.unit_length;
+      next = offset_after offset encoding.format h.unit_length;
       directories = length h.directories;
       files = length files;
       rows = length (rows_of events);

@@ -2,13 +2,15 @@
 
 ghost use Rattle.std.specs.Prelude.{◌≡◌, ◌≢◌, ◌≤◌, ◌<◌, ◌+◌, ◌^◌, IfErr, IfOk};
 ghost use Rattle.gimli_c.specs.Place.{place, HasNoUnit};
-ghost use Rattle.gimli_c.specs.Unit.{length_field, GivesUnit, IsReadUnit};
+ghost use Rattle.section_units.specs.Units.{offset_after};
+ghost use Rattle.gimli_c.specs.Unit.{GivesUnit, IsReadUnit};
 
 use crate::place::program_at;
 use crate::run::{copy_rows, fault_status, rows_fit, run_on};
 use crate::status::{OK, OUT_OF_MEMORY, error_status};
-use gimli_core::{Error, Format, Reader, ReaderOffset, Result};
+use gimli_core::{Error, Reader, ReaderOffset, Result};
 use gimli_line::IncompleteLineProgram;
+use section_units::length_field;
 use std::alloc::Global;
 
 /// A unit of a section `.debug_line`: its header, and what its program gives.
@@ -68,7 +70,7 @@ pub extern "C" fn gimli_line_unit(
 
 /// What is said of the unit of a program, which stands at an offset. Refused by `OutOfMemory` alone.
 fn read_unit<R: Reader>(program: IncompleteLineProgram<R>, offset: usize) -> Result<GimliUnit>
-    requires { offset + length_field program.meaning.parameters.encoding.format + program.meaning.unit_length < 2 ^ 64 }
+    requires { offset_after offset program.meaning.parameters.encoding.format program.meaning.unit_length < 2 ^ 64 }
     ensures ok { IfOk result (λ unit. IsReadUnit offset program.meaning program.notation unit) }
     ensures err { IfErr result (λ e. e ≡ Error.OutOfMemory) }
 {
@@ -91,14 +93,4 @@ fn read_unit<R: Reader>(program: IncompleteLineProgram<R>, offset: usize) -> Res
         offset_size: u32::from(encoding.format.word_size()),
         fault: fault_status(run.fault),
     })
-}
-
-/// How many bytes the length of a unit takes.
-fn length_field(format: Format) -> u64
-    ensures { result ≡ length_field format }
-{
-    match format {
-        Format::Dwarf32 => 4,
-        Format::Dwarf64 => 12,
-    }
 }

@@ -1,6 +1,6 @@
 -- A conversion, one read after the other.
-use Rattle.std.proofs.Common.{◌≡◌, ◌⊎◌, ℕ, ◌<◌, Bool, true, false, ◌||◌, if◌then◌else◌, List, [], ◌∷◌, ◌++◌, length, refl, sym, ap, ◌∙◌, subst, inl, inr}
-use Rattle.std.specs.Prelude.{Option, Some, None, Result, Ok, Err, IfErr, IfOk}
+use Rattle.std.proofs.Common.{◌≡◌, ℕ, Bool, true, false, if◌then◌else◌, List, [], ◌∷◌, refl, sym, ap, ◌∙◌, subst, inl, inr}
+use Rattle.std.specs.Prelude.{Option, Result, Ok, Err}
 use Rattle.gimli_core.specs.declared.error.Error.{Error}
 use Rattle.gimli_core.specs.Values.{Value}
 use Rattle.gimli_line.specs.header.File.{File}
@@ -9,10 +9,9 @@ use Rattle.gimli_line.specs.run.Instruction.{Ins}
 use Rattle.gimli_line.specs.run.InstructionReading.{decoded_at}
 use Rattle.gimli_build.specs.Texts.{Sections}
 use Rattle.gimli_write.specs.declared.convert_error.ConvertError.{ConvertError}
-use Rattle.gimli_write.specs.declared.convert_error.ConvertError.TheVariants.{OutOfMemory}
 use Rattle.gimli_write.specs.convert.Texts.{◌>>=◌, IsRefusedBy, source_path}
 use Rattle.gimli_write.specs.convert.Lists.{Converted, Lists, version_of, with_path, directory_added, FileParts, file_parts, with_parts, file_added, all_added}
-use Rattle.gimli_write.specs.convert.Preparation.{Handed, SourceFile, FirstTexts, prepared, started_lists, first_texts, encoding_of, working_directory, source_file, line_encoding_of}
+use Rattle.gimli_write.specs.convert.Preparation.{Handed, prepared, started_lists, first_texts, encoding_of, working_directory, source_file, line_encoding_of}
 use Rattle.gimli_write.specs.convert.Offers.{Reading, stops, defines, offers, file_id, row_in, built_row, row_offered, place_offered, defines_first, after_definitions}
 use Rattle.gimli_write.specs.declared.convert.run.SourceRow.{SourceRow}
 use Rattle.gimli_write.specs.declared.convert.offer.ConvertLineRow.TheVariants.{Row, EndSequence}

@@ -1,6 +1,6 @@
 -- What a conversion reads, handed to the builder.
 use Rattle.std.proofs.Common.{◌≡◌, ◌⊎◌, ℕ, suc, ◌<◌, arith, false, true, Bool, if◌then◌else◌, List, refl, sym, ap, ◌∙◌, subst, inl, inr}
-use Rattle.std.specs.Prelude.{Option, Some, None, Result, Ok, Err}
+use Rattle.std.specs.Prelude.{Option, Result, Ok, Err}
 use Rattle.gimli_core.specs.declared.error.Error.TheVariants.{AddressOverflow}
 use Rattle.gimli_bytes.specs.declared.address.Address.{Address}
 use Rattle.gimli_line.specs.header.Parameters.{Parameters}
@@ -13,13 +13,13 @@ use Rattle.gimli_write.specs.declared.convert_error.ConvertError.{ConvertError}
 use Rattle.gimli_write.specs.declared.convert_error.ConvertError.TheVariants.{MissingLineEndSequence, OutOfMemory, Read}
 use Rattle.gimli_write.specs.declared.convert.offer.ConvertLineRow.{ConvertLineRow}
 use Rattle.gimli_write.specs.convert.Texts.{◌>>=◌, IsRefusedBy}
-use Rattle.gimli_write.specs.convert.Lists.{Converted, Lists}
+use Rattle.gimli_write.specs.convert.Lists.{Lists}
 use Rattle.gimli_write.specs.convert.Offers.{Reading, ends, stops, defines, offers, address_offered, reading_at, with_definition, after_definitions, Reads}
 use Rattle.gimli_write.specs.convert.Preparation.{prepared}
 use Rattle.gimli_write.specs.convert.Sources.{Source}
 use Rattle.gimli_write.specs.convert.SourceState.{reading_left}
-use Rattle.gimli_write.specs.convert.Feeding.{Conversion, fed, with_tables, ended, converted, without_items}
-use Rattle.gimli_write.specs.convert.ConversionState.{ConversionState, lists_of, version_of_source, held_first, unless_failed, still_to_read, HandsOut, AddsFiles, IsReadRefusal, IsConverted, with_program}
+use Rattle.gimli_write.specs.convert.Feeding.{Conversion, fed, with_tables, converted, without_items}
+use Rattle.gimli_write.specs.convert.ConversionState.{ConversionState, lists_of, version_of_source, held_first, unless_failed, still_to_read, AddsFiles, IsReadRefusal, IsConverted, with_program}
 use Rattle.gimli_write.proofs.ConvertSteps.{refused_first, refused_same}
 
 -- how much a reading hands out

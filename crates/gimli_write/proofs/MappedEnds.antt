@@ -14,6 +14,7 @@ use Rattle.gimli_line.specs.header.Parameters.{Parameters}
 use Rattle.gimli_line.specs.run.Events.{defined_files, behind}
 use Rattle.gimli_line.specs.run.Instruction.{Ins, makes_row}
 use Rattle.gimli_line.specs.run.OperationPointer.{is_hidden, overflows}
+use Rattle.gimli_build.specs.Calls.{after_address, after_row, after_end}
 use Rattle.gimli_build.specs.Built.{Built, previous_place}
 use Rattle.gimli_build.specs.Conditions.{CanWrite}
 use Rattle.gimli_build.specs.LineText.{LineText, IsWithin, HasNoZero}
@@ -31,7 +32,7 @@ use Rattle.gimli_write.specs.convert.Lists.{Lists, version_of, with_path, direct
 use Rattle.gimli_write.specs.convert.Preparation.{Handed, encoding_of, first_ids, prepared}
 use Rattle.gimli_write.specs.convert.Offers.{Reading, stops, offers, source_row, built_row, address_offered, row_offered, place_offered, offered, reading_at, end_reading, upon, lists_at, with_definition, reading_behind, Reads}
 use Rattle.gimli_write.specs.convert.Mapped.{AreFilesMapped}
-use Rattle.gimli_write.specs.convert.Feeding.{Conversion, converted, with_tables, can_build, behind_address, behind_row, behind_end}
+use Rattle.gimli_write.specs.convert.Feeding.{Conversion, converted, with_tables, can_build}
 use Rattle.gimli_write.proofs.Feedings.{definition_passed}
 use Rattle.gimli_write.proofs.MappedDirectories.{AreDirectories, directories_prepared, directories_stay}
 use Rattle.gimli_write.proofs.MappedFiles.{AreFiles, files_next, files_defined}
@@ -69,19 +70,19 @@ module _ (convert_address : ℕ → Option Address) (c : Conversion) where
   item_goes : (o : ConvertLineRow) (lists : Lists) (rest : Reading) (p : Built) → converted convert_address (offers o lists rest) p ≡ Ok c → GoesOn rest p
   item_goes (offer.SetAddress a) lists rest p is = by (convert_address a) is
     where
-      by : (o : Option Address) → ((ok_or o InvalidAddress >>= λ m. Ok (behind_address m (with_tables lists p))) >>= λ n. converted convert_address rest n) ≡ Ok c → GoesOn rest p
+      by : (o : Option Address) → ((ok_or o InvalidAddress >>= λ m. Ok (after_address m (with_tables lists p))) >>= λ n. converted convert_address rest n) ≡ Ok c → GoesOn rest p
       by None so = absurd cc
-      by (Some m) so = record { next = behind_address m (with_tables lists p); is = so; is_none = refl; encoding = refl; line_encoding = refl }
+      by (Some m) so = record { next = after_address m (with_tables lists p); is = so; is_none = refl; encoding = refl; line_encoding = refl }
   item_goes (offer.Row r) lists rest p is = by (can_build p.line_encoding (previous_place p.items) (item.Row r)) is
     where
-      by : (b : Bool) → ((if b then Ok (behind_row r (with_tables lists p)) else Err UnsupportedLineInstruction) >>= λ n. converted convert_address rest n) ≡ Ok c → GoesOn rest p
+      by : (b : Bool) → ((if b then Ok (after_row r (with_tables lists p)) else Err UnsupportedLineInstruction) >>= λ n. converted convert_address rest n) ≡ Ok c → GoesOn rest p
       by false so = absurd cc
-      by true so = record { next = behind_row r (with_tables lists p); is = so; is_none = refl; encoding = refl; line_encoding = refl }
+      by true so = record { next = after_row r (with_tables lists p); is = so; is_none = refl; encoding = refl; line_encoding = refl }
   item_goes (offer.EndSequence offset) lists rest p is = by (can_build p.line_encoding (previous_place p.items) (item.End offset p.row.op_index)) is
     where
-      by : (b : Bool) → ((if b then Ok (behind_end offset (with_tables lists p)) else Err UnsupportedLineInstruction) >>= λ n. converted convert_address rest n) ≡ Ok c → GoesOn rest p
+      by : (b : Bool) → ((if b then Ok (after_end offset (with_tables lists p)) else Err UnsupportedLineInstruction) >>= λ n. converted convert_address rest n) ≡ Ok c → GoesOn rest p
       by false so = absurd cc
-      by true so = record { next = behind_end offset (with_tables lists p); is = so; is_none = refl; encoding = refl; line_encoding = refl }
+      by true so = record { next = after_end offset (with_tables lists p); is = so; is_none = refl; encoding = refl; line_encoding = refl }
 
   place_goes : (version : ℕ) (lists : Lists) (r : SourceRow) (rest : Reading) (p : Built) → converted convert_address (place_offered version lists r rest) p ≡ Ok c → GoesOn rest p
   place_goes version lists r rest p is = by r.row.end_sequence is

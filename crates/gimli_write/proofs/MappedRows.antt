@@ -13,6 +13,7 @@ use Rattle.gimli_line.specs.header.Parameters.{Parameters}
 use Rattle.gimli_line.specs.run.Events.{Event, row, fault, row_at, events_at, events_behind, end_events}
 use Rattle.gimli_line.specs.run.Instruction.{Ins, is_end, makes_row}
 use Rattle.gimli_line.specs.run.OperationPointer.{address_limit, pointer_at, is_hidden, overflows}
+use Rattle.gimli_build.specs.Calls.{after_address, after_row, after_end}
 use Rattle.gimli_build.specs.Built.{Built, previous_place}
 use Rattle.gimli_build.specs.Items.{AddressesFit}
 use Rattle.gimli_build.specs.Texts.{Sections}
@@ -25,7 +26,7 @@ use Rattle.gimli_write.specs.declared.convert.offer.ConvertLineRow.TheVariants a
 use Rattle.gimli_write.specs.convert.Texts.{◌>>=◌}
 use Rattle.gimli_write.specs.convert.Lists.{Lists, FileParts, file_parts, with_parts, version_of}
 use Rattle.gimli_write.specs.convert.Offers.{Reading, stops, offers, base_at, pending, source_row, file_id, row_in, built_row, address_offered, row_offered, place_offered, offered, reading_at, end_reading, upon, defined, lists_at, with_definition, reading_behind}
-use Rattle.gimli_write.specs.convert.Feeding.{Conversion, converted, with_tables, can_build, behind_address, behind_row, behind_end}
+use Rattle.gimli_write.specs.convert.Feeding.{Conversion, converted, with_tables, can_build}
 use Rattle.gimli_write.specs.convert.Mapped.{MapsToItself, gave_row, SeesEndsBehind, IsFileId, RowsMapped}
 use Rattle.gimli_write.proofs.Feedings.{definition_passed}
 use Rattle.gimli_write.proofs.MappedAddresses.{address_within, base_below, base_below_row, pending_is_base, Follows, follows_end, follows_row, follows_quiet}
@@ -158,7 +159,7 @@ module _ (sections : Sections) (parameters : Parameters) (first : Lists) (conver
 
     -- an address is set before what a place gives
     address_taken : (base : ℕ) (place : ℕ × ℕ) (p : Built) (a : ℕ) → base + place.0 ≤ a → a < address_limit parameters - 2
-        → Rest sections parameters first size c past (i ∷ list) end a (0, 0) (behind_address (Constant a) (with_tables lists p)) → Rest sections parameters first size c past (i ∷ list) end base place p
+        → Rest sections parameters first size c past (i ∷ list) end a (0, 0) (after_address (Constant a) (with_tables lists p)) → Rest sections parameters first size c past (i ∷ list) end base place p
     address_taken base place p a ahead below r = record {
       rows = r.rows;
       events = r.events;
@@ -190,7 +191,7 @@ module _ (sections : Sections) (parameters : Parameters) (first : Lists) (conver
         let q : Built = with_tables lists p in
         let offset = (row_at parameters past i).address - base_at past in
         let built : BuiltItem = item.End offset q.row.op_index in
-        let next : Built = behind_end offset q in
+        let next : Built = after_end offset q in
         let address : (row_at parameters past i).address ≡ (pointer_at parameters past).address = rw closes refl in
         let below : base_at past ≤ (pointer_at parameters past).address = base_below parameters past seen in
         let within : (pointer_at parameters past).address < address_limit parameters = address_within parameters past in
@@ -209,7 +210,7 @@ module _ (sections : Sections) (parameters : Parameters) (first : Lists) (conver
         let q : Built = with_tables lists p in
         let r : LineRow = row_in (source_row parameters past i) file in
         let built : BuiltItem = item.Row r in
-        let next : Built = behind_row r q in
+        let next : Built = after_row r q in
         let address : (row_at parameters past i).address ≡ (pointer_at parameters (i ∷ past)).address = rw inner refl in
         let at_base : base_at past ≤ (row_at parameters past i).address = base_below_row parameters past i seen inner in
         let within : (pointer_at parameters (i ∷ past)).address < address_limit parameters = address_within parameters (i ∷ past) in
@@ -260,9 +261,9 @@ module _ (sections : Sections) (parameters : Parameters) (first : Lists) (conver
         by None at so = placed base place p one loud seen (f.counted seen at) so follow
         by (Some a) at so =
             let ahead = f.ahead a seen at in
-            let next : Built = behind_address (Constant a) (with_tables lists p) in
+            let next : Built = after_address (Constant a) (with_tables lists p) in
             let mapped : converted convert_address here next ≡ Ok c =
-            sym (ap (λ (o : Option Address). (ok_or o InvalidAddress >>= λ m. Ok (behind_address m (with_tables lists p))) >>= λ n. converted convert_address here n) (itself a)) ∙ so in
+            sym (ap (λ (o : Option Address). (ok_or o InvalidAddress >>= λ m. Ok (after_address m (with_tables lists p))) >>= λ n. converted convert_address here n) (itself a)) ∙ so in
             address_taken base place p a ahead.0 ahead.1 (placed a (0, 0) next one loud seen (sym (pending_is_base past a at)) mapped follow)
 
     -- any place

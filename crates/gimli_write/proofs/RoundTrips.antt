@@ -9,7 +9,7 @@ use Rattle.gimli_line.specs.header.Header.{UnitEntry}
 use Rattle.gimli_write.specs.declared.convert_error.ConvertError.{ConvertError}
 use Rattle.gimli_write.specs.declared.convert_error.ConvertError.TheVariants.{Read, Write, OutOfMemory as NoMemory}
 use Rattle.gimli_write.specs.declared.read_back.RoundTrip.{RoundTrip}
-use Rattle.gimli_write.specs.RoundTrip.{RefusesUnit, IsRefusal, IsWriteRefusal, slice_notation}
+use Rattle.gimli_write.specs.RoundTrip.{RefusesUnit, IsRefusal, IsCausedRefusal, slice_notation}
 
 -- ---- refusals
 
@@ -29,14 +29,14 @@ write_refused big cause unit_entry old new e r why named other = elim (is_memory
 -- the same without what may be refused of reading
 pub unwritten_refused : (cause : Option Error) (e : Error) (r : ConvertError)
     → (e ≡ OutOfMemory) ⊎ (cause ≡ Some e) → (e ≡ OutOfMemory → r ≡ NoMemory) → (e ≢ OutOfMemory → r ≡ Write e)
-    → IsWriteRefusal cause r
+    → IsCausedRefusal cause r
 unwritten_refused cause e r why named other = elim (is_memory e) [
   | inl memory ↦ rw (named memory) tt
   | inr not_memory ↦ rw (other not_memory) (elim why [ inl memory ↦ absurd (not_memory memory) | inr is ↦ is ])
 ]
 
 -- a written unit is refused for want of memory alone
-pub memory_refused : (cause : Option Error) (r : Result RoundTrip ConvertError) → IfErr r (λ e. e ≡ NoMemory) → IfErr r (IsWriteRefusal cause)
+pub memory_refused : (cause : Option Error) (r : Result RoundTrip ConvertError) → IfErr r (λ e. e ≡ NoMemory) → IfErr r (IsCausedRefusal cause)
 memory_refused cause r is = MatchResult-weaker r is (λ _ u. u) (λ e memory. rw memory tt)
 
 -- a refusal of reading the unit that was appended

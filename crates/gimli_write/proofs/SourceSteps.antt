@@ -26,7 +26,7 @@ use Rattle.gimli_write.specs.declared.convert_error.ConvertError.{ConvertError}
 use Rattle.gimli_write.specs.declared.convert_error.ConvertError.TheVariants.{Read}
 use Rattle.gimli_write.specs.declared.convert.run.SourceRow.{SourceRow}
 use Rattle.gimli_write.specs.declared.convert.run.SourceStep.{SourceStep}
-use Rattle.gimli_write.specs.declared.convert.run.SourceStep.TheVariants.{Done, More, Made}
+use Rattle.gimli_write.specs.declared.convert.run.SourceStep.TheVariants.{More, Made}
 use Rattle.gimli_write.specs.convert.Lists.{Lists, file_added}
 use Rattle.gimli_write.specs.convert.Offers.{Reading, defines, with_definition, ends, stops, address_operand, offered, defined}
 use Rattle.gimli_write.specs.convert.SourceState.{SourceState, row_made, base_behind, pending_behind, state_behind, instruction_reading, reading_from, reading_upon, reading_left, step_reading, step_made, Shortens}
@@ -201,9 +201,9 @@ reset_ready q r true kept hidden e k h = rw e (k, refl)
 reset_ready q r false kept hidden e k h = rw e (k ∙ h, refl)
 
 -- after a row, whose registers are reset
-pub ready_behind_row : (i : Ins) (hidden : Bool) (old new after : LineRow) → IsReady hidden old → (p q : Parameters) → address_operand i ≡ None → new ≡ stepped p i old
+pub ready_after_row : (i : Ins) (hidden : Bool) (old new after : LineRow) → IsReady hidden old → (p q : Parameters) → address_operand i ≡ None → new ≡ stepped p i old
     → (last kept : Bool) → last ≡ new.end_sequence → kept ≡ (if last then false else hidden) → after ≡ reset_row q new → IsReady kept after
-ready_behind_row i hidden old new after ready p q address step last kept ended kept_is reset =
+ready_after_row i hidden old new after ready p q address step last kept ended kept_is reset =
     let same_hidden : hidden ≡ new.hidden = ready.0 ∙ sym (ap (λ (r : LineRow). r.hidden) step ∙ keeps_hidden p i old address) in
     rw reset (reset_ready q new last kept hidden (sym ended) kept_is same_hidden)
 

@@ -186,7 +186,7 @@ IsRoundTripRefusal big encoding p before after old new =
     (unit_entry_of p after.strings after.line_strings) old new
 
 -- why a program isn't written: the cause why it can't be, if there is one, or want of memory
-abbrev pub IsWriteRefusal : Option Error → ConvertError → Type 0
-IsWriteRefusal cause OutOfMemory = Unit {0}
-IsWriteRefusal cause (Write e) = cause ≡ Some e
-IsWriteRefusal cause e = ⊥
+abbrev pub IsCausedRefusal : Option Error → ConvertError → Type 0
+IsCausedRefusal cause OutOfMemory = Unit {0}
+IsCausedRefusal cause (Write e) = cause ≡ Some e
+IsCausedRefusal cause e = ⊥

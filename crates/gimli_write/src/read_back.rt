@@ -60,7 +60,7 @@ pub struct RoundTripFile {
     pub source: Option<Vec<u8>>,
 }
 
-ghost use Rattle.gimli_write.specs.RoundTrip.{answers, file_answer, IsFileAnswer, AreAnswers, HasTexts, slice_notation, unit_entry_of, sections_of, IsRunRefusal, RefusesUnit, tables, IsRoundTripRefusal, IsWriteRefusal, built_file, HasFittingAddresses, AreBuiltRows, IsUnitOf, AnswersProgram, unit_entry_with, BeginsUnit, CanRead};
+ghost use Rattle.gimli_write.specs.RoundTrip.{answers, file_answer, IsFileAnswer, AreAnswers, HasTexts, slice_notation, unit_entry_of, sections_of, IsRunRefusal, RefusesUnit, tables, IsRoundTripRefusal, IsCausedRefusal, built_file, HasFittingAddresses, AreBuiltRows, IsUnitOf, AnswersProgram, unit_entry_with, BeginsUnit, CanRead};
 
 /// The working directory of a program.
 fn working_directory<'a>(
@@ -385,7 +385,7 @@ pub fn round_trip<E: Endianity>(
     ensures built { IfOk result (λ answer. AreBuiltRows program.now answer.rows.items) }
     ensures no_cause { OnOk result (first_cause (E.big w.old.0.endian) encoding program.now
         strings.old line_strings.old ≡ None) }
-    ensures never_read { HasFittingAddresses program.now → IfErr result (IsWriteRefusal
+    ensures never_read { HasFittingAddresses program.now → IfErr result (IsCausedRefusal
         (first_cause (E.big w.old.0.endian) encoding program.now strings.old line_strings.old)) }
     ensures refusal { IfErr result (IsRoundTripRefusal (E.big w.old.0.endian) encoding program.now
         (tables strings.old line_strings.old) (tables strings.new line_strings.new) w.old.0.bytes w.new.0.bytes) }

@@ -1,14 +1,14 @@
 //! The units of a section, one after the other.
 
-ghost use Rattle.std.specs.Prelude.{◌≡◌, ◌≢◌, ◌≤◌, ◌^◌, IfErr, IfSome, IsNone};
-ghost use Rattle.line_commands.specs.Units.{offset_behind};
+ghost use Rattle.std.specs.Prelude.{◌≢◌, IfErr};
 
 use crate::print::{finished, print_line};
 use crate::refusal::Refusal;
 use crate::section::program_at;
 use crate::words::{Numbers, Place};
-use gimli_core::{Format, Reader};
+use gimli_core::Reader;
 use gimli_line::{LineProgram, LineRows};
+use section_units::offset_after;
 use std::alloc::Global;
 use std::fmt;
 use std::io::Write;
@@ -63,7 +63,7 @@ fn print_each<O: Write>(
         let program = program_at(alloc, section, place)?;
         let header = program.header();
         let version = header.version();
-        let next = offset_behind(offset, header.format(), header.unit_length());
+        let next = offset_after(offset, header.format(), header.unit_length());
         let rows = count_rows(program.rows())?;
         print_line(
             UnitLine {
@@ -76,19 +76,6 @@ fn print_each<O: Write>(
         offset = next.ok_or(Refusal::Header)?;
     }
     Ok(())
-}
-
-/// The offset after a unit: its own, the bytes of its length, and as many as that says. None where 64 bits don't hold
-/// it.
-fn offset_behind(offset: usize, format: Format, unit_length: usize) -> Option<usize>
-    ensures there { IfSome result (λ next. next ≡ offset_behind offset format unit_length) }
-    ensures beyond { IsNone result → 2 ^ 64 ≤ offset_behind offset format unit_length }
-{
-    let length_field = match format {
-        Format::Dwarf32 => 4,
-        Format::Dwarf64 => 12,
-    };
-    offset.checked_add(length_field)?.checked_add(unit_length)
 }
 
 /// How many rows are still to come, to the first fault.

@@ -1,12 +1,10 @@
 -- A conversion, as far as it got, and what it has still to read.
-use Rattle.std.specs.Prelude.{◌≡◌, ◌⊎◌, ℕ, true, List, ◌++◌, Option, Some, None, option_map, Result, Ok, Err, MatchResult}
-use Rattle.std.specs.Option.{option_to_list}
+use Rattle.std.specs.Prelude.{◌≡◌, ◌⊎◌, ℕ, true, List, Option, Some, None, Result, Ok, Err, MatchResult}
 use Rattle.std.specs.declared.vec.Vec.{Vec}
 use Rattle.std.specs.declared.alloc.Global.{Global}
 use Rattle.gimli_bytes.specs.declared.address.Address.{Address}
 use Rattle.gimli_build.specs.Built.{Built}
 use Rattle.gimli_build.specs.Texts.{Sections}
-use Rattle.gimli_build.specs.declared.built.items.BuiltItem.TheVariants.{SetAddress}
 use Rattle.gimli_write.specs.declared.convert_error.ConvertError.{ConvertError}
 use Rattle.gimli_write.specs.declared.convert_error.ConvertError.TheVariants.{OutOfMemory, UnsupportedLineInstruction}
 use Rattle.gimli_write.specs.declared.convert.run.SourceRow.{SourceRow}
@@ -105,10 +103,6 @@ IsBuildRefusal asked e = (e ≡ OutOfMemory) ⊎ ((e ≡ UnsupportedLineInstruct
 -- the same conversion with another program
 abbrev pub with_program : Built → ConversionState → ConversionState
 with_program p c = record c { lists = record c.lists { program = p } }
-
--- the program after `begin_sequence`
-abbrev pub begun : Option Address → Built → Built
-begun address p = record p { items = p.items ++ option_to_list (option_map SetAddress address); in_sequence = true }
 
 -- ---- a conversion from its start on
 

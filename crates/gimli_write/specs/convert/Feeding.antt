@@ -1,11 +1,11 @@
 -- What `convert` does with what is read of a source: addresses, rows and ends are handed to the builder in order, each
 -- before the next is read. It is a function, so what comes of a reading is told exactly.
-use Rattle.std.specs.Prelude.{ℕ, ◌+◌, ◌-◌, ◌*◌, ◌/◌, ◌%◌, ◌^◌, Bool, true, false, not, ◌&&◌, ◌||◌, if◌then◌else◌, nat_eq, nat_lt, nat_le, List, [], ◌∷◌, ◌++◌, Option, ok_or, Result, Ok, Err}
+use Rattle.std.specs.Prelude.{ℕ, ◌+◌, ◌-◌, ◌*◌, ◌/◌, ◌%◌, ◌^◌, Bool, true, false, not, ◌&&◌, ◌||◌, if◌then◌else◌, nat_eq, nat_lt, nat_le, List, [], Option, ok_or, Result, Ok, Err}
 use Rattle.gimli_core.specs.declared.common.LineEncoding.{LineEncoding}
 use Rattle.gimli_bytes.specs.declared.address.Address.{Address}
+use Rattle.gimli_build.specs.Calls.{after_address, after_row, after_end}
 use Rattle.gimli_build.specs.Built.{Built, previous_place}
-use Rattle.gimli_build.specs.Rows.{initial_row, cleared, restarted}
-use Rattle.gimli_build.specs.declared.built.row.LineRow.{LineRow}
+use Rattle.gimli_build.specs.Rows.{initial_row}
 use Rattle.gimli_build.specs.declared.built.items.BuiltItem.{BuiltItem}
 use Rattle.gimli_build.specs.declared.built.items.BuiltItem.TheVariants.{SetAddress, Row, End}
 use Rattle.gimli_write.specs.convert.Texts.{◌>>=◌}
@@ -33,30 +33,15 @@ can_build e place (End offset op_index) = can_follow e place offset op_index
 
 -- ---- one item
 
--- the program after an item, each as the builder's own call leaves it: `set_address`, `generate_row` of this row, and
--- `end_sequence`
-abbrev pub behind_address : Address → Built → Built
-behind_address a p = record p { items = p.items ++ SetAddress a ∷ []; row = restarted p.in_sequence p.row; in_sequence = true }
-
-abbrev pub behind_row : LineRow → Built → Built
-behind_row r p = record p { items = p.items ++ Row r ∷ []; row = cleared r; in_sequence = true }
-
-abbrev pub behind_end : ℕ → Built → Built
-behind_end offset p = record p {
-  items = p.items ++ End offset p.row.op_index ∷ [];
-  row = initial_row p.encoding.version p.line_encoding.default_is_stmt;
-  in_sequence = false;
-}
-
 -- an item that is built only within the builder's conditions
 abbrev pub if_built : Built → BuiltItem → Built → Result Built ConvertError
 if_built p item next = if can_build p.line_encoding (previous_place p.items) item then Ok next else Err UnsupportedLineInstruction
 
 -- the program after what is read, where this maps the addresses of the source
 abbrev pub fed : (ℕ → Option Address) → ConvertLineRow → Built → Result Built ConvertError
-fed convert_address (offer.SetAddress a) p = ok_or (convert_address a) InvalidAddress >>= λ mapped. Ok (behind_address mapped p)
-fed convert_address (offer.Row r) p = if_built p (Row r) (behind_row r p)
-fed convert_address (offer.EndSequence offset) p = if_built p (End offset p.row.op_index) (behind_end offset p)
+fed convert_address (offer.SetAddress a) p = ok_or (convert_address a) InvalidAddress >>= λ mapped. Ok (after_address mapped p)
+fed convert_address (offer.Row r) p = if_built p (Row r) (after_row r p)
+fed convert_address (offer.EndSequence offset) p = if_built p (End offset p.row.op_index) (after_end offset p)
 
 -- ---- all of them
 

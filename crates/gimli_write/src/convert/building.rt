@@ -2,10 +2,10 @@
 
 ghost use Rattle.std.specs.Prelude.{◌≡◌, ◌++◌, false, option_map, IfErr, OnErr, OnOk};
 ghost use Rattle.std.specs.Option.{option_to_list};
+ghost use Rattle.gimli_build.specs.Calls.{after_begin, after_address, after_row, after_end};
 ghost use Rattle.gimli_build.specs.Built.{previous_place};
 ghost use Rattle.gimli_build.specs.Conditions.{CanBuild, CanGenerateRow, CanEndSequence};
-ghost use Rattle.gimli_write.specs.convert.Feeding.{behind_address, behind_row, behind_end};
-ghost use Rattle.gimli_write.specs.convert.ConversionState.{begun, IsBuildRefusal, with_program};
+ghost use Rattle.gimli_write.specs.convert.ConversionState.{IsBuildRefusal, with_program};
 
 use crate::convert::conversion::Conversion;
 use crate::convert::lists::Lists;
@@ -19,7 +19,7 @@ impl Lists {
     /// Begins a sequence. Refused as `UnsupportedLineInstruction` where one has begun, or by `OutOfMemory`; then nothing
     /// changes.
     pub(crate) fn begin_sequence(&mut self, address: Option<Address>) -> ConvertResult<()>
-        ensures ok { OnOk result (self.new ≡ record self.old { program = begun address self.old.program }) }
+        ensures ok { OnOk result (self.new ≡ record self.old { program = after_begin address self.old.program }) }
         ensures outside { OnOk result (self.old.program.in_sequence ≡ false) }
         ensures err { IfErr result (IsBuildRefusal (self.old.program.in_sequence ≡ false)) }
         ensures kept { OnErr result (self.new ≡ self.old) }
@@ -35,7 +35,7 @@ impl Lists {
 
     /// Sets the address. Refused by `OutOfMemory` alone; then nothing changes.
     pub(crate) fn set_address(&mut self, address: Address) -> ConvertResult<()>
-        ensures ok { OnOk result (self.new ≡ record self.old { program = behind_address address self.old.program }) }
+        ensures ok { OnOk result (self.new ≡ record self.old { program = after_address address self.old.program }) }
         ensures memory { IfErr result (λ e. e ≡ ConvertError.OutOfMemory) }
         ensures kept { OnErr result (self.new ≡ self.old) }
     {
@@ -48,7 +48,7 @@ impl Lists {
     /// Builds a row. Refused as `UnsupportedLineInstruction` where it can't be generated, or by `OutOfMemory`; then
     /// nothing changes.
     pub(crate) fn generate_row(&mut self, row: LineRow) -> ConvertResult<()>
-        ensures ok { OnOk result (self.new ≡ record self.old { program = behind_row row self.old.program }) }
+        ensures ok { OnOk result (self.new ≡ record self.old { program = after_row row self.old.program }) }
         ensures can { OnOk result
             (CanBuild self.old.program.line_encoding (previous_place self.old.program.items) (BuiltItem.Row row)) }
         ensures err { IfErr result (IsBuildRefusal
@@ -68,7 +68,7 @@ impl Lists {
     /// Ends a sequence. Refused as `UnsupportedLineInstruction` where it can't end at this offset, or by `OutOfMemory`;
     /// then nothing changes.
     pub(crate) fn end_sequence(&mut self, address_offset: u64) -> ConvertResult<()>
-        ensures ok { OnOk result (self.new ≡ record self.old { program = behind_end address_offset self.old.program }) }
+        ensures ok { OnOk result (self.new ≡ record self.old { program = after_end address_offset self.old.program }) }
         ensures can { OnOk result (CanEndSequence self.old.program address_offset) }
         ensures err { IfErr result (IsBuildRefusal (CanEndSequence self.old.program address_offset)) }
         ensures kept { OnErr result (self.new ≡ self.old) }
@@ -94,7 +94,7 @@ impl Lists {
 /// then nothing changes.
 fn generate_current(program: &mut LineProgram) -> ConvertResult<()>
     requires { program.old.is_none ≡ false }
-    ensures ok { OnOk result (program.new ≡ behind_row program.old.row program.old) }
+    ensures ok { OnOk result (program.new ≡ after_row program.old.row program.old) }
     ensures can { OnOk result (CanGenerateRow program.old) }
     ensures err { IfErr result (IsBuildRefusal (CanGenerateRow program.old)) }
     ensures kept { OnErr result (program.new ≡ program.old) }
@@ -111,7 +111,7 @@ fn generate_current(program: &mut LineProgram) -> ConvertResult<()>
 impl<R: Reader> Conversion<R> {
     /// The same, of a conversion.
     pub(crate) fn begin_sequence(&mut self, address: Option<Address>) -> ConvertResult<()>
-        ensures ok { OnOk result (self.new ≡ with_program (begun address self.old.lists.program) self.old) }
+        ensures ok { OnOk result (self.new ≡ with_program (after_begin address self.old.lists.program) self.old) }
         ensures outside { OnOk result (self.old.lists.program.in_sequence ≡ false) }
         ensures err { IfErr result (IsBuildRefusal (self.old.lists.program.in_sequence ≡ false)) }
         ensures kept { OnErr result (self.new ≡ self.old) }
@@ -121,7 +121,7 @@ impl<R: Reader> Conversion<R> {
 
     /// The same, of a conversion.
     pub(crate) fn set_address(&mut self, address: Address) -> ConvertResult<()>
-        ensures ok { OnOk result (self.new ≡ with_program (behind_address address self.old.lists.program) self.old) }
+        ensures ok { OnOk result (self.new ≡ with_program (after_address address self.old.lists.program) self.old) }
         ensures memory { IfErr result (λ e. e ≡ ConvertError.OutOfMemory) }
         ensures kept { OnErr result (self.new ≡ self.old) }
     {
@@ -130,7 +130,7 @@ impl<R: Reader> Conversion<R> {
 
     /// The same, of a conversion.
     pub(crate) fn generate_row(&mut self, row: LineRow) -> ConvertResult<()>
-        ensures ok { OnOk result (self.new ≡ with_program (behind_row row self.old.lists.program) self.old) }
+        ensures ok { OnOk result (self.new ≡ with_program (after_row row self.old.lists.program) self.old) }
         ensures can { OnOk result (CanBuild self.old.lists.program.line_encoding
             (previous_place self.old.lists.program.items) (BuiltItem.Row row)) }
         ensures err { IfErr result (IsBuildRefusal (CanBuild self.old.lists.program.line_encoding
@@ -142,7 +142,7 @@ impl<R: Reader> Conversion<R> {
 
     /// The same, of a conversion.
     pub(crate) fn end_sequence(&mut self, address_offset: u64) -> ConvertResult<()>
-        ensures ok { OnOk result (self.new ≡ with_program (behind_end address_offset self.old.lists.program) self.old) }
+        ensures ok { OnOk result (self.new ≡ with_program (after_end address_offset self.old.lists.program) self.old) }
         ensures can { OnOk result (CanEndSequence self.old.lists.program address_offset) }
         ensures err { IfErr result (IsBuildRefusal (CanEndSequence self.old.lists.program address_offset)) }
         ensures kept { OnErr result (self.new ≡ self.old) }

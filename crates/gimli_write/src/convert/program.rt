@@ -3,13 +3,13 @@
 ghost use Rattle.std.specs.Prelude.{◌≡◌, ℕ, false, Option, Some, None, Err, IfErr, IfOk, IfSome, IsTrue, OnErr, OnOk};
 ghost use Rattle.gimli_core.specs.Numbers.{is_address_size};
 ghost use Rattle.gimli_bytes.specs.Texts.{KeepsTexts};
+ghost use Rattle.gimli_build.specs.Calls.{after_begin, after_address, after_row, after_end};
 ghost use Rattle.gimli_build.specs.Advance.{CanEncode};
 ghost use Rattle.gimli_build.specs.Built.{previous_place};
 ghost use Rattle.gimli_build.specs.Conditions.{CanBuild, CanEndSequence};
 ghost use Rattle.gimli_write.specs.convert.Sources.{source_of};
 ghost use Rattle.gimli_write.specs.convert.Mapped.{IsFaithfulIfItCan};
-ghost use Rattle.gimli_write.specs.convert.Feeding.{behind_address, behind_row, behind_end};
-ghost use Rattle.gimli_write.specs.convert.ConversionState.{still_to_read, IsPrepared, IsHeaderRefusal, ReadsWhole, GivesNext, IsReadRefusal, AddsFiles, IsBuildRefusal, begun, with_program, ConvertsTo, IsConvertRefusal, RestConvertsTo, IsRestRefusal};
+ghost use Rattle.gimli_write.specs.convert.ConversionState.{still_to_read, IsPrepared, IsHeaderRefusal, ReadsWhole, GivesNext, IsReadRefusal, AddsFiles, IsBuildRefusal, with_program, ConvertsTo, IsConvertRefusal, RestConvertsTo, IsRestRefusal};
 ghost use Rattle.gimli_write.specs.convert.Sequences.{GathersNext, IsGatherRefusal};
 
 use crate::convert::conversion::Conversion;
@@ -186,7 +186,7 @@ impl<'a, 'b, R: Reader> ConvertLineProgram<'a, 'b, R, Conversion<R>> {
     /// by `OutOfMemory`; then nothing changes.
     pub fn begin_sequence(&mut self, address: Option<Address>) -> ConvertResult<()>
         ensures ok { OnOk result (self.new.conversion
-            ≡ with_program (begun address self.old.conversion.lists.program) self.old.conversion) }
+            ≡ with_program (after_begin address self.old.conversion.lists.program) self.old.conversion) }
         ensures outside { OnOk result (self.old.conversion.lists.program.in_sequence ≡ false) }
         ensures err { IfErr result (IsBuildRefusal (self.old.conversion.lists.program.in_sequence ≡ false)) }
         ensures kept { OnErr result (self.new.conversion ≡ self.old.conversion) }
@@ -202,7 +202,7 @@ impl<'a, 'b, R: Reader> ConvertLineProgram<'a, 'b, R, Conversion<R>> {
     /// alone; then nothing changes.
     pub fn set_address(&mut self, address: Address) -> ConvertResult<()>
         ensures ok { OnOk result (self.new.conversion
-            ≡ with_program (behind_address address self.old.conversion.lists.program) self.old.conversion) }
+            ≡ with_program (after_address address self.old.conversion.lists.program) self.old.conversion) }
         ensures memory { IfErr result (λ e. e ≡ ConvertError.OutOfMemory) }
         ensures kept { OnErr result (self.new.conversion ≡ self.old.conversion) }
         ensures line_strings { self.new.line_strings.now ≡ self.old.line_strings.now }
@@ -218,7 +218,7 @@ impl<'a, 'b, R: Reader> ConvertLineProgram<'a, 'b, R, Conversion<R>> {
     /// nothing changes, nor does the current row.
     pub fn generate_row(&mut self, row: LineRow) -> ConvertResult<()>
         ensures ok { OnOk result (self.new.conversion
-            ≡ with_program (behind_row row self.old.conversion.lists.program) self.old.conversion) }
+            ≡ with_program (after_row row self.old.conversion.lists.program) self.old.conversion) }
         ensures can { OnOk result (CanBuild self.old.conversion.lists.program.line_encoding
             (previous_place self.old.conversion.lists.program.items) (BuiltItem.Row row)) }
         ensures err { IfErr result (IsBuildRefusal (CanBuild self.old.conversion.lists.program.line_encoding
@@ -236,7 +236,7 @@ impl<'a, 'b, R: Reader> ConvertLineProgram<'a, 'b, R, Conversion<R>> {
     /// `UnsupportedLineInstruction` where it can't end there, or by `OutOfMemory`; then nothing changes.
     pub fn end_sequence(&mut self, address_offset: u64) -> ConvertResult<()>
         ensures ok { OnOk result (self.new.conversion
-            ≡ with_program (behind_end address_offset self.old.conversion.lists.program) self.old.conversion) }
+            ≡ with_program (after_end address_offset self.old.conversion.lists.program) self.old.conversion) }
         ensures can { OnOk result (CanEndSequence self.old.conversion.lists.program address_offset) }
         ensures err { IfErr result (IsBuildRefusal (CanEndSequence self.old.conversion.lists.program address_offset)) }
         ensures kept { OnErr result (self.new.conversion ≡ self.old.conversion) }

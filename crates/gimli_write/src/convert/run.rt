@@ -87,14 +87,14 @@ fn hides(address: u64, before: u64, address_size: u8) -> bool
 }
 
 /// The address from which offsets count after a row, which may end its sequence.
-fn base_behind_row(base: u64, ends: bool) -> u64
+fn base_after_row(base: u64, ends: bool) -> u64
     ensures { result ≡ (if ends then 0 else base) }
 {
     if ends { 0 } else { base }
 }
 
 /// Whether what follows a row is hidden, where the row was or wasn't, and may end its sequence.
-fn hidden_behind_row(hidden: bool, ends: bool) -> bool
+fn hidden_after_row(hidden: bool, ends: bool) -> bool
     ensures { result ≡ (if ends then false else hidden) }
 {
     if ends { false } else { hidden }
@@ -239,8 +239,8 @@ impl<R: Reader> SourceRun<R> {
             row: self.row,
         };
         let step = SourceStep::of_row(source_row, self.hidden);
-        self.hidden = hidden_behind_row(self.hidden, ends);
-        self.base = base_behind_row(self.base, ends);
+        self.hidden = hidden_after_row(self.hidden, ends);
+        self.base = base_after_row(self.base, ends);
         self.pending = None;
         self.row.reset(self.program.header());
         Ok(step)

@@ -4,7 +4,7 @@ use Rattle.gimli_line.specs.run.Rows.{events_left, files_at_end}
 use Rattle.gimli_line.specs.run.Sequences.{events_of}
 use Rattle.gimli_core.specs.Numbers.{word_size}
 use Rattle.gimli_c.specs.Status.{fault_status}
-use Rattle.gimli_c.specs.Unit.{length_field}
+use Rattle.section_units.specs.Units.{length_field}
 use Rattle.gimli_c.proofs.Runs.{without_files}
 use Rattle.gimli_c.proofs.Units.{unit_is}
 use Rattle.gimli_c.proofs.unit.read_unit.Goals as goal

@@ -1,4 +1,3 @@
-use Rattle.std.proofs.Common.{refl}
 use Rattle.gimli_write.proofs.MappedLaws.{files_back}
 use Rattle.gimli_write.proofs.conversion_laws.converted_files_are_read_back.Goals as goal
 

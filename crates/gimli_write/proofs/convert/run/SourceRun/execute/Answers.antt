@@ -3,7 +3,7 @@ use Rattle.gimli_line.specs.run.Machine.{is_refused, reset_row}
 use Rattle.gimli_write.specs.convert.SourceState.{SourceState, state_behind, step_made}
 use Rattle.gimli_line.specs.run.Instruction.{ins_seen}
 use Rattle.gimli_write.specs.declared.convert_error.ConvertError.TheVariants.{Read}
-use Rattle.gimli_write.proofs.SourceSteps.{state, is_overflow, ready_at_refusal, ready_when_quiet, ready_behind_row, header_kept, quiet_state, row_state, made_is}
+use Rattle.gimli_write.proofs.SourceSteps.{state, is_overflow, ready_at_refusal, ready_when_quiet, ready_after_row, header_kept, quiet_state, row_state, made_is}
 use Rattle.gimli_write.proofs.convert.run.SourceRun.execute.Goals as goal
 
 pub invariant_of-self : goal.invariant_of-self
@@ -33,8 +33,8 @@ returns-then-not-made-clause-step g c =
 
 pub invariant_of-self-2 : goal.invariant_of-self-2
 invariant_of-self-2 g c =
-    ready_behind_row (ins_seen g.R.Reader.bytes g.R.Offset.ReaderOffset.number c.args.instruction) c.self.inside.hidden c.self.inside.row c.execute.new.self c.reset.new.self c.self.invariant c.self.inside.program.meaning.parameters c.header.result.now.meaning.parameters
-    c.requires.address c.in-Ok.ensures.step c.end_sequence-ends.result c.hidden_behind_row-self-inside.result c.end_sequence-ends.ensures c.hidden_behind_row-self-inside.ensures c.reset.ensures
+    ready_after_row (ins_seen g.R.Reader.bytes g.R.Offset.ReaderOffset.number c.args.instruction) c.self.inside.hidden c.self.inside.row c.execute.new.self c.reset.new.self c.self.invariant c.self.inside.program.meaning.parameters c.header.result.now.meaning.parameters
+    c.requires.address c.in-Ok.ensures.step c.end_sequence-ends.result c.hidden_after_row-self-inside.result c.end_sequence-ends.ensures c.hidden_after_row-self-inside.ensures c.reset.ensures
 
 pub returns-clause-fits : goal.returns-clause-fits
 returns-clause-fits g c = subst (λ (s : SourceState). is_refused s.header.parameters (ins_seen g.R.Reader.bytes g.R.Offset.ReaderOffset.number c.args.instruction) s.row ≡ false) c.self.view_is c.in-Ok.ensures.fits
@@ -43,11 +43,11 @@ pub returns-clause-step : goal.returns-clause-step
 returns-clause-step g c =
     let reset : c.reset.new.self ≡ reset_row c.header.result.now.meaning.parameters c.execute.new.self = c.reset.ensures in
     let lent : c.header.result.now.meaning ≡ c.execute.new.program.meaning = rw c.header.ensures refl in
-    subst (λ (s : SourceState). state c.execute.new.program.meaning c.reset.new.self c.base_behind_row-self-inside.result None c.self.inside.instructions ≡ state_behind (ins_seen g.R.Reader.bytes g.R.Offset.ReaderOffset.number c.args.instruction) s) c.self.view_is
+    subst (λ (s : SourceState). state c.execute.new.program.meaning c.reset.new.self c.base_after_row-self-inside.result None c.self.inside.instructions ≡ state_behind (ins_seen g.R.Reader.bytes g.R.Offset.ReaderOffset.number c.args.instruction) s) c.self.view_is
     (row_state (ins_seen g.R.Reader.bytes g.R.Offset.ReaderOffset.number c.args.instruction) c.self.inside.program.meaning c.execute.new.program.meaning c.self.inside.row c.execute.new.self c.self.inside.base c.self.inside.pending c.self.inside.instructions
     c.requires.address c.requires.file c.in-Ok.ensures.fits c.in-Ok.ensures.files c.in-Ok.ensures.step
     (sym c.in-Ok.ensures.made ∙ c.if-not-made.false) c.self.invariant.1 c.header.result.now.meaning lent c.reset.new.self reset
-    c.end_sequence-ends.result c.end_sequence-ends.ensures c.base_behind_row-self-inside.result c.base_behind_row-self-inside.ensures)
+    c.end_sequence-ends.result c.end_sequence-ends.ensures c.base_after_row-self-inside.result c.base_after_row-self-inside.ensures)
 
 pub returns-clause-made : goal.returns-clause-made
 returns-clause-made g c =

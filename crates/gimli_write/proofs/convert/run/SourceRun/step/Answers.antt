@@ -3,7 +3,7 @@ use Rattle.gimli_line.specs.declared.run.instruction.LineInstruction.TheVariants
 use Rattle.gimli_line.specs.header.File.{file_seen}
 use Rattle.gimli_line.specs.run.Instruction.{ins_seen, defines_file}
 use Rattle.gimli_line.specs.run.Unread.{Unread}
-use Rattle.gimli_write.specs.convert.SourceState.{SourceState, state_behind, reading_left}
+use Rattle.gimli_write.specs.convert.SourceState.{SourceState, reading_left}
 use Rattle.gimli_write.proofs.SourceSteps.{state, other_kind, spelled_as, is_shorter, none_left, at_fault, after_file, after_quiet, executed_reading, executed_refusal, with_unread, executed_shortens}
 use Rattle.gimli_write.proofs.convert.run.SourceRun.step.Goals as goal
 

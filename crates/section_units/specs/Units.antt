@@ -9,5 +9,5 @@ length_field Dwarf32 = 4
 length_field Dwarf64 = 12
 
 -- a unit takes those bytes, and as many as the length says
-abbrev pub offset_behind : ℕ → Format → ℕ → ℕ
-offset_behind offset format unit_length = offset + length_field format + unit_length
+abbrev pub offset_after : ℕ → Format → ℕ → ℕ
+offset_after offset format unit_length = offset + length_field format + unit_length
