@@ -1,8 +1,9 @@
 #!/usr/bin/env bash
 # Builds a small program, takes its line information as raw bytes, builds both examples over libgimli_c.a, and compares what
 # they print with what linetool prints: every row of every unit, and the rows round some addresses. A third example writes what
-# it reads as a new unit, reads that, and compares the two itself. It needs a C compiler and objcopy; rustc for the second
-# example. Where one is missing it says so, and ends well.
+# it reads as a new unit, reads that, and compares the two itself. A fourth prints paths and lines, which are compared with
+# those of addr2line of binutils. It needs a C compiler, objcopy and addr2line; rustc for the second example. Where one is
+# missing it says so, and ends well.
 #
 # The library is built by (cd crates/gimli_c && rt lib), and linetool by (cd crates/linetool && rt run -- demo); both are
 # built here where they aren't there.
@@ -10,7 +11,7 @@ set -eu
 here=$(cd "$(dirname "$0")" && pwd)
 crate=$(dirname "$here")
 top=$(cd "$crate/../.." && pwd)
-for tool in cc objcopy; do
+for tool in cc objcopy addr2line; do
     command -v $tool >/dev/null || { echo "gimli_c: not tried, since $tool is missing"; exit 0; }
 done
 library=$crate/out/libgimli_c.a
@@ -24,6 +25,7 @@ trap 'rm -rf "$work"' EXIT
 
 cc -std=c11 -Wall -Wextra -Werror -O2 -I "$crate/include" "$here/c/addr2line.c" "$library" "$kit/liblibc_c.a" -o "$work/c"
 cc -std=c11 -Wall -Wextra -Werror -O2 -I "$crate/include" "$here/c/rewrite.c" "$library" "$kit/liblibc_c.a" -o "$work/rewrite"
+cc -std=c11 -Wall -Wextra -Werror -O2 -I "$crate/include" "$here/c/where_is.c" "$library" "$kit/liblibc_c.a" -o "$work/where_is"
 examples=c
 if command -v rustc >/dev/null; then
     rustc --edition 2024 -O "$here/rust/addr2line.rs" -L "native=$crate/out" -l static=gimli_c -L "native=$kit" -l static=libc_c \
@@ -49,8 +51,9 @@ expected() {
 
 compared=0
 rewritten=0
+places=0
 for version in 2 3 4 5; do
-    cc -g "-gdwarf-$version" -O1 "$top/compare/sources/main.c" "$top/compare/sources/sums.c" -o "$work/built"
+    (cd "$top/compare" && cc -g "-gdwarf-$version" -O1 sources/main.c sources/sums.c -o "$work/built")
     objcopy --dump-section ".debug_line=$work/line.bin" "$work/built" "$work/copy"
     : >"$work/line_str.bin"
     objcopy --dump-section ".debug_line_str=$work/line_str.bin" "$work/built" "$work/copy" 2>/dev/null || true
@@ -58,6 +61,14 @@ for version in 2 3 4 5; do
     expected >"$work/rows"
     addresses=$(cut -d' ' -f1 "$work/rows" | sort -u)
     for address in $addresses 0 ffffffffffffffff; do expected "$address"; done >"$work/pairs"
+    # The path and the line of each row that ends nothing. Up to version 4 the section lacks the compilation's directory.
+    covered=$(awk '$NF !~ /e/ {print $1}' "$work/rows" | sort -u)
+    # shellcheck disable=SC2086
+    "$work/where_is" "$work/line.bin" "$work/line_str.bin" $covered | sed -E "s,:[0-9]+\$,,; s,^([^/]),$top/compare/\\1," >"$work/answer"
+    # shellcheck disable=SC2086
+    addr2line -e "$work/built" $covered | sed -E 's/ \(discriminator [0-9]+\)//' >"$work/places"
+    cmp "$work/places" "$work/answer"
+    places=$((places + $(wc -l <"$work/places")))
     for example in $examples; do
         "$work/$example" "$work/line.bin" >"$work/answer"
         cmp "$work/rows" "$work/answer"
@@ -68,4 +79,5 @@ for version in 2 3 4 5; do
     done
 done
 echo "gimli_c: $rewritten rows were written as they were read"
+echo "gimli_c: $places paths and lines are addr2line's"
 echo "gimli_c: $compared lines of the examples ($examples) are linetool's"

@@ -6,10 +6,17 @@
  *
  *   cc -I include program.c out/libgimli_c.a "$(dirname "$(rt doc)")/c/liblibc_c.a"
  *
- * For the path, line and column of an address: gimli_line_unit gives the units one after the other, gimli_line_find the row, and
- * gimli_line_file the path of row.file. In version 5 a path is mostly of the kind GIMLI_TEXT_DEBUG_LINE_STR: it stands in the
- * section .debug_line_str at path.place, up to a zero byte. `objcopy --dump-section .debug_line=line.bin program copy` takes a
- * section out of a program.
+ * For the path, line and column of an address: gimli_line_unit gives the units one after the other, gimli_line_find the row,
+ * and gimli_line_file the path of row.file and its directory. In version 5 a path is mostly of the kind
+ * GIMLI_TEXT_DEBUG_LINE_STR: it stands in the section .debug_line_str at path.place, up to a zero byte.
+ *
+ * The whole path is `path` where it begins with `/`, else `directory/path` where the directory does, else that from the
+ * directory of the compilation on. In version 5 gimli_line_directory gives this as directory 0; up to version 4 it isn't in the
+ * section: it is DW_AT_comp_dir of .debug_info. The library joins nothing. examples/c/where_is.c does all of this.
+ *
+ * `objcopy --dump-section .debug_line=line.bin --dump-section .debug_line_str=line_str.bin program copy` takes the sections out
+ * of a program. Where there is no .debug_line_str, as up to version 4, objcopy says so and goes on: hand in no bytes then. The
+ * sections are those of a linked program: the relocations of an object file aren't applied.
  *
  * What a caller has to keep:
  * - A pointer is never null, also where its length is 0: hand in any place then.
@@ -139,7 +146,8 @@ typedef struct gimli_file {
  * in any version. `offset` is the value of the compilation unit's DW_AT_stmt_list; or begin with 0, and go on with `next`
  * as long as it is below `length`. */
 
-/* Reads the unit at an offset, and runs its program. Where another number than 0 is answered, *unit stays as it was. */
+/* Reads the unit at an offset, and runs its program. A fault of the program is no refusal: unit->fault has its number. Where
+ * another number than 0 is answered, *unit stays as it was, and where the next unit is isn't known. */
 uint32_t gimli_line_unit(const uint8_t *section, size_t length, bool big, uint8_t address_size, size_t offset,
                          gimli_unit *unit);
 
@@ -153,11 +161,18 @@ uint32_t gimli_line_rows(const uint8_t *section, size_t length, bool big, uint8_
 /* Reads the file of an index, as rows have it: up to version 4 from 1 on, in version 5 from 0 on. The program is run to its
  * end, past its faults, for the files that it defines. The bytes of the path and of the directory go into `path` and
  * `directory`, as far as they stand in the section itself and there is room; file->path.size and file->directory.size say
- * how many there are. GIMLI_NOT_FOUND where there is no such file. Where another number than 0 is answered, nothing is
- * written. */
+ * how many there are. Too little room is no refusal, and no zero byte is added. GIMLI_NOT_FOUND where there is no such file.
+ * Where another number than 0 is answered, nothing is written. */
 uint32_t gimli_line_file(const uint8_t *section, size_t length, bool big, uint8_t address_size, size_t offset,
                          uint64_t index, gimli_file *file, uint8_t *path, size_t path_room, uint8_t *directory,
                          size_t directory_room);
+
+/* Reads the directory of an index, as files have it: up to version 4 from 1 on, in version 5 from 0 on. Its bytes go into
+ * `bytes`, as far as they stand in the section itself and there is room; directory->size says how many there are.
+ * GIMLI_NOT_FOUND where there is no such directory, as there is none of index 0 up to version 4. Where another number than 0 is
+ * answered, nothing is written. */
+uint32_t gimli_line_directory(const uint8_t *section, size_t length, bool big, uint8_t address_size, size_t offset,
+                              uint64_t index, gimli_text *directory, uint8_t *bytes, size_t room);
 
 /* Looks an address up in the unit at an offset: *first is the row that it belongs to, *second the next row, up to whose
  * address that holds. They are the first two adjacent rows of one sequence of which the first has an address at most the

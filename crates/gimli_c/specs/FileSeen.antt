@@ -1,4 +1,4 @@
--- What C sees of a file.
+-- What C sees of a file, and of a directory.
 use Rattle.std.specs.Prelude.{◌≡◌, ◌+◌, ◌||◌, ℕ, true, List, [], Option, Some, None, length, nat_le, unwrap_or}
 use Rattle.gimli_core.specs.Values.{Value}
 use Rattle.gimli_core.specs.declared.attribute_value.AttributeValue.TheVariants.{String, DebugStrRef, DebugStrRefSup, DebugLineStrRef, DebugStrOffsetsIndex}
@@ -79,3 +79,18 @@ pub record GivesNoFile (p : Place) (index : ℕ) : Type 0 where
   pub header : Header
   pub unit : HasFiles p header
   pub none : file_of header index ≡ None
+
+-- the directory of an index of the unit at the place, and its bytes where they stand there
+pub record GivesDirectory (p : Place) (index : ℕ) (seen : GimliText) (bytes_old bytes_new : List ℕ) : Type 0 where
+  pub header : Header
+  pub unit : HasUnit p header
+  pub directory : Value
+  pub is_directory : directory_of header index ≡ Some directory
+  pub seen_is : seen ≡ text_seen directory
+  pub bytes_is : bytes_new ≡ written (bytes_here (Some directory)) bytes_old
+
+-- the unit at the place has no directory of the index
+pub record GivesNoDirectory (p : Place) (index : ℕ) : Type 0 where
+  pub header : Header
+  pub unit : HasUnit p header
+  pub none : directory_of header index ≡ None

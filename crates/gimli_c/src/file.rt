@@ -138,7 +138,7 @@ impl GimliFile {
 
 impl GimliText {
     /// Where the text of a value stands.
-    fn new<R: Reader>(value: Option<AttributeValue<R>>) -> Self
+    pub(crate) fn new<R: Reader>(value: Option<AttributeValue<R>>) -> Self
         ensures { result ≡ optional_text_seen (option_map (value_seen R.bytes R.Offset.number) value) }
     {
         let (kind, place, size) = match value {
@@ -172,7 +172,7 @@ fn details<R: Reader>(header: &LineProgramHeader<R>) -> u64
 }
 
 /// The text of a value, where it stands in the section itself.
-fn text_here<R: Reader>(value: Option<AttributeValue<R>>) -> Option<R>
+pub(crate) fn text_here<R: Reader>(value: Option<AttributeValue<R>>) -> Option<R>
     ensures { option_map R.bytes result ≡ text_here (option_map (value_seen R.bytes R.Offset.number) value) }
 {
     match value {

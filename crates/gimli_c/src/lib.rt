@@ -4,6 +4,7 @@
 //! of the caller. Nothing of the caller is kept after a call. `include/gimli_line.h` declares all of it.
 #![tactic(auto)]
 
+mod directory;
 mod encoding;
 mod file;
 mod find;
@@ -18,6 +19,7 @@ mod text;
 mod unit;
 mod write;
 
+pub use directory::gimli_line_directory;
 pub use encoding::GimliEncoding;
 pub use file::{GimliFile, GimliText, gimli_line_file};
 pub use find::gimli_line_find;

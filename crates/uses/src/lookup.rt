@@ -3,7 +3,7 @@
 ghost use Rattle.std.specs.Prelude.{◌≡◌, ◌≤◌, ◌<◌, IfSome};
 ghost use Rattle.gimli_lookup.specs.FirstPair.{IsFirstPair};
 
-use crate::reading::{Sections, path_of};
+use crate::reading::{Sections, directory_of, path_of};
 use gimli_core::{DebugLineOffset, EndianSlice, LittleEndian, Reader, Result};
 use gimli_line::{ColumnType, DebugLine, LineRow};
 use gimli_lookup::Lookup;
@@ -20,8 +20,10 @@ pub fn line_at<R: Reader>(lookup: &Lookup<R>, address: u64) -> Option<LineRow>
 /// A place in a source.
 #[derive(Clone, Copy, Debug)]
 pub struct Place<'i> {
-    /// The path of its file, which is relative to the file's directory; None where the file isn't known.
+    /// The path of its file; None where the file isn't known. One that doesn't begin with `/` goes on from the directory.
     pub path: Option<EndianSlice<'i, LittleEndian>>,
+    /// The directory of its file; None where it isn't known. One that doesn't begin with `/` goes on from directory 0.
+    pub directory: Option<EndianSlice<'i, LittleEndian>>,
     /// The line, 0 where none is known.
     pub line: u64,
     /// The column, 0 for the left edge.
@@ -43,10 +45,16 @@ pub fn place_of<'i>(
         return Ok(None);
     };
     let path = path_of(&row, lookup.header(), sections)?;
+    let directory = directory_of(&row, lookup.header(), sections)?;
     let line = row.line().map_or(0, |line| line.get());
     let column = match row.column() {
         ColumnType::LeftEdge => 0,
         ColumnType::Column(column) => column.get(),
     };
-    Ok(Some(Place { path, line, column }))
+    Ok(Some(Place {
+        path,
+        directory,
+        line,
+        column,
+    }))
 }

@@ -1,0 +1,47 @@
+//! The directories of a unit.
+
+ghost use Rattle.std.specs.Prelude.{◌≡◌, ◌≢◌};
+ghost use Rattle.gimli_c.specs.FileSeen.{GivesDirectory, GivesNoDirectory};
+ghost use Rattle.gimli_c.specs.Place.{place, HasNoUnit};
+
+use crate::file::{GimliText, copy_bytes, text_here};
+use crate::place::program_at;
+use crate::status::{NOT_FOUND, OK, OUT_OF_MEMORY};
+use std::alloc::Global;
+
+/// Reads the directory of an index, as files have it: up to version 4 from 1 on, in version 5 from 0 on. Its bytes go into
+/// `bytes`, as far as they stand in the section itself, and there is room. `NOT_FOUND` where there is no such directory, as
+/// there is none of index 0 up to version 4. Where another number than 0 is answered, nothing is written. For
+/// `address_size` and the order see `gimli_line_unit`.
+#[unsafe(no_mangle)]
+pub extern "C" fn gimli_line_directory(
+    alloc: Global,
+    section: &[u8],
+    big: bool,
+    address_size: u8,
+    offset: usize,
+    index: u64,
+    directory: &mut GimliText,
+    bytes: &mut [u8],
+) -> u32
+    ensures found { result ≡ OK → GivesDirectory (place section.now big address_size offset) index directory.new
+        bytes.old bytes.new }
+    ensures none { result ≡ NOT_FOUND → GivesNoDirectory (place section.now big address_size offset) index }
+    ensures refused { result ≢ OK → result ≢ NOT_FOUND → result ≢ OUT_OF_MEMORY →
+        HasNoUnit (place section.now big address_size offset) result }
+    ensures kept { result ≢ OK → (directory.new ≡ directory.old) × (bytes.new ≡ bytes.old) }
+{
+    let program = match program_at(alloc, section, big, address_size, offset) {
+        Ok(program) => program,
+        Err(status) => return status,
+    };
+    let value = match program.header().directory(index) {
+        Some(value) => value,
+        None => return NOT_FOUND,
+    };
+    *directory = GimliText::new(Some(value));
+    if let Some(text) = text_here(Some(value)) {
+        copy_bytes(text.slice(), bytes);
+    }
+    OK
+}
