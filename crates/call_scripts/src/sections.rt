@@ -64,21 +64,27 @@ impl Sections {
         match name {
             "endian" => print_line(out, word_of(self.section.endian()))?,
             "len" => print_line(out, Numbered("usize", self.section.len() as u64))?,
-            "offset" => {
-                let offset = self.offset(words.section()?);
-                print_line(out, Numbered("usize", offset as u64))?;
-            }
+            "offset" => self.print_offset(words.section()?, out)?,
             "slice" => print_line(out, AllBytes(self.section.slice()))?,
             "take" => self.take(out)?,
-            "next" => {
-                *self = Sections::new(self.alloc, self.order, self.attempts);
-                print_line(out, "--")?;
-            }
+            "next" => self.begin_anew(out)?,
             "str" => self.call_table(number, Kind::Strings, words, out)?,
             "line_str" => self.call_table(number, Kind::LineStrings, words, out)?,
             _ => self.write(number, name, words, out)?,
         }
         Ok(())
+    }
+
+    /// Makes the section and the tables anew.
+    fn begin_anew(&mut self, out: &mut Vec<u8>) -> Result<(), AllocError> {
+        *self = Sections::new(self.alloc, self.order, self.attempts);
+        print_line(out, "--")
+    }
+
+    /// Prints the offset of what is appended next.
+    fn print_offset(&mut self, section: SectionId, out: &mut Vec<u8>) -> Result<(), AllocError> {
+        let offset = self.offset(section);
+        print_line(out, Numbered("usize", offset as u64))
     }
 
     /// Takes the bytes out, and prints them.
@@ -182,28 +188,31 @@ impl Sections {
     fn offset(&mut self, section: SectionId) -> usize {
         let w = self.take_section();
         let (w, offset) = match section {
-            SectionId::DebugStr => offset_in_strings(DebugStr::from(w)),
-            SectionId::DebugLineStr => offset_in_line_strings(DebugLineStr::from(w)),
-            _ => offset_in_lines(DebugLine::from(w)),
+            SectionId::DebugStr => offset_in_strings(w),
+            SectionId::DebugLineStr => offset_in_line_strings(w),
+            _ => offset_in_lines(w),
         };
         self.section = w;
         offset
     }
 }
 
-fn offset_in_lines<W: Writer>(section: DebugLine<W>) -> (W, usize) {
+fn offset_in_lines<W: Writer>(w: W) -> (W, usize) {
+    let section = DebugLine::from(w);
     let offset = section.offset().0;
     let DebugLine(w) = section;
     (w, offset)
 }
 
-fn offset_in_strings<W: Writer>(section: DebugStr<W>) -> (W, usize) {
+fn offset_in_strings<W: Writer>(w: W) -> (W, usize) {
+    let section = DebugStr::from(w);
     let offset = section.offset().0;
     let DebugStr(w) = section;
     (w, offset)
 }
 
-fn offset_in_line_strings<W: Writer>(section: DebugLineStr<W>) -> (W, usize) {
+fn offset_in_line_strings<W: Writer>(w: W) -> (W, usize) {
+    let section = DebugLineStr::from(w);
     let offset = section.offset().0;
     let DebugLineStr(w) = section;
     (w, offset)

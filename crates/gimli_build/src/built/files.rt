@@ -179,16 +179,43 @@ impl FileTable {
         ensures memory { IfErr result (λ e. e ≡ Error.OutOfMemory) }
     {
         let mut tables = FileTable::new(alloc);
-        let working_dir = tables.add_directory(working_dir)?;
+        tables.add_first(
+            version,
+            working_dir,
+            source_dir,
+            source_file,
+            source_file_info,
+        )?;
+        Ok(tables)
+    }
+
+    /// Puts what a new program is handed into empty tables. Refused for want of memory alone.
+    fn add_first(
+        &mut self,
+        version: u16,
+        working_dir: LineString,
+        source_dir: Option<LineString>,
+        source_file: LineString,
+        source_file_info: Option<FileInfo>,
+    ) -> Result<()>
+        requires empty { self.old ≡ record { directories = []; files = [] } }
+        requires working_dir_ends { HasNoZero (line_text working_dir) }
+        requires source_dir_ends { IfSome source_dir (λ dir. HasNoZero (line_text dir)) }
+        requires source_file_ends { HasNoZero (line_text source_file) }
+        ensures ok { OnOk result (self.new
+            ≡ first_tables version working_dir source_dir source_file source_file_info) }
+        ensures memory { IfErr result (λ e. e ≡ Error.OutOfMemory) }
+    {
+        let working_dir = self.add_directory(working_dir)?;
         if version <= 4 {
-            return Ok(tables);
+            return Ok(());
         }
         let directory = match source_dir {
-            Some(source_dir) => tables.add_directory(source_dir)?,
+            Some(source_dir) => self.add_directory(source_dir)?,
             None => working_dir,
         };
-        tables.add_file(source_file, directory, source_file_info)?;
-        Ok(tables)
+        self.add_file(source_file, directory, source_file_info)?;
+        Ok(())
     }
 
     /// Puts a directory last, and answers its id; one that is there has its old id, and nothing changes.

@@ -139,7 +139,6 @@ pub(crate) fn write_end<W: Writer>(w: &mut W, count: u64) -> Result<()>
 }
 
 /// Appends what stands for the row alone.
-#[tactic(auto, using(crate::proofs::Joins::joins))]
 fn write_marks<W: Writer>(w: &mut W, row: &LineRow) -> Result<()>
     ensures writes { Writes W.Writer w.old w.new result (Ok (instructions_bytes (marks row.now))) }
     ensures fit { OnOk result (row.now.discriminator < 2 ^ 64) }
@@ -153,7 +152,6 @@ fn write_marks<W: Writer>(w: &mut W, row: &LineRow) -> Result<()>
 }
 
 /// Appends what lasts from row to row, where it differs.
-#[tactic(auto, using(crate::proofs::Joins::joins))]
 fn write_changes<W: Writer>(
     w: &mut W,
     version: u16,
