@@ -67,13 +67,16 @@ impl InPieces {
             "pieces" => self.print_pieces(out)?,
             "slice" => print_line(out, AllBytes(self.joined()?.as_slice()))?,
             "into_vec" => self.take(out)?,
-            "next" => {
-                *self = InPieces::new(self.alloc, self.order, self.attempts);
-                print_line(out, "--")?;
-            }
+            "next" => self.begin_anew(out)?,
             _ => self.write(number, name, words, out)?,
         }
         Ok(())
+    }
+
+    /// Makes the section anew.
+    fn begin_anew(&mut self, out: &mut Vec<u8>) -> Result<(), AllocError> {
+        *self = InPieces::new(self.alloc, self.order, self.attempts);
+        print_line(out, "--")
     }
 
     /// Prints how many pieces there are, and each of them.
@@ -113,10 +116,10 @@ impl InPieces {
         out: &mut Vec<u8>,
     ) -> Result<(), Stop> {
         let mut again = *words;
-        let mut answer = writers::answer(self.alloc, &mut self.section, name, words)?;
+        let mut answer = self.answer(name, words)?;
         if is_made_again(&answer, self.attempts) {
             self.restore(number, name, out)?;
-            answer = writers::answer(self.alloc, &mut self.section, name, &mut again)?;
+            answer = self.answer(name, &mut again)?;
         }
         let now = self.joined()?;
         print_line(
@@ -129,6 +132,11 @@ impl InPieces {
         )?;
         self.before = now;
         Ok(())
+    }
+
+    /// What a call of the writer answers.
+    fn answer(&mut self, name: &str, words: &mut Arguments<'_>) -> Result<writers::Answer, Stop> {
+        writers::answer(self.alloc, &mut self.section, name, words)
     }
 
     /// Looks whether the bytes of before a refused call are still a beginning, or after a refused `write` all there are,

@@ -103,12 +103,17 @@ impl Sections {
         out: &mut Vec<u8>,
     ) -> Result<(), Stop> {
         let mut again = *words;
-        let mut answer = writers::answer(self.alloc, &mut self.section, name, words)?;
+        let mut answer = self.answer(name, words)?;
         if is_made_again(&answer, self.attempts) {
             self.restore(number, out)?;
-            answer = writers::answer(self.alloc, &mut self.section, name, &mut again)?;
+            answer = self.answer(name, &mut again)?;
         }
         self.print_written(answer, out)
+    }
+
+    /// What a call of the writer answers.
+    fn answer(&mut self, name: &str, words: &mut Arguments<'_>) -> Result<writers::Answer, Stop> {
+        writers::answer(self.alloc, &mut self.section, name, words)
     }
 
     /// Makes a call of a table, and prints what it answers.
@@ -186,36 +191,31 @@ impl Sections {
 
     /// The offset of what is appended next, as a section of this kind tells it.
     fn offset(&mut self, section: SectionId) -> usize {
-        let w = self.take_section();
-        let (w, offset) = match section {
-            SectionId::DebugStr => offset_in_strings(w),
-            SectionId::DebugLineStr => offset_in_line_strings(w),
-            _ => offset_in_lines(w),
-        };
+        let (w, offset) = offset_in(section, self.take_section());
         self.section = w;
         offset
     }
 }
 
-fn offset_in_lines<W: Writer>(w: W) -> (W, usize) {
-    let section = DebugLine::from(w);
-    let offset = section.offset().0;
-    let DebugLine(w) = section;
-    (w, offset)
-}
-
-fn offset_in_strings<W: Writer>(w: W) -> (W, usize) {
-    let section = DebugStr::from(w);
-    let offset = section.offset().0;
-    let DebugStr(w) = section;
-    (w, offset)
-}
-
-fn offset_in_line_strings<W: Writer>(w: W) -> (W, usize) {
-    let section = DebugLineStr::from(w);
-    let offset = section.offset().0;
-    let DebugLineStr(w) = section;
-    (w, offset)
+/// The offset of what is appended next to a writer, as a section of this kind tells it, and the writer.
+fn offset_in<W: Writer>(section: SectionId, w: W) -> (W, usize) {
+    match section {
+        SectionId::DebugStr => {
+            let section = DebugStr::from(w);
+            let offset = section.offset().0;
+            (section.0, offset)
+        }
+        SectionId::DebugLineStr => {
+            let section = DebugLineStr::from(w);
+            let offset = section.offset().0;
+            (section.0, offset)
+        }
+        _ => {
+            let section = DebugLine::from(w);
+            let offset = section.offset().0;
+            (section.0, offset)
+        }
+    }
 }
 
 impl Script for Sections {
