@@ -2,10 +2,9 @@
 
 ghost use Rattle.std.specs.Prelude.{◌≡◌, ◌⊎◌, IfOk, Ok};
 
-use crate::header_text::print_header;
-use crate::instruction_text::{print_instructions, print_refusal};
 use crate::request::{Handed, Place};
-use crate::value_text::{Refusal, Slice};
+use crate::value_text::Slice;
+use crate::{header_text, instruction_text};
 use gimli_core::{DebugLineOffset, EndianSlice, Error};
 use gimli_line::{DebugLine, IncompleteLineProgram};
 use row_text::Attempts;
@@ -38,7 +37,7 @@ pub fn header(
         place,
         handed: &handed,
     };
-    printed(unit.print_header(alloc, attempts, out))
+    printed(header_text::print_program(unit.program(alloc, attempts), out))
 }
 
 /// Prints the instructions of a unit, or why it is refused. The words are the order of bytes, the size of an address
@@ -65,7 +64,7 @@ pub fn instructions(
         place,
         handed: &handed,
     };
-    printed(unit.print_instructions(alloc, attempts, out))
+    printed(instruction_text::print_program(unit.program(alloc, attempts), out))
 }
 
 /// The status of a command whose output went into a vector, which refuses for want of memory alone.
@@ -90,27 +89,6 @@ pub struct Unit<'i> {
 }
 
 impl<'i> Unit<'i> {
-    /// Prints the header, or why it is refused.
-    fn print_header(self, alloc: Global, attempts: Attempts, out: &mut Vec<u8>) -> io::Result<()> {
-        match self.program(alloc, attempts) {
-            Ok(program) => print_header(program.header(), out),
-            Err(e) => print_refusal(Refusal(e), out),
-        }
-    }
-
-    /// Prints the instructions, or why the header is refused.
-    fn print_instructions(
-        self,
-        alloc: Global,
-        attempts: Attempts,
-        out: &mut Vec<u8>,
-    ) -> io::Result<()> {
-        match self.program(alloc, attempts) {
-            Ok(program) => print_instructions(program.header(), out),
-            Err(e) => print_refusal(Refusal(e), out),
-        }
-    }
-
     /// The program of the unit. Where memory was refused it is made once more, if that is asked for.
     pub fn program(
         self,
