@@ -16,6 +16,37 @@ enum Operands<'a> {
     Two(u8, Held<'a>),
 }
 
+impl<'a> Operands<'a> {
+    /// The operands of an instruction that defines no file.
+    fn of<R: Lender>(instruction: &'a LineInstruction<R>) -> Operands<'a> {
+        match instruction {
+            LineInstruction::Special(opcode) => Operands::One(Held::Number(u64::from(*opcode))),
+            LineInstruction::FixedAddPc(n) => Operands::One(Held::Number(u64::from(*n))),
+            LineInstruction::AdvanceLine(n) => Operands::One(Held::Signed(*n)),
+            LineInstruction::AdvancePc(n)
+            | LineInstruction::SetFile(n)
+            | LineInstruction::SetColumn(n)
+            | LineInstruction::SetIsa(n)
+            | LineInstruction::SetAddress(n)
+            | LineInstruction::SetDiscriminator(n) => Operands::One(Held::Number(*n)),
+            LineInstruction::UnknownStandard0(opcode) => {
+                Operands::One(Held::Number(u64::from(opcode.0)))
+            }
+            LineInstruction::UnknownStandard1(opcode, n) => Operands::Two(
+                opcode.0,
+                Held::Number(*n),
+            ),
+            LineInstruction::UnknownStandardN(opcode, operands) => {
+                Operands::Two(opcode.0, Held::Bytes(operands.lent()))
+            }
+            LineInstruction::UnknownExtended(opcode, operands) => {
+                Operands::Two(opcode.0, Held::Bytes(operands.lent()))
+            }
+            _ => Operands::Nothing,
+        }
+    }
+}
+
 impl fmt::Display for Operands<'_> {
     fn fmt<W: fmt::Write>(&self, f: &mut fmt::Formatter<W>) -> fmt::Result {
         match *self {
@@ -26,61 +57,30 @@ impl fmt::Display for Operands<'_> {
     }
 }
 
-/// The variant of an instruction, and its operands. The file that it may define is left out.
-fn variant_and_operands<R: Lender>(
-    instruction: &LineInstruction<R>,
-) -> (&'static str, Operands<'_>) {
+/// The name of an instruction's variant.
+fn variant<R: Lender>(instruction: &LineInstruction<R>) -> &'static str {
     match instruction {
-        LineInstruction::Special(opcode) => (
-            "Special",
-            Operands::One(Held::Number(u64::from(*opcode))),
-        ),
-        LineInstruction::Copy => ("Copy", Operands::Nothing),
-        LineInstruction::AdvancePc(n) => ("AdvancePc", Operands::One(Held::Number(*n))),
-        LineInstruction::AdvanceLine(n) => ("AdvanceLine", Operands::One(Held::Signed(*n))),
-        LineInstruction::SetFile(n) => ("SetFile", Operands::One(Held::Number(*n))),
-        LineInstruction::SetColumn(n) => ("SetColumn", Operands::One(Held::Number(*n))),
-        LineInstruction::NegateStatement => ("NegateStatement", Operands::Nothing),
-        LineInstruction::SetBasicBlock => ("SetBasicBlock", Operands::Nothing),
-        LineInstruction::ConstAddPc => ("ConstAddPc", Operands::Nothing),
-        LineInstruction::FixedAddPc(n) => (
-            "FixedAddPc",
-            Operands::One(Held::Number(u64::from(*n))),
-        ),
-        LineInstruction::SetPrologueEnd => ("SetPrologueEnd", Operands::Nothing),
-        LineInstruction::SetEpilogueBegin => ("SetEpilogueBegin", Operands::Nothing),
-        LineInstruction::SetIsa(n) => ("SetIsa", Operands::One(Held::Number(*n))),
-        LineInstruction::UnknownStandard0(opcode) => {
-            (
-                "UnknownStandard0",
-                Operands::One(Held::Number(u64::from(opcode.0))),
-            )
-        }
-        LineInstruction::UnknownStandard1(opcode, n) => {
-            (
-                "UnknownStandard1",
-                Operands::Two(opcode.0, Held::Number(*n)),
-            )
-        }
-        LineInstruction::UnknownStandardN(opcode, operands) => {
-            (
-                "UnknownStandardN",
-                Operands::Two(opcode.0, Held::Bytes(operands.lent())),
-            )
-        }
-        LineInstruction::EndSequence => ("EndSequence", Operands::Nothing),
-        LineInstruction::SetAddress(n) => ("SetAddress", Operands::One(Held::Number(*n))),
-        LineInstruction::DefineFile(_) => ("DefineFile", Operands::Nothing),
-        LineInstruction::SetDiscriminator(n) => (
-            "SetDiscriminator",
-            Operands::One(Held::Number(*n)),
-        ),
-        LineInstruction::UnknownExtended(opcode, operands) => {
-            (
-                "UnknownExtended",
-                Operands::Two(opcode.0, Held::Bytes(operands.lent())),
-            )
-        }
+        LineInstruction::Special(_) => "Special",
+        LineInstruction::Copy => "Copy",
+        LineInstruction::AdvancePc(_) => "AdvancePc",
+        LineInstruction::AdvanceLine(_) => "AdvanceLine",
+        LineInstruction::SetFile(_) => "SetFile",
+        LineInstruction::SetColumn(_) => "SetColumn",
+        LineInstruction::NegateStatement => "NegateStatement",
+        LineInstruction::SetBasicBlock => "SetBasicBlock",
+        LineInstruction::ConstAddPc => "ConstAddPc",
+        LineInstruction::FixedAddPc(_) => "FixedAddPc",
+        LineInstruction::SetPrologueEnd => "SetPrologueEnd",
+        LineInstruction::SetEpilogueBegin => "SetEpilogueBegin",
+        LineInstruction::SetIsa(_) => "SetIsa",
+        LineInstruction::UnknownStandard0(_) => "UnknownStandard0",
+        LineInstruction::UnknownStandard1(_, _) => "UnknownStandard1",
+        LineInstruction::UnknownStandardN(_, _) => "UnknownStandardN",
+        LineInstruction::EndSequence => "EndSequence",
+        LineInstruction::SetAddress(_) => "SetAddress",
+        LineInstruction::DefineFile(_) => "DefineFile",
+        LineInstruction::SetDiscriminator(_) => "SetDiscriminator",
+        LineInstruction::UnknownExtended(_, _) => "UnknownExtended",
     }
 }
 
@@ -118,7 +118,8 @@ fn print_instruction<R: Lender, O: Write>(
     if let LineInstruction::DefineFile(file) = instruction {
         return print_definition(file, out);
     }
-    let (variant, operands) = variant_and_operands(instruction);
+    let variant = variant(instruction);
+    let operands = Operands::of(instruction);
     writeln!(out, "{variant}{operands}")
 }
 

@@ -32,9 +32,30 @@ pub enum Held<'a> {
     Flag(bool),
 }
 
-impl Held<'_> {
+impl<'a> Held<'a> {
+    /// What a value holds.
+    fn of<R: Lender>(value: &'a AttributeValue<R>) -> Held<'a> {
+        match value {
+            AttributeValue::Block(bytes) | AttributeValue::String(bytes) => Held::Bytes(
+                bytes.lent(),
+            ),
+            AttributeValue::Data1(n) => Held::Number(u64::from(*n)),
+            AttributeValue::Data2(n) => Held::Number(u64::from(*n)),
+            AttributeValue::Data4(n) => Held::Number(u64::from(*n)),
+            AttributeValue::Data8(n) | AttributeValue::Udata(n) => Held::Number(*n),
+            AttributeValue::Sdata(n) => Held::Signed(*n),
+            AttributeValue::Flag(holds) => Held::Flag(*holds),
+            AttributeValue::SecOffset(offset) => Held::offset(*offset),
+            AttributeValue::DebugStrRef(offset) | AttributeValue::DebugStrRefSup(offset) => {
+                Held::offset(offset.0)
+            }
+            AttributeValue::DebugLineStrRef(offset) => Held::offset(offset.0),
+            AttributeValue::DebugStrOffsetsIndex(index) => Held::offset(index.0),
+        }
+    }
+
     /// An offset, or an index.
-    pub fn offset<O: ReaderOffset>(offset: O) -> Held<'static> {
+    pub fn offset<O: ReaderOffset>(offset: O) -> Held<'a> {
         Held::Number(offset.into_u64())
     }
 }
@@ -60,25 +81,30 @@ pub struct Value<'a> {
 impl<'a> Value<'a> {
     /// The value, as it is printed.
     pub fn new<R: Lender>(value: &'a AttributeValue<R>) -> Value<'a> {
-        let (variant, held) = match value {
-            AttributeValue::Block(block) => ("Block", Held::Bytes(block.lent())),
-            AttributeValue::Data1(n) => ("Data1", Held::Number(u64::from(*n))),
-            AttributeValue::Data2(n) => ("Data2", Held::Number(u64::from(*n))),
-            AttributeValue::Data4(n) => ("Data4", Held::Number(u64::from(*n))),
-            AttributeValue::Data8(n) => ("Data8", Held::Number(*n)),
-            AttributeValue::Udata(n) => ("Udata", Held::Number(*n)),
-            AttributeValue::Sdata(n) => ("Sdata", Held::Signed(*n)),
-            AttributeValue::Flag(holds) => ("Flag", Held::Flag(*holds)),
-            AttributeValue::SecOffset(n) => ("SecOffset", Held::offset(*n)),
-            AttributeValue::String(text) => ("String", Held::Bytes(text.lent())),
-            AttributeValue::DebugStrRef(offset) => ("DebugStrRef", Held::offset(offset.0)),
-            AttributeValue::DebugStrRefSup(offset) => ("DebugStrRefSup", Held::offset(offset.0)),
-            AttributeValue::DebugLineStrRef(offset) => ("DebugLineStrRef", Held::offset(offset.0)),
-            AttributeValue::DebugStrOffsetsIndex(index) => {
-                ("DebugStrOffsetsIndex", Held::offset(index.0))
-            }
-        };
-        Value { variant, held }
+        Value {
+            variant: variant(value),
+            held: Held::of(value),
+        }
+    }
+}
+
+/// The name of a value's variant.
+fn variant<R: Lender>(value: &AttributeValue<R>) -> &'static str {
+    match value {
+        AttributeValue::Block(_) => "Block",
+        AttributeValue::Data1(_) => "Data1",
+        AttributeValue::Data2(_) => "Data2",
+        AttributeValue::Data4(_) => "Data4",
+        AttributeValue::Data8(_) => "Data8",
+        AttributeValue::Udata(_) => "Udata",
+        AttributeValue::Sdata(_) => "Sdata",
+        AttributeValue::Flag(_) => "Flag",
+        AttributeValue::SecOffset(_) => "SecOffset",
+        AttributeValue::String(_) => "String",
+        AttributeValue::DebugStrRef(_) => "DebugStrRef",
+        AttributeValue::DebugStrRefSup(_) => "DebugStrRefSup",
+        AttributeValue::DebugLineStrRef(_) => "DebugLineStrRef",
+        AttributeValue::DebugStrOffsetsIndex(_) => "DebugStrOffsetsIndex",
     }
 }
 
