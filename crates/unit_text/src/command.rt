@@ -2,14 +2,15 @@
 
 ghost use Rattle.std.specs.Prelude.{◌≡◌, ◌⊎◌, IfOk, Ok};
 
+use crate::header_text::print_header;
+use crate::instruction_text::{print_instructions, print_refusal};
 use crate::request::{Handed, Place};
-use crate::value_text::Slice;
-use crate::{header_text, instruction_text};
+use crate::value_text::{Lender, Refusal, Slice};
 use gimli_core::{DebugLineOffset, EndianSlice, Error};
-use gimli_line::{DebugLine, IncompleteLineProgram};
+use gimli_line::{DebugLine, IncompleteLineProgram, LineProgramHeader};
 use row_text::Attempts;
 use std::alloc::{AllocError, Global};
-use std::io;
+use std::io::{self, Write};
 
 /// Prints the header of a unit, or why it is refused. The words are the order of bytes, the size of an address, the
 /// offset of the unit, and the directory and the name that are handed in. The status is 2 for other words, else 0.
@@ -37,7 +38,7 @@ pub fn header(
         place,
         handed: &handed,
     };
-    printed(header_text::print_program(unit.program(alloc, attempts), out))
+    printed(unit.print(alloc, Part::Header, attempts, out))
 }
 
 /// Prints the instructions of a unit, or why it is refused. The words are the order of bytes, the size of an address
@@ -64,7 +65,7 @@ pub fn instructions(
         place,
         handed: &handed,
     };
-    printed(instruction_text::print_program(unit.program(alloc, attempts), out))
+    printed(unit.print(alloc, Part::Instructions, attempts, out))
 }
 
 /// The status of a command whose output went into a vector, which refuses for want of memory alone.
@@ -74,6 +75,39 @@ fn printed(outcome: io::Result<()>) -> Result<u8, AllocError>
     match outcome {
         Ok(()) => Ok(0),
         Err(_) => Err(AllocError),
+    }
+}
+
+/// What is printed of a unit.
+#[derive(Clone, Copy)]
+enum Part {
+    /// The header.
+    Header,
+    /// The instructions.
+    Instructions,
+}
+
+/// Prints a part of a program, or why its header is refused.
+fn print_program<R: Lender, O: Write>(
+    program: gimli_core::Result<IncompleteLineProgram<R>>,
+    part: Part,
+    out: &mut O,
+) -> io::Result<()> {
+    match program {
+        Ok(program) => print_part(program.header(), part, out),
+        Err(e) => print_refusal(Refusal(e), out),
+    }
+}
+
+/// Prints a part of a program whose header was read.
+fn print_part<R: Lender, O: Write>(
+    header: &LineProgramHeader<R>,
+    part: Part,
+    out: &mut O,
+) -> io::Result<()> {
+    match part {
+        Part::Header => print_header(header, out),
+        Part::Instructions => print_instructions(header, out),
     }
 }
 
@@ -89,6 +123,17 @@ pub struct Unit<'i> {
 }
 
 impl<'i> Unit<'i> {
+    /// Prints a part of the unit, or why its header is refused.
+    fn print(
+        self,
+        alloc: Global,
+        part: Part,
+        attempts: Attempts,
+        out: &mut Vec<u8>,
+    ) -> io::Result<()> {
+        print_program(self.program(alloc, attempts), part, out)
+    }
+
     /// The program of the unit. Where memory was refused it is made once more, if that is asked for.
     pub fn program(
         self,

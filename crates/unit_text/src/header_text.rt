@@ -1,26 +1,17 @@
 //! A header, a line for each part.
 
-use crate::instruction_text::print_refusal;
-use crate::value_text::{Held, Lender, Refusal, Source, Value};
+use crate::value_text::{Held, Lender, Source, Value};
 use gimli_core::{AttributeValue, Format};
-use gimli_line::{FileEntry, FileEntryFormat, IncompleteLineProgram, LineProgramHeader};
+use gimli_line::{FileEntry, FileEntryFormat, LineProgramHeader};
 use row_text::Digits;
 use std::io::Write;
 use std::{fmt, io};
 
-/// Prints the header of a program, or why it is refused.
-pub fn print_program<R: Lender, O: Write>(
-    program: gimli_core::Result<IncompleteLineProgram<R>>,
+/// Prints a header.
+pub fn print_header<R: Lender, O: Write>(
+    header: &LineProgramHeader<R>,
     out: &mut O,
 ) -> io::Result<()> {
-    match program {
-        Ok(program) => print_header(program.header(), out),
-        Err(e) => print_refusal(Refusal(e), out),
-    }
-}
-
-/// Prints a header.
-fn print_header<R: Lender, O: Write>(header: &LineProgramHeader<R>, out: &mut O) -> io::Result<()> {
     print_lengths(header, out)?;
     print_line_encoding(header, out)?;
     let lengths = header.standard_opcode_lengths().lent();

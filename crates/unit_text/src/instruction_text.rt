@@ -1,7 +1,7 @@
 //! The instructions of a program, a line for each.
 
 use crate::value_text::{Held, Lender, Refusal, Value};
-use gimli_line::{FileEntry, IncompleteLineProgram, LineInstruction, LineProgramHeader};
+use gimli_line::{FileEntry, LineInstruction, LineProgramHeader};
 use std::io::Write;
 use std::{fmt, io};
 
@@ -84,19 +84,8 @@ fn variant<R: Lender>(instruction: &LineInstruction<R>) -> &'static str {
     }
 }
 
-/// Prints the instructions of a program, or why its header is refused.
-pub fn print_program<R: Lender, O: Write>(
-    program: gimli_core::Result<IncompleteLineProgram<R>>,
-    out: &mut O,
-) -> io::Result<()> {
-    match program {
-        Ok(program) => print_instructions(program.header(), out),
-        Err(e) => print_refusal(Refusal(e), out),
-    }
-}
-
 /// Prints the instructions of a program, up to the first refusal.
-fn print_instructions<R: Lender, O: Write>(
+pub fn print_instructions<R: Lender, O: Write>(
     header: &LineProgramHeader<R>,
     out: &mut O,
 ) -> io::Result<()> {
