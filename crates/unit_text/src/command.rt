@@ -5,12 +5,12 @@ ghost use Rattle.std.specs.Prelude.{◌≡◌, ◌⊎◌, IfOk, Ok};
 use crate::header_text::print_header;
 use crate::instruction_text::{print_instructions, print_refusal};
 use crate::request::{Handed, Place};
-use crate::value_text::{Refusal, Slice};
+use crate::value_text::{Lender, Refusal, Slice};
 use gimli_core::{DebugLineOffset, EndianSlice, Error};
-use gimli_line::{DebugLine, IncompleteLineProgram};
+use gimli_line::{DebugLine, IncompleteLineProgram, LineProgramHeader};
 use row_text::Attempts;
 use std::alloc::{AllocError, Global};
-use std::io;
+use std::io::{self, Write};
 
 /// Prints the header of a unit, or why it is refused. The words are the order of bytes, the size of an address, the
 /// offset of the unit, and the directory and the name that are handed in. The status is 2 for other words, else 0.
@@ -38,7 +38,7 @@ pub fn header(
         place,
         handed: &handed,
     };
-    printed(unit.print_header(alloc, attempts, out))
+    printed(unit.print(alloc, Part::Header, attempts, out))
 }
 
 /// Prints the instructions of a unit, or why it is refused. The words are the order of bytes, the size of an address
@@ -65,7 +65,7 @@ pub fn instructions(
         place,
         handed: &handed,
     };
-    printed(unit.print_instructions(alloc, attempts, out))
+    printed(unit.print(alloc, Part::Instructions, attempts, out))
 }
 
 /// The status of a command whose output went into a vector, which refuses for want of memory alone.
@@ -75,6 +75,39 @@ fn printed(outcome: io::Result<()>) -> Result<u8, AllocError>
     match outcome {
         Ok(()) => Ok(0),
         Err(_) => Err(AllocError),
+    }
+}
+
+/// What is printed of a unit.
+#[derive(Clone, Copy)]
+enum Part {
+    /// The header.
+    Header,
+    /// The instructions.
+    Instructions,
+}
+
+/// Prints a part of a program, or why its header is refused.
+fn print_program<R: Lender, O: Write>(
+    program: gimli_core::Result<IncompleteLineProgram<R>>,
+    part: Part,
+    out: &mut O,
+) -> io::Result<()> {
+    match program {
+        Ok(program) => print_part(program.header(), part, out),
+        Err(e) => print_refusal(Refusal(e), out),
+    }
+}
+
+/// Prints a part of a program whose header was read.
+fn print_part<R: Lender, O: Write>(
+    header: &LineProgramHeader<R>,
+    part: Part,
+    out: &mut O,
+) -> io::Result<()> {
+    match part {
+        Part::Header => print_header(header, out),
+        Part::Instructions => print_instructions(header, out),
     }
 }
 
@@ -90,25 +123,15 @@ pub struct Unit<'i> {
 }
 
 impl<'i> Unit<'i> {
-    /// Prints the header, or why it is refused.
-    fn print_header(self, alloc: Global, attempts: Attempts, out: &mut Vec<u8>) -> io::Result<()> {
-        match self.program(alloc, attempts) {
-            Ok(program) => print_header(program.header(), out),
-            Err(e) => print_refusal(Refusal(e), out),
-        }
-    }
-
-    /// Prints the instructions, or why the header is refused.
-    fn print_instructions(
+    /// Prints a part of the unit, or why its header is refused.
+    fn print(
         self,
         alloc: Global,
+        part: Part,
         attempts: Attempts,
         out: &mut Vec<u8>,
     ) -> io::Result<()> {
-        match self.program(alloc, attempts) {
-            Ok(program) => print_instructions(program.header(), out),
-            Err(e) => print_refusal(Refusal(e), out),
-        }
+        print_program(self.program(alloc, attempts), part, out)
     }
 
     /// The program of the unit. Where memory was refused it is made once more, if that is asked for.
