@@ -197,10 +197,21 @@ fn lookup_of<R: Reader>(alloc: Global, unit: R) -> Result<Lookup<R>> {
 /// The lookup of a unit has the sequences and the files of its program, and answers as the plain scan does.
 fn check_case<R: Reader>(rt: &impl Abort, alloc: Global, unit: R, case: &Case) -> Result<()> {
     let lookup = lookup_of(alloc, unit)?;
+    check_lookup(rt, alloc, unit, &lookup, case)
+}
+
+/// The same of its lookup.
+fn check_lookup<R: Reader>(
+    rt: &impl Abort,
+    alloc: Global,
+    unit: R,
+    lookup: &Lookup<R>,
+    case: &Case,
+) -> Result<()> {
     let (program, sequences) = cut_program(alloc, unit)?;
     check_equal(rt, sequences.len(), case.sequences);
-    check_parts(rt, &lookup, &program, case);
-    check_addresses(rt, &lookup, &program, &sequences, case)
+    check_parts(rt, lookup, &program, case);
+    check_addresses(rt, lookup, &program, &sequences, case)
 }
 
 /// The lookup has as many sequences as the case, and as many files as the program.
@@ -282,9 +293,20 @@ fn cut_with_rows<R: Reader>(alloc: Global, unit: R) -> Result<CutWithRows<R>> {
 /// `sequences_with_rows` answers what `sequences` does, and the rows that each sequence gives when it is resumed.
 fn check_kept<R: Reader>(rt: &impl Abort, alloc: Global, unit: R, case: &Case) -> Result<()> {
     let cut = cut_program(alloc, unit)?;
+    check_with_rows(rt, alloc, unit, &cut, case)
+}
+
+/// The same of what `sequences` answers.
+fn check_with_rows<R: Reader>(
+    rt: &impl Abort,
+    alloc: Global,
+    unit: R,
+    cut: &Cut<R>,
+    case: &Case,
+) -> Result<()> {
     let kept = cut_with_rows(alloc, unit)?;
-    check_kept_parts(rt, &cut, &kept, case);
-    check_kept_sequences(rt, &cut, &kept);
+    check_kept_parts(rt, cut, &kept, case);
+    check_kept_sequences(rt, cut, &kept);
     Ok(())
 }
 
