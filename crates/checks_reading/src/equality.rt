@@ -29,13 +29,32 @@ pub fn check_equal<T: Copy + PartialEq + Debug>(rt: &impl Abort, found: T, wante
     assert_eq!(rt; found, wanted);
 }
 
+/// A condition holds at a place.
+pub fn check_at<P: Copy + Debug>(rt: &impl Abort, holds: bool, place: P) {
+    assert!(rt; holds, "at {place:?}");
+}
+
+/// A value is the one that is wanted at a place.
+pub fn check_equal_at<T, P>(rt: &impl Abort, found: T, wanted: T, place: P)
+where
+    T: Copy + PartialEq + Debug,
+    P: Copy + Debug,
+{
+    assert_eq!(rt; found, wanted, "at {place:?}");
+}
+
 /// Each value equals itself and no other.
 fn check_distinct<T: PartialEq>(rt: &impl Abort, name: &str, values: &[T]) {
     for (i, one) in values.iter().enumerate() {
         for (j, other) in values.iter().enumerate() {
-            assert_eq!(rt; *one == *other, i == j, "{name} {i} and {j}");
+            check_two(rt, name, (i, j), *one == *other);
         }
     }
+}
+
+/// Two values are equal where their numbers are.
+fn check_two(rt: &impl Abort, name: &str, (i, j): (usize, usize), equal: bool) {
+    assert_eq!(rt; equal, i == j, "{name} {i} and {j}");
 }
 
 /// Each value is less than all that follow it.

@@ -1,6 +1,6 @@
 //! Instructions one by one: what comes after the last and after a refusal, and what each does to a row by itself.
 
-use crate::equality::{check, check_equal};
+use crate::equality::{check, check_equal, check_equal_at};
 use crate::units::{
     HEADER, HEADER_OF_RANGE_12, HEADER_OF_TWO_FILES, file_count, flags, is_text, numbers, program,
     slice, unit,
@@ -184,7 +184,9 @@ const STATEMENT: [bool; 5] = [true, false, false, false, false];
 
 /// A program with line base -3 and line range 12, the size of an address, the last answer, and the numbers
 /// and the flags after it.
-const EXECUTED: [(&[u8], u8, Result<bool>, [u64; 7], [bool; 5]); 37] = [
+type Executed = (&'static [u8], u8, Result<bool>, [u64; 7], [bool; 5]);
+
+const EXECUTED: [Executed; 37] = [
     (&[], 8, Ok(false), NEW, STATEMENT),
     (&[16], 8, Ok(true), NEW, STATEMENT),
     (&[19], 8, Ok(true), [0, 0, 1, 4, 0, 0, 0], STATEMENT),
@@ -317,13 +319,25 @@ const EXECUTED: [(&[u8], u8, Result<bool>, [u64; 7], [bool; 5]); 37] = [
     ),
 ];
 
+/// A unit answers so, and leaves these numbers and flags.
+fn check_executed<R: Reader>(
+    rt: &impl Abort,
+    alloc: Global,
+    unit: R,
+    executed: &Executed,
+) -> Result<()> {
+    let (bytes, size, answer, registers, marks) = *executed;
+    let (last, row) = executed_by_unit(alloc, unit, size)?;
+    check_equal_at(rt, last, answer, bytes);
+    check_equal_at(rt, numbers(&row), registers, bytes);
+    check_equal_at(rt, flags(&row), marks, bytes);
+    Ok(())
+}
+
 fn steps_of_one_instruction_executed(rt: &impl Abort, alloc: Global) -> Result<()> {
-    for (bytes, size, answer, registers, marks) in EXECUTED {
-        let unit = unit(alloc, HEADER_OF_RANGE_12, bytes)?;
-        let (last, row) = executed_by_unit(alloc, slice(&unit), size)?;
-        assert_eq!(rt; last, answer, "at {bytes:?}");
-        assert_eq!(rt; numbers(&row), registers, "at {bytes:?}");
-        assert_eq!(rt; flags(&row), marks, "at {bytes:?}");
+    for executed in &EXECUTED {
+        let unit = unit(alloc, HEADER_OF_RANGE_12, executed.0)?;
+        check_executed(rt, alloc, slice(&unit), executed)?;
     }
     Ok(())
 }

@@ -1,7 +1,7 @@
 //! Lookups, compared with a plain scan over the resumed rows of each sequence, for every address of a few hundred.
 
-use crate::equality::{check, check_equal};
-use crate::units::{DEMO_PROGRAM, HEADER, changed, file_count, program, slice, unit};
+use crate::equality::{check, check_at, check_equal, check_equal_at};
+use crate::units::{DEMO_PROGRAM, HEADER, changed, cut_program, file_count, program, slice, unit};
 use gimli_core::{Error, Reader, Result};
 use gimli_line::{CompleteLineProgram, LineRow, LineSequence, ResumedLineRows};
 use gimli_lookup::Lookup;
@@ -189,21 +189,47 @@ const FAR: [u64; 10] = [
     u64::MAX,
 ];
 
-/// Each address below 300, and those that are far.
+/// The lookup of a unit.
+fn lookup_of<R: Reader>(alloc: Global, unit: R) -> Result<Lookup<R>> {
+    Lookup::new(program(alloc, unit, 4)?)
+}
+
+/// The lookup of a unit has the sequences and the files of its program, and answers as the plain scan does.
 fn check_case<R: Reader>(rt: &impl Abort, alloc: Global, unit: R, case: &Case) -> Result<()> {
-    let lookup = Lookup::new(program(alloc, unit, 4)?)?;
-    let (program, sequences) = program(alloc, unit, 4)?.sequences()?;
+    let lookup = lookup_of(alloc, unit)?;
+    check_lookup(rt, alloc, unit, &lookup, case)
+}
+
+/// The same of its lookup.
+fn check_lookup<R: Reader>(
+    rt: &impl Abort,
+    alloc: Global,
+    unit: R,
+    lookup: &Lookup<R>,
+    case: &Case,
+) -> Result<()> {
+    let (program, sequences) = cut_program(alloc, unit)?;
     check_equal(rt, sequences.len(), case.sequences);
+    check_parts(rt, lookup, &program, case);
+    check_addresses(rt, lookup, &program, &sequences, case)
+}
+
+/// The lookup has as many sequences as the case, and as many files as the program.
+fn check_parts<R: Reader>(
+    rt: &impl Abort,
+    lookup: &Lookup<R>,
+    program: &CompleteLineProgram<R>,
+    case: &Case,
+) {
     check_equal(rt, lookup.sequences().len(), case.sequences);
     check_equal(
         rt,
         file_count(lookup.header()),
         file_count(program.header()),
     );
-    check_addresses(rt, &lookup, &program, &sequences, case)
 }
 
-/// The lookup, and the plain scan over the sequences, answer the same for each address.
+/// For each address below 300, and those that are far, the lookup, and the plain scan over the sequences, answer the same for each address.
 fn check_addresses<R: Reader>(
     rt: &impl Abort,
     lookup: &Lookup<R>,
@@ -249,23 +275,64 @@ fn check_rows<R: Reader>(rt: &impl Abort, resumed: ResumedLineRows<'_, R>, kept:
     check(rt, matches!(resumed.next_row(), Ok(None)));
 }
 
+/// What `sequences` answers: a program and its sequences.
+type Cut<R> = (CompleteLineProgram<R>, Vec<LineSequence<R>>);
+
+/// What `sequences_with_rows` answers: the same, and the rows of each sequence.
+type CutWithRows<R> = (
+    CompleteLineProgram<R>,
+    Vec<LineSequence<R>>,
+    Vec<Vec<LineRow>>,
+);
+
+/// The program of a unit, its sequences and their rows.
+fn cut_with_rows<R: Reader>(alloc: Global, unit: R) -> Result<CutWithRows<R>> {
+    program(alloc, unit, 4)?.sequences_with_rows()
+}
+
 /// `sequences_with_rows` answers what `sequences` does, and the rows that each sequence gives when it is resumed.
 fn check_kept<R: Reader>(rt: &impl Abort, alloc: Global, unit: R, case: &Case) -> Result<()> {
-    let (complete, sequences) = program(alloc, unit, 4)?.sequences()?;
-    let (with_rows, same, rows) = program(alloc, unit, 4)?.sequences_with_rows()?;
-    check_equal(rt, same.len(), case.sequences);
-    check_equal(rt, rows.len(), case.sequences);
+    let cut = cut_program(alloc, unit)?;
+    check_with_rows(rt, alloc, unit, &cut, case)
+}
+
+/// The same of what `sequences` answers.
+fn check_with_rows<R: Reader>(
+    rt: &impl Abort,
+    alloc: Global,
+    unit: R,
+    cut: &Cut<R>,
+    case: &Case,
+) -> Result<()> {
+    let kept = cut_with_rows(alloc, unit)?;
+    check_kept_parts(rt, cut, &kept, case);
+    check_kept_sequences(rt, cut, &kept);
+    Ok(())
+}
+
+/// Both have as many sequences as the case, and the same number of files.
+fn check_kept_parts<R: Reader>(
+    rt: &impl Abort,
+    cut: &Cut<R>,
+    kept: &CutWithRows<R>,
+    case: &Case,
+) {
+    check_equal(rt, kept.1.len(), case.sequences);
+    check_equal(rt, kept.2.len(), case.sequences);
     check_equal(
         rt,
-        file_count(with_rows.header()),
-        file_count(complete.header()),
+        file_count(kept.0.header()),
+        file_count(cut.0.header()),
     );
-    for ((sequence, other), kept) in sequences.iter().zip(&same).zip(&rows) {
+}
+
+/// Their sequences have the same addresses, and give the kept rows.
+fn check_kept_sequences<R: Reader>(rt: &impl Abort, cut: &Cut<R>, kept: &CutWithRows<R>) {
+    for ((sequence, other), rows) in cut.1.iter().zip(&kept.1).zip(&kept.2) {
         check_equal(rt, (other.start, other.end), (sequence.start, sequence.end));
-        check_rows(rt, complete.resume_from(sequence), kept);
-        check_rows(rt, with_rows.resume_from(other), kept);
+        check_rows(rt, cut.0.resume_from(sequence), rows);
+        check_rows(rt, kept.0.resume_from(other), rows);
     }
-    Ok(())
 }
 
 fn steps_of_rows_of_one_run(rt: &impl Abort, alloc: Global) -> Result<()> {
@@ -303,22 +370,44 @@ fn addresses(pair: Option<Pair>) -> Option<(u64, u64)> {
     pair.map(|(first, second)| (first.address(), second.address()))
 }
 
-/// The row at each address is found, and the one after it, with at most ten probes.
-fn steps_of_each_address_of_a_thousand_rows(rt: &impl Abort, alloc: Global) -> Result<()> {
+/// The unit of this program.
+fn unit_of_a_thousand_rows(alloc: Global) -> Result<Vec<u8>> {
     let bytes = program_of_a_thousand_rows(alloc)?;
     let unit = unit(alloc, HEADER, &bytes)?;
     // The unit has 1048 bytes, which one byte doesn't tell.
-    let unit = changed(alloc, &unit, &[(0, 0x14), (1, 4)])?;
-    let lookup = Lookup::new(program(alloc, slice(&unit), 4)?)?;
+    changed(alloc, &unit, &[(0, 0x14), (1, 4)])
+}
+
+/// The addresses of the row at an address and of the one after it.
+fn expected_addresses(a: u64) -> Option<(u64, u64)> {
+    if 0x11 <= a && a < 0x3f8 {
+        Some((a, a + 1))
+    } else {
+        None
+    }
+}
+
+/// The row at an address is found, and the one after it, with at most ten probes.
+fn check_one_of_a_thousand_rows<R: Reader>(rt: &impl Abort, lookup: &Lookup<R>, a: u64) {
+    let expected = expected_addresses(a);
+    let (pair, probes) = lookup.find_counted(a);
+    check_equal_at(rt, addresses(pair), expected, a);
+    check_equal_at(rt, addresses(lookup.find(a)), expected, a);
+    check_at(rt, 1 <= probes && probes <= 10, a);
+}
+
+/// The same at each address.
+fn check_a_thousand_rows<R: Reader>(rt: &impl Abort, alloc: Global, unit: R) -> Result<()> {
+    let lookup = lookup_of(alloc, unit)?;
     for a in 0..1100 {
-        let is_covered = 0x11 <= a && a < 0x3f8;
-        let expected = is_covered.then_some((a, a + 1));
-        let (pair, probes) = lookup.find_counted(a);
-        assert_eq!(rt; addresses(pair), expected, "at {a}");
-        assert_eq!(rt; addresses(lookup.find(a)), expected, "at {a}");
-        assert!(rt; 1 <= probes && probes <= 10, "at {a}");
+        check_one_of_a_thousand_rows(rt, &lookup, a);
     }
     Ok(())
+}
+
+fn steps_of_each_address_of_a_thousand_rows(rt: &impl Abort, alloc: Global) -> Result<()> {
+    let unit = unit_of_a_thousand_rows(alloc)?;
+    check_a_thousand_rows(rt, alloc, slice(&unit))
 }
 
 #[test]

@@ -28,35 +28,39 @@ const NUMBERS: &[u8] = &[
     0xfe, 0xfd, 0x11, 0x22, 0x44, 0x55, 0x66, 0x77, 1, 2, 3, 4, 5, 6, 7, 0x88, 0x33, 0x22, 0x11,
 ];
 
-#[test]
-fn numbers_in_both_orders(rt: HostRuntime) {
-    let little = Ok((
+/// The numbers over a reader of each order.
+fn check_numbers<R: Reader>(rt: &impl Abort, little: R, big: R) {
+    let in_little = (
         0xfe,
         -3,
         0x2211,
         0x7766_5544,
         0x8807_0605_0403_0201,
         0x11_2233,
-    ));
-    let big = Ok((
+    );
+    let in_big = (
         0xfe,
         -3,
         0x1122,
         0x4455_6677,
         0x0102_0304_0506_0788,
         0x33_2211,
-    ));
-    check_equal(&rt, numbers(EndianSlice::new(NUMBERS, Little)), little);
-    check_equal(
-        &rt,
-        numbers(NarrowReader::new(rt.alloc(), NUMBERS, Little)),
-        little,
     );
-    check_equal(&rt, numbers(EndianSlice::new(NUMBERS, Big)), big);
-    check_equal(
+    check_equal(rt, numbers(little), Ok(in_little));
+    check_equal(rt, numbers(big), Ok(in_big));
+}
+
+#[test]
+fn numbers_in_both_orders(rt: HostRuntime) {
+    check_numbers(
         &rt,
-        numbers(NarrowReader::new(rt.alloc(), NUMBERS, Big)),
-        big,
+        EndianSlice::new(NUMBERS, Little),
+        EndianSlice::new(NUMBERS, Big),
+    );
+    check_numbers(
+        &rt,
+        NarrowReader::new(rt.alloc(), NUMBERS, Little),
+        NarrowReader::new(rt.alloc(), NUMBERS, Big),
     );
 }
 
@@ -75,14 +79,19 @@ fn lebs<R: Reader>(mut reader: R) -> Result<Lebs> {
 
 const LEBS: &[u8] = &[0xb9, 0x64, 0x81, 0x02, 0x80, 0x7f, 4, 0x10, 0x20];
 
+/// The numbers over two readers.
+fn check_lebs<R: Reader, S: Reader>(rt: &impl Abort, one: R, other: S) {
+    let answer = Ok((12857, 257, -128, 4, 0x2010));
+    check_equal(rt, lebs(one), answer);
+    check_equal(rt, lebs(other), answer);
+}
+
 #[test]
 fn numbers_of_any_size(rt: HostRuntime) {
-    let answer = Ok((12857, 257, -128, 4, 0x2010));
-    check_equal(&rt, lebs(EndianSlice::new(LEBS, Little)), answer);
-    check_equal(
+    check_lebs(
         &rt,
-        lebs(NarrowReader::new(rt.alloc(), LEBS, Little)),
-        answer,
+        EndianSlice::new(LEBS, Little),
+        NarrowReader::new(rt.alloc(), LEBS, Little),
     );
 }
 
@@ -142,28 +151,38 @@ const LARGE_LENGTH: &[u8] = &[0xff, 0xff, 0xff, 0xff, 0, 0, 0, 0, 1, 0, 0, 0, 9]
 
 const LARGE_WORD: &[u8] = &[0, 0, 0, 1, 0, 0, 0, 0, 9];
 
-fn check_large_length<R: Reader>(rt: &impl Abort, reader: R, wanted: Result<(u64, Format)>) {
-    let (length, left) = initial_length(reader);
-    check_equal(rt, length, wanted);
+/// What a reader answers at the large length, and at the large word; one byte is left after either.
+fn check_large_words<R: Reader>(
+    rt: &impl Abort,
+    of_length: R,
+    of_word: R,
+    wanted_length: Result<(u64, Format)>,
+    wanted_word: Result<u64>,
+) {
+    let (length, left) = initial_length(of_length);
+    check_equal(rt, length, wanted_length);
     check_equal(rt, left, 1);
-}
-
-fn check_large_word<R: Reader>(rt: &impl Abort, reader: R, wanted: Result<u64>) {
-    let (word, left) = long_word(reader);
-    check_equal(rt, word, wanted);
+    let (word, left) = long_word(of_word);
+    check_equal(rt, word, wanted_word);
     check_equal(rt, left, 1);
 }
 
 #[test]
 fn words_that_an_offset_does_not_hold(rt: HostRuntime) {
-    let slice = EndianSlice::new(LARGE_LENGTH, Little);
-    check_large_length(&rt, slice, Ok((0x1_0000_0000, Format::Dwarf64)));
-    let narrow = NarrowReader::new(rt.alloc(), LARGE_LENGTH, Little);
-    check_large_length(&rt, narrow, Err(Error::UnsupportedOffset));
-    let slice = EndianSlice::new(LARGE_WORD, Big);
-    check_large_word(&rt, slice, Ok(0x1_0000_0000));
-    let narrow = NarrowReader::new(rt.alloc(), LARGE_WORD, Big);
-    check_large_word(&rt, narrow, Err(Error::UnsupportedOffset));
+    check_large_words(
+        &rt,
+        EndianSlice::new(LARGE_LENGTH, Little),
+        EndianSlice::new(LARGE_WORD, Big),
+        Ok((0x1_0000_0000, Format::Dwarf64)),
+        Ok(0x1_0000_0000),
+    );
+    check_large_words(
+        &rt,
+        NarrowReader::new(rt.alloc(), LARGE_LENGTH, Little),
+        NarrowReader::new(rt.alloc(), LARGE_WORD, Big),
+        Err(Error::UnsupportedOffset),
+        Err(Error::UnsupportedOffset),
+    );
 }
 
 // ---- parts of readers

@@ -1,9 +1,12 @@
 //! The rows of a run, one by one: what comes after the last row and after a refusal, and the files at a row.
 
-use crate::equality::{check, check_equal};
-use crate::units::{HEADER, file_count, is_text, program, slice, unit};
+use crate::equality::{check, check_at, check_equal, check_equal_at};
+use crate::units::{HEADER, cut_program, file_count, is_text, program, slice, unit};
 use gimli_core::{Error, Reader, ReaderOffsetId};
-use gimli_line::{LineProgramHeader, LineRow, OneShotLineRows, ResumedLineRows};
+use gimli_line::{
+    CompleteLineProgram, IncompleteLineProgram, LineProgramHeader, LineRow, LineSequence,
+    OneShotLineRows, ResumedLineRows,
+};
 use std::alloc::Global;
 use std::process::Abort;
 
@@ -100,7 +103,7 @@ fn steps_of_behind_the_last_row_and_behind_a_refusal(
     for (bytes, size, events) in RUNS {
         let unit = unit(alloc, HEADER, bytes)?;
         let found = unit_gives(alloc, slice(&unit), size, events)?;
-        assert!(rt; found, "at {bytes:?}");
+        check_at(rt, found, bytes);
     }
     Ok(())
 }
@@ -132,6 +135,14 @@ fn refusal_with_rows<R: Reader>(alloc: Global, unit: R, size: u8) -> Option<Erro
     }
 }
 
+/// Both refusals.
+fn refusals<R: Reader>(alloc: Global, unit: R, size: u8) -> [Option<Error>; 2] {
+    [
+        refusal(alloc, unit, size),
+        refusal_with_rows(alloc, unit, size),
+    ]
+}
+
 /// Programs, the size of their addresses, and what refuses to cut them: a fault after the last end too, and of two
 /// faults the first.
 const UNCUT: [(&[u8], u8, Option<Error>); 4] = [
@@ -152,9 +163,8 @@ const UNCUT: [(&[u8], u8, Option<Error>); 4] = [
 fn steps_of_first_fault_of_cutting(rt: &impl Abort, alloc: Global) -> gimli_core::Result<()> {
     for (bytes, size, refused) in UNCUT {
         let unit = unit(alloc, HEADER, bytes)?;
-        let found = refusal(alloc, slice(&unit), size);
-        assert_eq!(rt; found, refused, "at {bytes:?}");
-        check_equal(rt, refusal_with_rows(alloc, slice(&unit), size), refused);
+        let found = refusals(alloc, slice(&unit), size);
+        check_equal_at(rt, found, [refused, refused], bytes);
     }
     Ok(())
 }
@@ -189,12 +199,17 @@ fn is_in_file<R: Reader>(header: &LineProgramHeader<R>, row: &LineRow, path: &[u
 /// The header of a run has the files that were defined so far.
 fn check_files<R: Reader>(rt: &impl Abort, alloc: Global, unit: R) -> gimli_core::Result<()> {
     let mut rows = program(alloc, unit, 4)?.rows();
+    check_files_of_rows(rt, &mut rows);
+    Ok(())
+}
+
+/// The same of its run.
+fn check_files_of_rows<R: Reader>(rt: &impl Abort, rows: &mut OneShotLineRows<R>) {
     check_equal(rt, file_count(rows.header()), 1);
     for expected in [(1, false), (2, true), (2, true), (0, false)] {
-        check_equal(rt, file_of_next(&mut rows), expected);
+        check_equal(rt, file_of_next(rows), expected);
     }
     check_equal(rt, file_count(rows.header()), 2);
-    Ok(())
 }
 
 /// The three rows of a sequence are in the defined file.
@@ -214,13 +229,22 @@ fn check_files_of_sequence<R: Reader>(
     alloc: Global,
     unit: R,
 ) -> gimli_core::Result<()> {
-    let (program, sequences) = program(alloc, unit, 4)?.sequences()?;
+    let (program, sequences) = cut_program(alloc, unit)?;
     check_equal(rt, file_count(program.header()), 2);
     check_equal(rt, sequences.len(), 1);
-    for sequence in &sequences {
+    check_rows_of_sequences(rt, &program, &sequences);
+    Ok(())
+}
+
+/// The rows of each sequence are in the defined file.
+fn check_rows_of_sequences<R: Reader>(
+    rt: &impl Abort,
+    program: &CompleteLineProgram<R>,
+    sequences: &[LineSequence<R>],
+) {
+    for sequence in sequences {
         check_rows_of_sequence(rt, program.resume_from(sequence));
     }
-    Ok(())
 }
 
 fn steps_of_files_before_and_behind_a_definition(
@@ -278,12 +302,19 @@ fn check_copied_sequences<R: Reader>(
     alloc: Global,
     unit: R,
 ) -> gimli_core::Result<()> {
-    let (program, sequences) = program(alloc, unit, 4)?.sequences()?;
+    let (program, sequences) = cut_program(alloc, unit)?;
     check_equal(rt, sequences.len(), 1);
-    for sequence in &sequences {
-        let copy = sequence.clone();
-        check_equal(rt, (copy.start, copy.end), (0x1000, 0x1008));
-        check(rt, resumed_gives(program.resume_from(&copy), &DEMO_ROWS));
+    check_each_copied(rt, &program, &sequences)
+}
+
+/// The same of each sequence of a program.
+fn check_each_copied<R: Reader>(
+    rt: &impl Abort,
+    program: &CompleteLineProgram<R>,
+    sequences: &[LineSequence<R>],
+) -> gimli_core::Result<()> {
+    for sequence in sequences {
+        check_copied_sequence(rt, program, sequence);
         check_resumed_copies(rt, program.resume_from(sequence))?;
         let other = program.clone()?;
         check(rt, resumed_gives(other.resume_from(sequence), &DEMO_ROWS));
@@ -291,16 +322,44 @@ fn check_copied_sequences<R: Reader>(
     Ok(())
 }
 
+/// A copy of the demo unit's sequence tells its addresses, and gives its rows.
+fn check_copied_sequence<R: Reader>(
+    rt: &impl Abort,
+    program: &CompleteLineProgram<R>,
+    sequence: &LineSequence<R>,
+) {
+    let copy = sequence.clone();
+    check_equal(rt, (copy.start, copy.end), (0x1000, 0x1008));
+    check(rt, resumed_gives(program.resume_from(&copy), &DEMO_ROWS));
+}
+
 /// A copy of a run gives the same rows, as the run does afterwards.
 fn check_copied_run<R: Reader>(rt: &impl Abort, alloc: Global, unit: R) -> gimli_core::Result<()> {
     let program = program(alloc, unit, 4)?;
+    check_copied_program(rt, &program)?;
+    let mut rows = program.rows();
+    check_copied_rows(rt, &mut rows)
+}
+
+/// A copy of a program gives its rows.
+fn check_copied_program<R: Reader>(
+    rt: &impl Abort,
+    program: &IncompleteLineProgram<R>,
+) -> gimli_core::Result<()> {
     let mut copy = program.clone()?.rows();
     check(rt, gives(&mut copy, &DEMO_ROWS));
-    let mut rows = program.rows();
-    check_equal(rt, next(&mut rows), Row(0x1000, 0, 1));
+    Ok(())
+}
+
+/// A copy of a run behind its first row gives the rows that are still to come; so does the run.
+fn check_copied_rows<R: Reader>(
+    rt: &impl Abort,
+    rows: &mut OneShotLineRows<R>,
+) -> gimli_core::Result<()> {
+    check_equal(rt, next(rows), Row(0x1000, 0, 1));
     let mut copy = rows.clone()?;
     check(rt, gives(&mut copy, &DEMO_ROWS[1..]));
-    check(rt, gives(&mut rows, &DEMO_ROWS[1..]));
+    check(rt, gives(rows, &DEMO_ROWS[1..]));
     Ok(())
 }
 

@@ -3,7 +3,10 @@
 use gimli_core::{
     AttributeValue, DebugLineOffset, EndianSlice, Error, LittleEndian, Reader, ReaderOffset, Result,
 };
-use gimli_line::{ColumnType, DebugLine, IncompleteLineProgram, LineProgramHeader, LineRow};
+use gimli_line::{
+    ColumnType, CompleteLineProgram, DebugLine, IncompleteLineProgram, LineProgramHeader, LineRow,
+    LineSequence,
+};
 use std::alloc::{AllocError, Global};
 use std::borrow::CowSlice;
 
@@ -94,7 +97,15 @@ pub fn program<R: Reader>(alloc: Global, section: R, size: u8) -> Result<Incompl
     }
 }
 
-/// The same, of a unit with a directory and a name.
+/// The complete program at the front of a section, with addresses of four bytes, and its sequences.
+pub fn cut_program<R: Reader>(
+    alloc: Global,
+    section: R,
+) -> Result<(CompleteLineProgram<R>, Vec<LineSequence<R>>)> {
+    program(alloc, section, 4)?.sequences()
+}
+
+/// The program of a unit with a directory and a name.
 pub fn named_program<R: Reader>(
     alloc: Global,
     section: R,
