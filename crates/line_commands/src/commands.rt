@@ -6,13 +6,13 @@ ghost use Rattle.line_commands.specs.Words.{IsCommand, ReadsFile};
 
 use crate::demo::{print_demo, print_demo_pieces};
 use crate::find::print_pair;
-use crate::print::{SequenceLine, finished, print_line, print_rows};
+use crate::print::{SequenceLine, finished, print_line, print_program, print_rows};
 use crate::refusal::Refusal;
 use crate::section::{program_at, read_section};
 use crate::units::print_units;
 use crate::words::{Command, Place};
 use gimli_core::Reader;
-use gimli_line::{CompleteLineProgram, LineSequence, ResumedLineRows};
+use gimli_line::{CompleteLineProgram, LineProgram, LineRows, LineSequence};
 use std::alloc::Global;
 use std::io::{Read, Write};
 
@@ -82,7 +82,7 @@ fn print_unit<O: Write>(
     ensures refusal { IfErr result (λ r. r ≢ Refusal.Usage) }
 {
     let program = program_at(alloc, section, place)?;
-    let outcome = print_rows(program.rows(), out);
+    let outcome = print_program(program, out);
     finished(outcome, out)
 }
 
@@ -124,7 +124,7 @@ fn print_each<R: Reader, O: Write>(
 }
 
 /// How many rows are still to come.
-fn count_of_rows<R: Reader>(rows: ResumedLineRows<'_, R>) -> u64 {
+fn count_of_rows<R: Reader, P: LineProgram<R> + Drop>(rows: LineRows<R, P>) -> u64 {
     let mut rows = rows;
     for count in 0..u64::MAX {
         match rows.next_row() {

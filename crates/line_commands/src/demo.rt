@@ -4,14 +4,14 @@ ghost use Rattle.std.specs.Prelude.{◌≡◌, ◌≢◌, [], OnOk, IfErr, IfOk}
 ghost use Rattle.gimli_write.specs.Conditions.{CanWrite};
 ghost use Rattle.line_commands.specs.Demo.{IsAtStart};
 
-use crate::print::{finished, print_row, print_rows};
+use crate::print::{finished, print_program, print_row};
 use crate::refusal::Refusal;
 use crate::section::program_at;
 use crate::words::{AddressSize, Place};
-use gimli_core::{Encoding, Format, LineEncoding, LittleEndian, RunTimeEndian};
+use gimli_core::{Encoding, Endianity, Format, LineEncoding, LittleEndian, RunTimeEndian};
 use gimli_write::{
     Address, ConvertError, DebugLine, EndianVec, Error, LineProgram, LineString, LineStringTable,
-    PieceVec, RoundTrip, StringTable, round_trip,
+    PieceVec, RoundTrip, StringTable, Writer, round_trip,
 };
 use row_text::print_bytes;
 use std::alloc::Global;
@@ -34,21 +34,27 @@ fn write_demo(
 ) -> Result<RoundTrip, Refusal>
     ensures refusal { IfErr result (λ r. r ≢ Refusal.Usage) }
 {
-    let Ok(program) = demo_program(alloc) else {
-        return Err(Refusal::Memory);
-    };
+    match demo_program(alloc) {
+        Ok(program) => write_and_read(alloc, &program, section),
+        Err(_) => Err(Refusal::Memory),
+    }
+}
+
+/// Writes a program with tables of its own, and reads its unit again.
+fn write_and_read<E: Endianity>(
+    alloc: Global,
+    program: &LineProgram,
+    section: &mut DebugLine<EndianVec<E>>,
+) -> Result<RoundTrip, Refusal>
+    requires { CanWrite program.now [] [] }
+    ensures refusal { IfErr result (λ r. r ≢ Refusal.Usage) }
+{
     let mut strings = StringTable::default(alloc);
     let mut line_strings = LineStringTable::default(alloc);
-    match round_trip(
-        &program,
-        section,
-        program.encoding(),
-        &mut line_strings,
-        &mut strings,
-    ) {
-        Ok(answer) => Ok(answer),
-        Err(e) => Err(Refusal::of_conversion(e)),
-    }
+    let encoding = program.encoding();
+    round_trip(program, section, encoding, &mut line_strings, &mut strings).map_err(
+        |e| Refusal::of_conversion(e),
+    )
 }
 
 /// Prints the pieces of the unit, sixteen bytes each but the last, and what is read of their bytes.
@@ -64,15 +70,35 @@ pub fn print_demo_pieces<O: Write>(alloc: Global, out: &mut O) -> Result<(), Ref
 fn write_demo_pieces(alloc: Global) -> Result<PieceVec<LittleEndian, 16>, Refusal>
     ensures refusal { IfErr result (λ r. r ≢ Refusal.Usage) }
 {
-    let Ok(program) = demo_program(alloc) else {
-        return Err(Refusal::Memory);
-    };
     let mut section = DebugLine::from(PieceVec::<_, 16>::new(alloc, LittleEndian));
+    write_unit(alloc, &mut section)?;
+    Ok(section.0)
+}
+
+/// Writes the unit into a section.
+fn write_unit<W: Writer>(alloc: Global, section: &mut DebugLine<W>) -> Result<(), Refusal>
+    ensures refusal { IfErr result (λ r. r ≢ Refusal.Usage) }
+{
+    match demo_program(alloc) {
+        Ok(program) => write_program(alloc, &program, section),
+        Err(_) => Err(Refusal::Memory),
+    }
+}
+
+/// Writes a program with tables of its own.
+fn write_program<W: Writer>(
+    alloc: Global,
+    program: &LineProgram,
+    section: &mut DebugLine<W>,
+) -> Result<(), Refusal>
+    requires { CanWrite program.now [] [] }
+    ensures refusal { IfErr result (λ r. r ≢ Refusal.Usage) }
+{
     let mut strings = StringTable::default(alloc);
     let mut line_strings = LineStringTable::default(alloc);
     let encoding = program.encoding();
-    match program.write(&mut section, encoding, &mut line_strings, &mut strings) {
-        Ok(_) => Ok(section.0),
+    match program.write(section, encoding, &mut line_strings, &mut strings) {
+        Ok(_) => Ok(()),
         Err(Error::OutOfMemory) => Err(Refusal::Memory),
         Err(_) => Err(Refusal::Header),
     }
@@ -86,21 +112,38 @@ fn print_pieces<O: Write>(
 ) -> Result<(), Refusal>
     ensures refusal { IfErr result (λ r. r ≢ Refusal.Usage) }
 {
+    print_each_piece(&section, out)?;
+    match section.into_vec() {
+        Ok(bytes) => print_demo_rows(alloc, bytes.as_slice(), out),
+        Err(_) => Err(Refusal::Memory),
+    }
+}
+
+/// Prints pieces one after the other.
+fn print_each_piece<E: Endianity, const N: usize, O: Write>(
+    section: &PieceVec<E, N>,
+    out: &mut O,
+) -> Result<(), Refusal>
+    ensures refusal { IfErr result (λ r. r ≢ Refusal.Usage) }
+{
     for piece in section.pieces() {
         if print_bytes(piece, out).is_err() {
             return Err(Refusal::Output);
         }
     }
-    let Ok(bytes) = section.into_vec() else {
-        return Err(Refusal::Memory);
-    };
+    Ok(())
+}
+
+/// Prints the rows of the unit whose bytes these are.
+fn print_demo_rows<O: Write>(alloc: Global, bytes: &[u8], out: &mut O) -> Result<(), Refusal>
+    ensures refusal { IfErr result (λ r. r ≢ Refusal.Usage) }
+{
     let place = Place {
         order: RunTimeEndian::Little,
         address_size: AddressSize::Four,
         offset: 0,
     };
-    let program = program_at(alloc, bytes.as_slice(), place)?;
-    print_rows(program.rows(), out)
+    print_program(program_at(alloc, bytes, place)?, out)
 }
 
 /// The program of the unit: a file, and a sequence of two rows. Refused by `OutOfMemory` alone.

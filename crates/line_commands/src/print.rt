@@ -4,7 +4,7 @@ ghost use Rattle.std.specs.Prelude.{◌≡◌, ◌≢◌, IfErr};
 
 use crate::refusal::Refusal;
 use gimli_core::Reader;
-use gimli_line::{ColumnType, LineProgram, LineRow, LineRows};
+use gimli_line::{ColumnType, IncompleteLineProgram, LineProgram, LineRow, LineRows};
 use std::fmt;
 use std::io::Write;
 
@@ -90,6 +90,16 @@ impl fmt::Display for Flags {
         }
         Ok(())
     }
+}
+
+/// Prints the rows of a program. The first fault stops it, after the rows before it.
+pub(crate) fn print_program<R: Reader, O: Write>(
+    program: IncompleteLineProgram<R>,
+    out: &mut O,
+) -> Result<(), Refusal>
+    ensures refusal { IfErr result (λ r. r ≢ Refusal.Usage) }
+{
+    print_rows(program.rows(), out)
 }
 
 /// Prints the rows that are still to come. The first fault stops it, after the rows before it.

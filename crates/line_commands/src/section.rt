@@ -3,8 +3,8 @@
 ghost use Rattle.std.specs.Prelude.{◌≡◌, ◌≢◌, Err, IfErr, IsNone};
 
 use crate::refusal::Refusal;
-use crate::words::Place;
-use gimli_core::{DebugLineOffset, EndianSlice, RunTimeEndian};
+use crate::words::{AddressSize, Place};
+use gimli_core::{DebugLineOffset, EndianSlice, Reader, RunTimeEndian};
 use gimli_line::{DebugLine, IncompleteLineProgram};
 use std::alloc::Global;
 use std::io::Read;
@@ -34,7 +34,19 @@ pub(crate) fn program_at<'i>(
 {
     let section = DebugLine::new(section, place.order);
     let offset = DebugLineOffset(place.offset);
+    program_of(alloc, &section, offset, place.address_size)
+}
+
+/// The same of any reader.
+fn program_of<R: Reader>(
+    alloc: Global,
+    section: &DebugLine<R>,
+    offset: DebugLineOffset<R::Offset>,
+    address_size: AddressSize,
+) -> Result<IncompleteLineProgram<R>, Refusal>
+    ensures refusal { IfErr result (λ r. r ≢ Refusal.Usage) }
+{
     section
-        .program(alloc, offset, place.address_size.bytes(), None, None)
+        .program(alloc, offset, address_size.bytes(), None, None)
         .map_err(|e| Refusal::of_unit(e, Refusal::Header))
 }
