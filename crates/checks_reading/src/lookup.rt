@@ -311,19 +311,10 @@ fn check_with_rows<R: Reader>(
 }
 
 /// Both have as many sequences as the case, and the same number of files.
-fn check_kept_parts<R: Reader>(
-    rt: &impl Abort,
-    cut: &Cut<R>,
-    kept: &CutWithRows<R>,
-    case: &Case,
-) {
+fn check_kept_parts<R: Reader>(rt: &impl Abort, cut: &Cut<R>, kept: &CutWithRows<R>, case: &Case) {
     check_equal(rt, kept.1.len(), case.sequences);
     check_equal(rt, kept.2.len(), case.sequences);
-    check_equal(
-        rt,
-        file_count(kept.0.header()),
-        file_count(cut.0.header()),
-    );
+    check_equal(rt, file_count(kept.0.header()), file_count(cut.0.header()));
 }
 
 /// Their sequences have the same addresses, and give the kept rows.
