@@ -59,57 +59,9 @@ fn program_by(alloc: Global, lines: LineEncoding) -> Result<LineProgram>
     LineProgram::new(alloc, encoding, lines, working_dir, None, source_file, None)
 }
 
-/// What is checked of a program that was built.
-#[derive(Clone, Copy)]
-enum Checked {
-    Accessors,
-    DirectoriesTwice,
-    IdsStay,
-    FilesTwice,
-    FilesInOrder,
-    Details,
-    FarthestRows,
-    ItemsInOrder,
-    ClearedRegisters,
-    AddressInMidSequence,
-    Copies,
-    SequenceWithoutAnAddress,
-    EqualIds,
-    EqualRowsAndItems,
-}
-
-/// Checks a new program.
-fn steps_of(rt: &impl Abort, alloc: Global, checked: Checked) -> Result<()> {
-    let mut program = program(alloc)?;
-    check_program(rt, alloc, &mut program, checked)
-}
-
-/// The same of a program in which no sequence is begun.
-fn check_program(
-    rt: &impl Abort,
-    alloc: Global,
-    program: &mut LineProgram,
-    checked: Checked,
-) -> Result<()>
-    requires program { program.old.is_none ≡ false }
-    requires outside { program.old.in_sequence ≡ false }
-{
-    match checked {
-        Checked::Accessors => steps_of_accessors(rt, program),
-        Checked::DirectoriesTwice => steps_of_directories_twice(rt, alloc, program),
-        Checked::IdsStay => steps_of_ids_stay(rt, alloc, program),
-        Checked::FilesTwice => steps_of_files_twice(rt, alloc, program),
-        Checked::FilesInOrder => steps_of_files_in_order(rt, alloc, program),
-        Checked::Details => steps_of_details(rt, alloc, program),
-        Checked::FarthestRows => steps_of_farthest_rows(rt, program),
-        Checked::ItemsInOrder => steps_of_items_in_order(rt, program),
-        Checked::ClearedRegisters => steps_of_cleared_registers(rt, program),
-        Checked::AddressInMidSequence => steps_of_address_in_mid_sequence(rt, program),
-        Checked::Copies => steps_of_copies(rt, alloc, program),
-        Checked::SequenceWithoutAnAddress => steps_of_sequence_without_an_address(rt, program),
-        Checked::EqualIds => steps_of_equal_ids(rt, alloc, program),
-        Checked::EqualRowsAndItems => steps_of_equal_rows_and_items(rt, alloc, program),
-    }
+/// A check of a program that wasn't built fails.
+fn check_not_built(rt: &impl Abort, error: Error) {
+    check_equal(rt, Err(error), Ok(()));
 }
 
 fn put_directory(program: &mut LineProgram, alloc: Global, name: u8) -> Result<DirectoryId>
@@ -146,9 +98,8 @@ fn put_name(program: &mut LineProgram, alloc: Global, name: u8) -> Result<FileId
     put_file(program, alloc, name, None)
 }
 
-fn steps_of_accessors(rt: &impl Abort, program: &LineProgram) -> Result<()>
-    requires { program.now.is_none ≡ false }
-{
+fn steps_of_accessors(rt: &impl Abort, alloc: Global) -> Result<()> {
+    let program = program(alloc)?;
     check(rt, !program.is_none());
     check_equal(rt, program.version(), 4);
     check_equal(rt, program.address_size(), 4);
@@ -162,18 +113,15 @@ fn steps_of_accessors(rt: &impl Abort, program: &LineProgram) -> Result<()>
 
 #[test]
 fn accessors(rt: HostRuntime) {
-    check_equal(&rt, steps_of(&rt, rt.alloc(), Checked::Accessors), Ok(()));
-}
-
-fn check_none(rt: &impl Abort, none: &LineProgram) {
-    check(rt, none.is_none());
-    check_equal(rt, none.address_size(), 0);
-    check(rt, none.is_empty());
+    check_equal(&rt, steps_of_accessors(&rt, rt.alloc()), Ok(()));
 }
 
 #[test]
 fn no_program(rt: HostRuntime) {
-    check_none(&rt, &LineProgram::none(rt.alloc()));
+    let none = LineProgram::none(rt.alloc());
+    check(&rt, none.is_none());
+    check_equal(&rt, none.address_size(), 0);
+    check(&rt, none.is_empty());
 }
 
 fn steps_of_directories_twice(
@@ -195,11 +143,14 @@ fn steps_of_directories_twice(
 
 #[test]
 fn directories_twice(rt: HostRuntime) {
-    check_equal(
-        &rt,
-        steps_of(&rt, rt.alloc(), Checked::DirectoriesTwice),
-        Ok(()),
-    );
+    match program(rt.alloc()) {
+        Ok(mut program) => check_equal(
+            &rt,
+            steps_of_directories_twice(&rt, rt.alloc(), &mut program),
+            Ok(()),
+        ),
+        Err(error) => check_not_built(&rt, error),
+    }
 }
 
 /// Adds another directory, after which the old id still has its own.
@@ -221,13 +172,6 @@ fn put_behind(
     Ok(())
 }
 
-/// The directory of an id is `i`.
-fn check_first_byte(rt: &impl Abort, program: &LineProgram, id: DirectoryId)
-    requires { id < length program.now.directories }
-{
-    check_equal(rt, first_byte(program.get_directory(id)), b'i');
-}
-
 /// In a copy an id has its own directory too, whatever is added to the program.
 fn steps_of_ids_stay(rt: &impl Abort, alloc: Global, program: &mut LineProgram) -> Result<()>
     requires { program.old.is_none ≡ false }
@@ -235,13 +179,20 @@ fn steps_of_ids_stay(rt: &impl Abort, alloc: Global, program: &mut LineProgram) 
     let old = put_directory(program, alloc, b'i')?;
     let copy = program.clone()?;
     check_equal(rt, put_behind(rt, alloc, program, old, b'j'), Ok(()));
-    check_first_byte(rt, &copy, old);
+    check_equal(rt, first_byte(copy.get_directory(old)), b'i');
     Ok(())
 }
 
 #[test]
 fn ids_stay(rt: HostRuntime) {
-    check_equal(&rt, steps_of(&rt, rt.alloc(), Checked::IdsStay), Ok(()));
+    match program(rt.alloc()) {
+        Ok(mut program) => check_equal(
+            &rt,
+            steps_of_ids_stay(&rt, rt.alloc(), &mut program),
+            Ok(()),
+        ),
+        Err(error) => check_not_built(&rt, error),
+    }
 }
 
 /// Files `a` and `b`.
@@ -287,7 +238,14 @@ fn steps_of_files_twice(rt: &impl Abort, alloc: Global, program: &mut LineProgra
 
 #[test]
 fn files_twice(rt: HostRuntime) {
-    check_equal(&rt, steps_of(&rt, rt.alloc(), Checked::FilesTwice), Ok(()));
+    match program(rt.alloc()) {
+        Ok(mut program) => check_equal(
+            &rt,
+            steps_of_files_twice(&rt, rt.alloc(), &mut program),
+            Ok(()),
+        ),
+        Err(error) => check_not_built(&rt, error),
+    }
 }
 
 /// The name of the next file, or 0 at the end.
@@ -315,11 +273,14 @@ fn steps_of_files_in_order(rt: &impl Abort, alloc: Global, program: &mut LinePro
 
 #[test]
 fn files_in_order(rt: HostRuntime) {
-    check_equal(
-        &rt,
-        steps_of(&rt, rt.alloc(), Checked::FilesInOrder),
-        Ok(()),
-    );
+    match program(rt.alloc()) {
+        Ok(mut program) => check_equal(
+            &rt,
+            steps_of_files_in_order(&rt, rt.alloc(), &mut program),
+            Ok(()),
+        ),
+        Err(error) => check_not_built(&rt, error),
+    }
 }
 
 /// Adds the file `a`, of this size.
@@ -357,7 +318,14 @@ fn steps_of_details(rt: &impl Abort, alloc: Global, program: &mut LineProgram) -
 
 #[test]
 fn details(rt: HostRuntime) {
-    check_equal(&rt, steps_of(&rt, rt.alloc(), Checked::Details), Ok(()));
+    match program(rt.alloc()) {
+        Ok(mut program) => check_equal(
+            &rt,
+            steps_of_details(&rt, rt.alloc(), &mut program),
+            Ok(()),
+        ),
+        Err(error) => check_not_built(&rt, error),
+    }
 }
 
 // ---- rows that may follow
@@ -398,22 +366,12 @@ fn can_follow(
         line_range: 12,
     };
     let mut program = program_by(alloc, lines)?;
-    can_follow_in(&mut program, previous, place)
-}
-
-/// The same in a program without rows.
-fn can_follow_in(
-    program: &mut LineProgram,
-    previous: (u64, u64),
-    place: (u64, u64),
-) -> Result<(bool, bool)>
-    requires { program.old.is_none ≡ false }
-{
-    put_place(program, previous.0, previous.1)?;
-    set_place(program, place.0, place.1);
-    let row = program.can_generate_row();
-    let end = program.can_end_sequence(place.0);
-    Ok((row, end))
+    put_place(&mut program, previous.0, previous.1)?;
+    set_place(&mut program, place.0, place.1);
+    Ok((
+        program.can_generate_row(),
+        program.can_end_sequence(place.0),
+    ))
 }
 
 /// Lengths and operations of instructions, a row's offset and op_index, those of what is to follow, and whether it
@@ -436,22 +394,10 @@ const PLACES: [((u8, u8), (u64, u64), (u64, u64), bool); 14] = [
     ((2, 1), (0, 0), (u64::MAX, 0), false),
 ];
 
-/// Both can follow, or neither can.
-fn check_can(
-    rt: &impl Abort,
-    found: (bool, bool),
-    can: bool,
-    places: ((u8, u8), (u64, u64), (u64, u64)),
-) {
-    let (lengths, previous, place) = places;
-    assert_eq!(rt; found, (can, can), "{lengths:?} {previous:?} {place:?}");
-}
-
 fn steps_of_rows_that_may_follow(rt: &impl Abort, alloc: Global) -> Result<()> {
     for (lengths, previous, place, can) in PLACES {
         let found = can_follow(alloc, lengths, previous, place)?;
-        let places = (lengths, previous, place);
-        check_can(rt, found, can, places);
+        assert_eq!(rt; found, (can, can), "{lengths:?} {previous:?} {place:?}");
     }
     Ok(())
 }
@@ -462,24 +408,19 @@ fn rows_that_may_follow(rt: HostRuntime) {
 }
 
 /// A line may have 63 bits, and an end has none.
-fn steps_of_farthest_rows(rt: &impl Abort, program: &mut LineProgram) -> Result<()>
-    requires { program.old.is_none ≡ false }
-{
+fn steps_of_farthest_rows(rt: &impl Abort, alloc: Global) -> Result<()> {
+    let mut program = program(alloc)?;
     for (line, can) in [(0, true), (0x7fff_ffff_ffff_ffff, true), (1 << 63, false)] {
-        set_row(program, u64::MAX, line);
-        check_equal(rt, (line, program.can_generate_row()), (line, can));
-        check_equal(rt, (line, program.can_end_sequence(u64::MAX)), (line, true));
+        set_row(&mut program, u64::MAX, line);
+        assert_eq!(rt; program.can_generate_row(), can, "line {line}");
+        assert!(rt; program.can_end_sequence(u64::MAX), "line {line}");
     }
     Ok(())
 }
 
 #[test]
 fn farthest_rows(rt: HostRuntime) {
-    check_equal(
-        &rt,
-        steps_of(&rt, rt.alloc(), Checked::FarthestRows),
-        Ok(()),
-    );
+    check_equal(&rt, steps_of_farthest_rows(&rt, rt.alloc()), Ok(()));
 }
 
 // ---- items
@@ -526,14 +467,14 @@ fn item_number(item: Option<&BuiltItem>) -> (u8, u64) {
     }
 }
 
-/// Begins a sequence in an empty program.
-fn begin(rt: &impl Abort, program: &mut LineProgram) -> Result<()>
-    requires program { program.old.is_none ≡ false }
-    requires outside { program.old.in_sequence ≡ false }
-    ensures { OnOk result (program.new.is_none ≡ false) }
+/// An empty program, in which a sequence begins.
+fn begun(rt: &impl Abort, alloc: Global) -> Result<LineProgram>
+    ensures { IfOk result (λ program. program.is_none ≡ false) }
 {
-    check(rt, program.is_empty());
-    program.begin_sequence(Some(Address::Constant(0x1000)))
+    let mut program = program(alloc)?;
+    assert!(rt; program.is_empty());
+    program.begin_sequence(Some(Address::Constant(0x1000)))?;
+    Ok(program)
 }
 
 fn put_two_rows(rt: &impl Abort, program: &mut LineProgram) -> Result<()>
@@ -566,10 +507,8 @@ fn check_items(rt: &impl Abort, program: &LineProgram) {
 /// A row at the set address, and one four bytes after it. A body of `generate_row` that always answers that
 /// memory is missing fails here.
 fn steps_of_items_in_order(rt: &impl Abort, program: &mut LineProgram) -> Result<()>
-    requires program { program.old.is_none ≡ false }
-    requires outside { program.old.in_sequence ≡ false }
+    requires { program.old.is_none ≡ false }
 {
-    begin(rt, program)?;
     put_two_rows(rt, program)?;
     put_last_end(rt, program)?;
     check_items(rt, program);
@@ -578,11 +517,10 @@ fn steps_of_items_in_order(rt: &impl Abort, program: &mut LineProgram) -> Result
 
 #[test]
 fn items_in_order(rt: HostRuntime) {
-    check_equal(
-        &rt,
-        steps_of(&rt, rt.alloc(), Checked::ItemsInOrder),
-        Ok(()),
-    );
+    match begun(&rt, rt.alloc()) {
+        Ok(mut program) => check_equal(&rt, steps_of_items_in_order(&rt, &mut program), Ok(())),
+        Err(error) => check_not_built(&rt, error),
+    }
 }
 
 fn steps_of_cleared_registers(rt: &impl Abort, program: &mut LineProgram) -> Result<()>
@@ -599,11 +537,10 @@ fn steps_of_cleared_registers(rt: &impl Abort, program: &mut LineProgram) -> Res
 
 #[test]
 fn cleared_registers(rt: HostRuntime) {
-    check_equal(
-        &rt,
-        steps_of(&rt, rt.alloc(), Checked::ClearedRegisters),
-        Ok(()),
-    );
+    match program(rt.alloc()) {
+        Ok(mut program) => check_equal(&rt, steps_of_cleared_registers(&rt, &mut program), Ok(())),
+        Err(error) => check_not_built(&rt, error),
+    }
 }
 
 fn set_address(program: &mut LineProgram, address: u64) -> Result<()>
@@ -628,11 +565,14 @@ fn steps_of_address_in_mid_sequence(rt: &impl Abort, program: &mut LineProgram) 
 
 #[test]
 fn address_in_mid_sequence(rt: HostRuntime) {
-    check_equal(
-        &rt,
-        steps_of(&rt, rt.alloc(), Checked::AddressInMidSequence),
-        Ok(()),
-    );
+    match program(rt.alloc()) {
+        Ok(mut program) => check_equal(
+            &rt,
+            steps_of_address_in_mid_sequence(&rt, &mut program),
+            Ok(()),
+        ),
+        Err(error) => check_not_built(&rt, error),
+    }
 }
 
 fn steps_of_copies(rt: &impl Abort, alloc: Global, program: &mut LineProgram) -> Result<()>
@@ -641,22 +581,20 @@ fn steps_of_copies(rt: &impl Abort, alloc: Global, program: &mut LineProgram) ->
     put_name(program, alloc, b'a')?;
     set_address(program, 16)?;
     let copy = program.clone()?;
-    check_copy(rt, &copy);
-    Ok(())
-}
-
-/// A copy is in a sequence at an address, and has a file.
-fn check_copy(rt: &impl Abort, copy: &LineProgram) {
     check(rt, copy.in_sequence());
     let (kind, number) = item_number(copy.items().next());
     check_equal(rt, kind, 1);
     check_equal(rt, number, 16);
     check_equal(rt, next_name(&mut copy.files()), b'a');
+    Ok(())
 }
 
 #[test]
 fn copies(rt: HostRuntime) {
-    check_equal(&rt, steps_of(&rt, rt.alloc(), Checked::Copies), Ok(()));
+    match program(rt.alloc()) {
+        Ok(mut program) => check_equal(&rt, steps_of_copies(&rt, rt.alloc(), &mut program), Ok(())),
+        Err(error) => check_not_built(&rt, error),
+    }
 }
 
 /// A sequence without an address is no item, and can be ended.
@@ -675,11 +613,14 @@ fn steps_of_sequence_without_an_address(rt: &impl Abort, program: &mut LineProgr
 
 #[test]
 fn sequence_without_an_address(rt: HostRuntime) {
-    check_equal(
-        &rt,
-        steps_of(&rt, rt.alloc(), Checked::SequenceWithoutAnAddress),
-        Ok(()),
-    );
+    match program(rt.alloc()) {
+        Ok(mut program) => check_equal(
+            &rt,
+            steps_of_sequence_without_an_address(&rt, &mut program),
+            Ok(()),
+        ),
+        Err(error) => check_not_built(&rt, error),
+    }
 }
 
 // ---- texts
@@ -708,7 +649,7 @@ fn steps_of_forms_of_texts(rt: &impl Abort, alloc: Global) -> Result<()> {
     check_new_text(rt, 4, &mut line_strings, DW_FORM_string, 0)?;
     check_new_text(rt, 5, &mut line_strings, DW_FORM_line_strp, 1)?;
     check_new_text(rt, 5, &mut line_strings, DW_FORM_line_strp, 1)?;
-    check_equal(rt, LineString::StringRef(StringId(0)).form(), DW_FORM_strp);
+    assert_eq!(rt; LineString::StringRef(StringId(0)).form(), DW_FORM_strp);
     Ok(())
 }
 
@@ -818,7 +759,14 @@ fn steps_of_equal_ids(rt: &impl Abort, alloc: Global, program: &mut LineProgram)
 
 #[test]
 fn equal_ids(rt: HostRuntime) {
-    check_equal(&rt, steps_of(&rt, rt.alloc(), Checked::EqualIds), Ok(()));
+    match program(rt.alloc()) {
+        Ok(mut program) => check_equal(
+            &rt,
+            steps_of_equal_ids(&rt, rt.alloc(), &mut program),
+            Ok(()),
+        ),
+        Err(error) => check_not_built(&rt, error),
+    }
 }
 
 /// The current row is a sequence's first, in the first file.
@@ -843,9 +791,12 @@ fn steps_of_equal_rows_and_items(
 
 #[test]
 fn equal_rows_and_items(rt: HostRuntime) {
-    check_equal(
-        &rt,
-        steps_of(&rt, rt.alloc(), Checked::EqualRowsAndItems),
-        Ok(()),
-    );
+    match program(rt.alloc()) {
+        Ok(mut program) => check_equal(
+            &rt,
+            steps_of_equal_rows_and_items(&rt, rt.alloc(), &mut program),
+            Ok(()),
+        ),
+        Err(error) => check_not_built(&rt, error),
+    }
 }

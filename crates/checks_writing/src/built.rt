@@ -107,29 +107,15 @@ pub fn demo(alloc: Global) -> Result<LineProgram>
     demo_at(alloc, Address::Constant(0x1000))
 }
 
-/// Writes a program that names no text of a table by this encoding to a section.
-pub fn append<W: Writer>(
+/// Writes a program that names no text of a table to a section.
+pub fn write<W: Writer>(
     alloc: Global,
     program: &LineProgram,
-    encoding: Encoding,
     section: &mut DebugLine<W>,
 ) -> Result<DebugLineOffset>
     requires { CanWrite program.now [] [] }
 {
     let mut strings = StringTable::default(alloc);
     let mut line_strings = LineStringTable::default(alloc);
-    program.write(section, encoding, &mut line_strings, &mut strings)
-}
-
-/// The same by its own encoding, to a section of this writer: what is answered, and the writer after it.
-pub fn write<W: Writer>(
-    alloc: Global,
-    program: &LineProgram,
-    writer: W,
-) -> (Result<DebugLineOffset>, W)
-    requires { CanWrite program.now [] [] }
-{
-    let mut section = DebugLine::from(writer);
-    let answer = append(alloc, program, program.encoding(), &mut section);
-    (answer, section.0)
+    program.write(section, program.encoding(), &mut line_strings, &mut strings)
 }

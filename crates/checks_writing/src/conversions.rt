@@ -67,55 +67,6 @@ fn conversion_of<'a, 'b, R: Reader>(
     )
 }
 
-/// What is checked of a conversion.
-#[derive(Clone, Copy)]
-enum Checked {
-    BuilderCalls,
-    CallsOutsideConditions,
-    MixedReads,
-    RefusedRead,
-    MissingEnd,
-    UnknownAddress,
-    UnknownSecondAddress,
-}
-
-/// Checks a conversion of a unit, in tables without a text.
-fn check_unit<R: Reader>(
-    rt: &impl Abort,
-    alloc: Global,
-    unit: R,
-    checked: Checked,
-) -> ConvertResult<()> {
-    let program = program_of(alloc, unit, None)?;
-    let mut line_strings = LineStringTable::default(alloc);
-    let mut strings = StringTable::default(alloc);
-    check_program(rt, program, checked, &mut line_strings, &mut strings)
-}
-
-/// The same of a program that was read.
-fn check_program<R: Reader>(
-    rt: &impl Abort,
-    program: IncompleteLineProgram<R>,
-    checked: Checked,
-    line_strings: &mut LineStringTable,
-    strings: &mut StringTable,
-) -> ConvertResult<()> {
-    match checked {
-        Checked::BuilderCalls => check_builder_calls(rt, program, line_strings, strings),
-        Checked::CallsOutsideConditions => check_outside(rt, program, line_strings, strings),
-        Checked::MixedReads => check_mixed_reads(rt, program, line_strings, strings),
-        Checked::RefusedRead => check_repeated(rt, program, line_strings, strings),
-        Checked::MissingEnd => check_open(rt, program, line_strings, strings),
-        Checked::UnknownAddress => check_unknown(rt, program, 0, line_strings, strings),
-        Checked::UnknownSecondAddress => check_unknown(rt, program, 17, line_strings, strings),
-    }
-}
-
-/// The same of these bytes.
-fn steps_of(rt: &impl Abort, alloc: Global, unit: &[u8], checked: Checked) -> ConvertResult<()> {
-    check_unit(rt, alloc, slice(unit), checked)
-}
-
 // ---- the builder's calls
 
 /// The row that was read; another item is refused.
@@ -143,72 +94,6 @@ fn row_built(item: Option<&BuiltItem>) -> Option<(u64, u64)> {
     }
 }
 
-/// The next read is of this item.
-fn check_item<R: Reader>(
-    rt: &impl Abort,
-    conversion: &mut ConvertLineProgram<'_, '_, R>,
-    item: Option<ConvertLineRow>,
-) {
-    check_equal(rt, conversion.read_row(), Ok(item));
-}
-
-/// The row that is read next.
-fn next_row<R: Reader>(conversion: &mut ConvertLineProgram<'_, '_, R>) -> ConvertResult<LineRow> {
-    row_of(conversion.read_row()?)
-}
-
-/// Reads a row, and generates it.
-fn pass_row<R: Reader>(
-    rt: &impl Abort,
-    conversion: &mut ConvertLineProgram<'_, '_, R>,
-) -> ConvertResult<()> {
-    let row = next_row(conversion)?;
-    check_equal(rt, conversion.generate_row(row), Ok(()));
-    Ok(())
-}
-
-/// The first address and its row.
-fn build_first<R: Reader>(
-    rt: &impl Abort,
-    conversion: &mut ConvertLineProgram<'_, '_, R>,
-) -> ConvertResult<()> {
-    check_item(rt, conversion, FIRST);
-    check(rt, !conversion.in_sequence());
-    let begun = conversion.begin_sequence(Some(Address::Constant(16)));
-    check_equal(rt, begun, Ok(()));
-    check(rt, conversion.in_sequence());
-    pass_row(rt, conversion)
-}
-
-/// The second address and its row.
-fn build_second<R: Reader>(
-    rt: &impl Abort,
-    conversion: &mut ConvertLineProgram<'_, '_, R>,
-) -> ConvertResult<()> {
-    check_item(rt, conversion, SECOND);
-    check_equal(rt, conversion.set_address(Address::Constant(32)), Ok(()));
-    pass_row(rt, conversion)
-}
-
-/// The end of the sequence, after which nothing is read.
-fn build_end<R: Reader>(rt: &impl Abort, conversion: &mut ConvertLineProgram<'_, '_, R>) {
-    check_item(rt, conversion, END);
-    check_equal(rt, conversion.end_sequence(4), Ok(()));
-    check(rt, !conversion.in_sequence());
-    check_item(rt, conversion, None);
-}
-
-/// All of them.
-fn build_all<R: Reader>(
-    rt: &impl Abort,
-    conversion: &mut ConvertLineProgram<'_, '_, R>,
-) -> ConvertResult<()> {
-    build_first(rt, conversion)?;
-    build_second(rt, conversion)?;
-    build_end(rt, conversion);
-    Ok(())
-}
-
 /// Each item is handed to a builder call of the converter's own.
 fn built_by_hand<R: Reader>(
     rt: &impl Abort,
@@ -217,7 +102,24 @@ fn built_by_hand<R: Reader>(
     strings: &mut StringTable,
 ) -> ConvertResult<LineProgram> {
     let mut conversion = conversion_of(program, line_strings, strings)?;
-    build_all(rt, &mut conversion)?;
+    check_equal(rt, conversion.read_row(), Ok(FIRST));
+    check(rt, !conversion.in_sequence());
+    check_equal(
+        rt,
+        conversion.begin_sequence(Some(Address::Constant(16))),
+        Ok(()),
+    );
+    check(rt, conversion.in_sequence());
+    let row = row_of(conversion.read_row()?)?;
+    check_equal(rt, conversion.generate_row(row), Ok(()));
+    check_equal(rt, conversion.read_row(), Ok(SECOND));
+    check_equal(rt, conversion.set_address(Address::Constant(32)), Ok(()));
+    let second = row_of(conversion.read_row()?)?;
+    check_equal(rt, conversion.generate_row(second), Ok(()));
+    check_equal(rt, conversion.read_row(), Ok(END));
+    check_equal(rt, conversion.end_sequence(4), Ok(()));
+    check(rt, !conversion.in_sequence());
+    check_equal(rt, conversion.read_row(), Ok(None));
     let (built, files) = conversion.program();
     check_equal(rt, files.len(), 2);
     Ok(built)
@@ -255,12 +157,13 @@ fn end_built(item: Option<&BuiltItem>) -> Option<(u64, u64)> {
     }
 }
 
-fn check_builder_calls<R: Reader>(
+fn steps_of_builder_calls(
     rt: &impl Abort,
-    program: IncompleteLineProgram<R>,
+    alloc: Global,
     line_strings: &mut LineStringTable,
     strings: &mut StringTable,
 ) -> ConvertResult<()> {
+    let program = program_of(alloc, slice(TWO_ADDRESSES), None)?;
     let built = built_by_hand(rt, program, line_strings, strings)?;
     check_two_addresses(rt, &built);
     Ok(())
@@ -268,71 +171,14 @@ fn check_builder_calls<R: Reader>(
 
 #[test]
 fn builder_calls(rt: HostRuntime) {
-    let steps = steps_of(&rt, rt.alloc(), TWO_ADDRESSES, Checked::BuilderCalls);
+    let mut line_strings = LineStringTable::default(rt.alloc());
+    let mut strings = StringTable::default(rt.alloc());
+    let steps = steps_of_builder_calls(&rt, rt.alloc(), &mut line_strings, &mut strings);
     check_equal(&rt, steps, Ok(()));
 }
 
-/// Begins a sequence with a row of line 7 at offset 4. Answers the row that was read.
-fn begin_with_row<R: Reader>(
-    rt: &impl Abort,
-    conversion: &mut ConvertLineProgram<'_, '_, R>,
-) -> ConvertResult<LineRow> {
-    check_item(rt, conversion, FIRST);
-    let row = next_row(conversion)?;
-    check_equal(rt, conversion.begin_sequence(None), Ok(()));
-    let first = LineRow {
-        address_offset: 4,
-        line: 7,
-        ..row
-    };
-    check_equal(rt, conversion.generate_row(first), Ok(()));
-    Ok(row)
-}
-
-/// A row is outside the conditions of the builder.
-fn check_row_outside<R: Reader>(
-    rt: &impl Abort,
-    conversion: &mut ConvertLineProgram<'_, '_, R>,
-    row: LineRow,
-) {
-    check_equal(rt, conversion.generate_row(row).err(), OUTSIDE);
-}
-
-/// A row of operation 1, one of line 2^63, and one at a lower offset are refused.
-fn check_rows_outside<R: Reader>(
-    rt: &impl Abort,
-    conversion: &mut ConvertLineProgram<'_, '_, R>,
-    row: LineRow,
-) {
-    let second = LineRow {
-        address_offset: 8,
-        op_index: 1,
-        ..row
-    };
-    check_row_outside(rt, conversion, second);
-    let far = LineRow {
-        address_offset: 8,
-        line: 1 << 63,
-        ..row
-    };
-    check_row_outside(rt, conversion, far);
-    check_row_outside(rt, conversion, row);
-}
-
-/// A second begin, rows, and an end at a lower offset are refused after a row.
-fn check_calls_outside<R: Reader>(
-    rt: &impl Abort,
-    conversion: &mut ConvertLineProgram<'_, '_, R>,
-) -> ConvertResult<()> {
-    let row = begin_with_row(rt, conversion)?;
-    check_equal(rt, conversion.begin_sequence(None).err(), OUTSIDE);
-    check_rows_outside(rt, conversion, row);
-    check_equal(rt, conversion.end_sequence(3).err(), OUTSIDE);
-    check(rt, conversion.in_sequence());
-    Ok(())
-}
-
-/// The program after them.
+/// A second begin, a row of operation 1, a row of line 2^63, and a row and an end at a lower offset: each is refused after
+/// a row of line 7 at offset 4.
 fn refused_by_hand<R: Reader>(
     rt: &impl Abort,
     program: IncompleteLineProgram<R>,
@@ -340,13 +186,44 @@ fn refused_by_hand<R: Reader>(
     strings: &mut StringTable,
 ) -> ConvertResult<LineProgram> {
     let mut conversion = conversion_of(program, line_strings, strings)?;
-    check_calls_outside(rt, &mut conversion)?;
+    check_equal(rt, conversion.read_row(), Ok(FIRST));
+    let row = row_of(conversion.read_row()?)?;
+    check_equal(rt, conversion.begin_sequence(None), Ok(()));
+    let first = LineRow {
+        address_offset: 4,
+        line: 7,
+        ..row
+    };
+    check_equal(rt, conversion.generate_row(first), Ok(()));
+    check_equal(rt, conversion.begin_sequence(None).err(), OUTSIDE);
+    let second = LineRow {
+        address_offset: 8,
+        op_index: 1,
+        ..row
+    };
+    check_equal(rt, conversion.generate_row(second).err(), OUTSIDE);
+    let far = LineRow {
+        address_offset: 8,
+        line: 1 << 63,
+        ..row
+    };
+    check_equal(rt, conversion.generate_row(far).err(), OUTSIDE);
+    check_equal(rt, conversion.generate_row(row).err(), OUTSIDE);
+    check_equal(rt, conversion.end_sequence(3).err(), OUTSIDE);
+    check(rt, conversion.in_sequence());
     let (built, _files) = conversion.program();
     Ok(built)
 }
 
-/// A program has one row, which is the current one too, in a sequence.
-fn check_one_row(rt: &impl Abort, built: &mut LineProgram) {
+/// The program after them: its one row, which is the current one too, in a sequence.
+fn steps_of_builder_calls_outside_their_conditions(
+    rt: &impl Abort,
+    alloc: Global,
+    line_strings: &mut LineStringTable,
+    strings: &mut StringTable,
+) -> ConvertResult<()> {
+    let program = program_of(alloc, slice(TWO_ADDRESSES), None)?;
+    let mut built = refused_by_hand(rt, program, line_strings, strings)?;
     let current = *built.row();
     check_equal(rt, (current.address_offset, current.line), (4, 7));
     check_equal(rt, current.op_index, 0);
@@ -354,26 +231,18 @@ fn check_one_row(rt: &impl Abort, built: &mut LineProgram) {
     let mut items = built.items();
     check_equal(rt, row_built(items.next()), Some((4, 7)));
     check(rt, items.next().is_none());
-}
-
-fn check_outside<R: Reader>(
-    rt: &impl Abort,
-    program: IncompleteLineProgram<R>,
-    line_strings: &mut LineStringTable,
-    strings: &mut StringTable,
-) -> ConvertResult<()> {
-    let mut built = refused_by_hand(rt, program, line_strings, strings)?;
-    check_one_row(rt, &mut built);
     Ok(())
 }
 
 #[test]
 fn builder_calls_outside_their_conditions(rt: HostRuntime) {
-    let steps = steps_of(
+    let mut line_strings = LineStringTable::default(rt.alloc());
+    let mut strings = StringTable::default(rt.alloc());
+    let steps = steps_of_builder_calls_outside_their_conditions(
         &rt,
         rt.alloc(),
-        TWO_ADDRESSES,
-        Checked::CallsOutsideConditions,
+        &mut line_strings,
+        &mut strings,
     );
     check_equal(&rt, steps, Ok(()));
 }
@@ -392,35 +261,7 @@ fn ends_at_second(read: ConvertResult<Option<ConvertLineSequence>>) -> bool {
     }
 }
 
-/// The sequence that is read next ends at the second address.
-fn check_sequence_to_second<R: Reader>(
-    rt: &impl Abort,
-    conversion: &mut ConvertLineProgram<'_, '_, R>,
-) {
-    check(rt, ends_at_second(conversion.read_sequence()));
-}
-
-/// No sequence is read next.
-fn check_no_sequence<R: Reader>(rt: &impl Abort, conversion: &mut ConvertLineProgram<'_, '_, R>) {
-    check(rt, matches!(conversion.read_sequence(), Ok(None)));
-}
-
 /// An address that `read_row` handed out isn't handed out again; the one that ends a sequence is the next to come.
-fn read_mixed<R: Reader>(
-    rt: &impl Abort,
-    conversion: &mut ConvertLineProgram<'_, '_, R>,
-) -> ConvertResult<()> {
-    check_item(rt, conversion, FIRST);
-    check_sequence_to_second(rt, conversion);
-    check_item(rt, conversion, SECOND);
-    let row = next_row(conversion)?;
-    check_equal(rt, (row.address_offset, row.line), (0, 1));
-    check_item(rt, conversion, END);
-    check_item(rt, conversion, None);
-    check_no_sequence(rt, conversion);
-    Ok(())
-}
-
 fn check_mixed_reads<R: Reader>(
     rt: &impl Abort,
     program: IncompleteLineProgram<R>,
@@ -428,31 +269,33 @@ fn check_mixed_reads<R: Reader>(
     strings: &mut StringTable,
 ) -> ConvertResult<()> {
     let mut conversion = conversion_of(program, line_strings, strings)?;
-    read_mixed(rt, &mut conversion)
+    check_equal(rt, conversion.read_row(), Ok(FIRST));
+    check(rt, ends_at_second(conversion.read_sequence()));
+    check_equal(rt, conversion.read_row(), Ok(SECOND));
+    let row = row_of(conversion.read_row()?)?;
+    check_equal(rt, (row.address_offset, row.line), (0, 1));
+    check_equal(rt, conversion.read_row(), Ok(END));
+    check_equal(rt, conversion.read_row(), Ok(None));
+    check(rt, matches!(conversion.read_sequence(), Ok(None)));
+    Ok(())
+}
+
+fn steps_of_reads_of_either_kind(
+    rt: &impl Abort,
+    alloc: Global,
+    line_strings: &mut LineStringTable,
+    strings: &mut StringTable,
+) -> ConvertResult<()> {
+    let program = program_of(alloc, slice(TWO_ADDRESSES), None)?;
+    check_mixed_reads(rt, program, line_strings, strings)
 }
 
 #[test]
 fn reads_of_either_kind(rt: HostRuntime) {
-    let steps = steps_of(&rt, rt.alloc(), TWO_ADDRESSES, Checked::MixedReads);
+    let mut line_strings = LineStringTable::default(rt.alloc());
+    let mut strings = StringTable::default(rt.alloc());
+    let steps = steps_of_reads_of_either_kind(&rt, rt.alloc(), &mut line_strings, &mut strings);
     check_equal(&rt, steps, Ok(()));
-}
-
-/// The next read of a sequence has this refusal.
-fn check_refused_sequence<R: Reader>(
-    rt: &impl Abort,
-    conversion: &mut ConvertLineProgram<'_, '_, R>,
-    refusal: ConvertError,
-) {
-    check_equal(rt, conversion.read_sequence().err(), Some(refusal));
-}
-
-/// The next read of a row has this refusal.
-fn check_refused_row<R: Reader>(
-    rt: &impl Abort,
-    conversion: &mut ConvertLineProgram<'_, '_, R>,
-    refusal: ConvertError,
-) {
-    check_equal(rt, conversion.read_row().err(), Some(refusal));
 }
 
 /// A file number that isn't there is told by every later read, and by `convert`.
@@ -462,20 +305,32 @@ fn check_repeated<R: Reader>(
     line_strings: &mut LineStringTable,
     strings: &mut StringTable,
 ) -> ConvertResult<()> {
-    let refusal = ConvertError::InvalidFileIndex;
+    let refusal = Some(ConvertError::InvalidFileIndex);
     let mut conversion = conversion_of(program, line_strings, strings)?;
-    check_refused_row(rt, &mut conversion, refusal);
-    check_refused_row(rt, &mut conversion, refusal);
-    check_refused_sequence(rt, &mut conversion, refusal);
-    check_refused_row(rt, &mut conversion, refusal);
+    check_equal(rt, conversion.read_row().err(), refusal);
+    check_equal(rt, conversion.read_row().err(), refusal);
+    check_equal(rt, conversion.read_sequence().err(), refusal);
+    check_equal(rt, conversion.read_row().err(), refusal);
     let converted = conversion.convert(|address| Some(Address::Constant(address)));
-    check_equal(rt, converted.err(), Some(refusal));
+    check_equal(rt, converted.err(), refusal);
     Ok(())
+}
+
+fn steps_of_refused_read_is_repeated(
+    rt: &impl Abort,
+    alloc: Global,
+    line_strings: &mut LineStringTable,
+    strings: &mut StringTable,
+) -> ConvertResult<()> {
+    let program = program_of(alloc, slice(MISSING_FILE), None)?;
+    check_repeated(rt, program, line_strings, strings)
 }
 
 #[test]
 fn refused_read_is_repeated(rt: HostRuntime) {
-    let steps = steps_of(&rt, rt.alloc(), MISSING_FILE, Checked::RefusedRead);
+    let mut line_strings = LineStringTable::default(rt.alloc());
+    let mut strings = StringTable::default(rt.alloc());
+    let steps = steps_of_refused_read_is_repeated(&rt, rt.alloc(), &mut line_strings, &mut strings);
     check_equal(&rt, steps, Ok(()));
 }
 
@@ -486,70 +341,99 @@ fn check_open<R: Reader>(
     line_strings: &mut LineStringTable,
     strings: &mut StringTable,
 ) -> ConvertResult<()> {
-    let refusal = ConvertError::MissingLineEndSequence;
+    let refusal = Some(ConvertError::MissingLineEndSequence);
     let mut conversion = conversion_of(program, line_strings, strings)?;
-    check_refused_sequence(rt, &mut conversion, refusal);
-    check_refused_row(rt, &mut conversion, refusal);
-    check_refused_sequence(rt, &mut conversion, refusal);
+    check_equal(rt, conversion.read_sequence().err(), refusal);
+    check_equal(rt, conversion.read_row().err(), refusal);
+    check_equal(rt, conversion.read_sequence().err(), refusal);
     Ok(())
+}
+
+fn steps_of_missing_end_is_repeated(
+    rt: &impl Abort,
+    alloc: Global,
+    line_strings: &mut LineStringTable,
+    strings: &mut StringTable,
+) -> ConvertResult<()> {
+    let program = program_of(alloc, slice(OPEN), None)?;
+    check_open(rt, program, line_strings, strings)
 }
 
 #[test]
 fn missing_end_is_repeated(rt: HostRuntime) {
-    let steps = steps_of(&rt, rt.alloc(), OPEN, Checked::MissingEnd);
+    let mut line_strings = LineStringTable::default(rt.alloc());
+    let mut strings = StringTable::default(rt.alloc());
+    let steps = steps_of_missing_end_is_repeated(&rt, rt.alloc(), &mut line_strings, &mut strings);
     check_equal(&rt, steps, Ok(()));
 }
 
 // ---- closures that know no address
 
-/// An address below this one is kept; another is unknown.
-fn below(end: u64, address: u64) -> Option<Address> {
-    if address < end {
-        Some(Address::Constant(address))
-    } else {
-        None
-    }
-}
-
-/// What `convert` refuses, where the addresses below this one are known.
-fn refusal_of<R: Reader>(
+/// What `convert` refuses, where this maps the addresses.
+fn refusal_of<R: Reader, F: Fn(u64) -> Option<Address>>(
     program: IncompleteLineProgram<R>,
-    known: u64,
     line_strings: &mut LineStringTable,
     strings: &mut StringTable,
-) -> Option<ConvertError> {
+    convert_address: F,
+) -> Option<ConvertError>
+    requires { F.IsAlwaysCallable convert_address }
+{
     match conversion_of(program, line_strings, strings) {
-        Ok(conversion) => conversion.convert(|address| below(known, address)).err(),
+        Ok(conversion) => conversion.convert(convert_address).err(),
         Err(error) => Some(error),
     }
 }
 
-/// An address that isn't known is refused.
-fn check_unknown<R: Reader>(
+fn steps_of_address_that_is_no_other(
     rt: &impl Abort,
-    program: IncompleteLineProgram<R>,
-    known: u64,
+    alloc: Global,
     line_strings: &mut LineStringTable,
     strings: &mut StringTable,
 ) -> ConvertResult<()> {
-    let refused = refusal_of(program, known, line_strings, strings);
+    let program = program_of(alloc, slice(TWO_ADDRESSES), None)?;
+    let refused = refusal_of(program, line_strings, strings, |_| None);
     check_equal(rt, refused, Some(ConvertError::InvalidAddress));
     Ok(())
 }
 
 #[test]
 fn address_that_is_no_other(rt: HostRuntime) {
-    let steps = steps_of(&rt, rt.alloc(), TWO_ADDRESSES, Checked::UnknownAddress);
+    let mut line_strings = LineStringTable::default(rt.alloc());
+    let mut strings = StringTable::default(rt.alloc());
+    let steps = steps_of_address_that_is_no_other(&rt, rt.alloc(), &mut line_strings, &mut strings);
     check_equal(&rt, steps, Ok(()));
+}
+
+/// An address that is kept up to 16.
+fn below_17(address: u64) -> Option<Address> {
+    if address <= 16 {
+        Some(Address::Constant(address))
+    } else {
+        None
+    }
+}
+
+fn steps_of_second_address_that_is_no_other(
+    rt: &impl Abort,
+    alloc: Global,
+    line_strings: &mut LineStringTable,
+    strings: &mut StringTable,
+) -> ConvertResult<()> {
+    let program = program_of(alloc, slice(TWO_ADDRESSES), None)?;
+    let refused = refusal_of(program, line_strings, strings, below_17);
+    check_equal(rt, refused, Some(ConvertError::InvalidAddress));
+    Ok(())
 }
 
 #[test]
 fn second_address_that_is_no_other(rt: HostRuntime) {
-    let steps = steps_of(
+    let mut line_strings = LineStringTable::default(rt.alloc());
+    let mut strings = StringTable::default(rt.alloc());
+    let steps = steps_of_second_address_that_is_no_other(
         &rt,
         rt.alloc(),
-        TWO_ADDRESSES,
-        Checked::UnknownSecondAddress,
+        &mut line_strings,
+        &mut strings,
     );
     check_equal(&rt, steps, Ok(()));
 }
@@ -564,14 +448,6 @@ fn check_old_texts(rt: &impl Abort, line_strings: &LineStringTable, strings: &St
         check_equal(rt, line_strings.get(LineStringId(0)), b"old".as_slice());
         check_equal(rt, strings.get(StringId(0)), b"old".as_slice());
     }
-}
-
-/// A unit, its working directory, and the name of its source file.
-#[derive(Clone, Copy)]
-struct Texts<R: Reader> {
-    unit: R,
-    directory: R,
-    name: R,
 }
 
 /// What a conversion to version 5 refuses, where the source file has this name. It adds texts to the line strings.
@@ -597,85 +473,68 @@ fn refusal_in_version_5<R: Reader>(
         strings,
     );
     match conversion {
-        Ok(conversion) => conversion.convert(|address| below(17, address)).err(),
+        Ok(conversion) => conversion.convert(below_17).err(),
         Err(error) => Some(error),
     }
 }
 
-/// The same of a unit with this working directory.
-fn unit_refusal_in_version_5<R: Reader>(
-    alloc: Global,
-    texts: Texts<R>,
-    line_strings: &mut LineStringTable,
-    strings: &mut StringTable,
-) -> ConvertResult<Option<ConvertError>> {
-    let program = program_of(alloc, texts.unit, Some(texts.directory))?;
-    Ok(refusal_in_version_5(program, texts.name, line_strings, strings))
-}
-
-/// A conversion that has this refusal, in tables with a text.
-fn check_old_texts_first(
+/// A conversion that isn't begun, in tables with a text.
+fn steps_of_old_texts_first_after_a_refused_start(
     rt: &impl Abort,
     alloc: Global,
-    unit: &[u8],
-    refusal: ConvertError,
     line_strings: &mut LineStringTable,
     strings: &mut StringTable,
 ) -> ConvertResult<()> {
     line_strings.add(b"old")?;
     strings.add(b"old")?;
-    let texts = Texts {
-        unit: slice(unit),
-        directory: slice(b"/w"),
-        name: slice(b"a.c"),
-    };
-    let found = unit_refusal_in_version_5(alloc, texts, line_strings, strings)?;
-    check_equal(rt, found, Some(refusal));
+    let program = program_of(alloc, slice(LINE_BASE), Some(slice(b"/w")))?;
+    let name = slice(b"a.c");
+    let refused = refusal_in_version_5(program, name, line_strings, strings);
+    check_equal(rt, refused, Some(ConvertError::InvalidLineBase));
     check_old_texts(rt, line_strings, strings);
-    Ok(())
-}
-
-/// The same in new tables: how many line strings and strings they have after it.
-fn count_after_refusal(
-    rt: &impl Abort,
-    alloc: Global,
-    unit: &[u8],
-    refusal: ConvertError,
-) -> ConvertResult<(usize, usize)> {
-    let mut line_strings = LineStringTable::default(alloc);
-    let mut strings = StringTable::default(alloc);
-    check_old_texts_first(rt, alloc, unit, refusal, &mut line_strings, &mut strings)?;
-    Ok((line_strings.count(), strings.count()))
-}
-
-/// A conversion that isn't begun.
-fn steps_of_old_texts_first_after_a_refused_start(
-    rt: &impl Abort,
-    alloc: Global,
-) -> ConvertResult<()> {
-    count_after_refusal(rt, alloc, LINE_BASE, ConvertError::InvalidLineBase)?;
     Ok(())
 }
 
 #[test]
 fn old_texts_first_after_a_refused_start(rt: HostRuntime) {
-    let steps = steps_of_old_texts_first_after_a_refused_start(&rt, rt.alloc());
+    let mut line_strings = LineStringTable::default(rt.alloc());
+    let mut strings = StringTable::default(rt.alloc());
+    let steps = steps_of_old_texts_first_after_a_refused_start(
+        &rt,
+        rt.alloc(),
+        &mut line_strings,
+        &mut strings,
+    );
     check_equal(&rt, steps, Ok(()));
 }
 
-/// A conversion that is refused at its second address: `/w` and `a.c` come after the text.
+/// A conversion that is refused at its second address, in tables with a text: `/w` and `a.c` come after it.
 fn steps_of_old_texts_first_after_a_refused_conversion(
     rt: &impl Abort,
     alloc: Global,
+    line_strings: &mut LineStringTable,
+    strings: &mut StringTable,
 ) -> ConvertResult<()> {
-    let refusal = ConvertError::InvalidAddress;
-    let counts = count_after_refusal(rt, alloc, TWO_ADDRESSES, refusal)?;
-    check_equal(rt, counts, (3, 1));
+    line_strings.add(b"old")?;
+    strings.add(b"old")?;
+    let program = program_of(alloc, slice(TWO_ADDRESSES), Some(slice(b"/w")))?;
+    let name = slice(b"a.c");
+    let refused = refusal_in_version_5(program, name, line_strings, strings);
+    check_equal(rt, refused, Some(ConvertError::InvalidAddress));
+    check_old_texts(rt, line_strings, strings);
+    check_equal(rt, (line_strings.count(), strings.count()), (3, 1));
     Ok(())
 }
 
 #[test]
 fn old_texts_first_after_a_refused_conversion(rt: HostRuntime) {
-    let steps = steps_of_old_texts_first_after_a_refused_conversion(&rt, rt.alloc());
+    let mut line_strings = LineStringTable::default(rt.alloc());
+    let mut strings = StringTable::default(rt.alloc());
+    let steps = steps_of_old_texts_first_after_a_refused_conversion(
+        &rt,
+        rt.alloc(),
+        &mut line_strings,
+        &mut strings,
+    );
     check_equal(&rt, steps, Ok(()));
 }

@@ -4,7 +4,6 @@ use crate::equality::check_equal;
 use gimli_core::{DwEhPe, Error as ReadError};
 use gimli_write::{ConvertError, ConvertResult, Error, Result};
 use std::alloc::{AllocError, Global};
-use std::fmt::Display;
 use std::process::Abort;
 
 // ---- texts
@@ -78,24 +77,12 @@ const TEXTS_OF_WRITING: [(Error, &str); 20] = [
     (Error::OutOfMemory, "Not enough memory."),
 ];
 
-/// An error prints as this text.
-fn check_text<T: Display>(
-    rt: &impl Abort,
-    alloc: Global,
-    error: &T,
-    text: &str,
-) -> std::result::Result<(), AllocError> {
-    let found = error.to_string(alloc)?;
-    check_equal(rt, found.as_str(), text);
-    Ok(())
-}
-
 fn steps_of_texts_of_writing(
     rt: &impl Abort,
     alloc: Global,
 ) -> std::result::Result<(), AllocError> {
-    for (error, text) in &TEXTS_OF_WRITING {
-        check_text(rt, alloc, error, text)?;
+    for (error, text) in TEXTS_OF_WRITING {
+        assert_eq!(rt; error.to_string(alloc)?.as_str(), text);
     }
     Ok(())
 }
@@ -111,9 +98,10 @@ fn steps_of_text_of_a_pointer_encoding(
     alloc: Global,
 ) -> std::result::Result<(), AllocError> {
     let encoding = DwEhPe(0x30);
+    let text = Error::UnsupportedPointerEncoding(encoding).to_string(alloc)?;
     let want = format!(in alloc; "Unsupported eh_frame pointer encoding ({encoding}).")?;
-    let error = Error::UnsupportedPointerEncoding(encoding);
-    check_text(rt, alloc, &error, want.as_str())
+    assert_eq!(rt; text.as_str(), want.as_str());
+    Ok(())
 }
 
 #[test]
@@ -218,8 +206,8 @@ fn steps_of_texts_of_conversion(
     rt: &impl Abort,
     alloc: Global,
 ) -> std::result::Result<(), AllocError> {
-    for (error, text) in &TEXTS_OF_CONVERSION {
-        check_text(rt, alloc, error, text)?;
+    for (error, text) in TEXTS_OF_CONVERSION {
+        assert_eq!(rt; error.to_string(alloc)?.as_str(), text);
     }
     Ok(())
 }
@@ -233,10 +221,15 @@ fn texts_of_conversion(rt: HostRuntime) {
 fn steps_of_texts_of_others(rt: &impl Abort, alloc: Global) -> std::result::Result<(), AllocError> {
     let read = ReadError::AddressOverflow;
     let want = read.to_string(alloc)?;
-    check_text(rt, alloc, &ConvertError::Read(read), want.as_str())?;
-    let write = ConvertError::Write(Error::NeedVersion(4));
-    let want = "A requested feature requires a DWARF version 4.";
-    check_text(rt, alloc, &write, want)
+    let text = ConvertError::Read(read).to_string(alloc)?;
+    check_equal(rt, text.as_str(), want.as_str());
+    let text = ConvertError::Write(Error::NeedVersion(4)).to_string(alloc)?;
+    check_equal(
+        rt,
+        text.as_str(),
+        "A requested feature requires a DWARF version 4.",
+    );
+    Ok(())
 }
 
 #[test]

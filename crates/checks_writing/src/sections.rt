@@ -3,7 +3,7 @@
 ghost use Rattle.std.specs.Prelude.{[]};
 ghost use Rattle.gimli_write.specs.Conditions.{CanWrite};
 
-use crate::built::{DEMO_UNIT, append, demo, demo_at};
+use crate::built::{DEMO_UNIT, demo, demo_at, write};
 use crate::equality::{check, check_equal};
 use gimli_core::{
     BigEndian, DebugLineOffset, DebugLineStrOffset, DebugStrOffset, Encoding, LittleEndian,
@@ -21,17 +21,11 @@ use std::process::Abort;
 
 /// A copy is written to alone.
 fn check_copy(rt: &impl Abort, w: &EndianVec<BigEndian>) -> Result<()> {
-    let copy = longer_copy(w)?;
-    check_equal(rt, copy.as_slice(), b"abcd".as_slice());
-    check_equal(rt, w.slice(), b"abc".as_slice());
-    Ok(())
-}
-
-/// The bytes of a copy to which one was written.
-fn longer_copy(w: &EndianVec<BigEndian>) -> Result<Vec<u8>> {
     let mut copy = w.clone()?;
     copy.write(b"d")?;
-    Ok(copy.into_vec())
+    check_equal(rt, copy.into_vec().as_slice(), b"abcd".as_slice());
+    check_equal(rt, w.slice(), b"abc".as_slice());
+    Ok(())
 }
 
 fn check_take(rt: &impl Abort, w: &mut EndianVec<BigEndian>) -> Result<()> {
@@ -44,7 +38,7 @@ fn check_take(rt: &impl Abort, w: &mut EndianVec<BigEndian>) -> Result<()> {
 
 fn steps_of_copies_and_taken_bytes(rt: &impl Abort, alloc: Global) -> Result<()> {
     let mut w = EndianVec::new(alloc, BigEndian);
-    check_equal(rt, w.endian(), BigEndian);
+    assert_eq!(rt; w.endian(), BigEndian);
     w.write(b"abc")?;
     check_copy(rt, &w)?;
     check_take(rt, &mut w)?;
@@ -63,58 +57,37 @@ fn copies_and_taken_bytes(rt: HostRuntime) {
 /// The numbers of DWARF 5, section 7.6.
 #[test]
 fn numbers_by_themselves(rt: HostRuntime) {
-    check_unsigned(&rt, 2, &[0x02]);
-    check_unsigned(&rt, 127, &[0x7f]);
-    check_unsigned(&rt, 128, &[0x80, 1]);
-    check_signed(&rt, 2, &[0x02]);
-    check_signed(&rt, -2, &[0x7e]);
-    check_signed(&rt, -127, &[0x81, 0x7f]);
-}
-
-/// A number is written as these bytes.
-fn check_unsigned(rt: &impl Abort, number: u64, bytes: &[u8]) {
-    assert_eq!(rt; Leb128::unsigned(number).bytes(), bytes, "at {number}");
-}
-
-fn check_signed(rt: &impl Abort, number: i64, bytes: &[u8]) {
-    assert_eq!(rt; Leb128::signed(number).bytes(), bytes, "at {number}");
+    for (number, bytes) in [(2, [0x02].as_slice()), (127, &[0x7f]), (128, &[0x80, 1])] {
+        assert_eq!(rt; Leb128::unsigned(number).bytes(), bytes, "at {number}");
+    }
+    for (number, bytes) in [(2, [0x02].as_slice()), (-2, &[0x7e]), (-127, &[0x81, 0x7f])] {
+        assert_eq!(rt; Leb128::signed(number).bytes(), bytes, "at {number}");
+    }
 }
 
 // ---- sections
 
 /// The offset of a section is that of what is appended next.
-fn check_offset_of_lines<W: Writer + Drop>(rt: &impl Abort, writer: W) {
-    let mut lines = DebugLine::from(writer);
-    check_equal(rt, lines.offset(), DebugLineOffset(0));
-    check_equal(rt, lines.0.write(b"abc"), Ok(()));
-    check_equal(rt, lines.offset(), DebugLineOffset(3));
-}
-
 #[test]
 fn offset_of_lines(rt: HostRuntime) {
-    check_offset_of_lines(&rt, EndianVec::new(rt.alloc(), LittleEndian));
-}
-
-fn check_offset_of_strings<W: Writer + Drop>(rt: &impl Abort, writer: W) {
-    let mut strings = DebugStr::from(writer);
-    check_equal(rt, strings.0.write(b"ab"), Ok(()));
-    check_equal(rt, strings.offset(), DebugStrOffset(2));
+    let mut lines = DebugLine::from(EndianVec::new(rt.alloc(), LittleEndian));
+    check_equal(&rt, lines.offset(), DebugLineOffset(0));
+    check_equal(&rt, lines.0.write(b"abc"), Ok(()));
+    check_equal(&rt, lines.offset(), DebugLineOffset(3));
 }
 
 #[test]
 fn offset_of_strings(rt: HostRuntime) {
-    check_offset_of_strings(&rt, EndianVec::new(rt.alloc(), BigEndian));
-}
-
-fn check_offset_of_line_strings<W: Writer + Drop>(rt: &impl Abort, writer: W) {
-    let mut line_strings = DebugLineStr::from(writer);
-    check_equal(rt, line_strings.0.write(b"a"), Ok(()));
-    check_equal(rt, line_strings.offset(), DebugLineStrOffset(1));
+    let mut strings = DebugStr::from(EndianVec::new(rt.alloc(), BigEndian));
+    check_equal(&rt, strings.0.write(b"ab"), Ok(()));
+    check_equal(&rt, strings.offset(), DebugStrOffset(2));
 }
 
 #[test]
 fn offset_of_line_strings(rt: HostRuntime) {
-    check_offset_of_line_strings(&rt, EndianVec::new(rt.alloc(), BigEndian));
+    let mut line_strings = DebugLineStr::from(EndianVec::new(rt.alloc(), BigEndian));
+    check_equal(&rt, line_strings.0.write(b"a"), Ok(()));
+    check_equal(&rt, line_strings.offset(), DebugLineStrOffset(1));
 }
 
 /// The tables of a section hold ids, texts and offsets.
@@ -130,70 +103,23 @@ fn put_texts(rt: &impl Abort, table: &mut LineStringTable) -> Result<()> {
 }
 
 /// They are written after what is there.
-fn write_table<W: Writer>(rt: &impl Abort, table: &LineStringTable, writer: W) -> W {
-    let mut section = DebugLineStr::from(writer);
-    check_equal(rt, section.0.write(b".."), Ok(()));
-    check_equal(rt, table.write(&mut section), Ok(()));
-    section.0
-}
-
 #[test]
 fn tables_of_texts(rt: HostRuntime) {
     let mut table = LineStringTable::default(rt.alloc());
     check_equal(&rt, put_texts(&rt, &mut table), Ok(()));
-    let section = write_table(&rt, &table, EndianVec::new(*table.allocator(), BigEndian));
-    check_equal(&rt, section.slice(), b"../w\0a.c\0".as_slice());
+    let mut section = DebugLineStr::from(EndianVec::new(*table.allocator(), BigEndian));
+    check_equal(&rt, section.0.write(b".."), Ok(()));
+    check_equal(&rt, table.write(&mut section), Ok(()));
+    check_equal(&rt, section.0.slice(), b"../w\0a.c\0".as_slice());
 }
 
 // ---- units after other bytes
 
 /// A section of three bytes.
-fn section_of_three<W: Writer + Drop>(writer: W) -> Result<DebugLine<W>> {
-    let mut section = DebugLine::from(writer);
+fn section_of_three(alloc: Global) -> Result<DebugLine<EndianVec<LittleEndian>>> {
+    let mut section = DebugLine::from(EndianVec::new(alloc, LittleEndian));
     section.0.write(b"\xaa\xbb\xcc")?;
     Ok(section)
-}
-
-/// What was answered where a unit was written after three bytes, and the writer after it, with its length.
-#[derive(Drop)]
-struct Written<W: Writer> {
-    answer: Result<DebugLineOffset>,
-    len: usize,
-    writer: W,
-}
-
-/// Writes a program by this encoding after three bytes.
-fn write_behind<W: Writer + Drop>(
-    alloc: Global,
-    program: &LineProgram,
-    encoding: Encoding,
-    writer: W,
-) -> Result<Written<W>>
-    requires { CanWrite program.now [] [] }
-{
-    let mut section = section_of_three(writer)?;
-    let answer = append(alloc, program, encoding, &mut section);
-    Ok(Written {
-        answer,
-        len: section.0.len(),
-        writer: section.0,
-    })
-}
-
-/// The same to a vector.
-fn write_to_vec(
-    alloc: Global,
-    program: &LineProgram,
-    encoding: Encoding,
-) -> Result<Written<EndianVec<LittleEndian>>>
-    requires { CanWrite program.now [] [] }
-{
-    write_behind(
-        alloc,
-        program,
-        encoding,
-        EndianVec::new(alloc, LittleEndian),
-    )
 }
 
 /// A unit that can't be written whole leaves the old bytes as a beginning.
@@ -203,9 +129,10 @@ fn check_refused(rt: &impl Abort, alloc: Global) -> Result<()> {
         addend: 0,
     };
     let program = demo_at(alloc, symbol)?;
-    let written = write_to_vec(alloc, &program, program.encoding())?;
-    check_equal(rt, written.answer, Err(Error::InvalidAddress));
-    check(rt, written.writer.slice().starts_with(b"\xaa\xbb\xcc"));
+    let mut section = section_of_three(alloc)?;
+    let answer = write(alloc, &program, &mut section);
+    check_equal(rt, answer, Err(Error::InvalidAddress));
+    check(rt, section.0.slice().starts_with(b"\xaa\xbb\xcc"));
     Ok(())
 }
 
@@ -213,14 +140,16 @@ fn check_refused(rt: &impl Abort, alloc: Global) -> Result<()> {
 fn check_incompatible(rt: &impl Abort, alloc: Global, program: &LineProgram) -> Result<()>
     requires { CanWrite program.now [] [] }
 {
+    let mut strings = StringTable::default(alloc);
+    let mut line_strings = LineStringTable::default(alloc);
+    let mut section = section_of_three(alloc)?;
     let encoding = Encoding {
         address_size: 8,
         ..program.encoding()
     };
-    let written = write_to_vec(alloc, program, encoding)?;
-    let refusal = Err(Error::IncompatibleLineProgramEncoding);
-    check_equal(rt, written.answer, refusal);
-    check_equal(rt, written.writer.slice(), b"\xaa\xbb\xcc".as_slice());
+    let answer = program.write(&mut section, encoding, &mut line_strings, &mut strings);
+    check_equal(rt, answer, Err(Error::IncompatibleLineProgramEncoding));
+    check_equal(rt, section.0.slice(), b"\xaa\xbb\xcc".as_slice());
     Ok(())
 }
 
@@ -228,11 +157,12 @@ fn check_incompatible(rt: &impl Abort, alloc: Global, program: &LineProgram) -> 
 fn check_written(rt: &impl Abort, alloc: Global, program: &LineProgram) -> Result<()>
     requires { CanWrite program.now [] [] }
 {
-    let written = write_to_vec(alloc, program, program.encoding())?;
-    check_equal(rt, written.answer, Ok(DebugLineOffset(3)));
-    check(rt, written.writer.slice().starts_with(b"\xaa\xbb\xcc"));
-    check(rt, written.writer.slice().ends_with(DEMO_UNIT));
-    check_equal(rt, written.len, 54);
+    let mut section = section_of_three(alloc)?;
+    let answer = write(alloc, program, &mut section);
+    check_equal(rt, answer, Ok(DebugLineOffset(3)));
+    check(rt, section.0.slice().starts_with(b"\xaa\xbb\xcc"));
+    check(rt, section.0.slice().ends_with(DEMO_UNIT));
+    check_equal(rt, section.0.len(), 54);
     Ok(())
 }
 
@@ -298,7 +228,7 @@ fn round_trip_alone(
 fn check_round_trip(rt: &impl Abort, alloc: Global, program: &LineProgram) -> ConvertResult<()>
     requires { CanWrite program.now [] [] }
 {
-    let mut section = section_of_three(EndianVec::new(alloc, LittleEndian))?;
+    let mut section = section_of_three(alloc)?;
     let answer = round_trip_alone(alloc, program, &mut section)?;
     check_read(rt, &answer);
     check(rt, section.0.slice().starts_with(b"\xaa\xbb\xcc"));

@@ -96,23 +96,15 @@ fn check_array(rt: &impl Abort, alloc: Global, program: &LineProgram, len: usize
     requires program { CanWrite program.now [] [] }
     requires len { len ≤ 64 }
 {
-    let (answer, section) = write(alloc, program, array_section(len));
-    let before = section.bytes.get(..len).unwrap_or(&[]);
+    let mut section = DebugLine::from(array_section(len));
+    let answer = write(alloc, program, &mut section);
+    let before = section.0.bytes.get(..len).unwrap_or(&[]);
     check(rt, before.iter().all(|byte| *byte == 0xaa));
     if len <= 13 {
         check_equal(rt, answer, Ok(DebugLineOffset(len)));
-        check_equal(rt, section.bytes.get(len..section.len), Some(DEMO_UNIT));
+        check_equal(rt, section.0.bytes.get(len..section.0.len), Some(DEMO_UNIT));
     } else {
         check_equal(rt, answer, Err(Error::LengthOutOfBounds));
-    }
-}
-
-/// After each number of bytes that an array holds.
-fn check_arrays(rt: &impl Abort, alloc: Global, program: &LineProgram)
-    requires { CanWrite program.now [] [] }
-{
-    for len in 0..=64 {
-        check_array(rt, alloc, program, len);
     }
 }
 
@@ -121,8 +113,12 @@ fn check_arrays(rt: &impl Abort, alloc: Global, program: &LineProgram)
 #[test]
 fn unit_in_an_array(rt: HostRuntime) {
     match demo(rt.alloc()) {
-        Ok(program) => check_arrays(&rt, rt.alloc(), &program),
-        Err(error) => check_equal(&rt, error, Error::OutOfMemory),
+        Ok(program) => {
+            for len in 0..=64 {
+                check_array(&rt, rt.alloc(), &program, len);
+            }
+        }
+        Err(error) => assert_eq!(rt; error, Error::OutOfMemory),
     }
 }
 
@@ -188,10 +184,10 @@ impl Writer for Noting {
     }
 }
 
-fn new_noting(alloc: Global) -> Noting {
-    Noting {
+fn new_noting(alloc: Global) -> DebugLine<Noting> {
+    DebugLine::from(Noting {
         section: EndianVec::new(alloc, LittleEndian),
-    }
+    })
 }
 
 /// The demo unit, but for its length and its address.
@@ -217,8 +213,9 @@ fn is_demo(bytes: &[u8], length: u8, address: &[u8]) -> bool {
 /// Whether a program with this address is written so.
 fn is_noted(alloc: Global, address: Address, length: u8, noted: &[u8]) -> Result<bool> {
     let program = demo_at(alloc, address)?;
-    let (answer, noting) = write(alloc, &program, new_noting(alloc));
-    Ok(answer.is_ok() && is_demo(noting.section.slice(), length, noted))
+    let mut section = new_noting(alloc);
+    let is_written = write(alloc, &program, &mut section).is_ok();
+    Ok(is_written && is_demo(section.0.section.slice(), length, noted))
 }
 
 const SYMBOL: Address = Address::Symbol {
@@ -308,22 +305,10 @@ fn noted(
 ) -> Result<Vec<u8>>
     requires { CanWrite program.now strings.old line_strings.old }
 {
-    let Noting { section } = written(program, new_noting(alloc), strings, line_strings)?;
-    Ok(section.into_vec())
-}
-
-/// The writer after a program.
-fn written<W: Writer + Drop>(
-    program: &LineProgram,
-    writer: W,
-    strings: &mut StringTable,
-    line_strings: &mut LineStringTable,
-) -> Result<W>
-    requires { CanWrite program.now strings.old line_strings.old }
-{
-    let mut section = DebugLine::from(writer);
+    let mut section = new_noting(alloc);
     program.write(&mut section, program.encoding(), line_strings, strings)?;
-    Ok(section.0)
+    let Noting { section } = section.0;
+    Ok(section.into_vec())
 }
 
 /// The unit of both, with what is noted for each text.
@@ -400,8 +385,9 @@ fn tired_after(alloc: Global, calls: usize) -> Result<Tired<LittleEndian>> {
 fn check_tired(rt: &impl Abort, alloc: Global, program: &LineProgram, calls: usize) -> Result<bool>
     requires { CanWrite program.now [] [] }
 {
-    let (answer, tired) = write(alloc, program, tired_after(alloc, calls)?);
-    let bytes = tired.section.slice();
+    let mut section = DebugLine::from(tired_after(alloc, calls)?);
+    let answer = write(alloc, program, &mut section);
+    let bytes = section.0.section.slice();
     check(rt, bytes.starts_with(b"\xaa\xbb\xcc"));
     if answer.is_ok() {
         check_equal(rt, answer, Ok(DebugLineOffset(3)));
@@ -417,9 +403,10 @@ fn check_tired(rt: &impl Abort, alloc: Global, program: &LineProgram, calls: usi
 fn check_fresh(rt: &impl Abort, alloc: Global, program: &LineProgram) -> Result<()>
     requires { CanWrite program.now [] [] }
 {
-    let (answer, section) = write(alloc, program, EndianVec::new(alloc, LittleEndian));
+    let mut section = DebugLine::from(EndianVec::new(alloc, LittleEndian));
+    let answer = write(alloc, program, &mut section);
     check_equal(rt, answer, Ok(DebugLineOffset(0)));
-    check_equal(rt, section.slice(), DEMO_UNIT);
+    check_equal(rt, section.0.slice(), DEMO_UNIT);
     Ok(())
 }
 
