@@ -1,11 +1,11 @@
 //! What a script prints.
 
 use gimli_write::{ConvertError, RoundTrip, RoundTripFile};
-use line_commands::RowLine;
 use row_text::{BytesLine, Digits, Text};
 use std::alloc::AllocError;
 use std::fmt;
 use std::fmt::Write;
+use unit_text::RowLine;
 
 /// Prints bytes, sixteen a line.
 pub(crate) fn print_section(bytes: &[u8], text: &mut String) -> Result<(), AllocError> {

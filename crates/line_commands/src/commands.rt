@@ -6,7 +6,7 @@ ghost use Rattle.line_commands.specs.Words.{IsCommand, ReadsFile};
 
 use crate::demo::{print_demo, print_demo_pieces};
 use crate::find::print_pair;
-use crate::print::{SequenceLine, finished, print_line, print_program, print_rows};
+use crate::print::{finished, print_line, print_program, print_rows};
 use crate::refusal::Refusal;
 use crate::section::{program_at, read_section};
 use crate::units::print_units;
@@ -15,6 +15,7 @@ use gimli_core::Reader;
 use gimli_line::{CompleteLineProgram, LineProgram, LineRows, LineSequence};
 use std::alloc::Global;
 use std::io::{Read, Write};
+use unit_text::SequenceLine;
 
 /// Does what the words after the program's name ask for, and answers the status of the program. `file` is the
 /// opened file that the second word names, where there is one.

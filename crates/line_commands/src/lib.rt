@@ -11,6 +11,5 @@ mod units;
 mod words;
 
 pub use commands::run;
-pub use print::{RowLine, SequenceLine};
 pub use refusal::Refusal;
 pub use words::{AddressSize, Command, Numbers, Place, Query};

@@ -1,4 +1,4 @@
-//! Headers and instructions of units, as text.
+//! Headers, instructions and rows of units, as text.
 //!
 //! [`header`] prints a line for each part of a header, numbers in decimal digits and bytes in hexadecimal ones:
 //!
@@ -30,6 +30,8 @@
 //! [`instructions`] prints an instruction a line: `Special(13)`, `AdvanceLine(-3)`, `UnknownStandardN(13, 010203)`,
 //! `UnknownExtended(99, )`, `DefineFile(String(612e63), 0, 1, 2)`.
 //!
+//! [`RowLine`] is the line of a row, and [`SequenceLine`] that of a sequence.
+//!
 //! A refusal is the last line: `error UnexpectedEof`, `error UnknownVersion(6)`.
 #![tactic(auto)]
 
@@ -37,8 +39,10 @@ mod command;
 mod header_text;
 mod instruction_text;
 mod request;
+mod row_line;
 mod value_text;
 
 pub use command::{Unit, header, instructions};
 pub use request::{AddressSize, Handed, Place, Word};
+pub use row_line::{RowLine, SequenceLine};
 pub use value_text::{Refusal, Slice};
