@@ -3,14 +3,14 @@
 ghost use Rattle.std.specs.Prelude.{◌≡◌, ◌⊎◌, IfOk, Ok};
 
 use crate::header_text::print_header;
-use crate::instruction_text::{print_instructions, print_refusal};
+use crate::instruction_text::print_instructions;
+use crate::lines::Lines;
 use crate::request::{Handed, Place};
-use crate::value_text::{Lender, Refusal, Slice};
+use crate::value_text::{Lender, Slice, print_refusal};
 use gimli_core::{DebugLineOffset, EndianSlice, Error};
 use gimli_line::{DebugLine, IncompleteLineProgram, LineProgramHeader};
 use row_text::Attempts;
 use std::alloc::{AllocError, Global};
-use std::io::{self, Write};
 
 /// Prints the header of a unit, or why it is refused. The words are the order of bytes, the size of an address, the
 /// offset of the unit, and the directory and the name that are handed in. The status is 2 for other words, else 0.
@@ -38,7 +38,8 @@ pub fn header(
         place,
         handed: &handed,
     };
-    printed(unit.print(alloc, Part::Header, attempts, out))
+    unit.print(alloc, Part::Header, attempts, out)?;
+    Ok(0)
 }
 
 /// Prints the instructions of a unit, or why it is refused. The words are the order of bytes, the size of an address
@@ -65,17 +66,8 @@ pub fn instructions(
         place,
         handed: &handed,
     };
-    printed(unit.print(alloc, Part::Instructions, attempts, out))
-}
-
-/// The status of a command whose output went into a vector, which refuses for want of memory alone.
-fn printed(outcome: io::Result<()>) -> Result<u8, AllocError>
-    ensures { IfOk result (λ status. status ≡ 0) }
-{
-    match outcome {
-        Ok(()) => Ok(0),
-        Err(_) => Err(AllocError),
-    }
+    unit.print(alloc, Part::Instructions, attempts, out)?;
+    Ok(0)
 }
 
 /// What is printed of a unit.
@@ -88,26 +80,22 @@ enum Part {
 }
 
 /// Prints a part of a program, or why its header is refused.
-fn print_program<R: Lender, O: Write>(
+fn print_program<R: Lender>(
     program: gimli_core::Result<IncompleteLineProgram<R>>,
     part: Part,
-    out: &mut O,
-) -> io::Result<()> {
+    lines: &mut Lines<'_>,
+) {
     match program {
-        Ok(program) => print_part(program.header(), part, out),
-        Err(e) => print_refusal(Refusal(e), out),
+        Ok(program) => print_part(program.header(), part, lines),
+        Err(e) => print_refusal(e, lines),
     }
 }
 
 /// Prints a part of a program whose header was read.
-fn print_part<R: Lender, O: Write>(
-    header: &LineProgramHeader<R>,
-    part: Part,
-    out: &mut O,
-) -> io::Result<()> {
+fn print_part<R: Lender>(header: &LineProgramHeader<R>, part: Part, lines: &mut Lines<'_>) {
     match part {
-        Part::Header => print_header(header, out),
-        Part::Instructions => print_instructions(header, out),
+        Part::Header => print_header(header, lines),
+        Part::Instructions => print_instructions(header, lines),
     }
 }
 
@@ -130,8 +118,10 @@ impl<'i> Unit<'i> {
         part: Part,
         attempts: Attempts,
         out: &mut Vec<u8>,
-    ) -> io::Result<()> {
-        print_program(self.program(alloc, attempts), part, out)
+    ) -> Result<(), AllocError> {
+        let mut lines = Lines::new(out);
+        print_program(self.program(alloc, attempts), part, &mut lines);
+        lines.finish()
     }
 
     /// The program of the unit. Where memory was refused it is made once more, if that is asked for.

@@ -1,9 +1,40 @@
 //! The instructions of a program, a line for each.
 
-use crate::value_text::{Held, Lender, Refusal, Value};
+use crate::lines::Lines;
+use crate::value_text::{Held, Lender, Value, print_refusal};
 use gimli_line::{FileEntry, LineInstruction, LineProgramHeader};
-use std::io::Write;
-use std::{fmt, io};
+use std::fmt;
+
+/// Prints the instructions of a program, up to the first refusal.
+pub fn print_instructions<R: Lender>(header: &LineProgramHeader<R>, lines: &mut Lines<'_>) {
+    let mut instructions = header.instructions();
+    'instructions: loop {
+        match instructions.next_instruction(header) {
+            Ok(Some(instruction)) => print_instruction(&instruction, lines),
+            Ok(None) => return,
+            Err(e) => return print_refusal(e, lines),
+        }
+    }
+}
+
+/// Prints the line of an instruction.
+fn print_instruction<R: Lender>(instruction: &LineInstruction<R>, lines: &mut Lines<'_>) {
+    if let LineInstruction::DefineFile(file) = instruction {
+        return print_definition(file, lines);
+    }
+    let (variant, operands) = parts(instruction);
+    lines.put(format_args!("{variant}{operands}"));
+}
+
+/// Prints the line of a file that a program defines: its path, directory, timestamp and size.
+fn print_definition<R: Lender>(file: &FileEntry<R>, lines: &mut Lines<'_>) {
+    let path = file.path_name();
+    let path = Value::new(&path);
+    let directory = file.directory_index();
+    let timestamp = file.timestamp();
+    let size = file.size();
+    lines.put(format_args!("DefineFile({path}, {directory}, {timestamp}, {size})"));
+}
 
 /// What stands after the variant of an instruction: operands in decimal digits, or as bytes.
 #[derive(Clone, Copy)]
@@ -17,33 +48,9 @@ enum Operands<'a> {
 }
 
 impl<'a> Operands<'a> {
-    /// The operands of an instruction that defines no file.
-    fn of<R: Lender>(instruction: &'a LineInstruction<R>) -> Operands<'a> {
-        match instruction {
-            LineInstruction::Special(opcode) => Operands::One(Held::Number(u64::from(*opcode))),
-            LineInstruction::FixedAddPc(n) => Operands::One(Held::Number(u64::from(*n))),
-            LineInstruction::AdvanceLine(n) => Operands::One(Held::Signed(*n)),
-            LineInstruction::AdvancePc(n)
-            | LineInstruction::SetFile(n)
-            | LineInstruction::SetColumn(n)
-            | LineInstruction::SetIsa(n)
-            | LineInstruction::SetAddress(n)
-            | LineInstruction::SetDiscriminator(n) => Operands::One(Held::Number(*n)),
-            LineInstruction::UnknownStandard0(opcode) => {
-                Operands::One(Held::Number(u64::from(opcode.0)))
-            }
-            LineInstruction::UnknownStandard1(opcode, n) => Operands::Two(
-                opcode.0,
-                Held::Number(*n),
-            ),
-            LineInstruction::UnknownStandardN(opcode, operands) => {
-                Operands::Two(opcode.0, Held::Bytes(operands.lent()))
-            }
-            LineInstruction::UnknownExtended(opcode, operands) => {
-                Operands::Two(opcode.0, Held::Bytes(operands.lent()))
-            }
-            _ => Operands::Nothing,
-        }
+    /// A number as the one operand.
+    fn number(n: u64) -> Operands<'a> {
+        Operands::One(Held::Number(n))
     }
 }
 
@@ -57,72 +64,46 @@ impl fmt::Display for Operands<'_> {
     }
 }
 
-/// The name of an instruction's variant.
-fn variant<R: Lender>(instruction: &LineInstruction<R>) -> &'static str {
+/// The name of an instruction's variant, and its operands. Those of a file that it defines are left out.
+fn parts<R: Lender>(instruction: &LineInstruction<R>) -> (&'static str, Operands<'_>) {
     match instruction {
-        LineInstruction::Special(_) => "Special",
-        LineInstruction::Copy => "Copy",
-        LineInstruction::AdvancePc(_) => "AdvancePc",
-        LineInstruction::AdvanceLine(_) => "AdvanceLine",
-        LineInstruction::SetFile(_) => "SetFile",
-        LineInstruction::SetColumn(_) => "SetColumn",
-        LineInstruction::NegateStatement => "NegateStatement",
-        LineInstruction::SetBasicBlock => "SetBasicBlock",
-        LineInstruction::ConstAddPc => "ConstAddPc",
-        LineInstruction::FixedAddPc(_) => "FixedAddPc",
-        LineInstruction::SetPrologueEnd => "SetPrologueEnd",
-        LineInstruction::SetEpilogueBegin => "SetEpilogueBegin",
-        LineInstruction::SetIsa(_) => "SetIsa",
-        LineInstruction::UnknownStandard0(_) => "UnknownStandard0",
-        LineInstruction::UnknownStandard1(_, _) => "UnknownStandard1",
-        LineInstruction::UnknownStandardN(_, _) => "UnknownStandardN",
-        LineInstruction::EndSequence => "EndSequence",
-        LineInstruction::SetAddress(_) => "SetAddress",
-        LineInstruction::DefineFile(_) => "DefineFile",
-        LineInstruction::SetDiscriminator(_) => "SetDiscriminator",
-        LineInstruction::UnknownExtended(_, _) => "UnknownExtended",
-    }
-}
-
-/// Prints the instructions of a program, up to the first refusal.
-pub fn print_instructions<R: Lender, O: Write>(
-    header: &LineProgramHeader<R>,
-    out: &mut O,
-) -> io::Result<()> {
-    let mut instructions = header.instructions();
-    'instructions: loop {
-        match instructions.next_instruction(header) {
-            Ok(Some(instruction)) => print_instruction(&instruction, out)?,
-            Ok(None) => return Ok(()),
-            Err(e) => return print_refusal(Refusal(e), out),
+        LineInstruction::Special(opcode) => ("Special", Operands::number(u64::from(*opcode))),
+        LineInstruction::Copy => ("Copy", Operands::Nothing),
+        LineInstruction::AdvancePc(n) => ("AdvancePc", Operands::number(*n)),
+        LineInstruction::AdvanceLine(n) => ("AdvanceLine", Operands::One(Held::Signed(*n))),
+        LineInstruction::SetFile(n) => ("SetFile", Operands::number(*n)),
+        LineInstruction::SetColumn(n) => ("SetColumn", Operands::number(*n)),
+        LineInstruction::NegateStatement => ("NegateStatement", Operands::Nothing),
+        LineInstruction::SetBasicBlock => ("SetBasicBlock", Operands::Nothing),
+        LineInstruction::ConstAddPc => ("ConstAddPc", Operands::Nothing),
+        LineInstruction::FixedAddPc(n) => ("FixedAddPc", Operands::number(u64::from(*n))),
+        LineInstruction::SetPrologueEnd => ("SetPrologueEnd", Operands::Nothing),
+        LineInstruction::SetEpilogueBegin => ("SetEpilogueBegin", Operands::Nothing),
+        LineInstruction::SetIsa(n) => ("SetIsa", Operands::number(*n)),
+        LineInstruction::UnknownStandard0(opcode) => {
+            ("UnknownStandard0", Operands::number(u64::from(opcode.0)))
+        }
+        LineInstruction::UnknownStandard1(opcode, n) => {
+            (
+                "UnknownStandard1",
+                Operands::Two(opcode.0, Held::Number(*n)),
+            )
+        }
+        LineInstruction::UnknownStandardN(opcode, operands) => {
+            (
+                "UnknownStandardN",
+                Operands::Two(opcode.0, Held::Bytes(operands.lent())),
+            )
+        }
+        LineInstruction::EndSequence => ("EndSequence", Operands::Nothing),
+        LineInstruction::SetAddress(n) => ("SetAddress", Operands::number(*n)),
+        LineInstruction::DefineFile(_) => ("DefineFile", Operands::Nothing),
+        LineInstruction::SetDiscriminator(n) => ("SetDiscriminator", Operands::number(*n)),
+        LineInstruction::UnknownExtended(opcode, operands) => {
+            (
+                "UnknownExtended",
+                Operands::Two(opcode.0, Held::Bytes(operands.lent())),
+            )
         }
     }
-}
-
-/// Prints the line of an instruction.
-fn print_instruction<R: Lender, O: Write>(
-    instruction: &LineInstruction<R>,
-    out: &mut O,
-) -> io::Result<()> {
-    if let LineInstruction::DefineFile(file) = instruction {
-        return print_definition(file, out);
-    }
-    let variant = variant(instruction);
-    let operands = Operands::of(instruction);
-    writeln!(out, "{variant}{operands}")
-}
-
-/// Prints the line of a file that a program defines: its path, directory, timestamp and size.
-fn print_definition<R: Lender, O: Write>(file: &FileEntry<R>, out: &mut O) -> io::Result<()> {
-    let path = file.path_name();
-    let path = Value::new(&path);
-    let directory = file.directory_index();
-    let timestamp = file.timestamp();
-    let size = file.size();
-    writeln!(out, "DefineFile({path}, {directory}, {timestamp}, {size})")
-}
-
-/// Prints the line of a refusal.
-pub fn print_refusal<O: Write>(refusal: Refusal, out: &mut O) -> io::Result<()> {
-    writeln!(out, "error {refusal}")
 }

@@ -38,6 +38,7 @@
 mod command;
 mod header_text;
 mod instruction_text;
+mod lines;
 mod request;
 mod row_line;
 mod value_text;

@@ -1,5 +1,6 @@
 //! Values of forms, files and refusals, as text.
 
+use crate::lines::Lines;
 use gimli_core::{AttributeValue, EndianSlice, Error, Reader, ReaderOffset, RunTimeEndian};
 use row_text::Digits;
 use std::fmt;
@@ -33,27 +34,6 @@ pub enum Held<'a> {
 }
 
 impl<'a> Held<'a> {
-    /// What a value holds.
-    fn of<R: Lender>(value: &'a AttributeValue<R>) -> Held<'a> {
-        match value {
-            AttributeValue::Block(bytes) | AttributeValue::String(bytes) => Held::Bytes(
-                bytes.lent(),
-            ),
-            AttributeValue::Data1(n) => Held::Number(u64::from(*n)),
-            AttributeValue::Data2(n) => Held::Number(u64::from(*n)),
-            AttributeValue::Data4(n) => Held::Number(u64::from(*n)),
-            AttributeValue::Data8(n) | AttributeValue::Udata(n) => Held::Number(*n),
-            AttributeValue::Sdata(n) => Held::Signed(*n),
-            AttributeValue::Flag(holds) => Held::Flag(*holds),
-            AttributeValue::SecOffset(offset) => Held::offset(*offset),
-            AttributeValue::DebugStrRef(offset) | AttributeValue::DebugStrRefSup(offset) => {
-                Held::offset(offset.0)
-            }
-            AttributeValue::DebugLineStrRef(offset) => Held::offset(offset.0),
-            AttributeValue::DebugStrOffsetsIndex(index) => Held::offset(index.0),
-        }
-    }
-
     /// An offset, or an index.
     pub fn offset<O: ReaderOffset>(offset: O) -> Held<'a> {
         Held::Number(offset.into_u64())
@@ -81,30 +61,25 @@ pub struct Value<'a> {
 impl<'a> Value<'a> {
     /// The value, as it is printed.
     pub fn new<R: Lender>(value: &'a AttributeValue<R>) -> Value<'a> {
-        Value {
-            variant: variant(value),
-            held: Held::of(value),
-        }
-    }
-}
-
-/// The name of a value's variant.
-fn variant<R: Lender>(value: &AttributeValue<R>) -> &'static str {
-    match value {
-        AttributeValue::Block(_) => "Block",
-        AttributeValue::Data1(_) => "Data1",
-        AttributeValue::Data2(_) => "Data2",
-        AttributeValue::Data4(_) => "Data4",
-        AttributeValue::Data8(_) => "Data8",
-        AttributeValue::Udata(_) => "Udata",
-        AttributeValue::Sdata(_) => "Sdata",
-        AttributeValue::Flag(_) => "Flag",
-        AttributeValue::SecOffset(_) => "SecOffset",
-        AttributeValue::String(_) => "String",
-        AttributeValue::DebugStrRef(_) => "DebugStrRef",
-        AttributeValue::DebugStrRefSup(_) => "DebugStrRefSup",
-        AttributeValue::DebugLineStrRef(_) => "DebugLineStrRef",
-        AttributeValue::DebugStrOffsetsIndex(_) => "DebugStrOffsetsIndex",
+        let (variant, held) = match value {
+            AttributeValue::Block(bytes) => ("Block", Held::Bytes(bytes.lent())),
+            AttributeValue::Data1(n) => ("Data1", Held::Number(u64::from(*n))),
+            AttributeValue::Data2(n) => ("Data2", Held::Number(u64::from(*n))),
+            AttributeValue::Data4(n) => ("Data4", Held::Number(u64::from(*n))),
+            AttributeValue::Data8(n) => ("Data8", Held::Number(*n)),
+            AttributeValue::Udata(n) => ("Udata", Held::Number(*n)),
+            AttributeValue::Sdata(n) => ("Sdata", Held::Signed(*n)),
+            AttributeValue::Flag(holds) => ("Flag", Held::Flag(*holds)),
+            AttributeValue::SecOffset(offset) => ("SecOffset", Held::offset(*offset)),
+            AttributeValue::String(bytes) => ("String", Held::Bytes(bytes.lent())),
+            AttributeValue::DebugStrRef(offset) => ("DebugStrRef", Held::offset(offset.0)),
+            AttributeValue::DebugStrRefSup(offset) => ("DebugStrRefSup", Held::offset(offset.0)),
+            AttributeValue::DebugLineStrRef(offset) => ("DebugLineStrRef", Held::offset(offset.0)),
+            AttributeValue::DebugStrOffsetsIndex(index) => {
+                ("DebugStrOffsetsIndex", Held::offset(index.0))
+            }
+        };
+        Value { variant, held }
     }
 }
 
@@ -143,38 +118,21 @@ impl fmt::Display for Source<'_> {
 #[derive(Clone, Copy)]
 pub struct Refusal(pub Error);
 
-impl Refusal {
-    /// The name of the variant, and the number that is printed with it.
-    fn parts(self) -> (&'static str, Option<u64>) {
+impl fmt::Display for Refusal {
+    fn fmt<W: fmt::Write>(&self, f: &mut fmt::Formatter<W>) -> fmt::Result {
         match self.0 {
-            Error::UnknownVersion(n) => ("UnknownVersion", Some(n)),
-            Error::UnsupportedAddressSize(n) => ("UnsupportedAddressSize", Some(u64::from(n))),
-            Error::UnsupportedSegmentSize(n) => ("UnsupportedSegmentSize", Some(u64::from(n))),
-            Error::UnknownForm(form) => ("UnknownForm", Some(u64::from(form.0))),
-            Error::UnexpectedEof(_) => ("UnexpectedEof", None),
-            Error::BadUnsignedLeb128 => ("BadUnsignedLeb128", None),
-            Error::BadSignedLeb128 => ("BadSignedLeb128", None),
-            Error::UnknownReservedLength => ("UnknownReservedLength", None),
-            Error::MinimumInstructionLengthZero => ("MinimumInstructionLengthZero", None),
-            Error::MaximumOperationsPerInstructionZero => {
-                ("MaximumOperationsPerInstructionZero", None)
+            Error::UnexpectedEof(_) => f.write_str("UnexpectedEof"),
+            Error::UnknownForm(form) => {
+                let form = form.0;
+                write!(f, "UnknownForm({form})")
             }
-            Error::LineRangeZero => ("LineRangeZero", None),
-            Error::OpcodeBaseZero => ("OpcodeBaseZero", None),
-            Error::MissingFileEntryFormatPath => ("MissingFileEntryFormatPath", None),
-            Error::AddressOverflow => ("AddressOverflow", None),
-            Error::UnsupportedOffset => ("UnsupportedOffset", None),
-            Error::ExpectedStringAttributeValue => ("ExpectedStringAttributeValue", None),
-            Error::OutOfMemory => ("OutOfMemory", None),
+            error => write!(f, "{error:?}"),
         }
     }
 }
 
-impl fmt::Display for Refusal {
-    fn fmt<W: fmt::Write>(&self, f: &mut fmt::Formatter<W>) -> fmt::Result {
-        match self.parts() {
-            (word, Some(n)) => write!(f, "{word}({n})"),
-            (word, None) => f.write_str(word),
-        }
-    }
+/// Prints the line of a refusal.
+pub fn print_refusal(error: Error, lines: &mut Lines<'_>) {
+    let refusal = Refusal(error);
+    lines.put(format_args!("error {refusal}"));
 }
