@@ -1,5 +1,7 @@
 //! Calls of string tables.
 
+ghost use Rattle.std.specs.Prelude.{◌≢◌, All};
+
 use crate::arguments::Arguments;
 use crate::outcome::{ByName, Stop, Told};
 use gimli_bytes::{
@@ -101,8 +103,10 @@ impl Tables {
         })
     }
 
-    /// Adds a text.
-    fn add(&mut self, kind: Kind, text: &[u8]) -> Result<usize> {
+    /// Adds a text. Requires that no byte of it is zero.
+    fn add(&mut self, kind: Kind, text: &[u8]) -> Result<usize>
+        requires { All (λ b. b ≢ 0) text.now }
+    {
         match kind {
             Kind::Strings => self.strings.add(text).map(|id| id.0),
             Kind::LineStrings => self.line_strings.add(text).map(|id| id.0),
