@@ -1,7 +1,7 @@
 //! What calls of readers and of numbers answer.
 
-use gimli_core::{DwEhPe, EndianSlice, Error, Format, ReaderOffsetId, RunTimeEndian};
-use row_text::BytesLine;
+use crate::outcome::{ByName, BytesAfter, Told};
+use gimli_core::{DwEhPe, EndianSlice, Error, Format, ReaderOffsetId, Result, RunTimeEndian};
 use std::fmt;
 
 /// A reader of a script.
@@ -30,9 +30,29 @@ pub enum Answer<'a> {
     Refused(Error),
 }
 
+impl<'a> Answer<'a> {
+    /// What a call answers that may refuse.
+    pub fn of(answer: Result<Answer<'a>>) -> Answer<'a> {
+        match answer {
+            Ok(answer) => answer,
+            Err(error) => Answer::Refused(error),
+        }
+    }
+}
+
+/// That it is done.
+pub fn of_unit(_done: ()) -> Answer<'static> {
+    Answer::Word("ok")
+}
+
 /// A number of 8 bits.
 pub fn of_u8(n: u8) -> Answer<'static> {
     Answer::Number("u8", i128::from(n))
+}
+
+/// A signed number of 8 bits.
+pub fn of_i8(n: i8) -> Answer<'static> {
+    Answer::Number("i8", i128::from(n))
 }
 
 /// A number of 16 bits.
@@ -40,14 +60,29 @@ pub fn of_u16(n: u16) -> Answer<'static> {
     Answer::Number("u16", i128::from(n))
 }
 
+/// A number of 32 bits.
+pub fn of_u32(n: u32) -> Answer<'static> {
+    Answer::Number("u32", i128::from(n))
+}
+
 /// A number of 64 bits.
 pub fn of_u64(n: u64) -> Answer<'static> {
     Answer::Number("u64", i128::from(n))
 }
 
+/// A signed number of 64 bits.
+pub fn of_i64(n: i64) -> Answer<'static> {
+    Answer::Number("i64", i128::from(n))
+}
+
 /// A number of bytes.
 pub fn of_usize(n: usize) -> Answer<'static> {
     Answer::Number("usize", n as i128)
+}
+
+/// Sixteen bytes.
+pub fn of_sixteen(bytes: [u8; 16]) -> Answer<'static> {
+    Answer::Sixteen(bytes)
 }
 
 /// A truth value.
@@ -56,48 +91,50 @@ pub fn of_bool(truth: bool) -> Answer<'static> {
 }
 
 /// The word of an order.
-pub fn word_of(order: RunTimeEndian) -> &'static str {
-    match order {
-        RunTimeEndian::Little => "little",
-        RunTimeEndian::Big => "big",
-    }
+pub fn word_of(is_big: bool) -> &'static str {
+    if is_big { "big" } else { "little" }
 }
 
 impl fmt::Display for Answer<'_> {
     fn fmt<W: fmt::Write>(&self, f: &mut fmt::Formatter<W>) -> fmt::Result {
-        match *self {
+        match self {
             Answer::Word(word) => f.write_str(word),
-            Answer::Number(kind, n) => write!(f, "{kind} {n}"),
-            Answer::Wide(n) => write!(f, "u128 {n}"),
-            Answer::Length(n, Format::Dwarf32) => write!(f, "usize {n} format 32"),
-            Answer::Length(n, Format::Dwarf64) => write!(f, "usize {n} format 64"),
-            Answer::Encoding(encoding) => write!(f, "{encoding}"),
-            Answer::Sixteen(bytes) => write_sixteen(f, bytes),
-            Answer::Bytes(bytes) => write_bytes(f, "bytes", bytes),
-            Answer::Part(part) => write_bytes(f, "bytes", part.slice()),
-            Answer::Refused(Error::UnexpectedEof(ReaderOffsetId(left))) => {
-                write!(f, "error UnexpectedEof({left})")
-            }
-            Answer::Refused(error) => write!(f, "error {error:?}"),
+            Answer::Number(kind, n) => Told(*kind, *n).fmt(f),
+            Answer::Wide(n) => Told("u128", *n).fmt(f),
+            Answer::Length(n, format) => Told("usize", Length(*n, *format)).fmt(f),
+            Answer::Encoding(encoding) => encoding.fmt(f),
+            Answer::Sixteen(bytes) => BytesAfter("bytes", bytes).fmt(f),
+            Answer::Bytes(bytes) => BytesAfter("bytes", bytes).fmt(f),
+            Answer::Part(part) => BytesAfter("bytes", part.slice()).fmt(f),
+            Answer::Refused(error) => Told("error", Refusal(*error)).fmt(f),
         }
     }
 }
 
-/// Sixteen bytes.
-fn write_sixteen<W: fmt::Write>(f: &mut fmt::Formatter<W>, bytes: [u8; 16]) -> fmt::Result {
-    write_bytes(f, "bytes", &bytes)
+/// A length, with the number of bits of its format.
+#[derive(Clone, Copy)]
+struct Length(usize, Format);
+
+impl fmt::Display for Length {
+    fn fmt<W: fmt::Write>(&self, f: &mut fmt::Formatter<W>) -> fmt::Result {
+        let length = self.0;
+        let bits = match self.1 {
+            Format::Dwarf32 => "32",
+            Format::Dwarf64 => "64",
+        };
+        write!(f, "{length} format {bits}")
+    }
 }
 
-/// Bytes, after a word.
-pub fn write_bytes<W: fmt::Write>(
-    f: &mut fmt::Formatter<W>,
-    word: &str,
-    bytes: &[u8],
-) -> fmt::Result {
-    f.write_str(word)?;
-    if bytes.is_empty() {
-        return Ok(());
+/// The refusal of a reader.
+#[derive(Clone, Copy)]
+struct Refusal(Error);
+
+impl fmt::Display for Refusal {
+    fn fmt<W: fmt::Write>(&self, f: &mut fmt::Formatter<W>) -> fmt::Result {
+        match self.0 {
+            Error::UnexpectedEof(ReaderOffsetId(left)) => write!(f, "UnexpectedEof({left})"),
+            error => ByName(error).fmt(f),
+        }
     }
-    let line = BytesLine(bytes);
-    write!(f, " {line}")
 }

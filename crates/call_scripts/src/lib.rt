@@ -25,13 +25,14 @@
 //!
 //! | Line of `pieces` | Does | Prints |
 //! |---|---|---|
-//! | the calls of a writer, `endian`, `len`, `slice` and `next`, as in `bytes` | the call of a section in pieces of four bytes; `slice` joins a copy | as in `bytes` |
+//! | the calls of `bytes`, but `take` | the call of a section in pieces of four bytes; `slice` joins a copy | as in `bytes` |
 //! | `pieces` | `piece_count` and `pieces` | `pieces 2`, then each piece as `bytes 01 02 03 08` |
 //! | `into_vec` | the call, on a section that is empty then | `bytes 01 02` |
 #![tactic(auto)]
 
 mod answer;
 mod arguments;
+mod in_one;
 mod in_pieces;
 mod numbers;
 mod order_calls;
@@ -42,6 +43,6 @@ mod sections;
 mod tables;
 mod writers;
 
+pub use in_one::bytes;
 pub use in_pieces::pieces;
 pub use readers::read;
-pub use sections::bytes;

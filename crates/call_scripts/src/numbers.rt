@@ -14,23 +14,20 @@ type Value = AttributeValue<Slice<'static>>;
 /// What a call on numbers answers.
 pub fn answer(name: &str, words: &mut Arguments<'_>) -> Result<Answer<'static>, Stop> {
     match name {
-        "add_sized" => add_sized(words.u64()?, words.u64()?, words.u8()?),
-        "min_tombstone" => min_tombstone(words.u8()?),
-        "word_size" => Ok(of_u8(words.format()?.word_size())),
-        "format" => Ok(Answer::Encoding(words.encoding()?.format())),
-        "application" => Ok(Answer::Encoding(words.encoding()?.application())),
-        "udata_value" => Ok(match value(words)?.udata_value() {
-            Some(n) => of_u64(n),
-            None => Answer::Word("none"),
-        }),
-        _ => Ok(of_u64(offset(name, words)?.into_u64())),
+        "add_sized" => add_sized(words.u64(), words.u64(), words.u8()),
+        "min_tombstone" => min_tombstone(words.u8()),
+        "word_size" => Ok(of_u8(words.format().word_size())),
+        "format" => Ok(Answer::Encoding(words.encoding().format())),
+        "application" => Ok(Answer::Encoding(words.encoding().application())),
+        "udata_value" => udata_value(words),
+        _ => offset(name, words),
     }
 }
 
 /// An address so many bytes further on, where the size is that of an address.
 fn add_sized(address: u64, length: u64, size: u8) -> Result<Answer<'static>, Stop> {
     match size {
-        1 | 2 | 4 | 8 => Ok(of_u64(address.add_sized(length, size)?)),
+        1 | 2 | 4 | 8 => Ok(Answer::of(address.add_sized(length, size).map(of_u64))),
         _ => Err(Stop::Condition),
     }
 }
@@ -44,45 +41,59 @@ fn min_tombstone(size: u8) -> Result<Answer<'static>, Stop> {
 }
 
 /// The offset of a number.
-fn offset(name: &str, words: &mut Arguments<'_>) -> Result<usize, Stop> {
-    match name {
-        "from_u8" => Ok(<usize as ReaderOffset>::from_u8(words.u8()?)),
-        "from_u16" => Ok(<usize as ReaderOffset>::from_u16(words.u16()?)),
-        "from_u32" => Ok(<usize as ReaderOffset>::from_u32(words.u32()?)),
-        "from_u64" => Ok(<usize as ReaderOffset>::from_u64(words.u64()?)?),
-        _ => Err(Stop::Bad),
+fn offset(name: &str, words: &mut Arguments<'_>) -> Result<Answer<'static>, Stop> {
+    let offset = match name {
+        "from_u8" => Ok(<usize as ReaderOffset>::from_u8(words.u8())),
+        "from_u16" => Ok(<usize as ReaderOffset>::from_u16(words.u16())),
+        "from_u32" => Ok(<usize as ReaderOffset>::from_u32(words.u32())),
+        "from_u64" => <usize as ReaderOffset>::from_u64(words.u64()),
+        _ => return Err(Stop::Bad),
+    };
+    Ok(Answer::of(offset.map(|offset| of_u64(offset.into_u64()))))
+}
+
+/// The number of a value that a line says, by the name of its variant.
+fn udata_value(words: &mut Arguments<'_>) -> Result<Answer<'static>, Stop> {
+    match words.word() {
+        "Data1" => Ok(udata_of(AttributeValue::Data1(words.u8()))),
+        "Data2" => Ok(udata_of(AttributeValue::Data2(words.u16()))),
+        "Data4" => Ok(udata_of(AttributeValue::Data4(words.u32()))),
+        "Data8" => Ok(udata_of(AttributeValue::Data8(words.u64()))),
+        "Udata" => Ok(udata_of(AttributeValue::Udata(words.u64()))),
+        "Sdata" => Ok(udata_of(AttributeValue::Sdata(words.i64()))),
+        "Flag" => Ok(udata_of(AttributeValue::Flag(words.u8() != 0))),
+        name => other_udata_value(name, words),
     }
 }
 
-/// A value, by the name of its variant.
-fn value(words: &mut Arguments<'_>) -> Result<Value, Stop> {
-    match words.word()? {
-        "Data1" => Ok(AttributeValue::Data1(words.u8()?)),
-        "Data2" => Ok(AttributeValue::Data2(words.u16()?)),
-        "Data4" => Ok(AttributeValue::Data4(words.u32()?)),
-        "Data8" => Ok(AttributeValue::Data8(words.u64()?)),
-        "Udata" => Ok(AttributeValue::Udata(words.u64()?)),
-        "Sdata" => Ok(AttributeValue::Sdata(words.i64()?)),
-        "Flag" => Ok(AttributeValue::Flag(words.u8()? != 0)),
-        name => other_value(name, words),
-    }
-}
-
-/// A value that is no number. A text and a block have no bytes.
-fn other_value(name: &str, words: &mut Arguments<'_>) -> Result<Value, Stop> {
+/// The number of a value that is none. A text and a block have no bytes.
+fn other_udata_value(name: &str, words: &mut Arguments<'_>) -> Result<Answer<'static>, Stop> {
     let none = EndianSlice::new(&[], RunTimeEndian::Little);
     match name {
-        "Block" => Ok(AttributeValue::Block(none)),
-        "String" => Ok(AttributeValue::String(none)),
-        "SecOffset" => Ok(AttributeValue::SecOffset(words.usize()?)),
-        "DebugStrRef" => Ok(AttributeValue::DebugStrRef(DebugStrOffset(words.usize()?))),
-        "DebugStrRefSup" => Ok(AttributeValue::DebugStrRefSup(DebugStrOffset(words.usize()?))),
-        "DebugLineStrRef" => Ok(AttributeValue::DebugLineStrRef(DebugLineStrOffset(
-            words.usize()?,
-        ))),
-        "DebugStrOffsetsIndex" => Ok(AttributeValue::DebugStrOffsetsIndex(DebugStrOffsetsIndex(
-            words.usize()?,
-        ))),
+        "Block" => Ok(udata_of(AttributeValue::Block(none))),
+        "String" => Ok(udata_of(AttributeValue::String(none))),
+        "SecOffset" => Ok(udata_of(AttributeValue::SecOffset(words.usize()))),
+        "DebugStrRef" => {
+            Ok(udata_of(AttributeValue::DebugStrRef(DebugStrOffset(words.usize()))))
+        }
+        "DebugStrRefSup" => {
+            Ok(udata_of(AttributeValue::DebugStrRefSup(DebugStrOffset(words.usize()))))
+        }
+        "DebugLineStrRef" => {
+            Ok(udata_of(AttributeValue::DebugLineStrRef(DebugLineStrOffset(words.usize()))))
+        }
+        "DebugStrOffsetsIndex" => {
+            let index = DebugStrOffsetsIndex(words.usize());
+            Ok(udata_of(AttributeValue::DebugStrOffsetsIndex(index)))
+        }
         _ => Err(Stop::Bad),
+    }
+}
+
+/// What the call answers on a value.
+fn udata_of(value: Value) -> Answer<'static> {
+    match value.udata_value() {
+        Some(n) => of_u64(n),
+        None => Answer::Word("none"),
     }
 }

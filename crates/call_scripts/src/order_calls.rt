@@ -1,6 +1,6 @@
 //! Calls of orders of bytes.
 
-use crate::answer::{Answer, of_bool, of_u16, of_u64};
+use crate::answer::{Answer, of_bool, of_u16, of_u32, of_u64};
 use crate::arguments::Arguments;
 use crate::outcome::Stop;
 use gimli_core::{Endianity, RunTimeEndian};
@@ -11,10 +11,7 @@ pub fn read(order: RunTimeEndian, name: &str, bytes: &[u8]) -> Result<Answer<'st
         "is_big_endian" => Ok(of_bool(order.is_big_endian())),
         "is_little_endian" => Ok(of_bool(order.is_little_endian())),
         "read_u16" if bytes.len() >= 2 => Ok(of_u16(order.read_u16(bytes))),
-        "read_u32" if bytes.len() >= 4 => Ok(Answer::Number(
-            "u32",
-            i128::from(order.read_u32(bytes)),
-        )),
+        "read_u32" if bytes.len() >= 4 => Ok(of_u32(order.read_u32(bytes))),
         "read_u64" if bytes.len() >= 8 => Ok(of_u64(order.read_u64(bytes))),
         "read_u128" if bytes.len() >= 16 => Ok(Answer::Wide(order.read_u128(bytes))),
         "read_u16" | "read_u32" | "read_u64" | "read_u128" => Err(Stop::Condition),
@@ -30,12 +27,12 @@ pub fn write(
     bytes: &mut [u8],
 ) -> Result<(), Stop> {
     match name {
-        "write_u16" if bytes.len() >= 2 => order.write_u16(bytes, words.u16()?),
-        "write_u32" if bytes.len() >= 4 => order.write_u32(bytes, words.u32()?),
-        "write_u64" if bytes.len() >= 8 => order.write_u64(bytes, words.u64()?),
-        "write_u128" if bytes.len() >= 16 => order.write_u128(bytes, words.u128()?),
+        "write_u16" if bytes.len() >= 2 => order.write_u16(bytes, words.u16()),
+        "write_u32" if bytes.len() >= 4 => order.write_u32(bytes, words.u32()),
+        "write_u64" if bytes.len() >= 8 => order.write_u64(bytes, words.u64()),
+        "write_u128" if bytes.len() >= 16 => order.write_u128(bytes, words.u128()),
         "write_u16" | "write_u32" | "write_u64" | "write_u128" => {
-            words.u128()?;
+            words.u128();
             return Err(Stop::Condition);
         }
         _ => return Err(Stop::Bad),

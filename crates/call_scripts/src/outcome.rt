@@ -1,9 +1,10 @@
 //! How a line of a script ends, and what is printed of it.
 
-use gimli_core::Error;
-use std::alloc::{AllocError, Global};
+use crate::arguments::Arguments;
+use row_text::BytesLine;
+use std::alloc::AllocError;
 use std::fmt;
-use std::fmt::Display;
+use std::fmt::{Debug, Display};
 use std::io::Write;
 
 /// Why a line has no answer but a refusal.
@@ -13,16 +14,8 @@ pub enum Stop {
     Bad,
     /// The conditions of its call aren't met.
     Condition,
-    /// A reader refused.
-    Refused(Error),
     /// Memory was refused to the script itself.
     Memory,
-}
-
-impl From<Error> for Stop {
-    fn from(error: Error) -> Stop {
-        Stop::Refused(error)
-    }
 }
 
 impl From<AllocError> for Stop {
@@ -33,49 +26,106 @@ impl From<AllocError> for Stop {
 
 /// What makes the calls of a script.
 pub trait Script {
-    /// Makes the call of a line, and prints what it answers.
-    fn make(&mut self, number: u64, line: &str, out: &mut Vec<u8>) -> Result<(), Stop>;
+    /// Makes the call of a line that has words, and prints what it answers.
+    fn call(
+        &mut self,
+        number: u64,
+        name: &str,
+        words: &mut Arguments<'_>,
+        out: &mut Vec<u8>,
+    ) -> Result<(), Stop>;
 }
 
 /// Makes the calls of a script, and answers its status. Of a bad script nothing is printed.
 pub fn run<S: Script>(script: &mut S, input: &str, out: &mut Vec<u8>) -> Result<u8, AllocError> {
+    let before = out.len();
+    match run_lines(script, input, out) {
+        Ok(status) => Ok(status),
+        Err(Stop::Memory) => Err(AllocError),
+        Err(_) => {
+            out.truncate(before);
+            Ok(2)
+        }
+    }
+}
+
+/// Makes the calls of a script as far as they are calls, and answers its status.
+fn run_lines<S: Script>(script: &mut S, input: &str, out: &mut Vec<u8>) -> Result<u8, Stop> {
     let mut status = 0;
     let mut number = 0u64;
-    let before = out.len();
     for line in input.lines() {
         number = number.saturating_add(1);
-        match script.make(number, line, out) {
-            Ok(()) => {}
+        match run_line(script, number, line, out) {
             Err(Stop::Condition) => {
-                print_line(out, Numbered("condition", number))?;
+                print_line(out, Told("condition", number))?;
                 status = 1;
             }
-            Err(Stop::Memory) => return Err(AllocError),
-            Err(_) => {
-                out.truncate(before);
-                return Ok(2);
-            }
+            answer => answer?,
         }
     }
     Ok(status)
 }
 
+/// Makes the call of a line, where it has words.
+fn run_line<S: Script>(
+    script: &mut S,
+    number: u64,
+    line: &str,
+    out: &mut Vec<u8>,
+) -> Result<(), Stop> {
+    let mut words = Arguments::of_line(line);
+    if words.is_empty() {
+        return Ok(());
+    }
+    let name = words.word();
+    let made = script.call(number, name, &mut words, out);
+    if words.is_bad() {
+        return Err(Stop::Bad);
+    }
+    made?;
+    words.finish()
+}
+
 /// Adds a line.
-pub fn print_line<D: Display + Drop>(out: &mut Vec<u8>, line: D) -> Result<(), AllocError> {
+pub fn print_line<D: Display + Drop>(out: &mut Vec<u8>, line: D) -> Result<(), Stop> {
     match writeln!(out, "{line}") {
         Ok(()) => Ok(()),
-        Err(_) => Err(AllocError),
+        Err(_) => Err(Stop::Memory),
     }
 }
 
-/// A word and a number.
+/// A word, and what stands after it.
 #[derive(Clone, Copy)]
-pub struct Numbered(pub &'static str, pub u64);
+pub struct Told<D>(pub &'static str, pub D);
 
-impl Display for Numbered {
+impl<D: Display> Display for Told<D> {
     fn fmt<W: fmt::Write>(&self, f: &mut fmt::Formatter<W>) -> fmt::Result {
-        let word = self.0;
-        let number = self.1;
-        write!(f, "{word} {number}")
+        f.write_str(self.0)?;
+        f.write_str(" ")?;
+        self.1.fmt(f)
+    }
+}
+
+/// What `Debug` prints.
+#[derive(Clone, Copy)]
+pub struct ByName<E>(pub E);
+
+impl<E: Debug> Display for ByName<E> {
+    fn fmt<W: fmt::Write>(&self, f: &mut fmt::Formatter<W>) -> fmt::Result {
+        Debug::fmt(&self.0, f)
+    }
+}
+
+/// A word, and bytes after it.
+#[derive(Clone, Copy)]
+pub struct BytesAfter<'a>(pub &'static str, pub &'a [u8]);
+
+impl Display for BytesAfter<'_> {
+    fn fmt<W: fmt::Write>(&self, f: &mut fmt::Formatter<W>) -> fmt::Result {
+        if self.1.is_empty() {
+            f.write_str(self.0)
+        } else {
+            Told(self.0, BytesLine(self.1)).fmt(f)
+        }
     }
 }

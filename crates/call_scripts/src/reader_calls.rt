@@ -1,9 +1,12 @@
 //! Calls of readers.
 
-use crate::answer::{Answer, Slice, of_bool, of_u8, of_u16, of_u64, of_usize, word_of};
+use crate::answer::{
+    Answer, Slice, of_bool, of_i8, of_i64, of_sixteen, of_u8, of_u16, of_u32, of_u64, of_unit,
+    of_usize, word_of,
+};
 use crate::arguments::Arguments;
 use crate::outcome::Stop;
-use gimli_core::Reader;
+use gimli_core::{Endianity, Reader};
 
 /// What a call answers over a reader. `base` is the reader that it was at first.
 pub fn answer<'a>(
@@ -13,13 +16,13 @@ pub fn answer<'a>(
     words: &mut Arguments<'_>,
 ) -> Result<Answer<'a>, Stop> {
     match name {
-        "endian" => Ok(Answer::Word(word_of(reader.endian()))),
-        "len" => Ok(of_usize(reader.len())),
-        "is_empty" => Ok(of_bool(reader.is_empty())),
-        "find" => Ok(of_usize(reader.find(words.u8()?)?)),
+        "to_slice" | "slice" => Ok(Answer::Bytes(reader.slice())),
+        "split" => Ok(Answer::of(reader.split(words.usize()).map(Answer::Part))),
+        "read_null_terminated_slice" => Ok(Answer::of(
+            reader.read_null_terminated_slice().map(Answer::Part),
+        )),
         "offset_from" => offset_from(*reader, base),
-        "to_slice" | "slice" => return Ok(Answer::Bytes(reader.slice())),
-        _ => return moved(reader, name, words),
+        _ => value(reader, name, words),
     }
 }
 
@@ -34,44 +37,51 @@ fn offset_from(reader: Slice<'_>, base: Slice<'_>) -> Result<Answer<'static>, St
     }
 }
 
-/// What a call answers that lets bytes go.
-fn moved<'a>(
-    reader: &mut Slice<'a>,
+/// What a call answers that looks at bytes, or lets bytes go.
+fn value(
+    reader: &mut Slice<'_>,
     name: &str,
     words: &mut Arguments<'_>,
-) -> Result<Answer<'a>, Stop> {
-    match name {
-        "empty" => reader.empty(),
-        "truncate" => reader.truncate(words.usize()?)?,
-        "skip" => reader.skip(words.usize()?)?,
-        "split" => return Ok(Answer::Part(reader.split(words.usize()?)?)),
+) -> Result<Answer<'static>, Stop> {
+    let answer = match name {
+        "endian" => Ok(Answer::Word(word_of(reader.endian().is_big_endian()))),
+        "len" => Ok(of_usize(reader.len())),
+        "is_empty" => Ok(of_bool(reader.is_empty())),
+        "find" => reader.find(words.u8()).map(of_usize),
+        "empty" => {
+            reader.empty();
+            Ok(Answer::Word("ok"))
+        }
+        "truncate" => reader.truncate(words.usize()).map(of_unit),
+        "skip" => reader.skip(words.usize()).map(of_unit),
         _ => return fixed(reader, name, words),
-    }
-    Ok(Answer::Word("ok"))
+    };
+    Ok(Answer::of(answer))
 }
 
 /// What a call answers that takes a number of a fixed size.
-fn fixed<'a>(
-    reader: &mut Slice<'a>,
+fn fixed(
+    reader: &mut Slice<'_>,
     name: &str,
     words: &mut Arguments<'_>,
-) -> Result<Answer<'a>, Stop> {
-    match name {
-        "read_u8" => Ok(of_u8(reader.read_u8()?)),
-        "read_i8" => Ok(Answer::Number("i8", i128::from(reader.read_i8()?))),
-        "read_u16" => Ok(of_u16(reader.read_u16()?)),
-        "read_u32" => Ok(Answer::Number("u32", i128::from(reader.read_u32()?))),
-        "read_u64" => Ok(of_u64(reader.read_u64()?)),
-        "read_uint" => uint(reader, words.usize()?),
-        "read_u8_array_16" => Ok(Answer::Sixteen(reader.read_u8_array_16()?)),
+) -> Result<Answer<'static>, Stop> {
+    let answer = match name {
+        "read_u8" => reader.read_u8().map(of_u8),
+        "read_i8" => reader.read_i8().map(of_i8),
+        "read_u16" => reader.read_u16().map(of_u16),
+        "read_u32" => reader.read_u32().map(of_u32),
+        "read_u64" => reader.read_u64().map(of_u64),
+        "read_uint" => return uint(reader, words.usize()),
+        "read_u8_array_16" => reader.read_u8_array_16().map(of_sixteen),
         _ => return other(reader, name, words),
-    }
+    };
+    Ok(Answer::of(answer))
 }
 
 /// A number of `n` bytes, where they are eight at most.
 fn uint(reader: &mut Slice<'_>, n: usize) -> Result<Answer<'static>, Stop> {
     if n <= 8 {
-        Ok(of_u64(reader.read_uint(n)?))
+        Ok(Answer::of(reader.read_uint(n).map(of_u64)))
     } else {
         Err(Stop::Condition)
     }
@@ -80,39 +90,29 @@ fn uint(reader: &mut Slice<'_>, n: usize) -> Result<Answer<'static>, Stop> {
 /// An address, where the size is that of one.
 fn address(reader: &mut Slice<'_>, size: u8) -> Result<Answer<'static>, Stop> {
     match size {
-        1 | 2 | 4 | 8 => Ok(of_u64(reader.read_address(size)?)),
+        1 | 2 | 4 | 8 => Ok(Answer::of(reader.read_address(size).map(of_u64))),
         _ => Err(Stop::Condition),
     }
 }
 
 /// What a call answers that takes something else.
-fn other<'a>(
-    reader: &mut Slice<'a>,
+fn other(
+    reader: &mut Slice<'_>,
     name: &str,
     words: &mut Arguments<'_>,
-) -> Result<Answer<'a>, Stop> {
-    match name {
-        "read_address_size" => Ok(of_u8(reader.read_address_size()?)),
-        "read_address" => address(reader, words.u8()?),
-        "read_null_terminated_slice" => {
-            return Ok(Answer::Part(reader.read_null_terminated_slice()?));
-        }
-        "read_initial_length" => {
-            let (length, format) = reader.read_initial_length()?;
-            Ok(Answer::Length(length, format))
-        }
-        "read_length" => Ok(of_usize(reader.read_length(words.format()?)?)),
-        "read_offset" => Ok(of_usize(reader.read_offset(words.format()?)?)),
-        _ => leb128(reader, name),
-    }
-}
-
-/// A LEB128 number.
-fn leb128(reader: &mut Slice<'_>, name: &str) -> Result<Answer<'static>, Stop> {
-    match name {
-        "read_uleb128" => Ok(of_u64(reader.read_uleb128()?)),
-        "read_uleb128_u16" => Ok(of_u16(reader.read_uleb128_u16()?)),
-        "read_sleb128" => Ok(Answer::Number("i64", i128::from(reader.read_sleb128()?))),
-        _ => Err(Stop::Bad),
-    }
+) -> Result<Answer<'static>, Stop> {
+    let answer = match name {
+        "read_address_size" => reader.read_address_size().map(of_u8),
+        "read_address" => return address(reader, words.u8()),
+        "read_initial_length" => reader
+            .read_initial_length()
+            .map(|(length, format)| Answer::Length(length, format)),
+        "read_length" => reader.read_length(words.format()).map(of_usize),
+        "read_offset" => reader.read_offset(words.format()).map(of_usize),
+        "read_uleb128" => reader.read_uleb128().map(of_u64),
+        "read_uleb128_u16" => reader.read_uleb128_u16().map(of_u16),
+        "read_sleb128" => reader.read_sleb128().map(of_i64),
+        _ => return Err(Stop::Bad),
+    };
+    Ok(Answer::of(answer))
 }

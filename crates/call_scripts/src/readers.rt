@@ -1,8 +1,8 @@
 //! Scripts of reader calls.
 
-use crate::answer::{Answer, Slice, write_bytes};
-use crate::arguments::{Arguments, order_of};
-use crate::outcome::{Script, Stop, print_line, run};
+use crate::answer::{Answer, Slice};
+use crate::arguments::{Arguments, is_bytes, order_of};
+use crate::outcome::{BytesAfter, Script, Stop, print_line, run};
 use crate::{numbers, order_calls, reader_calls};
 use gimli_core::{EndianSlice, Reader, RunTimeEndian};
 use row_text::Attempts;
@@ -58,6 +58,7 @@ fn put_bytes(
     mut words: Arguments<'_>,
 ) -> Result<(), Stop> {
     let bytes = words.bytes(alloc)?;
+    words.finish()?;
     match groups.last_mut() {
         Some(group) if is_open => group.extend_from_slice(bytes.as_slice())?,
         _ => match groups.push(bytes) {
@@ -110,24 +111,6 @@ impl<'a> ReaderScript<'a> {
         }
     }
 
-    /// Makes a call on numbers, or one of a reader, and prints what it answers.
-    fn call(
-        &mut self,
-        name: &str,
-        words: &mut Arguments<'_>,
-        out: &mut Vec<u8>,
-    ) -> Result<(), Stop> {
-        let mut ahead = *words;
-        match numbers::answer(name, &mut ahead) {
-            Err(Stop::Bad) => self.call_reader(name, words, out),
-            answer => {
-                *words = ahead;
-                print_line(out, told(answer)?)?;
-                Ok(())
-            }
-        }
-    }
-
     /// Makes a call of the reader, of its part or of its order.
     fn call_reader(
         &mut self,
@@ -136,15 +119,15 @@ impl<'a> ReaderScript<'a> {
         out: &mut Vec<u8>,
     ) -> Result<(), Stop> {
         match name {
-            "read_slice" => self.read_slice(words.usize()?, out),
+            "read_slice" => self.read_slice(words.usize(), out),
             "endian" if !words.is_empty() => self.call_order(words, out),
             "part" => {
-                let name = words.word()?;
-                let answer = reader_calls::answer(&mut self.part, self.base, name, words);
-                print_left(out, told(answer)?, self.part)
+                let name = words.word();
+                let answer = reader_calls::answer(&mut self.part, self.base, name, words)?;
+                print_left(out, answer, self.part)
             }
             _ => {
-                let answer = told(reader_calls::answer(&mut self.reader, self.base, name, words))?;
+                let answer = reader_calls::answer(&mut self.reader, self.base, name, words)?;
                 if let Answer::Part(part) = answer {
                     self.part = part;
                 }
@@ -164,60 +147,51 @@ impl<'a> ReaderScript<'a> {
             Err(error) => Answer::Refused(error),
         };
         print_left(out, answer, self.reader)?;
-        print_line(out, Buffer(buffer.as_slice()))?;
-        Ok(())
+        print_line(out, BytesAfter("buffer", buffer.as_slice()))
     }
 
     /// Makes a call of the order, on the bytes that are left or on a copy of them.
     fn call_order(&mut self, words: &mut Arguments<'_>, out: &mut Vec<u8>) -> Result<(), Stop> {
-        let name = words.word()?;
+        let name = words.word();
+        let bytes = self.reader.slice();
         if name.starts_with("write") {
-            let mut copy = Vec::from_slice(self.alloc, self.reader.slice())?;
+            let mut copy = Vec::from_slice(self.alloc, bytes)?;
             order_calls::write(self.order, name, words, &mut copy)?;
-            print_line(out, Answer::Bytes(copy.as_slice()))?;
+            print_line(out, Answer::Bytes(copy.as_slice()))
         } else {
-            print_line(
-                out,
-                order_calls::read(self.order, name, self.reader.slice())?,
-            )?;
+            print_line(out, order_calls::read(self.order, name, bytes)?)
         }
-        Ok(())
     }
 }
 
 impl Script for ReaderScript<'_> {
-    fn make(&mut self, _number: u64, line: &str, out: &mut Vec<u8>) -> Result<(), Stop> {
-        let mut words = Arguments::of_line(line);
-        if words.is_empty() {
-            return Ok(());
-        }
-        if words.are_bytes() {
-            if !self.is_open {
+    fn call(
+        &mut self,
+        _number: u64,
+        name: &str,
+        words: &mut Arguments<'_>,
+        out: &mut Vec<u8>,
+    ) -> Result<(), Stop> {
+        let was_open = self.is_open;
+        self.is_open = is_bytes(name);
+        if self.is_open {
+            words.all();
+            if !was_open {
                 self.begin();
             }
-            self.is_open = true;
             return Ok(());
         }
-        self.is_open = false;
-        let name = words.word()?;
-        self.call(name, &mut words, out)?;
-        words.finish()
-    }
-}
-
-/// What a call answers, with the refusal of a reader among it.
-fn told(answer: Result<Answer<'_>, Stop>) -> Result<Answer<'_>, Stop> {
-    match answer {
-        Err(Stop::Refused(error)) => Ok(Answer::Refused(error)),
-        _ => answer,
+        match numbers::answer(name, words) {
+            Err(Stop::Bad) => self.call_reader(name, words, out),
+            answer => print_line(out, answer?),
+        }
     }
 }
 
 /// Prints an answer, and how many bytes are left.
 fn print_left(out: &mut Vec<u8>, answer: Answer<'_>, reader: Slice<'_>) -> Result<(), Stop> {
     let left = reader.len();
-    print_line(out, Left { answer, left })?;
-    Ok(())
+    print_line(out, Left { answer, left })
 }
 
 /// An answer, and how many bytes are left.
@@ -229,18 +203,8 @@ struct Left<'a> {
 
 impl fmt::Display for Left<'_> {
     fn fmt<W: fmt::Write>(&self, f: &mut fmt::Formatter<W>) -> fmt::Result {
-        let answer = self.answer;
         let left = self.left;
-        write!(f, "{answer}, {left} left")
-    }
-}
-
-/// The line of a buffer.
-#[derive(Clone, Copy)]
-struct Buffer<'a>(&'a [u8]);
-
-impl fmt::Display for Buffer<'_> {
-    fn fmt<W: fmt::Write>(&self, f: &mut fmt::Formatter<W>) -> fmt::Result {
-        write_bytes(f, "buffer", self.0)
+        self.answer.fmt(f)?;
+        write!(f, ", {left} left")
     }
 }

@@ -1,20 +1,30 @@
 //! Scripts of writer calls and of string table calls.
 
-use crate::answer::{word_of, write_bytes};
+use crate::answer::word_of;
 use crate::arguments::{Arguments, order_of};
-use crate::outcome::{Numbered, Script, Stop, print_line, run};
+use crate::outcome::{ByName, BytesAfter, Script, Stop, Told, print_line, run};
 use crate::tables::{self, Kind, Tables, is_made_again};
 use crate::writers;
-use gimli_bytes::{DebugLine, DebugLineStr, DebugStr, EndianVec, Writer};
-use gimli_core::{RunTimeEndian, SectionId};
+use gimli_bytes::{DebugLine, DebugLineStr, DebugStr, Writer};
+use gimli_core::{Endianity, RunTimeEndian, SectionId};
 use row_text::Attempts;
 use std::alloc::{AllocError, Global};
 use std::{fmt, mem};
 
-/// Runs a script of calls of an `EndianVec`, and of the string tables `str` and `line_str`. Each call that writes has a
-/// line: `ok`, `place N` or `error NAME`, with ` + ` and the bytes that it appended, or with ` = ` and all bytes where it
-/// changed others. `next` makes the section and the tables anew, and prints `--`.
-pub fn bytes(
+/// A section that scripts write to.
+pub trait Section: Writer + Drop {
+    /// An empty section.
+    fn empty(alloc: Global, order: RunTimeEndian) -> Self;
+
+    /// A copy of the bytes.
+    fn joined(&self, alloc: Global) -> Result<Vec<u8>, AllocError>;
+
+    /// Makes a call that other sections don't have, and prints what it answers.
+    fn call_own(&mut self, alloc: Global, name: &str, out: &mut Vec<u8>) -> Result<(), Stop>;
+}
+
+/// Runs a script of calls of a section of this type, and of the string tables `str` and `line_str`.
+pub fn run_over<W: Section>(
     alloc: Global,
     words: &[&str],
     input: &str,
@@ -22,76 +32,61 @@ pub fn bytes(
     out: &mut Vec<u8>,
 ) -> Result<u8, AllocError> {
     match order_of(words) {
-        Some(order) => run(&mut Sections::new(alloc, order, attempts), input, out),
+        Some(order) => run(&mut Sections::<W>::new(alloc, order, attempts), input, out),
         None => Ok(2),
     }
 }
 
 /// What a script writes to.
 #[derive(Drop)]
-struct Sections {
+struct Sections<W> {
     alloc: Global,
     order: RunTimeEndian,
     attempts: Attempts,
     /// The section.
-    section: EndianVec<RunTimeEndian>,
+    section: W,
     /// The bytes of the section before the call.
     before: Vec<u8>,
     tables: Tables,
 }
 
-impl Sections {
+impl<W: Section> Sections<W> {
     /// An empty section, and tables without texts.
-    fn new(alloc: Global, order: RunTimeEndian, attempts: Attempts) -> Sections {
+    fn new(alloc: Global, order: RunTimeEndian, attempts: Attempts) -> Sections<W> {
         Sections {
             alloc,
             order,
             attempts,
-            section: EndianVec::new(alloc, order),
+            section: W::empty(alloc, order),
             before: Vec::new(alloc),
             tables: Tables::new(alloc),
         }
     }
 
-    /// Makes a call that writes nothing, or one that does, and prints what it answers.
-    fn call(
-        &mut self,
-        number: u64,
-        name: &str,
-        words: &mut Arguments<'_>,
-        out: &mut Vec<u8>,
-    ) -> Result<(), Stop> {
-        match name {
-            "endian" => print_line(out, word_of(self.section.endian()))?,
-            "len" => print_line(out, Numbered("usize", self.section.len() as u64))?,
-            "offset" => self.print_offset(words.section()?, out)?,
-            "slice" => print_line(out, AllBytes(self.section.slice()))?,
-            "take" => self.take(out)?,
-            "next" => self.begin_anew(out)?,
-            "str" => self.call_table(number, Kind::Strings, words, out)?,
-            "line_str" => self.call_table(number, Kind::LineStrings, words, out)?,
-            _ => self.write(number, name, words, out)?,
-        }
-        Ok(())
-    }
-
     /// Makes the section and the tables anew.
-    fn begin_anew(&mut self, out: &mut Vec<u8>) -> Result<(), AllocError> {
+    fn begin_anew(&mut self, out: &mut Vec<u8>) -> Result<(), Stop> {
         *self = Sections::new(self.alloc, self.order, self.attempts);
         print_line(out, "--")
     }
 
-    /// Prints the offset of what is appended next.
-    fn print_offset(&mut self, section: SectionId, out: &mut Vec<u8>) -> Result<(), AllocError> {
-        let offset = self.offset(section);
-        print_line(out, Numbered("usize", offset as u64))
+    /// Prints the bytes.
+    fn print_bytes(&self, out: &mut Vec<u8>) -> Result<(), Stop> {
+        let bytes = self.section.joined(self.alloc)?;
+        print_line(out, BytesAfter("bytes", bytes.as_slice()))
     }
 
-    /// Takes the bytes out, and prints them.
-    fn take(&mut self, out: &mut Vec<u8>) -> Result<(), AllocError> {
-        self.before.clear();
-        let taken = self.section.take();
-        print_line(out, AllBytes(taken.as_slice()))
+    /// Prints the offset of what is appended next, as a section of this kind tells it.
+    fn print_offset(&mut self, section: SectionId, out: &mut Vec<u8>) -> Result<(), Stop> {
+        let (w, offset) = offset_in(section, self.take_section());
+        self.section = w;
+        print_line(out, Told("usize", offset))
+    }
+
+    /// Makes a call that other sections don't have.
+    fn call_own(&mut self, name: &str, out: &mut Vec<u8>) -> Result<(), Stop> {
+        self.section.call_own(self.alloc, name, out)?;
+        self.before = self.section.joined(self.alloc)?;
+        Ok(())
     }
 
     /// Makes a call of the writer, and prints what it answers.
@@ -103,17 +98,12 @@ impl Sections {
         out: &mut Vec<u8>,
     ) -> Result<(), Stop> {
         let mut again = *words;
-        let mut answer = self.answer(name, words)?;
+        let mut answer = writers::answer(self.alloc, &mut self.section, name, words)?;
         if is_made_again(&answer, self.attempts) {
-            self.restore(number, out)?;
-            answer = self.answer(name, &mut again)?;
+            self.restore(number, name, out)?;
+            answer = writers::answer(self.alloc, &mut self.section, name, &mut again)?;
         }
         self.print_written(answer, out)
-    }
-
-    /// What a call of the writer answers.
-    fn answer(&mut self, name: &str, words: &mut Arguments<'_>) -> Result<writers::Answer, Stop> {
-        writers::answer(self.alloc, &mut self.section, name, words)
     }
 
     /// Makes a call of a table, and prints what it answers.
@@ -124,23 +114,24 @@ impl Sections {
         words: &mut Arguments<'_>,
         out: &mut Vec<u8>,
     ) -> Result<(), Stop> {
-        let mut ahead = *words;
-        if ahead.word()? == "write" {
-            *words = ahead;
+        let name = words.word();
+        if name == "write" {
             return self.write_table(number, kind, out);
         }
-        match self.tables.answer(self.alloc, kind, self.attempts, words)? {
-            tables::Answer::Changed => print_line(out, Numbered("state", number))?,
-            answer => print_line(out, answer)?,
+        match self
+            .tables
+            .answer(self.alloc, kind, self.attempts, name, words)?
+        {
+            tables::Answer::Changed => print_line(out, Told("state", number)),
+            answer => print_line(out, answer),
         }
-        Ok(())
     }
 
     /// Appends a table to the section, and prints what that answers.
     fn write_table(&mut self, number: u64, kind: Kind, out: &mut Vec<u8>) -> Result<(), Stop> {
         let mut answer = self.append_table(kind);
         if is_made_again(&answer, self.attempts) {
-            self.restore(number, out)?;
+            self.restore(number, "write table", out)?;
             answer = self.append_table(kind);
         }
         self.print_written(answer, out)
@@ -151,50 +142,45 @@ impl Sections {
         let section = self.take_section();
         let (section, answer) = self.tables.write(kind, section);
         self.section = section;
-        answer?;
-        Ok(None)
+        answer.map(|()| None)
     }
 
     /// Takes the section out, and leaves an empty one.
-    fn take_section(&mut self) -> EndianVec<RunTimeEndian> {
-        mem::replace(&mut self.section, EndianVec::new(self.alloc, self.order))
+    fn take_section(&mut self) -> W {
+        mem::replace(&mut self.section, W::empty(self.alloc, self.order))
     }
 
-    /// Looks whether the bytes of before a refused call are still a beginning, and makes the section anew with them.
-    fn restore(&mut self, number: u64, out: &mut Vec<u8>) -> Result<(), AllocError> {
-        if !self.section.slice().starts_with(self.before.as_slice()) {
-            print_line(out, Numbered("state", number))?;
+    /// Looks whether the bytes of before a refused call are still a beginning, or after a refused `write` all there are,
+    /// and makes the section anew with them.
+    fn restore(&mut self, number: u64, name: &str, out: &mut Vec<u8>) -> Result<(), Stop> {
+        let now = self.section.joined(self.alloc)?;
+        if !stands(name, self.before.as_slice(), now.as_slice()) {
+            print_line(out, Told("state", number))?;
         }
-        self.section = EndianVec::new(self.alloc, self.order);
+        self.section = W::empty(self.alloc, self.order);
         match self.section.write(self.before.as_slice()) {
             Ok(()) => Ok(()),
-            Err(_) => Err(AllocError),
+            Err(_) => Err(Stop::Memory),
         }
     }
 
     /// Prints what a call answers that writes, and what it changed.
     fn print_written(&mut self, answer: writers::Answer, out: &mut Vec<u8>) -> Result<(), Stop> {
-        let before = self.before.as_slice();
-        let now = self.section.slice();
-        print_line(
-            out,
-            Written {
-                answer,
-                before,
-                now,
-            },
-        )?;
-        self.before.clear();
-        self.before.extend_from_slice(self.section.slice())?;
-        Ok(())
+        let now = self.section.joined(self.alloc)?;
+        let written = Written {
+            answer,
+            before: self.before.as_slice(),
+            now: now.as_slice(),
+        };
+        let printed = print_line(out, written);
+        self.before = now;
+        printed
     }
+}
 
-    /// The offset of what is appended next, as a section of this kind tells it.
-    fn offset(&mut self, section: SectionId) -> usize {
-        let (w, offset) = offset_in(section, self.take_section());
-        self.section = w;
-        offset
-    }
+/// Whether the bytes of a section are as a refused call of this name leaves them.
+fn stands(name: &str, before: &[u8], now: &[u8]) -> bool {
+    now.starts_with(before) && (name != "write" || now.len() == before.len())
 }
 
 /// The offset of what is appended next to a writer, as a section of this kind tells it, and the writer.
@@ -218,47 +204,57 @@ fn offset_in<W: Writer>(section: SectionId, w: W) -> (W, usize) {
     }
 }
 
-impl Script for Sections {
-    fn make(&mut self, number: u64, line: &str, out: &mut Vec<u8>) -> Result<(), Stop> {
-        let mut words = Arguments::of_line(line);
-        if words.is_empty() {
-            return Ok(());
+impl<W: Section> Script for Sections<W> {
+    fn call(
+        &mut self,
+        number: u64,
+        name: &str,
+        words: &mut Arguments<'_>,
+        out: &mut Vec<u8>,
+    ) -> Result<(), Stop> {
+        match name {
+            "endian" => print_line(out, word_of(self.section.endian().is_big_endian())),
+            "len" => print_line(out, Told("usize", self.section.len())),
+            "slice" => self.print_bytes(out),
+            "offset" => self.print_offset(words.section(), out),
+            "next" => self.begin_anew(out),
+            "str" => self.call_table(number, Kind::Strings, words, out),
+            "line_str" => self.call_table(number, Kind::LineStrings, words, out),
+            "take" | "pieces" | "into_vec" => self.call_own(name, out),
+            _ => self.write(number, name, words, out),
         }
-        let name = words.word()?;
-        self.call(number, name, &mut words, out)?;
-        words.finish()
-    }
-}
-
-/// The line of bytes.
-#[derive(Clone, Copy)]
-pub struct AllBytes<'a>(pub &'a [u8]);
-
-impl fmt::Display for AllBytes<'_> {
-    fn fmt<W: fmt::Write>(&self, f: &mut fmt::Formatter<W>) -> fmt::Result {
-        write_bytes(f, "bytes", self.0)
     }
 }
 
 /// What a call answers that writes, and the bytes of before and after it.
 #[derive(Clone, Copy)]
-pub struct Written<'a> {
-    pub answer: writers::Answer,
-    pub before: &'a [u8],
-    pub now: &'a [u8],
+struct Written<'a> {
+    answer: writers::Answer,
+    before: &'a [u8],
+    now: &'a [u8],
 }
 
 impl fmt::Display for Written<'_> {
     fn fmt<W: fmt::Write>(&self, f: &mut fmt::Formatter<W>) -> fmt::Result {
-        match self.answer {
-            Ok(None) => f.write_str("ok")?,
-            Ok(Some(place)) => write!(f, "place {place}")?,
-            Err(error) => write!(f, "error {error:?}")?,
-        }
+        Done(self.answer).fmt(f)?;
         match self.now.strip_prefix(self.before) {
             Some([]) => Ok(()),
-            Some(appended) => write_bytes(f, " +", appended),
-            None => write_bytes(f, " =", self.now),
+            Some(appended) => BytesAfter(" +", appended).fmt(f),
+            None => BytesAfter(" =", self.now).fmt(f),
+        }
+    }
+}
+
+/// What a call answers that writes.
+#[derive(Clone, Copy)]
+struct Done(writers::Answer);
+
+impl fmt::Display for Done {
+    fn fmt<W: fmt::Write>(&self, f: &mut fmt::Formatter<W>) -> fmt::Result {
+        match self.0 {
+            Ok(None) => f.write_str("ok"),
+            Ok(Some(place)) => Told("place", place).fmt(f),
+            Err(error) => Told("error", ByName(error)).fmt(f),
         }
     }
 }

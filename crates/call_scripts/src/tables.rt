@@ -1,7 +1,9 @@
 //! Calls of string tables.
 
+ghost use Rattle.std.specs.Prelude.{◌≢◌, All};
+
 use crate::arguments::Arguments;
-use crate::outcome::Stop;
+use crate::outcome::{ByName, Stop, Told};
 use gimli_bytes::{
     DebugLineStr, DebugStr, Error, LineStringId, LineStringTable, Result, StringId, StringTable,
     Writer,
@@ -41,13 +43,10 @@ pub enum Answer<'a> {
 
 impl fmt::Display for Answer<'_> {
     fn fmt<W: fmt::Write>(&self, f: &mut fmt::Formatter<W>) -> fmt::Result {
-        match *self {
-            Answer::Number(word, number) => write!(f, "{word} {number}"),
-            Answer::Text(text) => {
-                let text = Text(text);
-                write!(f, "text {text}")
-            }
-            Answer::Refused(error) => write!(f, "error {error:?}"),
+        match self {
+            Answer::Number(word, number) => Told(*word, *number).fmt(f),
+            Answer::Text(text) => Told("text", Text(text)).fmt(f),
+            Answer::Refused(error) => Told("error", ByName(*error)).fmt(f),
             Answer::Changed => f.write_str("changed"),
         }
     }
@@ -68,13 +67,14 @@ impl Tables {
         alloc: Global,
         kind: Kind,
         attempts: Attempts,
+        name: &str,
         words: &mut Arguments<'_>,
     ) -> std::result::Result<Answer<'_>, Stop> {
-        match words.word()? {
+        match name {
             "add" => self.add_again(kind, words.text(alloc)?.as_slice(), attempts),
             "count" => Ok(Answer::Number("count", self.count(kind))),
-            "get" => self.get(kind, words.usize()?),
-            "offset" => self.offset(kind, words.usize()?),
+            "get" => self.get(kind, words.usize()),
+            "offset" => self.offset(kind, words.usize()),
             _ => Err(Stop::Bad),
         }
     }
@@ -86,13 +86,16 @@ impl Tables {
         text: &[u8],
         attempts: Attempts,
     ) -> std::result::Result<Answer<'_>, Stop> {
+        if text.contains(&0) {
+            return Err(Stop::Condition);
+        }
         let before = self.count(kind);
-        let mut added = self.add(kind, text)?;
+        let mut added = self.add(kind, text);
         if is_made_again(&added, attempts) {
             if self.count(kind) != before {
                 return Ok(Answer::Changed);
             }
-            added = self.add(kind, text)?;
+            added = self.add(kind, text);
         }
         Ok(match added {
             Ok(id) => Answer::Number("id", id),
@@ -100,15 +103,14 @@ impl Tables {
         })
     }
 
-    /// Adds a text, where no byte of it is zero.
-    fn add(&mut self, kind: Kind, text: &[u8]) -> std::result::Result<Result<usize>, Stop> {
-        if text.contains(&0) {
-            return Err(Stop::Condition);
-        }
-        Ok(match kind {
+    /// Adds a text. Requires that no byte of it is zero.
+    fn add(&mut self, kind: Kind, text: &[u8]) -> Result<usize>
+        requires { All (λ b. b ≢ 0) text.now }
+    {
+        match kind {
             Kind::Strings => self.strings.add(text).map(|id| id.0),
             Kind::LineStrings => self.line_strings.add(text).map(|id| id.0),
-        })
+        }
     }
 
     /// How many texts there are.
