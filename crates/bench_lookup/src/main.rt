@@ -14,6 +14,8 @@
 
 mod work;
 
+use gimli_core::{DebugLineOffset, LittleEndian};
+use gimli_line::DebugLine;
 use std::alloc::Global;
 use std::fs::File;
 use std::io::{ErrorKind, Read};
@@ -65,7 +67,8 @@ fn measure(
     let (Ok(offset), Ok(times)) = (offset.parse::<usize>(), times.parse::<u64>()) else {
         return Err(io::Error::from(ErrorKind::InvalidInput));
     };
-    match do_work(alloc, section, offset, work, times) {
+    let section = DebugLine::new(section, LittleEndian);
+    match do_work(alloc, &section, DebugLineOffset(offset), work, times) {
         Ok(tally) => Ok(tally),
         Err(_) => Err(io::Error::from(ErrorKind::InvalidData)),
     }

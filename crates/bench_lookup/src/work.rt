@@ -1,6 +1,6 @@
 //! The work that is measured.
 
-use gimli_core::{DebugLineOffset, EndianSlice, Error, LittleEndian, Reader, Result};
+use gimli_core::{DebugLineOffset, Error, Reader, Result};
 use gimli_line::{
     CompleteLineProgram, DebugLine, IncompleteLineProgram, LineProgram, LineRows, LineSequence,
 };
@@ -27,39 +27,33 @@ impl Tally {
 }
 
 /// Does the work that the word names so many times, and answers what the last time counted.
-pub fn do_work(
+pub fn do_work<R: Reader>(
     alloc: Global,
-    section: &[u8],
-    offset: usize,
+    section: &DebugLine<R>,
+    offset: DebugLineOffset<R::Offset>,
     work: &str,
     times: u64,
 ) -> Result<Tally> {
     if work == "find" {
-        let lookup = Lookup::new(program_at(alloc, section, offset)?)?;
+        let lookup = Lookup::new(section.program(alloc, offset, 8, None, None)?)?;
         return Ok(find_times(&lookup, times));
     }
     let mut tally = Tally::default();
     for _ in 0..times {
-        let program = program_at(alloc, section, offset)?;
-        tally = match work {
-            "rows" => tally_of_rows(program)?,
-            "sequences" => tally_of_sequences(program.sequences()?.1.as_slice()),
-            "resumed" => tally_of_resumed(program)?,
-            "new" => tally_of_sequences(Lookup::new(program)?.sequences()),
-            _ => return Err(Error::UnsupportedOffset),
-        };
+        tally = tally_of(section.program(alloc, offset, 8, None, None)?, work)?;
     }
     Ok(tally)
 }
 
-/// The program of the unit at an offset.
-fn program_at(
-    alloc: Global,
-    section: &[u8],
-    offset: usize,
-) -> Result<IncompleteLineProgram<EndianSlice<'_, LittleEndian>>> {
-    let section = DebugLine::new(section, LittleEndian);
-    section.program(alloc, DebugLineOffset(offset), 8, None, None)
+/// Does the work on a program once.
+fn tally_of<R: Reader>(program: IncompleteLineProgram<R>, work: &str) -> Result<Tally> {
+    match work {
+        "rows" => tally_of_rows(program),
+        "sequences" => tally_of_cut(program),
+        "resumed" => tally_of_resumed(program),
+        "new" => tally_of_new(program),
+        _ => Err(Error::UnsupportedOffset),
+    }
 }
 
 // ---- runs
@@ -84,6 +78,18 @@ fn tally_of_rows<R: Reader>(program: IncompleteLineProgram<R>) -> Result<Tally> 
     let mut tally = Tally::default();
     add_rows(program.rows(), &mut tally)?;
     Ok(tally)
+}
+
+/// The sequences of a program.
+fn tally_of_cut<R: Reader>(program: IncompleteLineProgram<R>) -> Result<Tally> {
+    let (_, sequences) = program.sequences()?;
+    Ok(tally_of_sequences(&sequences))
+}
+
+/// The sequences of a lookup that is made.
+fn tally_of_new<R: Reader>(program: IncompleteLineProgram<R>) -> Result<Tally> {
+    let lookup = Lookup::new(program)?;
+    Ok(tally_of_sequences(lookup.sequences()))
 }
 
 /// Sequences.

@@ -5,7 +5,7 @@
 //! error has the time of each pass.
 #![tactic(auto)]
 
-use gimli_core::{DebugLineOffset, EndianSlice, LittleEndian};
+use gimli_core::{DebugLineOffset, LittleEndian, Reader};
 use gimli_line::{ColumnType, DebugLine, IncompleteLineProgram, LineRow};
 use std::alloc::Global;
 use std::fs::File;
@@ -13,9 +13,6 @@ use std::io::Read;
 use std::process::ExitCode;
 use std::time::Instant;
 use std::{env, io};
-
-/// The bytes of a section.
-type Section<'i> = EndianSlice<'i, LittleEndian>;
 
 fn main(rt: HostRuntime) -> ExitCode {
     match run(&rt) {
@@ -29,9 +26,7 @@ fn run(rt: &HostRuntime) -> io::Result<()> {
     let Some(path) = arguments.get(1) else {
         return Ok(());
     };
-    let mut section: Vec<u8> = Vec::new(rt.alloc());
-    let mut file = File::open(rt, path.as_str())?;
-    file.read_to_end(&mut section)?;
+    let section = read_file(rt, path)?;
     let times = match arguments.get(2) {
         Some(word) => word.parse::<u64>().unwrap_or(7),
         None => 7,
@@ -42,7 +37,7 @@ fn run(rt: &HostRuntime) -> io::Result<()> {
     };
     for _ in 0..times {
         let begin = Instant::now(rt)?;
-        let total = pass(rt.alloc(), &section, what);
+        let total = measure(rt.alloc(), &section, what);
         let nanos = begin.elapsed(rt)?.as_nanos();
         println!(rt;
             "units {} {name} {} sum {}",
@@ -53,6 +48,14 @@ fn run(rt: &HostRuntime) -> io::Result<()> {
     Ok(())
 }
 
+/// The bytes of a file.
+fn read_file(rt: &HostRuntime, path: &str) -> io::Result<Vec<u8>> {
+    let mut bytes = Vec::new(rt.alloc());
+    let mut file = File::open(rt, path)?;
+    file.read_to_end(&mut bytes)?;
+    Ok(bytes)
+}
+
 /// What is counted in a unit.
 #[derive(Clone, Copy)]
 enum What {
@@ -60,8 +63,18 @@ enum What {
     Sequences,
 }
 
-/// One pass over all units.
-fn pass(alloc: Global, section: &[u8], what: What) -> Total {
+/// One pass over all units of these bytes.
+fn measure(alloc: Global, section: &[u8], what: What) -> Total {
+    pass(alloc, &DebugLine::new(section, LittleEndian), section.len(), what)
+}
+
+/// One pass over all units of a section of this length.
+fn pass<R: Reader<Offset = usize>>(
+    alloc: Global,
+    section: &DebugLine<R>,
+    end: usize,
+    what: What,
+) -> Total {
     let mut total = Total {
         units: 0,
         count: 0,
@@ -69,6 +82,9 @@ fn pass(alloc: Global, section: &[u8], what: What) -> Total {
     };
     let mut offset: usize = 0;
     for _ in 0..u64::MAX {
+        if offset >= end {
+            return total;
+        }
         let Some(length) = unit(alloc, section, offset, what, &mut total) else {
             return total;
         };
@@ -120,18 +136,14 @@ impl Total {
 }
 
 /// Counts in the unit at an offset, and answers its length without the length field.
-fn unit(
+fn unit<R: Reader<Offset = usize>>(
     alloc: Global,
-    section: &[u8],
+    section: &DebugLine<R>,
     offset: usize,
     what: What,
     total: &mut Total,
 ) -> Option<usize> {
-    if offset >= section.len() {
-        return None;
-    }
-    let debug_line = DebugLine::new(section, LittleEndian);
-    let Ok(program) = debug_line.program(alloc, DebugLineOffset(offset), 8, None, None) else {
+    let Ok(program) = section.program(alloc, DebugLineOffset(offset), 8, None, None) else {
         return None;
     };
     let length = program.header().unit_length();
@@ -144,7 +156,7 @@ fn unit(
 }
 
 /// Counts the rows of a program.
-fn add_rows(program: IncompleteLineProgram<Section<'_>>, total: &mut Total) {
+fn add_rows<R: Reader>(program: IncompleteLineProgram<R>, total: &mut Total) {
     let mut rows = program.rows();
     for _ in 0..u64::MAX {
         match rows.next_row() {
@@ -155,7 +167,7 @@ fn add_rows(program: IncompleteLineProgram<Section<'_>>, total: &mut Total) {
 }
 
 /// Counts the sequences of a program.
-fn add_sequences(program: IncompleteLineProgram<Section<'_>>, total: &mut Total) {
+fn add_sequences<R: Reader>(program: IncompleteLineProgram<R>, total: &mut Total) {
     if let Ok((_, sequences)) = program.sequences() {
         for sequence in &sequences {
             total.add(sequence.start ^ sequence.end.rotate_left(32));

@@ -48,18 +48,26 @@ fn measure(rt: &HostRuntime, sequences: u64) -> io::Result<u8> {
         return Ok(1);
     };
     let build_time = begin.elapsed(rt)?.as_nanos();
+    measure_writing(rt, &program, build_time)
+}
+
+/// Writes a program that took so long to build, and prints what it was. The status is 1 where memory ran out.
+fn measure_writing(rt: &HostRuntime, program: &LineProgram, build_time: u128) -> io::Result<u8>
+    requires { CanWrite program.now [] [] }
+{
     let begin = Instant::now(rt)?;
-    let Ok(section) = write(rt.alloc(), &program) else {
+    let Ok(section) = write(rt.alloc(), program) else {
         return Ok(1);
     };
     let write_time = begin.elapsed(rt)?.as_nanos();
-    eprintln!(rt; "build_ns {build_time} write_ns {write_time}")?;
-    println!(rt;
-        "bytes {} sum {}",
-        section.len(),
-        byte_sum(section.as_slice())
-    )?;
+    print(rt, section.as_slice(), build_time, write_time)?;
     Ok(0)
+}
+
+/// Prints the length of a section and a sum of its bytes, and the times.
+fn print(rt: &HostRuntime, section: &[u8], build_time: u128, write_time: u128) -> io::Result<()> {
+    eprintln!(rt; "build_ns {build_time} write_ns {write_time}")?;
+    println!(rt; "bytes {} sum {}", section.len(), byte_sum(section))
 }
 
 /// A sum in which each byte and its place count.
