@@ -4,3 +4,7 @@ pub mod ShortestSleb
 pub mod TextLemmas
 pub mod Equality
 pub mod PieceLemmas
+pub mod WrittenAs
+pub mod InitialLengths
+pub mod UnsignedAs
+pub mod TablesWritten

@@ -1,0 +1,38 @@
+-- What the loop that writes a table of texts leaves.
+use Rattle.std.proofs.Common.{◌≡◌, ℕ, ◌+◌, ◌<◌, ◌≤◌, min, Bool, true, false, List, [], ◌∷◌, ◌++◌, length, take, get_or, refl, sym, ap, ◌∙◌, append_assoc, arith}
+use Rattle.std.specs.declared.vec.Vec.{Vec}
+use Rattle.std.specs.declared.alloc.Global.{Global}
+use Rattle.std.proofs.lemmas.Grind.{common_steps}
+use Rattle.std.proofs.lemmas.List.{take-take, length-take, take_all}
+use Rattle.gimli_core.specs.Numbers.{number_bytes}
+use Rattle.gimli_bytes.specs.Texts.{table_bytes}
+use Rattle.gimli_bytes.specs.TextsInside.{texts_of}
+use Rattle.gimli_bytes.specs.Written.{Begins}
+
+pub begins_then : (a b c : List ℕ) → Begins a b → Begins b c → Begins a c
+begins_then a b c first second =
+    let size : min (length a) (length b) ≡ length a = sym (length-take (length a) b) ∙ ap length first in
+    let le : length a ≤ length b = omega (arith, size) in
+    sym (take-take (length a) (length b) c le) ∙ ap (λ (l : List ℕ). take (length a) l) second ∙ first
+
+zero_byte : (big : Bool) → number_bytes big 1 0 ≡ 0 ∷ []
+zero_byte true = refl
+zero_byte false = refl
+
+one_more : (items : List (Vec ℕ Global)) (i : ℕ) (item : Vec ℕ Global) → i < length items → item ≡ get_or items i item → table_bytes (texts_of (take (i + 1) items)) ≡ table_bytes (texts_of (take i items)) ++ (item.items ++ 0 ∷ [])
+one_more items i item lt is = grind (arith, common_steps)
+
+-- a text and its zero byte after the texts before it
+pub text_put : (items : List (Vec ℕ Global)) (i : ℕ) (item : Vec ℕ Global) (big : Bool) (text old mid later new : List ℕ) → i < length items → item ≡ get_or items i item → text ≡ item.items
+    → mid ≡ old ++ table_bytes (texts_of (take i items)) → later ≡ mid ++ text → new ≡ later ++ number_bytes big 1 0
+    → new ≡ old ++ table_bytes (texts_of (take (i + 1) items))
+text_put items i item big text old mid later new lt is same before put ended =
+    let done = table_bytes (texts_of (take i items)) in
+    ended ∙ ap (λ (l : List ℕ). later ++ l) (zero_byte big)
+    ∙ ap (λ (l : List ℕ). l ++ 0 ∷ []) (put ∙ ap (λ (l : List ℕ). mid ++ l) same ∙ ap (λ (l : List ℕ). l ++ item.items) before)
+    ∙ append_assoc (old ++ done) item.items (0 ∷ []) ∙ append_assoc old done (item.items ++ 0 ∷ [])
+    ∙ ap (λ (l : List ℕ). old ++ l) (sym (one_more items i item lt is))
+
+pub all_put : (items keys : List (Vec ℕ Global)) (i : ℕ) (texts : List (List ℕ)) (old new : List ℕ) → length items ≤ i → items ≡ keys → texts_of keys ≡ texts → new ≡ old ++ table_bytes (texts_of (take i items)) → new ≡ old ++ table_bytes texts
+all_put items keys i texts old new end same seen put =
+    put ∙ ap (λ (l : List (Vec ℕ Global)). old ++ table_bytes (texts_of l)) (take_all i items end ∙ same) ∙ ap (λ (l : List (List ℕ)). old ++ table_bytes l) seen

@@ -1,0 +1,64 @@
+-- A call that passes its numbers on to another: what is wanted of it is what is wanted of that other.
+use Rattle.std.proofs.Common.{◌≡◌, ◌≢◌, ℕ, List, Ok, Err, OnOk, IfErr, refl, ap, sym, length, of_z, SFits, w64, arith}
+use Rattle.std.proofs.lemmas.Bool.{ne_eqb, lt-ltb}
+use Rattle.std.specs.Prelude.{Bool, true, Result, ◌+◌, ◌-◌, ◌^◌, ◌%◌, bit_and, nat_eq, ◌||◌, ℤ, pos, negsuc}
+use Rattle.gimli_core.specs.Numbers.{number_bytes}
+use Rattle.gimli_core.specs.Reading.{seen}
+use Rattle.gimli_core.specs.declared.constants.DwEhPe.{DwEhPe}
+use Rattle.gimli_bytes.specs.Written.{Appends, Refuses}
+use Rattle.gimli_bytes.specs.Number.{twos_complement, sdata, pointer_data, pointer_at_end, format_of}
+use Rattle.gimli_bytes.specs.declared.address.Address.{Address}
+use Rattle.gimli_bytes.specs.declared.address.Address.TheVariants.{Constant}
+use Rattle.gimli_bytes.specs.declared.error.Error.{Error}
+use Rattle.gimli_bytes.specs.declared.error.Error.TheVariants.{UnsupportedPointerEncoding, UnsupportedWordSize}
+
+pub appends_as : {X : Type 0} {wanted other : Result (List ℕ) Error} → wanted ≡ other → (r : Result X Error) (old new : List ℕ) → OnOk r (Appends other old new) → OnOk r (Appends wanted old new)
+appends_as is r old new h = rw is h
+
+pub refuses_as : {X : Type 0} {wanted other : Result (List ℕ) Error} → wanted ≡ other → (r : Result X Error) → IfErr r (Refuses other) → IfErr r (Refuses wanted)
+refuses_as is r h = rw is h
+
+-- a refusal that is wanted
+pub refuses_wanted : {X : Type 0} {wanted : Result (List ℕ) Error} (e : Error) (r : Result X Error) → wanted ≡ Err e → r ≡ Err e → IfErr r (Refuses wanted)
+refuses_wanted e r is answered = rw (answered, is) refl
+
+-- ---- signed numbers
+
+pub signed_as : (big : Bool) (z passed : ℤ) (size known : ℕ) (bits : Result ℕ Error) → size ≡ known → (nat_eq known 1 || nat_eq known 2 || nat_eq known 4 || nat_eq known 8) ≡ true → bits ≡ twos_complement known passed → passed ≡ z
+    → sdata big z size ≡ seen (number_bytes big known) bits
+signed_as big z passed size known bits is one bits_are same = rw (is, one, bits_are, same) refl
+
+-- all 64 bits
+pub all_bits : (z : ℤ) (n : ℕ) → SFits w64 z → n ≡ of_z w64 z → (let bits : Result ℕ Error = Ok n in bits) ≡ twos_complement 8 z
+all_bits (pos m) n fits is = rw (lt-ltb m (2 ^ 63) (omega arith), is) refl
+all_bits (negsuc m) n fits is = rw (lt-ltb m (2 ^ 63) (omega arith), is) refl
+
+pub other_signed : (big : Bool) (z : ℤ) (size : ℕ) → size ≢ 1 → size ≢ 2 → size ≢ 4 → size ≢ 8 → sdata big z size ≡ Err (UnsupportedWordSize size)
+other_signed big z size a b c d = rw (ne_eqb size 1 a, ne_eqb size 2 b, ne_eqb size 4 c, ne_eqb size 8 d) refl
+
+-- ---- pointers
+
+same_format : (format encoding : DwEhPe) → format.0 ≡ bit_and encoding.0 0x0f → format_of encoding ≡ format
+same_format format encoding is = ap (λ (n : ℕ). let f : DwEhPe = record { 0 = n } in f) (sym is)
+
+pub absolute_pointer : (big : Bool) (old : List ℕ) (address : Address) (n : ℕ) (encoding : DwEhPe) (format : DwEhPe) (size : ℕ) → address ≡ Constant n → bit_and encoding.0 0x70 ≡ 0 → format.0 ≡ bit_and encoding.0 0x0f
+    → pointer_at_end big old address encoding size ≡ pointer_data big n format size
+absolute_pointer big old address n encoding format size constant kind is = rw (constant, kind) (ap (λ (f : DwEhPe). pointer_data big n f size) (same_format format encoding is))
+
+pub relative_pointer : (big : Bool) (old : List ℕ) (address : Address) (n place : ℕ) (encoding : DwEhPe) (format : DwEhPe) (size : ℕ) → address ≡ Constant n → bit_and encoding.0 0x70 ≡ 0x10 → place ≡ length old → format.0 ≡ bit_and encoding.0 0x0f
+    → pointer_at_end big old address encoding size ≡ pointer_data big ((n + (2 ^ 64 - place)) % 2 ^ 64) format size
+relative_pointer big old address n place encoding format size constant kind behind is = rw (constant, kind, ← behind) (ap (λ (f : DwEhPe). pointer_data big ((n + (2 ^ 64 - place)) % 2 ^ 64) f size) (same_format format encoding is))
+
+pub other_pointer : (big : Bool) (old : List ℕ) (address : Address) (n : ℕ) (encoding : DwEhPe) (size : ℕ) → address ≡ Constant n → bit_and encoding.0 0x70 ≢ 0 → bit_and encoding.0 0x70 ≢ 0x10
+    → pointer_at_end big old address encoding size ≡ Err (UnsupportedPointerEncoding encoding)
+other_pointer big old address n encoding size constant not_absolute not_relative = rw (constant, ne_eqb _ _ not_absolute, ne_eqb _ _ not_relative) refl
+
+-- ---- pointer formats
+
+pub formatted_as : (big : Bool) (n : ℕ) (format : DwEhPe) (size known : ℕ) → format.0 ≡ known → pointer_data big n format size ≡ (let f : DwEhPe = record { 0 = known } in pointer_data big n f size)
+formatted_as big n format size known is = ap (λ (k : ℕ). let f : DwEhPe = record { 0 = k } in pointer_data big n f size) is
+
+pub other_format : (big : Bool) (n : ℕ) (format : DwEhPe) (size : ℕ) → format.0 ≢ 0x00 → format.0 ≢ 0x01 → format.0 ≢ 0x02 → format.0 ≢ 0x03 → format.0 ≢ 0x04 → format.0 ≢ 0x09 → format.0 ≢ 0x0a → format.0 ≢ 0x0b → format.0 ≢ 0x0c
+    → pointer_data big n format size ≡ Err (UnsupportedPointerEncoding format)
+other_format big n format size a b c d e f g h i =
+    rw (ne_eqb _ _ a, ne_eqb _ _ b, ne_eqb _ _ c, ne_eqb _ _ d, ne_eqb _ _ e, ne_eqb _ _ f, ne_eqb _ _ g, ne_eqb _ _ h, ne_eqb _ _ i) refl
