@@ -20,3 +20,4 @@ pub mod SequenceLaws
 pub mod NonDecreasingLaws
 pub mod Order
 pub mod Equality
+pub mod Tables
