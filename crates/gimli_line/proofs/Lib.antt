@@ -21,3 +21,4 @@ pub mod NonDecreasingLaws
 pub mod Order
 pub mod Equality
 pub mod Tables
+pub mod Fields
