@@ -22,3 +22,4 @@ pub mod Order
 pub mod Equality
 pub mod Tables
 pub mod Fields
+pub mod Forms
