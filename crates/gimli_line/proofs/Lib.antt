@@ -20,3 +20,6 @@ pub mod SequenceLaws
 pub mod NonDecreasingLaws
 pub mod Order
 pub mod Equality
+pub mod Tables
+pub mod Fields
+pub mod Forms

@@ -1,3 +1,5 @@
+use Rattle.std.proofs.lemmas.Result.{err_from_is_err_and}
+use Rattle.gimli_line.proofs.Tables.{files_4_end, file_formats_end, files_5_end}
 use Rattle.gimli_line.proofs.Loops.{files_up_to_4, files_from_5}
 use Rattle.gimli_line.proofs.Order.{files_kept}
 use Rattle.gimli_line.proofs.header.tables.parse_file_table.Goals as goal
@@ -10,3 +12,18 @@ returns-clause-read g c = files_from_5 _ _ _ _ _ _ _ _ _ _ c.if-encoding-le4.fal
 
 pub returns-clause-parts : goal.returns-clause-parts
 returns-clause-parts g c = files_kept g.R.Reader.big _ _ _ c.parse_formats.ensures.order c.in_ok-files-2.ensures.parts
+
+pub returns-in_err-files-clause-read : goal.returns-in_err-files-clause-read
+returns-in_err-files-clause-read g c =
+    let p = err_from_is_err_and c.from_residual.result c.from_residual.ensures.1 in
+    rw (p.1, p.2) (λ other. files_4_end _ _ _ _ c.if-encoding-le4.true (c.in_err-files.ensures.read other))
+
+pub returns-in_err-formats-clause-read : goal.returns-in_err-formats-clause-read
+returns-in_err-formats-clause-read g c =
+    let p = err_from_is_err_and c.from_residual-in_err-formats.result c.from_residual-in_err-formats.ensures.1 in
+    rw (p.1, p.2) (λ other. file_formats_end _ _ _ _ c.if-encoding-le4.false (c.in_err-formats.ensures.read other))
+
+pub returns-in_err-files-2-clause-read : goal.returns-in_err-files-2-clause-read
+returns-in_err-files-2-clause-read g c =
+    let p = err_from_is_err_and c.from_residual-in_err-files-2.result c.from_residual-in_err-files-2.ensures.1 in
+    rw (p.1, p.2) (λ other. files_5_end _ _ _ _ _ _ _ _ c.if-encoding-le4.false c.in_ok-formats.ensures.read c.parse_formats.ensures.order c.deref.ensures.value _ (c.in_err-files-2.ensures.read other))

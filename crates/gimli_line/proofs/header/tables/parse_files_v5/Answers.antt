@@ -1,16 +1,18 @@
-use Rattle.std.proofs.Common.{rules}
+use Rattle.std.proofs.Common.{◌∙◌}
 use Rattle.std.proofs.lemmas.List.{map_push}
 use Rattle.std.proofs.lemmas.Result.{err_from_is_err_and}
+use Rattle.gimli_line.specs.header.File.{FileHasOrder}
 use Rattle.gimli_line.specs.header.HeaderGrammar.{file_of_entry}
 use Rattle.gimli_line.proofs.Order.{files_pushed}
 use Rattle.gimli_line.proofs.Loops.{times_goes_on, times_ends, times_done, entries_start, entry_kept}
+use Rattle.gimli_line.proofs.Tables.{none_yet}
 use Rattle.gimli_line.proofs.header.tables.parse_files_v5.Goals as goal
 
 pub loop-init : goal.loop-init
 loop-init g c = record {
   so_far = rw c.new-files.ensures.items (entries_start _ _ file_of_entry _ _ _ _ c.in_ok-count.ensures.read);
-  order = search rules;
-  parts = search rules;
+  order = c.read_uleb128.ensures.order;
+  parts = none_yet (FileHasOrder g.R.Reader.big (g.R.Reader.big c.args.input.now)) _ c.new-files.ensures.items;
 }
 
 pub returns-in_err-file-clause-read : goal.returns-in_err-file-clause-read
@@ -22,9 +24,20 @@ returns-in_err-file-clause-read g c =
 pub loop-preserved : goal.loop-preserved
 loop-preserved g c = record {
   so_far = let is = entry_kept _ file_of_entry _ _ _ _ _ _ c.loop.invariant.order c.in_ok-file.ensures.read in rw (c.in_ok-push.ensures.ok, map_push) (times_goes_on file_of_entry _ _ _ c.loop.counter _ _ _ _ c.loop-test.true is c.loop.invariant.so_far);
-  order = search rules;
+  order = c.parse_file_v5.ensures.order ∙ c.loop.invariant.order;
   parts = files_pushed g.R.Reader.big _ _ _ _ _ c.in_ok-push.ensures.ok c.loop.invariant.order c.loop.invariant.parts c.in_ok-file.ensures.part;
 }
 
 pub returns-clause-read : goal.returns-clause-read
 returns-clause-read g c = times_done file_of_entry _ _ _ c.loop.counter _ _ c.loop-test.false c.loop.invariant.so_far
+
+pub returns-in_err-file-clause-order : goal.returns-in_err-file-clause-order
+returns-in_err-file-clause-order g c = c.parse_file_v5.ensures.order ∙ c.loop.invariant.order
+
+pub returns-in_err-push-clause-order : goal.returns-in_err-push-clause-order
+returns-in_err-push-clause-order g c = c.parse_file_v5.ensures.order ∙ c.loop.invariant.order
+
+pub returns-in_err-push-clause-read : goal.returns-in_err-push-clause-read
+returns-in_err-push-clause-read g c =
+    let p = err_from_is_err_and c.from_residual-in_err-push.result c.from_residual-in_err-push.ensures.1 in
+    rw (p.1, p.2) (λ other. absurd (other c.in_err-push.ensures.err))
