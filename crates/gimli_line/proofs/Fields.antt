@@ -3,14 +3,13 @@ use Rattle.std.proofs.Common.{◌≡◌, ℕ, ◌-◌, Bool, List, Option, Ok, E
 use Rattle.std.specs.Prelude.{option_map}
 use Rattle.gimli_core.specs.Notation.{Notation}
 use Rattle.gimli_core.specs.Values.{Value}
-use Rattle.gimli_core.specs.Reading.{Read, split_at, initial_length_at}
-use Rattle.gimli_core.specs.declared.common.Format.{Format}
+use Rattle.gimli_core.specs.Reading.{Read, split_at}
 use Rattle.gimli_core.specs.declared.error.Error.{Error}
 use Rattle.gimli_line.specs.header.Parameters.{Parameters}
 use Rattle.gimli_line.specs.header.File.{File}
 use Rattle.gimli_line.specs.header.Header.{UnitEntry, plain_file}
 use Rattle.gimli_line.specs.header.HeaderGrammar.{Opening, taken}
-use Rattle.gimli_line.specs.header.HeaderReading.{parameters_at, directories_at, file_names_at, fields_at, opening_at, header_at}
+use Rattle.gimli_line.specs.header.HeaderReading.{parameters_at, directories_at, file_names_at, fields_at}
 use Rattle.gimli_line.specs.declared.header.file_entry.FileEntryFormat.{FileEntryFormat}
 
 -- a step that refused
@@ -73,23 +72,3 @@ module _ (big : Bool) (limit : ℕ) (entry : UnitEntry) (unit : ℕ) (opening : 
             let here : directories_at notation opening.encoding left ≡ (Ok (directory_formats, directories), next) = rw kept at third in
             let there : file_names_at notation opening.encoding next ≡ (Ok (file_formats, files), end) = rw also at fourth in
             rw (← first, ← again, here, there, directory, file) refl
-
--- what stands in front of the fields, where it is refused
-module _ (big : Bool) (limit : ℕ) (entry : UnitEntry) (bytes : List ℕ) where
-  abbrev order_first : Notation
-  order_first = record { big = big; limit = limit }
-
-  pub length_end : (e : Error) (rest : List ℕ) → (Err e, rest) ≡ initial_length_at big limit bytes → (header_at order_first entry bytes).0 ≡ Err e
-  unfolding header_at
-  length_end e rest is = rw (← is) refl
-
-  pub whole_end : (unit : ℕ × Format) (rest : List ℕ) (e : Error) (left : List ℕ) → (Ok unit, rest) ≡ initial_length_at big limit bytes → (Err e, left) ≡ split_at unit.0 rest → (header_at order_first entry bytes).0 ≡ Err e
-  unfolding header_at
-  whole_end unit rest e left length is = rw (← length, ← is) refl
-
-  pub opening_end : (unit : ℕ × Format) (rest inside left : List ℕ) (now : Bool) (e : Error) (program : List ℕ) → (Ok unit, rest) ≡ initial_length_at big limit bytes → (Ok inside, left) ≡ split_at unit.0 rest
-      → now ≡ big → (Err e, program) ≡ opening_at (record { big = now; limit = limit }) entry.address_size unit.1 inside → (header_at order_first entry bytes).0 ≡ Err e
-  unfolding header_at
-  opening_end unit rest inside left now e program length whole kept is =
-      let again : (Err e, program) ≡ opening_at order_first entry.address_size unit.1 inside = rw kept at is in
-      rw (← length, ← whole, ← again) refl

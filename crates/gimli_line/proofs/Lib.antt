@@ -22,4 +22,3 @@ pub mod Order
 pub mod Equality
 pub mod Tables
 pub mod Fields
-pub mod Forms
