@@ -23,10 +23,6 @@ appends_as is r old new h = rw is h
 pub refuses_as : {X : Type 0} {wanted other : Result (List ℕ) Error} → wanted ≡ other → (r : Result X Error) → IfErr r (Refuses other) → IfErr r (Refuses wanted)
 refuses_as is r h = rw is h
 
--- a refusal that is wanted
-pub refuses_wanted : {X : Type 0} {wanted : Result (List ℕ) Error} (e : Error) (r : Result X Error) → wanted ≡ Err e → r ≡ Err e → IfErr r (Refuses wanted)
-refuses_wanted e r is answered = rw (answered, is) refl
-
 -- ---- signed numbers
 
 pub signed_as : (big : Bool) (z passed : ℤ) (size known : ℕ) (bits : Result ℕ Error) → size ≡ known → (nat_eq known 1 || nat_eq known 2 || nat_eq known 4 || nat_eq known 8) ≡ true → bits ≡ twos_complement known passed → passed ≡ z
