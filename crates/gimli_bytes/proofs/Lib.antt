@@ -6,5 +6,4 @@ pub mod Equality
 pub mod PieceLemmas
 pub mod WrittenAs
 pub mod InitialLengths
-pub mod UnsignedAs
 pub mod TablesWritten

@@ -1,5 +1,5 @@
 use Rattle.std.proofs.Common.{◌≡◌, ◌≢◌, refl, sym, ◌∙◌, arith}
-use Rattle.gimli_bytes.proofs.WrittenAs.{appends_as, refuses_as, absolute_pointer, relative_pointer, other_pointer}
+use Rattle.gimli_bytes.proofs.WrittenAs.{begins_self, appends_as, refuses_as, absolute_pointer, relative_pointer, other_pointer}
 use Rattle.gimli_bytes.proofs.writer.Writer.write_eh_pointer.Goals as goal
 
 pub returns-in-DW_EH_PE_absptr-clause-ok : goal.returns-in-DW_EH_PE_absptr-clause-ok
@@ -47,3 +47,27 @@ returns-in-Symbol-clause-ok g c = λ keeps. tt
 
 pub returns-in-Symbol-clause-err : goal.returns-in-Symbol-clause-err
 returns-in-Symbol-clause-err g c = λ memory. rw c.in-Symbol.is refl
+
+pub returns-in-DW_EH_PE_absptr-clause-keeps : goal.returns-in-DW_EH_PE_absptr-clause-keeps
+returns-in-DW_EH_PE_absptr-clause-keeps g c = c.write_eh_pointer_data.ensures.keeps
+
+pub returns-in-DW_EH_PE_absptr-clause-ordered : goal.returns-in-DW_EH_PE_absptr-clause-ordered
+returns-in-DW_EH_PE_absptr-clause-ordered g c = c.write_eh_pointer_data.ensures.ordered
+
+pub returns-in-DW_EH_PE_pcrel-clause-keeps : goal.returns-in-DW_EH_PE_pcrel-clause-keeps
+returns-in-DW_EH_PE_pcrel-clause-keeps g c = c.write_eh_pointer_data-in-DW_EH_PE_pcrel.ensures.keeps
+
+pub returns-in-DW_EH_PE_pcrel-clause-ordered : goal.returns-in-DW_EH_PE_pcrel-clause-ordered
+returns-in-DW_EH_PE_pcrel-clause-ordered g c = c.write_eh_pointer_data-in-DW_EH_PE_pcrel.ensures.ordered
+
+pub returns-in_default-clause-keeps : goal.returns-in_default-clause-keeps
+returns-in_default-clause-keeps g c = begins_self (g.Self.Writer.contents c.args.self.now)
+
+pub returns-in_default-clause-ordered : goal.returns-in_default-clause-ordered
+returns-in_default-clause-ordered g c = refl
+
+pub returns-in-Symbol-clause-keeps : goal.returns-in-Symbol-clause-keeps
+returns-in-Symbol-clause-keeps g c = begins_self (g.Self.Writer.contents c.args.self.now)
+
+pub returns-in-Symbol-clause-ordered : goal.returns-in-Symbol-clause-ordered
+returns-in-Symbol-clause-ordered g c = refl

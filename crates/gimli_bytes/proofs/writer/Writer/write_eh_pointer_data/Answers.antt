@@ -4,7 +4,7 @@ use Rattle.std.specs.Int.{cast_signed}
 use Rattle.std.proofs.lemmas.Int.{of_z-to_z}
 use Rattle.gimli_bytes.specs.Number.{udata, sdata, uleb, sleb, pointer_data}
 use Rattle.gimli_bytes.specs.declared.error.Error.{Error}
-use Rattle.gimli_bytes.proofs.WrittenAs.{appends_as, refuses_as, formatted_as, other_format}
+use Rattle.gimli_bytes.proofs.WrittenAs.{begins_self, appends_as, refuses_as, formatted_as, other_format}
 use Rattle.gimli_bytes.proofs.writer.Writer.write_eh_pointer_data.Goals as goal
 
 pub returns-in-DW_EH_PE_absptr-clause-ok : goal.returns-in-DW_EH_PE_absptr-clause-ok
@@ -154,3 +154,63 @@ returns-in_default-clause-err g c =
     let j : c.args.format.0 ≢ 11 = omega arith in
     let k : c.args.format.0 ≢ 12 = omega arith in
     λ memory. rw (other_format (g.Self.Writer.big c.args.self.now) c.args.val c.args.format c.args.size a b d e f h i j k) refl
+
+pub returns-in-DW_EH_PE_absptr-clause-keeps : goal.returns-in-DW_EH_PE_absptr-clause-keeps
+returns-in-DW_EH_PE_absptr-clause-keeps g c = c.write_udata.ensures.keeps
+
+pub returns-in-DW_EH_PE_absptr-clause-ordered : goal.returns-in-DW_EH_PE_absptr-clause-ordered
+returns-in-DW_EH_PE_absptr-clause-ordered g c = c.write_udata.ensures.ordered
+
+pub returns-in-DW_EH_PE_uleb128-clause-keeps : goal.returns-in-DW_EH_PE_uleb128-clause-keeps
+returns-in-DW_EH_PE_uleb128-clause-keeps g c = c.write_uleb128.ensures.keeps
+
+pub returns-in-DW_EH_PE_uleb128-clause-ordered : goal.returns-in-DW_EH_PE_uleb128-clause-ordered
+returns-in-DW_EH_PE_uleb128-clause-ordered g c = c.write_uleb128.ensures.ordered
+
+pub returns-in-DW_EH_PE_udata2-clause-keeps : goal.returns-in-DW_EH_PE_udata2-clause-keeps
+returns-in-DW_EH_PE_udata2-clause-keeps g c = c.write_udata-in-DW_EH_PE_udata2.ensures.keeps
+
+pub returns-in-DW_EH_PE_udata2-clause-ordered : goal.returns-in-DW_EH_PE_udata2-clause-ordered
+returns-in-DW_EH_PE_udata2-clause-ordered g c = c.write_udata-in-DW_EH_PE_udata2.ensures.ordered
+
+pub returns-in-DW_EH_PE_udata4-clause-keeps : goal.returns-in-DW_EH_PE_udata4-clause-keeps
+returns-in-DW_EH_PE_udata4-clause-keeps g c = c.write_udata-in-DW_EH_PE_udata4.ensures.keeps
+
+pub returns-in-DW_EH_PE_udata4-clause-ordered : goal.returns-in-DW_EH_PE_udata4-clause-ordered
+returns-in-DW_EH_PE_udata4-clause-ordered g c = c.write_udata-in-DW_EH_PE_udata4.ensures.ordered
+
+pub returns-in-DW_EH_PE_udata8-clause-keeps : goal.returns-in-DW_EH_PE_udata8-clause-keeps
+returns-in-DW_EH_PE_udata8-clause-keeps g c = c.write_udata-in-DW_EH_PE_udata8.ensures.keeps
+
+pub returns-in-DW_EH_PE_udata8-clause-ordered : goal.returns-in-DW_EH_PE_udata8-clause-ordered
+returns-in-DW_EH_PE_udata8-clause-ordered g c = c.write_udata-in-DW_EH_PE_udata8.ensures.ordered
+
+pub returns-in-DW_EH_PE_sleb128-clause-keeps : goal.returns-in-DW_EH_PE_sleb128-clause-keeps
+returns-in-DW_EH_PE_sleb128-clause-keeps g c = c.write_sleb128.ensures.keeps
+
+pub returns-in-DW_EH_PE_sleb128-clause-ordered : goal.returns-in-DW_EH_PE_sleb128-clause-ordered
+returns-in-DW_EH_PE_sleb128-clause-ordered g c = c.write_sleb128.ensures.ordered
+
+pub returns-in-DW_EH_PE_sdata2-clause-keeps : goal.returns-in-DW_EH_PE_sdata2-clause-keeps
+returns-in-DW_EH_PE_sdata2-clause-keeps g c = c.write_sdata.ensures.keeps
+
+pub returns-in-DW_EH_PE_sdata2-clause-ordered : goal.returns-in-DW_EH_PE_sdata2-clause-ordered
+returns-in-DW_EH_PE_sdata2-clause-ordered g c = c.write_sdata.ensures.ordered
+
+pub returns-in-DW_EH_PE_sdata4-clause-keeps : goal.returns-in-DW_EH_PE_sdata4-clause-keeps
+returns-in-DW_EH_PE_sdata4-clause-keeps g c = c.write_sdata-in-DW_EH_PE_sdata4.ensures.keeps
+
+pub returns-in-DW_EH_PE_sdata4-clause-ordered : goal.returns-in-DW_EH_PE_sdata4-clause-ordered
+returns-in-DW_EH_PE_sdata4-clause-ordered g c = c.write_sdata-in-DW_EH_PE_sdata4.ensures.ordered
+
+pub returns-in-DW_EH_PE_sdata8-clause-keeps : goal.returns-in-DW_EH_PE_sdata8-clause-keeps
+returns-in-DW_EH_PE_sdata8-clause-keeps g c = c.write_sdata-in-DW_EH_PE_sdata8.ensures.keeps
+
+pub returns-in-DW_EH_PE_sdata8-clause-ordered : goal.returns-in-DW_EH_PE_sdata8-clause-ordered
+returns-in-DW_EH_PE_sdata8-clause-ordered g c = c.write_sdata-in-DW_EH_PE_sdata8.ensures.ordered
+
+pub returns-in_default-clause-keeps : goal.returns-in_default-clause-keeps
+returns-in_default-clause-keeps g c = begins_self (g.Self.Writer.contents c.args.self.now)
+
+pub returns-in_default-clause-ordered : goal.returns-in_default-clause-ordered
+returns-in_default-clause-ordered g c = refl

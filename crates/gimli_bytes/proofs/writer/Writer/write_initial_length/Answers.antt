@@ -1,4 +1,6 @@
 use Rattle.std.proofs.lemmas.Result.{err_from_is_err_and, IfOk-from_err}
+use Rattle.std.proofs.Common.{◌∙◌}
+use Rattle.gimli_bytes.proofs.TablesWritten.{begins_then}
 use Rattle.gimli_bytes.proofs.InitialLengths.{at_end, behind, place_32, place_64, opened_32, opened_64}
 use Rattle.gimli_bytes.proofs.writer.Writer.write_initial_length.Goals as goal
 
@@ -65,3 +67,33 @@ returns-in_ok-write_u64-in-Dwarf64-clause-place g c = λ keeps. place_64 c.args.
 
 pub returns-in_ok-write_u64-in-Dwarf64-clause-ok : goal.returns-in_ok-write_u64-in-Dwarf64-clause-ok
 returns-in_ok-write_u64-in-Dwarf64-clause-ok g c = λ keeps. opened_64 c.args.format (g.Self.Writer.big c.args.self.now) (g.Self.Writer.big c.write_u32-in-Dwarf64.new.self) (g.Self.Writer.contents c.args.self.now) (g.Self.Writer.contents c.write_u32-in-Dwarf64.new.self) (g.Self.Writer.contents c.write_u64.new.self) c.in-Dwarf64.is c.in_ok-write_u32-in-Dwarf64.ensures.ordered (c.in_ok-write_u32-in-Dwarf64.ensures.ok keeps) (c.in_ok-write_u64-in-Dwarf64.ensures.ok keeps)
+
+pub returns-in_err-write_u32-in-Dwarf32-clause-keeps : goal.returns-in_err-write_u32-in-Dwarf32-clause-keeps
+returns-in_err-write_u32-in-Dwarf32-clause-keeps g c = c.in_err-write_u32-in-Dwarf32.ensures.keeps
+
+pub returns-in_err-write_u32-in-Dwarf32-clause-ordered : goal.returns-in_err-write_u32-in-Dwarf32-clause-ordered
+returns-in_err-write_u32-in-Dwarf32-clause-ordered g c = c.in_err-write_u32-in-Dwarf32.ensures.ordered
+
+pub returns-in_err-write_u32-in-Dwarf64-clause-keeps : goal.returns-in_err-write_u32-in-Dwarf64-clause-keeps
+returns-in_err-write_u32-in-Dwarf64-clause-keeps g c = c.in_err-write_u32-in-Dwarf64.ensures.keeps
+
+pub returns-in_err-write_u32-in-Dwarf64-clause-ordered : goal.returns-in_err-write_u32-in-Dwarf64-clause-ordered
+returns-in_err-write_u32-in-Dwarf64-clause-ordered g c = c.in_err-write_u32-in-Dwarf64.ensures.ordered
+
+pub returns-in_ok-write_u32-in-Dwarf32-clause-keeps : goal.returns-in_ok-write_u32-in-Dwarf32-clause-keeps
+returns-in_ok-write_u32-in-Dwarf32-clause-keeps g c = c.in_ok-write_u32-in-Dwarf32.ensures.keeps
+
+pub returns-in_ok-write_u32-in-Dwarf32-clause-ordered : goal.returns-in_ok-write_u32-in-Dwarf32-clause-ordered
+returns-in_ok-write_u32-in-Dwarf32-clause-ordered g c = c.in_ok-write_u32-in-Dwarf32.ensures.ordered
+
+pub returns-in_err-write_u64-in-Dwarf64-clause-keeps : goal.returns-in_err-write_u64-in-Dwarf64-clause-keeps
+returns-in_err-write_u64-in-Dwarf64-clause-keeps g c = begins_then (g.Self.Writer.contents c.args.self.now) (g.Self.Writer.contents c.write_u32-in-Dwarf64.new.self) (g.Self.Writer.contents c.write_u64.new.self) c.in_ok-write_u32-in-Dwarf64.ensures.keeps c.in_err-write_u64-in-Dwarf64.ensures.keeps
+
+pub returns-in_err-write_u64-in-Dwarf64-clause-ordered : goal.returns-in_err-write_u64-in-Dwarf64-clause-ordered
+returns-in_err-write_u64-in-Dwarf64-clause-ordered g c = c.in_err-write_u64-in-Dwarf64.ensures.ordered ∙ c.in_ok-write_u32-in-Dwarf64.ensures.ordered
+
+pub returns-in_ok-write_u64-in-Dwarf64-clause-keeps : goal.returns-in_ok-write_u64-in-Dwarf64-clause-keeps
+returns-in_ok-write_u64-in-Dwarf64-clause-keeps g c = begins_then (g.Self.Writer.contents c.args.self.now) (g.Self.Writer.contents c.write_u32-in-Dwarf64.new.self) (g.Self.Writer.contents c.write_u64.new.self) c.in_ok-write_u32-in-Dwarf64.ensures.keeps c.in_ok-write_u64-in-Dwarf64.ensures.keeps
+
+pub returns-in_ok-write_u64-in-Dwarf64-clause-ordered : goal.returns-in_ok-write_u64-in-Dwarf64-clause-ordered
+returns-in_ok-write_u64-in-Dwarf64-clause-ordered g c = c.in_ok-write_u64-in-Dwarf64.ensures.ordered ∙ c.in_ok-write_u32-in-Dwarf64.ensures.ordered

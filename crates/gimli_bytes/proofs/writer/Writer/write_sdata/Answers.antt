@@ -3,7 +3,7 @@ use Rattle.std.proofs.lemmas.Result.{err_from_is_err_and, IfOk-from_err}
 use Rattle.std.proofs.lemmas.Int.{to_z-of_z}
 use Rattle.gimli_core.specs.Numbers.{number_bytes}
 use Rattle.gimli_bytes.specs.Number.{sdata}
-use Rattle.gimli_bytes.proofs.WrittenAs.{appends_as, refuses_as, signed_as, all_bits, other_signed}
+use Rattle.gimli_bytes.proofs.WrittenAs.{begins_self, appends_as, refuses_as, signed_as, all_bits, other_signed}
 use Rattle.gimli_bytes.proofs.writer.Writer.write_sdata.Goals as goal
 
 pub returns-in_err-bits_of_i8-in-1-clause-ok : goal.returns-in_err-bits_of_i8-in-1-clause-ok
@@ -93,3 +93,51 @@ returns-in_default-clause-err g c =
     let d : c.args.size ≢ 4 = omega arith in
     let e : c.args.size ≢ 8 = omega arith in
     λ memory. rw (other_signed (g.Self.Writer.big c.args.self.now) c.args.val c.args.size a b d e) refl
+
+pub returns-in_err-bits_of_i8-in-1-clause-keeps : goal.returns-in_err-bits_of_i8-in-1-clause-keeps
+returns-in_err-bits_of_i8-in-1-clause-keeps g c = begins_self (g.Self.Writer.contents c.args.self.now)
+
+pub returns-in_err-bits_of_i8-in-1-clause-ordered : goal.returns-in_err-bits_of_i8-in-1-clause-ordered
+returns-in_err-bits_of_i8-in-1-clause-ordered g c = refl
+
+pub returns-in_ok-bits_of_i8-in-1-clause-keeps : goal.returns-in_ok-bits_of_i8-in-1-clause-keeps
+returns-in_ok-bits_of_i8-in-1-clause-keeps g c = c.write_u8.ensures.keeps
+
+pub returns-in_ok-bits_of_i8-in-1-clause-ordered : goal.returns-in_ok-bits_of_i8-in-1-clause-ordered
+returns-in_ok-bits_of_i8-in-1-clause-ordered g c = c.write_u8.ensures.ordered
+
+pub returns-in_err-bits_of_i16-in-2-clause-keeps : goal.returns-in_err-bits_of_i16-in-2-clause-keeps
+returns-in_err-bits_of_i16-in-2-clause-keeps g c = begins_self (g.Self.Writer.contents c.args.self.now)
+
+pub returns-in_err-bits_of_i16-in-2-clause-ordered : goal.returns-in_err-bits_of_i16-in-2-clause-ordered
+returns-in_err-bits_of_i16-in-2-clause-ordered g c = refl
+
+pub returns-in_ok-bits_of_i16-in-2-clause-keeps : goal.returns-in_ok-bits_of_i16-in-2-clause-keeps
+returns-in_ok-bits_of_i16-in-2-clause-keeps g c = c.write_u16.ensures.keeps
+
+pub returns-in_ok-bits_of_i16-in-2-clause-ordered : goal.returns-in_ok-bits_of_i16-in-2-clause-ordered
+returns-in_ok-bits_of_i16-in-2-clause-ordered g c = c.write_u16.ensures.ordered
+
+pub returns-in_err-bits_of_i32-in-4-clause-keeps : goal.returns-in_err-bits_of_i32-in-4-clause-keeps
+returns-in_err-bits_of_i32-in-4-clause-keeps g c = begins_self (g.Self.Writer.contents c.args.self.now)
+
+pub returns-in_err-bits_of_i32-in-4-clause-ordered : goal.returns-in_err-bits_of_i32-in-4-clause-ordered
+returns-in_err-bits_of_i32-in-4-clause-ordered g c = refl
+
+pub returns-in_ok-bits_of_i32-in-4-clause-keeps : goal.returns-in_ok-bits_of_i32-in-4-clause-keeps
+returns-in_ok-bits_of_i32-in-4-clause-keeps g c = c.write_u32.ensures.keeps
+
+pub returns-in_ok-bits_of_i32-in-4-clause-ordered : goal.returns-in_ok-bits_of_i32-in-4-clause-ordered
+returns-in_ok-bits_of_i32-in-4-clause-ordered g c = c.write_u32.ensures.ordered
+
+pub returns-in-8-clause-keeps : goal.returns-in-8-clause-keeps
+returns-in-8-clause-keeps g c = c.write_u64.ensures.keeps
+
+pub returns-in-8-clause-ordered : goal.returns-in-8-clause-ordered
+returns-in-8-clause-ordered g c = c.write_u64.ensures.ordered
+
+pub returns-in_default-clause-keeps : goal.returns-in_default-clause-keeps
+returns-in_default-clause-keeps g c = begins_self (g.Self.Writer.contents c.args.self.now)
+
+pub returns-in_default-clause-ordered : goal.returns-in_default-clause-ordered
+returns-in_default-clause-ordered g c = refl
