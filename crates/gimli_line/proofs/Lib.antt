@@ -1,5 +1,7 @@
 pub mod Pointers
 pub mod Backwards
+pub mod ShortLeb
+pub mod Variants
 pub mod Worked
 pub mod Closed
 pub mod HeaderLaws

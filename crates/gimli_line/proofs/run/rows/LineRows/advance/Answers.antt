@@ -13,10 +13,10 @@ instructions-init g c =
     let at_row = λ (r : LineRow). state g.P.LineProgram.appends h (g.P.LineProgram.notation c.self.inside.program) (g.P.LineProgram.offset c.self.inside.program) r c.self.inside.instructions in
     record {
       events = search rules;
-      fixed = search rules;
-      appends = search rules;
-      notation = search rules;
-      offset = search rules;
+      fixed = rw (← c.self.view_is) refl;
+      appends = rw (← c.self.view_is) refl;
+      notation = rw (← c.self.view_is) refl;
+      offset = rw (← c.self.view_is) refl;
       passes = rw (← c.self.view_is) (passes_none (ready (at_row c.self.inside.row)) (at_row c.reset.new.self) (ap at_row (c.reset.ensures ∙ ap (λ (k : Header). reset_row k.parameters c.self.inside.row) c.header.ensures.meaning)));
     }
 
@@ -62,3 +62,41 @@ instructions-preserved g c =
       offset = c.in-Ok-More.ensures.offset ∙ c.instructions.invariant.offset;
       passes = passes_both (ready c.args.self.now) c.instructions.self c.step.new.self [] [] c.instructions.invariant.passes m.2;
     }
+
+-- what stays as it was
+
+pub returns-in-Err-clause-fixed : goal.returns-in-Err-clause-fixed
+returns-in-Err-clause-fixed g c = c.in-Err.ensures.fixed ∙ c.instructions.invariant.fixed
+
+pub returns-in-Err-clause-appends : goal.returns-in-Err-clause-appends
+returns-in-Err-clause-appends g c = c.in-Err.ensures.appends ∙ c.instructions.invariant.appends
+
+pub returns-in-Err-clause-notation : goal.returns-in-Err-clause-notation
+returns-in-Err-clause-notation g c = c.in-Err.ensures.notation ∙ c.instructions.invariant.notation
+
+pub returns-in-Err-clause-offset : goal.returns-in-Err-clause-offset
+returns-in-Err-clause-offset g c = c.in-Err.ensures.offset ∙ c.instructions.invariant.offset
+
+pub returns-in-Ok-Done-clause-fixed : goal.returns-in-Ok-Done-clause-fixed
+returns-in-Ok-Done-clause-fixed g c = c.in-Ok-Done.ensures.fixed ∙ c.instructions.invariant.fixed
+
+pub returns-in-Ok-Done-clause-appends : goal.returns-in-Ok-Done-clause-appends
+returns-in-Ok-Done-clause-appends g c = c.in-Ok-Done.ensures.appends ∙ c.instructions.invariant.appends
+
+pub returns-in-Ok-Done-clause-notation : goal.returns-in-Ok-Done-clause-notation
+returns-in-Ok-Done-clause-notation g c = c.in-Ok-Done.ensures.notation ∙ c.instructions.invariant.notation
+
+pub returns-in-Ok-Done-clause-offset : goal.returns-in-Ok-Done-clause-offset
+returns-in-Ok-Done-clause-offset g c = c.in-Ok-Done.ensures.offset ∙ c.instructions.invariant.offset
+
+pub returns-in-Ok-Made-clause-fixed : goal.returns-in-Ok-Made-clause-fixed
+returns-in-Ok-Made-clause-fixed g c = c.in-Ok-Made.ensures.fixed ∙ c.instructions.invariant.fixed
+
+pub returns-in-Ok-Made-clause-appends : goal.returns-in-Ok-Made-clause-appends
+returns-in-Ok-Made-clause-appends g c = c.in-Ok-Made.ensures.appends ∙ c.instructions.invariant.appends
+
+pub returns-in-Ok-Made-clause-notation : goal.returns-in-Ok-Made-clause-notation
+returns-in-Ok-Made-clause-notation g c = c.in-Ok-Made.ensures.notation ∙ c.instructions.invariant.notation
+
+pub returns-in-Ok-Made-clause-offset : goal.returns-in-Ok-Made-clause-offset
+returns-in-Ok-Made-clause-offset g c = c.in-Ok-Made.ensures.offset ∙ c.instructions.invariant.offset

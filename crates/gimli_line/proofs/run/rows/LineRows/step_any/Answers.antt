@@ -67,3 +67,77 @@ returns-in_default g c =
       notation = rw (← c.self.view_is) c.in-Err-execute.ensures.notation;
       offset = rw (← c.self.view_is) c.in-Err-execute.ensures.offset;
     }
+
+-- what stays as it was
+
+pub returns-in-Err-clause-fixed : goal.returns-in-Err-clause-fixed
+returns-in-Err-clause-fixed g c = rw (← c.self.view_is) refl
+
+pub returns-in-Err-clause-appends : goal.returns-in-Err-clause-appends
+returns-in-Err-clause-appends g c = rw (← c.self.view_is) refl
+
+pub returns-in-Err-clause-notation : goal.returns-in-Err-clause-notation
+returns-in-Err-clause-notation g c = rw (← c.self.view_is) refl
+
+pub returns-in-Err-clause-offset : goal.returns-in-Err-clause-offset
+returns-in-Err-clause-offset g c = rw (← c.self.view_is) refl
+
+pub returns-in-Ok-None-clause-fixed : goal.returns-in-Ok-None-clause-fixed
+returns-in-Ok-None-clause-fixed g c = rw (← c.self.view_is) refl
+
+pub returns-in-Ok-None-clause-appends : goal.returns-in-Ok-None-clause-appends
+returns-in-Ok-None-clause-appends g c = rw (← c.self.view_is) refl
+
+pub returns-in-Ok-None-clause-notation : goal.returns-in-Ok-None-clause-notation
+returns-in-Ok-None-clause-notation g c = rw (← c.self.view_is) refl
+
+pub returns-in-Ok-None-clause-offset : goal.returns-in-Ok-None-clause-offset
+returns-in-Ok-None-clause-offset g c = rw (← c.self.view_is) refl
+
+pub returns-then-not-made-clause-fixed : goal.returns-then-not-made-clause-fixed
+returns-then-not-made-clause-fixed g c = rw (c.in-Ok.ensures.files, ← c.self.view_is) refl
+
+pub returns-then-not-made-clause-appends : goal.returns-then-not-made-clause-appends
+returns-then-not-made-clause-appends g c = rw (← c.self.view_is) refl
+
+pub returns-then-not-made-clause-notation : goal.returns-then-not-made-clause-notation
+returns-then-not-made-clause-notation g c = rw (← c.self.view_is) c.execute.ensures.notation
+
+pub returns-then-not-made-clause-offset : goal.returns-then-not-made-clause-offset
+returns-then-not-made-clause-offset g c = rw (← c.self.view_is) c.execute.ensures.offset
+
+pub returns-then-not-is_hidden-clause-fixed : goal.returns-then-not-is_hidden-clause-fixed
+returns-then-not-is_hidden-clause-fixed g c = rw (c.in-Ok.ensures.files, ← c.self.view_is) refl
+
+pub returns-then-not-is_hidden-clause-appends : goal.returns-then-not-is_hidden-clause-appends
+returns-then-not-is_hidden-clause-appends g c = rw (← c.self.view_is) refl
+
+pub returns-then-not-is_hidden-clause-notation : goal.returns-then-not-is_hidden-clause-notation
+returns-then-not-is_hidden-clause-notation g c = rw (← c.self.view_is) c.execute.ensures.notation
+
+pub returns-then-not-is_hidden-clause-offset : goal.returns-then-not-is_hidden-clause-offset
+returns-then-not-is_hidden-clause-offset g c = rw (← c.self.view_is) c.execute.ensures.offset
+
+pub returns-clause-fixed : goal.returns-clause-fixed
+returns-clause-fixed g c = rw (c.in-Ok.ensures.files, ← c.self.view_is) refl
+
+pub returns-clause-appends : goal.returns-clause-appends
+returns-clause-appends g c = rw (← c.self.view_is) refl
+
+pub returns-clause-notation : goal.returns-clause-notation
+returns-clause-notation g c = rw (← c.self.view_is) c.execute.ensures.notation
+
+pub returns-clause-offset : goal.returns-clause-offset
+returns-clause-offset g c = rw (← c.self.view_is) c.execute.ensures.offset
+
+pub returns-in-OutOfMemory-clause-fixed : goal.returns-in-OutOfMemory-clause-fixed
+returns-in-OutOfMemory-clause-fixed g c = rw (c.in-Err-execute.ensures.kept, ← c.self.view_is) refl
+
+pub returns-in-OutOfMemory-clause-appends : goal.returns-in-OutOfMemory-clause-appends
+returns-in-OutOfMemory-clause-appends g c = rw (← c.self.view_is) refl
+
+pub returns-in-OutOfMemory-clause-notation : goal.returns-in-OutOfMemory-clause-notation
+returns-in-OutOfMemory-clause-notation g c = rw (← c.self.view_is) c.in-Err-execute.ensures.notation
+
+pub returns-in-OutOfMemory-clause-offset : goal.returns-in-OutOfMemory-clause-offset
+returns-in-OutOfMemory-clause-offset g c = rw (← c.self.view_is) c.in-Err-execute.ensures.offset
