@@ -1,9 +1,11 @@
 use Rattle.std.proofs.Common.{◌≡◌, ◌+◌, ◌-◌, ◌*◌, nat_le, false}
 use Rattle.std.proofs.lemmas.List.{append-nil}
-use Rattle.gimli_build.specs.Encode.{row_maker, constant_advance}
-use Rattle.gimli_build.specs.InstructionBytes.{instruction_bytes}
+use Rattle.std.proofs.lemmas.Result.{err_from_is_err_and}
+use Rattle.gimli_build.specs.Encode.{row_maker, constant_advance, operation_part}
+use Rattle.gimli_build.specs.InstructionBytes.{instruction_bytes, instructions_bytes}
+use Rattle.gimli_build.proofs.OneCall.{none_written}
 use Rattle.gimli_build.proofs.Joins.{past, by_advance}
-use Rattle.gimli_build.proofs.Writes.{joins}
+use Rattle.gimli_build.proofs.Writes.{joins, unwritten}
 use Rattle.gimli_build.proofs.rows.encode.write_operation_advance.Goals as goal
 
 pub returns : goal.returns
@@ -16,3 +18,18 @@ returns g c =
     let rest : nat_le (s + m * e.line_range) 255 ≡ false = past (nat_le (s + m * e.line_range) 255) (s + m * e.line_range) (rw c.from-range.ensures at (rw (c.special_opcode-2.ensures, c.saturating_sub-rest.ensures, c.from.ensures) at c.in_default-special_opcode.is)) in
     let last = rw c.maker-2.ensures at c.in_ok-write_instruction-3.ensures in
     rw (by_advance e s n over rest, append-nil (instruction_bytes (row_maker e s))) (joins c.in_ok-write_instruction-2.ensures last)
+
+pub returns-in_err-write_instruction : goal.returns-in_err-write_instruction
+returns-in_err-write_instruction g c =
+    let p = err_from_is_err_and c.from_residual.result c.from_residual.ensures.1 in
+    rw (p.1, p.2) (none_written (instructions_bytes (operation_part c.args.line_encoding.now c.args.opcode c.args.count)) c.in_err-write_instruction.ensures)
+
+pub returns-in_err-write_instruction-2 : goal.returns-in_err-write_instruction-2
+returns-in_err-write_instruction-2 g c =
+    let p = err_from_is_err_and c.from_residual-in_err-write_instruction-2.result c.from_residual-in_err-write_instruction-2.ensures.1 in
+    rw (p.1, p.2) (none_written (instructions_bytes (operation_part c.args.line_encoding.now c.args.opcode c.args.count)) c.in_err-write_instruction-2.ensures)
+
+pub returns-in_err-write_instruction-3 : goal.returns-in_err-write_instruction-3
+returns-in_err-write_instruction-3 g c =
+    let p = err_from_is_err_and c.from_residual-in_err-write_instruction-3.result c.from_residual-in_err-write_instruction-3.ensures.1 in
+    rw (p.1, p.2) (unwritten (instructions_bytes (operation_part c.args.line_encoding.now c.args.opcode c.args.count)) c.in_ok-write_instruction-2.ensures c.in_err-write_instruction-3.ensures)
