@@ -1,28 +1,9 @@
-use Rattle.std.proofs.Common.{◌≡◌, ℕ, List, [], ◌∷◌, ◌++◌, refl}
-use Rattle.std.specs.Prelude.{Option, Some, option_map}
-use Rattle.std.specs.Option.{option_map_or}
-use Rattle.gimli_line.specs.header.File.{File, file_seen}
-use Rattle.gimli_build.specs.LineText.{LineText, line_text, made_text, made_table}
-use Rattle.gimli_build.specs.Tables.{with_file, place_of_file}
-use Rattle.gimli_write.specs.convert.Lists.{Lists, version_of, FileParts, with_parts}
-use Rattle.gimli_write.proofs.ConvertSteps.{kept_then}
+use Rattle.std.specs.Prelude.{option_map}
+use Rattle.gimli_line.specs.header.File.{file_seen}
+use Rattle.gimli_build.specs.LineText.{line_text}
+use Rattle.gimli_write.specs.convert.Lists.{Lists, FileParts}
+use Rattle.gimli_write.proofs.ConvertSteps.{parts_are_added, kept_then}
 use Rattle.gimli_write.proofs.convert.lists.Lists.add_parts.Goals as goal
-
--- the lists after a file, by the texts that were made of its path and its source
-parts_are_added : (lists : Lists) (f : File) (parts : FileParts) (path : LineText) (source : Option LineText) (paths line_strings : List (List ℕ))
-    → path ≡ made_text (version_of lists) lists.line_strings parts.path → paths ≡ made_table (version_of lists) lists.line_strings parts.path
-    → source ≡ option_map (made_text (version_of lists) paths) parts.source
-    → line_strings ≡ option_map_or (made_table (version_of lists) paths) parts.source paths
-    → with_parts lists f parts ≡ record lists {
-      program = record lists.program {
-        files = with_file lists.program.files (path, parts.directory)
-            (Some (record { timestamp = f.timestamp; size = f.size; md5 = f.md5; source = source }));
-      };
-      file_ids = lists.file_ids ++ place_of_file lists.program.files (path, parts.directory) ∷ [];
-      line_strings = line_strings;
-    }
-parts_are_added lists f parts path source paths line_strings made after source_made source_after =
-    rw (source_after, source_made, after, made) refl
 
 pub returns-in_err-push-in-Ok-clause-stays : goal.returns-in_err-push-in-Ok-clause-stays
 returns-in_err-push-in-Ok-clause-stays g c =
