@@ -1,6 +1,6 @@
 -- The steps that a header is prepared by, one after the other.
 use Rattle.std.proofs.Common.{◌≡◌, ℕ, List, refl, sym, ap, ◌∙◌}
-use Rattle.std.specs.Prelude.{Result, Ok}
+use Rattle.std.specs.Prelude.{Result, Ok, Err, IfOk}
 use Rattle.gimli_core.specs.declared.common.Encoding.{Encoding}
 use Rattle.gimli_core.specs.declared.common.LineEncoding.{LineEncoding}
 use Rattle.gimli_line.specs.header.Header.{Header}
@@ -16,55 +16,61 @@ pub lists_are : (c : Converted) (line_strings : List (List ℕ)) (want : Lists) 
     → c.file_ids ≡ want.file_ids → line_strings ≡ want.line_strings → lists_with line_strings c ≡ want
 lists_are c line_strings want program directories files texts = rw (program, directories, files, texts) refl
 
+-- what three things say of a result that is there
+pub ok_by_three : {A E : Type 0} (r : Result A E) (P Q R S : A → Type 0) → ((x : A) → P x → Q x → R x → S x) → IfOk r P → IfOk r Q → IfOk r R → IfOk r S
+ok_by_three (Ok x) P Q R S f p q r = f x p q r
+ok_by_three (Err e) P Q R S f p q r = tt
+
+-- ---- two steps that don't ask for each other, and what follows them
+
+module _ {A B C : Type 0} (a : Result A ConvertError) (b : Result B ConvertError) (f : A → B → Result C ConvertError) (x : A) (y : B) (first : a ≡ Ok x) (second : b ≡ Ok y) where
+  pub at_third : (a >>= λ x. b >>= λ y. f x y) ≡ f x y
+  at_third = done_first a (λ x. b >>= λ y. f x y) x first ∙ done_first b (λ y. f x y) y second
+
+  pub refused_at_third : (e : ConvertError) → IsRefusedBy (f x y) e → IsRefusedBy (a >>= λ x. b >>= λ y. f x y) e
+  refused_at_third e refused = refused_same (f x y) (a >>= λ x. b >>= λ y. f x y) e (sym at_third) refused
+
+-- a step after three others is the fourth
+fourth_step : {A B C D E : Type 0} (a : Result A ConvertError) (b : Result B ConvertError) (c : Result C ConvertError) (f : A → B → C → D) (k : D → Result E ConvertError)
+    → ((a >>= λ x. b >>= λ y. c >>= λ z. Ok (f x y z)) >>= k) ≡ (a >>= λ x. b >>= λ y. c >>= λ z. k (f x y z))
+fourth_step (Ok x) (Ok y) (Ok z) f k = refl
+fourth_step (Ok x) (Ok y) (Err e) f k = refl
+fourth_step (Ok x) (Err e) c f k = refl
+fourth_step (Err e) b c f k = refl
+
+-- ---- the preparation
+
 module _ (s : Sections) (h : Header) (given : Handed) (line_strings : List (List ℕ)) (encoding : Encoding) (target : encoding ≡ encoding_of h given) where
-  -- what is left of the preparation after each step
-  abbrev pub behind_lines : List ℕ → SourceFile → LineEncoding → Result Lists ConvertError
-  behind_lines directory file e =
-      all_added (directory_added s) h.directories (started_lists encoding e h (first_texts encoding.version line_strings directory file))
-      >>= λ lists. all_added (file_added s) h.files lists
+  -- the lists with the first texts
+  abbrev pub begun_lists : List ℕ → SourceFile → LineEncoding → Lists
+  begun_lists directory file e = started_lists encoding e h (first_texts encoding.version line_strings directory file)
 
-  abbrev pub behind_file : List ℕ → SourceFile → Result Lists ConvertError
-  behind_file directory file = line_encoding_of h.parameters.line_encoding given.line_encoding >>= λ e. behind_lines directory file e
+  -- the lists before the directories and files of the header are added
+  abbrev pub begun : Result Lists ConvertError
+  begun =
+      working_directory encoding.version s h >>= λ directory. source_file encoding.version s h given.name >>= λ file.
+      line_encoding_of h.parameters.line_encoding given.line_encoding >>= λ e. Ok (begun_lists directory file e)
 
-  abbrev pub behind_directory : List ℕ → Result Lists ConvertError
-  behind_directory directory = source_file encoding.version s h given.name >>= λ file. behind_file directory file
+  -- they are added
+  abbrev pub listed : Lists → Result Lists ConvertError
+  listed lists = all_added (directory_added s) h.directories lists >>= λ between. all_added (file_added s) h.files between
 
-  abbrev pub all_steps : Result Lists ConvertError
-  all_steps = working_directory encoding.version s h >>= λ directory. behind_directory directory
-
-  whole : all_steps ≡ prepared s h given line_strings
-  whole = ap (λ (encoding : Encoding).
+  whole : (begun >>= λ lists. listed lists) ≡ prepared s h given line_strings
+  whole =
+      fourth_step (working_directory encoding.version s h) (source_file encoding.version s h given.name) (line_encoding_of h.parameters.line_encoding given.line_encoding)
+      begun_lists (λ lists. listed lists)
+      ∙ ap (λ (encoding : Encoding).
       working_directory encoding.version s h >>= λ directory. source_file encoding.version s h given.name >>= λ file.
       line_encoding_of h.parameters.line_encoding given.line_encoding >>= λ e.
       all_added (directory_added s) h.directories (started_lists encoding e h (first_texts encoding.version line_strings directory file))
       >>= λ lists. all_added (file_added s) h.files lists) target
 
-  module _ (directory : List ℕ) (first : working_directory encoding.version s h ≡ Ok directory) where
-    at_file : behind_directory directory ≡ prepared s h given line_strings
-    at_file = sym (done_first (working_directory encoding.version s h) (λ directory. behind_directory directory) directory first) ∙ whole
+  pub refused_at_start : (e : ConvertError) → IsRefusedBy begun e → IsRefusedBy (prepared s h given line_strings) e
+  refused_at_start e refused =
+      refused_same (begun >>= λ lists. listed lists) (prepared s h given line_strings) e whole (refused_first begun (λ lists. listed lists) e refused)
 
-    module _ (file : SourceFile) (second : source_file encoding.version s h given.name ≡ Ok file) where
-      at_lines : behind_file directory file ≡ prepared s h given line_strings
-      at_lines = sym (done_first (source_file encoding.version s h given.name) (λ file. behind_file directory file) file second) ∙ at_file
+  pub at_listed : (lists : Lists) → begun ≡ Ok lists → listed lists ≡ prepared s h given line_strings
+  at_listed lists start = sym (done_first begun (λ lists. listed lists) lists start) ∙ whole
 
-      module _ (lines : LineEncoding) (third : line_encoding_of h.parameters.line_encoding given.line_encoding ≡ Ok lines)
-          (c : Converted) (texts : List (List ℕ)) (start : lists_with texts c ≡ started_lists encoding lines h (first_texts encoding.version line_strings directory file)) where
-        at_directories : (all_added (directory_added s) h.directories (lists_with texts c) >>= λ lists. all_added (file_added s) h.files lists) ≡ prepared s h given line_strings
-        at_directories =
-            ap (λ (l : Lists). all_added (directory_added s) h.directories l >>= λ lists. all_added (file_added s) h.files lists) start
-            ∙ sym (done_first (line_encoding_of h.parameters.line_encoding given.line_encoding) (λ e. behind_lines directory file e) lines third) ∙ at_lines
-
-        pub refused_at_directories : (e : ConvertError) → IsRefusedBy (all_added (directory_added s) h.directories (lists_with texts c)) e → IsRefusedBy (prepared s h given line_strings) e
-        refused_at_directories e refused =
-            refused_same (all_added (directory_added s) h.directories (lists_with texts c) >>= λ lists. all_added (file_added s) h.files lists) (prepared s h given line_strings) e at_directories
-            (refused_first (all_added (directory_added s) h.directories (lists_with texts c)) (λ lists. all_added (file_added s) h.files lists) e refused)
-
-        pub at_files : (lists : Lists) → all_added (directory_added s) h.directories (lists_with texts c) ≡ Ok lists
-            → all_added (file_added s) h.files lists ≡ prepared s h given line_strings
-        at_files lists fourth =
-            sym (done_first (all_added (directory_added s) h.directories (lists_with texts c)) (λ lists. all_added (file_added s) h.files lists) lists fourth) ∙ at_directories
-
-        pub refused_at_files : (lists : Lists) (e : ConvertError) → all_added (directory_added s) h.directories (lists_with texts c) ≡ Ok lists
-            → IsRefusedBy (all_added (file_added s) h.files lists) e → IsRefusedBy (prepared s h given line_strings) e
-        refused_at_files lists e fourth refused =
-            refused_same (all_added (file_added s) h.files lists) (prepared s h given line_strings) e (at_files lists fourth) refused
+  pub refused_at_listed : (lists : Lists) (e : ConvertError) → begun ≡ Ok lists → IsRefusedBy (listed lists) e → IsRefusedBy (prepared s h given line_strings) e
+  refused_at_listed lists e start refused = refused_same (listed lists) (prepared s h given line_strings) e (at_listed lists start) refused

@@ -12,7 +12,7 @@ use Rattle.gimli_build.specs.Tables.{with_directory, place_of_directory, with_fi
 use Rattle.gimli_build.specs.Texts.{Sections}
 use Rattle.gimli_write.specs.declared.convert_error.ConvertError.{ConvertError}
 use Rattle.gimli_write.specs.convert.Texts.{◌>>=◌, IsRefusedBy, source_path}
-use Rattle.gimli_write.specs.convert.Lists.{Lists, version_of, with_path, directory_added, FileParts, file_parts, with_parts, file_added, all_added}
+use Rattle.gimli_write.specs.convert.Lists.{Lists, version_of, with_path, directory_added, FileParts, with_parts, all_added}
 
 -- ---- one step and the next
 
@@ -45,23 +45,21 @@ pub directory_is_added : (s : Sections) (lists : Lists) (v : Value) (path : List
 directory_is_added s lists v path text line_strings is made after =
     rw (made, after) (done_first (source_path (version_of lists) s v) (λ (p : List ℕ). Ok (with_path lists p)) path is)
 
--- the lists after a file, by the texts that were made of its path and its source
-pub file_is_added : (s : Sections) (lists : Lists) (f : File) (parts : FileParts) (path : LineText) (source : Option LineText) (paths line_strings : List (List ℕ))
-    → file_parts (version_of lists) s lists.directory_ids f ≡ Ok parts
+-- the lists after a file of these parts, by the texts that were made of its path and its source
+pub parts_are_added : (lists : Lists) (f : File) (parts : FileParts) (path : LineText) (source : Option LineText) (paths line_strings : List (List ℕ))
     → path ≡ made_text (version_of lists) lists.line_strings parts.path → paths ≡ made_table (version_of lists) lists.line_strings parts.path
     → source ≡ option_map (made_text (version_of lists) paths) parts.source
     → line_strings ≡ option_map_or (made_table (version_of lists) paths) parts.source paths
-    → file_added s lists f ≡ Ok (record lists {
+    → with_parts lists f parts ≡ record lists {
       program = record lists.program {
         files = with_file lists.program.files (path, parts.directory)
             (Some (record { timestamp = f.timestamp; size = f.size; md5 = f.md5; source = source }));
       };
       file_ids = lists.file_ids ++ place_of_file lists.program.files (path, parts.directory) ∷ [];
       line_strings = line_strings;
-    })
-file_is_added s lists f parts path source paths line_strings is made after source_made source_after =
-    rw (source_after, source_made, after, made)
-    (done_first (file_parts (version_of lists) s lists.directory_ids f) (λ (p : FileParts). Ok (with_parts lists f p)) parts is)
+    }
+parts_are_added lists f parts path source paths line_strings made after source_made source_after =
+    rw (source_after, source_made, after, made) refl
 
 -- ---- many
 

@@ -5,7 +5,7 @@ ghost use Rattle.gimli_bytes.specs.Texts.{KeepsTexts};
 ghost use Rattle.gimli_bytes.specs.declared.address.Address.{Address};
 ghost use Rattle.gimli_write.specs.convert.Texts.{IsRefusedBy};
 ghost use Rattle.gimli_write.specs.convert.Feeding.{fed, without_items};
-ghost use Rattle.gimli_write.specs.convert.ConversionState.{with_program, AnswersAs, RestConvertsTo, IsRestRefusal};
+ghost use Rattle.gimli_write.specs.convert.ConversionState.{with_program, rest_converted, AnswersAs, RestConvertsTo, IsRestRefusal};
 
 use crate::convert::conversion::Conversion;
 use crate::convert::offer::ConvertLineRow;
@@ -40,13 +40,38 @@ impl<R: Reader> Conversion<R> {
             ConvertLineRow::EndSequence(address_offset) => self.end_sequence(address_offset),
         }
     }
+
+    /// Reads and builds all that is still to be read, as `convert_all` does.
+    fn feed_all<F: Fn(u64) -> Option<Address>>(
+        &mut self,
+        line_strings: &mut LineStringTable,
+        convert_address: &F,
+    ) -> ConvertResult<()>
+        requires { F.IsAlwaysCallable convert_address.now }
+        ensures ok { (g : ℕ → Option Address) → AnswersAs (F.post convert_address.now) g
+            → OnOk result (rest_converted g self.old line_strings.old ≡ Ok (record {
+              program = self.new.lists.program;
+              file_ids = self.new.lists.file_ids;
+              line_strings = line_strings.new;
+            })) }
+        ensures err { IfErr result (IsRestRefusal (F.post convert_address.now) self.old line_strings.old) }
+        ensures stays { KeepsTexts line_strings.old line_strings.new }
+    {
+        'rows: loop {
+            match self.read_row(line_strings)? {
+                Some(row) => self.feed(row, convert_address)?,
+                None if self.in_sequence() => return Err(ConvertError::MissingLineEndSequence),
+                None => return Ok(()),
+            }
+        }
+    }
 }
 
 /// Reads and builds all that is still to be read. Refused by the first of these: an address that has no other, as
 /// `InvalidAddress`; what can't be built, as `UnsupportedLineInstruction`; a refusal of reading; a sequence that is left
 /// open, as `MissingLineEndSequence`; or by `OutOfMemory`. The line strings keep their texts.
 pub(crate) fn convert_all<R: Reader, F: Fn(u64) -> Option<Address>>(
-    conversion: Conversion<R>,
+    mut conversion: Conversion<R>,
     line_strings: &mut LineStringTable,
     convert_address: F,
 ) -> ConvertResult<(LineProgram, Vec<FileId>)>
@@ -56,12 +81,6 @@ pub(crate) fn convert_all<R: Reader, F: Fn(u64) -> Option<Address>>(
     ensures err { IfErr result (IsRestRefusal (F.post convert_address) conversion line_strings.old) }
     ensures stays { KeepsTexts line_strings.old line_strings.new }
 {
-    let mut conversion = conversion;
-    'rows: loop {
-        match conversion.read_row(line_strings)? {
-            Some(row) => conversion.feed(row, &convert_address)?,
-            None if conversion.in_sequence() => return Err(ConvertError::MissingLineEndSequence),
-            None => return Ok(conversion.into_program()),
-        }
-    }
+    conversion.feed_all(line_strings, &convert_address)?;
+    Ok(conversion.into_program())
 }

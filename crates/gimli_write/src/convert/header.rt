@@ -10,8 +10,8 @@ ghost use Rattle.gimli_bytes.specs.Texts.{KeepsTexts};
 ghost use Rattle.gimli_build.specs.Advance.{CanEncode};
 ghost use Rattle.gimli_build.specs.Conditions.{Accepts};
 ghost use Rattle.gimli_build.specs.LineText.{line_text, HasNoZero};
-ghost use Rattle.gimli_write.specs.convert.Texts.{IsRefusedBy};
-ghost use Rattle.gimli_write.specs.convert.Lists.{lists_with};
+ghost use Rattle.gimli_write.specs.convert.Texts.{◌>>=◌ as ◌>>>◌, IsRefusedBy};
+ghost use Rattle.gimli_write.specs.convert.Lists.{lists_with, directory_added, file_added, all_added};
 ghost use Rattle.gimli_write.specs.convert.Preparation.{working_directory, file_directory, own_source_file, named_source_file, source_file, is_out_of_range, line_encoding_of, first_texts, started_program, started_lists, first_ids, has_before_5, handed, prepared};
 
 use crate::convert::lists::{Lists, made, optional_made};
@@ -261,6 +261,99 @@ fn first_lists(alloc: Global, program: LineProgram, source_version: u16) -> Conv
     })
 }
 
+/// The lists of a header before its directories and files are added, with the texts of the first of them. Requires texts
+/// without zero bytes. Refused as the encoding of lines is, or by `OutOfMemory`. The line strings keep their texts.
+fn begun_with<R: Reader>(
+    encoding: Encoding,
+    line_encoding: Option<LineEncoding>,
+    header: &LineProgramHeader<R>,
+    directory: &[u8],
+    file: &SourceFile,
+    line_strings: &mut LineStringTable,
+) -> ConvertResult<Lists>
+    requires address_size { IsTrue (is_address_size encoding.address_size) }
+    requires lines { IfSome line_encoding CanEncode }
+    requires working { All (λ b. b ≢ 0) directory.now }
+    requires directory { IfSome file.now.directory (λ text. All (λ b. b ≢ 0) text) }
+    requires path { All (λ b. b ≢ 0) file.now.path }
+    ensures ok { IfOk result (λ lists.
+        (line_encoding_of header.now.meaning.parameters.line_encoding line_encoding >>> λ e.
+        Ok (started_lists encoding e header.now.meaning
+        (first_texts encoding.version line_strings.old directory.now file.now)))
+        ≡ Ok (lists_with line_strings.new lists)) }
+    ensures err { IfErr result
+        (IsRefusedBy (line_encoding_of header.now.meaning.parameters.line_encoding line_encoding)) }
+    ensures stays { KeepsTexts line_strings.old line_strings.new }
+{
+    let alloc = *line_strings.allocator();
+    let lines = line_encoding_of(header.line_encoding(), line_encoding)?;
+    let program = first_program(encoding, lines, header, directory, file, line_strings)?;
+    first_lists(alloc, program, header.version())
+}
+
+/// The lists of a header before its directories and files are added. Refused by the first of these that is refused: the
+/// working directory, the source file, the encoding of lines; or by `OutOfMemory`. The line strings keep their texts.
+fn begun<R: Reader>(
+    sections: &TextSections<R>,
+    header: &LineProgramHeader<R>,
+    from_comp_name: Option<R>,
+    encoding: Encoding,
+    line_encoding: Option<LineEncoding>,
+    line_strings: &mut LineStringTable,
+) -> ConvertResult<Lists>
+    requires address_size { IsTrue (is_address_size encoding.address_size) }
+    requires lines { IfSome line_encoding CanEncode }
+    ensures ok { IfOk result (λ lists.
+        (working_directory encoding.version sections.now header.now.meaning >>> λ directory.
+        source_file encoding.version sections.now header.now.meaning (option_map R.bytes from_comp_name) >>> λ file.
+        line_encoding_of header.now.meaning.parameters.line_encoding line_encoding >>> λ e.
+        Ok (started_lists encoding e header.now.meaning
+        (first_texts encoding.version line_strings.old directory file)))
+        ≡ Ok (lists_with line_strings.new lists)) }
+    ensures err { IfErr result (IsRefusedBy
+        (working_directory encoding.version sections.now header.now.meaning >>> λ directory.
+        source_file encoding.version sections.now header.now.meaning (option_map R.bytes from_comp_name) >>> λ file.
+        line_encoding_of header.now.meaning.parameters.line_encoding line_encoding >>> λ e.
+        Ok (started_lists encoding e header.now.meaning
+        (first_texts encoding.version line_strings.old directory file)))) }
+    ensures stays { KeepsTexts line_strings.old line_strings.new }
+{
+    let alloc = *line_strings.allocator();
+    let directory = working_directory(alloc, encoding.version, header, sections)?;
+    let file = source_file(alloc, encoding.version, header, from_comp_name, sections)?;
+    begun_with(
+        encoding,
+        line_encoding,
+        header,
+        directory.as_slice(),
+        &file,
+        line_strings,
+    )
+}
+
+/// Adds the directories and files of a header. Refused by the first that is refused, or by `OutOfMemory`. The line
+/// strings keep their texts.
+fn add_listed<R: Reader>(
+    lists: &mut Lists,
+    sections: &TextSections<R>,
+    header: &LineProgramHeader<R>,
+    line_strings: &mut LineStringTable,
+) -> ConvertResult<()>
+    ensures ok { OnOk result
+        ((all_added (directory_added sections.now) header.now.meaning.directories
+        (lists_with line_strings.old lists.old) >>> λ between.
+        all_added (file_added sections.now) header.now.meaning.files between)
+        ≡ Ok (lists_with line_strings.new lists.new)) }
+    ensures err { IfErr result (IsRefusedBy
+        (all_added (directory_added sections.now) header.now.meaning.directories
+        (lists_with line_strings.old lists.old) >>> λ between.
+        all_added (file_added sections.now) header.now.meaning.files between)) }
+    ensures stays { KeepsTexts line_strings.old line_strings.new }
+{
+    lists.add_directories(header.include_directories(), sections, line_strings)?;
+    lists.add_files(header.file_names(), sections, line_strings)
+}
+
 /// The program of a header with its directories and files, and where it has those of the source. Requires encodings that a
 /// program may have, where they are handed in. Refused by the first of these that is refused: the working directory, the
 /// source file, the encoding of lines, the directories, the files; or by `OutOfMemory`. The line strings keep their
@@ -282,21 +375,15 @@ pub(crate) fn prepare<R: Reader>(
         (handed encoding line_encoding (option_map R.bytes from_comp_name)) line_strings.old)) }
     ensures stays { KeepsTexts line_strings.old line_strings.new }
 {
-    let alloc = *line_strings.allocator();
     let encoding = encoding.unwrap_or(header.encoding());
-    let directory = working_directory(alloc, encoding.version, header, sections)?;
-    let file = source_file(alloc, encoding.version, header, from_comp_name, sections)?;
-    let line_encoding = line_encoding_of(header.line_encoding(), line_encoding)?;
-    let program = first_program(
+    let mut lists = begun(
+        sections,
+        header,
+        from_comp_name,
         encoding,
         line_encoding,
-        header,
-        directory.as_slice(),
-        &file,
         line_strings,
     )?;
-    let mut lists = first_lists(alloc, program, header.version())?;
-    lists.add_directories(header.include_directories(), sections, line_strings)?;
-    lists.add_files(header.file_names(), sections, line_strings)?;
+    add_listed(&mut lists, sections, header, line_strings)?;
     Ok(lists)
 }

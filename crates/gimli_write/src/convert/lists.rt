@@ -9,7 +9,7 @@ ghost use Rattle.gimli_build.specs.LineText.{LineText, line_text, made_text, mad
 ghost use Rattle.gimli_write.specs.convert.Texts.{IsRefusedBy};
 ghost use Rattle.gimli_write.specs.convert.Offers.{file_id};
 ghost use Rattle.gimli_write.specs.convert.ConversionState.{AddsFiles};
-ghost use Rattle.gimli_write.specs.convert.Lists.{lists_with, directory_added, file_added, file_parts, all_added};
+ghost use Rattle.gimli_write.specs.convert.Lists.{lists_with, directory_added, file_added, file_parts, with_parts, all_added};
 ghost use Rattle.gimli_write.specs.declared.convert_error.ConvertError.TheVariants.{OutOfMemory};
 
 use crate::convert::texts::{optional_text, source_path};
@@ -167,6 +167,39 @@ impl Lists {
         })
     }
 
+    /// Adds a file of these parts after the others. Requires a path and a source that a program can have, and a directory
+    /// of the program. Refused by `OutOfMemory` alone. The line strings keep their texts.
+    fn add_parts<R: Reader>(
+        &mut self,
+        file: &FileEntry<R>,
+        parts: &FileParts,
+        line_strings: &mut LineStringTable,
+    ) -> ConvertResult<()>
+        requires no_zero { All (λ b. b ≢ 0) parts.now.path }
+        requires not_empty { self.old.program.encoding.version ≤ 4 → parts.now.path ≢ [] }
+        requires source_no_zero { IfSome parts.now.source (λ text. All (λ b. b ≢ 0) text) }
+        requires within { parts.now.directory < length self.old.program.directories }
+        ensures ok { OnOk result (with_parts (lists_with line_strings.old self.old)
+            (file_seen R.bytes R.Offset.number file.now) parts.now ≡ lists_with line_strings.new self.new) }
+        ensures memory { IfErr result (λ e. e ≡ ConvertError.OutOfMemory) }
+        ensures adds { AddsFiles self.old.program self.new.program }
+        ensures stays { KeepsTexts line_strings.old line_strings.new }
+    {
+        let encoding = self.program.encoding();
+        let path = made(parts.path.as_slice(), encoding, line_strings)?;
+        let source = optional_made(&parts.source, encoding, line_strings)?;
+        let info = FileInfo {
+            timestamp: file.timestamp(),
+            size: file.size(),
+            md5: *file.md5(),
+            source,
+        };
+        match self.program.add_file(path, parts.directory, Some(info)) {
+            Ok(id) => Ok(self.files.push(id)?),
+            Err(e) => Err(from_write(e)),
+        }
+    }
+
     /// Adds a file after the others. Refused as `file_parts` is; the program and the ids are then as before, unless
     /// memory is missing. The line strings keep their texts.
     pub(crate) fn add_file<R: Reader>(
@@ -183,21 +216,8 @@ impl Lists {
         ensures adds { AddsFiles self.old.program self.new.program }
         ensures stays { KeepsTexts line_strings.old line_strings.new }
     {
-        let alloc = *line_strings.allocator();
-        let encoding = self.program.encoding();
-        let parts = self.file_parts(alloc, file, sections)?;
-        let path = made(parts.path.as_slice(), encoding, line_strings)?;
-        let source = optional_made(&parts.source, encoding, line_strings)?;
-        let info = FileInfo {
-            timestamp: file.timestamp(),
-            size: file.size(),
-            md5: *file.md5(),
-            source,
-        };
-        match self.program.add_file(path, parts.directory, Some(info)) {
-            Ok(id) => Ok(self.files.push(id)?),
-            Err(e) => Err(from_write(e)),
-        }
+        let parts = self.file_parts(*line_strings.allocator(), file, sections)?;
+        self.add_parts(file, &parts, line_strings)
     }
 
     /// The id of the file of a number in the source, which is of this version. Refused as `InvalidFileIndex` where the

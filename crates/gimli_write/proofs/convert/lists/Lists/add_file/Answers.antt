@@ -1,33 +1,33 @@
-use Rattle.std.specs.Prelude.{option_map}
+use Rattle.std.proofs.Common.{ap, ◌∙◌, inl}
+use Rattle.std.specs.Prelude.{Result, Ok}
+use Rattle.std.proofs.lemmas.Result.{err_from_is_err_and, IfErr-weaker, on_ok_weaker}
 use Rattle.gimli_line.specs.header.File.{file_seen}
-use Rattle.gimli_build.specs.LineText.{line_text}
-use Rattle.gimli_write.specs.convert.Lists.{Lists, FileParts}
-use Rattle.gimli_write.proofs.ConvertSteps.{file_is_added, kept_then}
+use Rattle.gimli_write.specs.declared.convert_error.ConvertError.{ConvertError}
+use Rattle.gimli_write.specs.convert.Lists.{Lists, lists_with, version_of, FileParts, file_parts, with_parts}
+use Rattle.gimli_write.proofs.ConvertSteps.{done_first, refused_first}
 use Rattle.gimli_write.proofs.convert.lists.Lists.add_file.Goals as goal
 
-pub returns-in_err-push-in-Ok-clause-stays : goal.returns-in_err-push-in-Ok-clause-stays
-returns-in_err-push-in-Ok-clause-stays g c =
-    kept_then c.args.line_strings.now c.made.new.line_strings c.optional_made.new.line_strings c.in_ok-path.ensures.stays c.in_ok-source.ensures.stays
-
-pub returns-in-Ok-clause-ok : goal.returns-in-Ok-clause-ok
-returns-in-Ok-clause-ok g c =
+pub returns-in_err-parts-clause-err : goal.returns-in_err-parts-clause-err
+returns-in_err-parts-clause-err g c =
     let f = file_seen g.R.Reader.bytes g.R.Offset.ReaderOffset.number c.args.file.now in
-    let lists : Lists = record {
-      program = c.self.inside.program;
-      directory_ids = c.self.inside.directories.items;
-      file_ids = c.self.inside.files.items;
-      line_strings = c.args.line_strings.now;
-    } in
-    let parts : FileParts = record {
-      path = c.parts.inside.path.items;
-      directory = c.parts.inside.directory;
-      source = option_map (λ text. text.items) c.parts.inside.source;
-    } in
-    let is = rw (← c.parts.view_is, ← c.self.view_is) at c.in_ok-parts.ensures.ok in
-    let made = rw (c.encoding-encoding.ensures.encoding, c.as_slice.ensures.value) at c.in_ok-path.ensures.ok in
-    let after = rw (c.encoding-encoding.ensures.encoding, c.as_slice.ensures.value) at c.in_ok-path.ensures.table in
-    let source_made = rw c.encoding-encoding.ensures.encoding at c.in_ok-source.ensures.ok in
-    let source_after = rw c.encoding-encoding.ensures.encoding at c.in_ok-source.ensures.table in
-    rw (← c.self.view_is, c.in-Ok.ensures.ok, c.in_ok-push-in-Ok.ensures.items, c.in-Ok.ensures.id, c.timestamp.ensures, c.size.ensures, c.md5.ensures)
-    (file_is_added c.args.sections.now lists f parts (line_text c.in_ok-path.path) (option_map line_text c.in_ok-source.source)
-    c.made.new.line_strings c.optional_made.new.line_strings is made after source_made source_after)
+    let lists = lists_with c.args.line_strings.now c.args.self.now in
+    let p = err_from_is_err_and c.from_residual.result c.from_residual.ensures.1 in
+    rw (p.1, p.2)
+    (refused_first (file_parts (version_of lists) c.args.sections.now lists.directory_ids f)
+    (λ (parts : FileParts). let r : Result Lists ConvertError = Ok (with_parts lists f parts) in r) c.in_err-parts.field-0.0 c.in_err-parts.ensures.err)
+
+pub returns-clause-ok : goal.returns-clause-ok
+returns-clause-ok g c =
+    let f = file_seen g.R.Reader.bytes g.R.Offset.ReaderOffset.number c.args.file.now in
+    let lists = lists_with c.args.line_strings.now c.args.self.now in
+    on_ok_weaker c.add_parts.result
+    (λ is. done_first (file_parts (version_of lists) c.args.sections.now lists.directory_ids f)
+    (λ (parts : FileParts). let r : Result Lists ConvertError = Ok (with_parts lists f parts) in r) c.in_ok-parts.parts c.in_ok-parts.ensures.ok
+    ∙ ap (λ (lists : Lists). let r : Result Lists ConvertError = Ok lists in r) is)
+    c.add_parts.ensures.ok
+
+pub returns-clause-err : goal.returns-clause-err
+returns-clause-err g c = IfErr-weaker c.add_parts.result _ _ (λ e memory. inl memory) c.add_parts.ensures.memory
+
+pub returns-clause-kept : goal.returns-clause-kept
+returns-clause-kept g c = IfErr-weaker c.add_parts.result _ _ (λ e memory other. absurd (other memory)) c.add_parts.ensures.memory

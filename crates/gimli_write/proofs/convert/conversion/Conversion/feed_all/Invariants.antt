@@ -5,15 +5,15 @@ use Rattle.gimli_bytes.specs.declared.address.Address.{Address}
 use Rattle.gimli_write.specs.convert.Feeding.{converted}
 use Rattle.gimli_write.specs.convert.ConversionState.{still_to_read}
 use Rattle.gimli_write.proofs.Feedings.{offer_count}
-use Rattle.gimli_write.proofs.convert.feeding.convert_all.Given as goal
+use Rattle.gimli_write.proofs.convert.conversion.Conversion.feed_all.Given as goal
 
 abbrev pub invariant-rows : goal.invariant-rows
 invariant-rows g l = record {
   same : (m : ℕ → Option Address) → ((a : ℕ) (r : Option Address) → goal.F-post g l.convert_address a r → r ≡ m a)
-      → converted m (still_to_read l.conversion l.line_strings) l.conversion.lists.program
-      ≡ converted m (still_to_read l.fn.conversion l.fn.line_strings) l.fn.conversion.lists.program;
+      → converted m (still_to_read l.self l.line_strings) l.self.lists.program
+      ≡ converted m (still_to_read l.fn.self l.fn.line_strings) l.fn.self.lists.program;
   stays : KeepsTexts l.fn.line_strings l.line_strings;
 }
 
 abbrev pub decreases-rows : goal.decreases-rows
-decreases-rows g l = offer_count (still_to_read l.conversion l.line_strings)
+decreases-rows g l = offer_count (still_to_read l.self l.line_strings)
