@@ -65,7 +65,12 @@ enum What {
 
 /// One pass over all units of these bytes.
 fn measure(alloc: Global, section: &[u8], what: What) -> Total {
-    pass(alloc, &DebugLine::new(section, LittleEndian), section.len(), what)
+    pass(
+        alloc,
+        &DebugLine::new(section, LittleEndian),
+        section.len(),
+        what,
+    )
 }
 
 /// One pass over all units of a section of this length.

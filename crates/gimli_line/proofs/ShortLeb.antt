@@ -20,7 +20,7 @@ one_signed z b bytes rest lt is e = rw (byte_ok b rest bytes e, lt-ltb b 128 lt,
 
 number : (a b : ℕ) (negative : Bool) → 128 ≤ a → a < 256 → b < 128
     → to_z w64 (of_z w64 (to_z w64 (of_z w64 (to_z w64 (of_z w64 (pos a)) -ℤ pos 128)) +ℤ to_z w64 (of_z w64 (pos 128 *ℤ to_z w64 (of_z w64 (pos b -ℤ pos (if negative then 128 else 0)))))))
-      ≡ pos (a % 128 + 128 * b) -ℤ pos (128 * (if negative then 128 else 0))
+    ≡ pos (a % 128 + 128 * b) -ℤ pos (128 * (if negative then 128 else 0))
 number a b true le below lt = omega (arith, ints)
 number a b false le below lt = omega (arith, ints)
 

@@ -25,12 +25,12 @@ loop-text-preserved g c =
     let contents = g.W.Writer.contents in
     record {
       keeps = begins_then (contents c.args.w.now) (contents c.write.new.self) (contents c.write_u8.new.self)
-      (begins_then (contents c.args.w.now) (contents c.loop-text.w) (contents c.write.new.self) c.loop-text.invariant.keeps c.in_ok-write.ensures.keeps)
-      c.in_ok-write_u8.ensures.keeps;
+          (begins_then (contents c.args.w.now) (contents c.loop-text.w) (contents c.write.new.self) c.loop-text.invariant.keeps c.in_ok-write.ensures.keeps)
+          c.in_ok-write_u8.ensures.keeps;
       ordered = c.in_ok-write_u8.ensures.ordered ∙ c.in_ok-write.ensures.ordered ∙ c.loop-text.invariant.ordered;
       put = λ keeps. text_put c.as_slice-text-items.result.now c.loop-text.text-index c.text-item.result (g.W.Writer.big c.write.new.self) c.as_slice.result.now
-      (contents c.args.w.now) (contents c.loop-text.w) (contents c.write.new.self) (contents c.write_u8.new.self)
-      c.loop-text-test.true c.text-item.is c.as_slice.ensures.value (c.loop-text.invariant.put keeps) (c.in_ok-write.ensures.ok keeps) (c.in_ok-write_u8.ensures.ok keeps);
+          (contents c.args.w.now) (contents c.loop-text.w) (contents c.write.new.self) (contents c.write_u8.new.self)
+          c.loop-text-test.true c.text-item.is c.as_slice.ensures.value (c.loop-text.invariant.put keeps) (c.in_ok-write.ensures.ok keeps) (c.in_ok-write_u8.ensures.ok keeps);
     }
 
 pub returns-clause-ok : goal.returns-clause-ok
