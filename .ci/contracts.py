@@ -62,6 +62,13 @@ def answer_type(text, start):
         i += 1
 
 
+def end_of_bounds(text, i):
+    """Where the bounds after `where` end, if there are any."""
+    if not re.match(r"\s*where\b", text[i:]):
+        return i
+    return i + re.search(r"\b(requires|ensures)\b|\{", text[i:]).start()
+
+
 def clauses_at(text, i):
     found = []
     while True:
@@ -97,7 +104,7 @@ def functions(crate):
             owner = owner_of(inside[-1][3]) + "::" if inside else (module + "::" if module.endswith("laws") else "")
             generics = squeezed(text[m.end() : opening])
             lines.append(f"fn {owner}{m.group(2)}{generics}({arguments}){answer}")
-            lines += clauses_at(text, i)
+            lines += clauses_at(text, end_of_bounds(text, i))
     return "\n".join(lines)
 
 
