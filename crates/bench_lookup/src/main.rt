@@ -17,10 +17,9 @@ mod work;
 use gimli_core::{DebugLineOffset, LittleEndian};
 use gimli_line::DebugLine;
 use std::alloc::Global;
-use std::fs::File;
-use std::io::{ErrorKind, Read};
+use std::io::ErrorKind;
 use std::process::ExitCode;
-use std::{env, io};
+use std::{env, fs, io};
 use work::{Tally, do_work};
 
 fn main(rt: HostRuntime) -> ExitCode {
@@ -40,20 +39,12 @@ fn start(rt: &HostRuntime) -> io::Result<()> {
     let [path, offset, work, times] = words.as_slice() else {
         return Err(io::Error::from(ErrorKind::InvalidInput));
     };
-    let section = read_file(rt, path)?;
+    let section = fs::read(rt, *path)?;
     let tally = measure(rt.alloc(), &section, offset, work, times)?;
     let count = tally.count;
     let probes = tally.probes;
     let sum = tally.sum;
     println!(rt; "count {count} probes {probes} sum {sum}")
-}
-
-/// The bytes of a file.
-fn read_file(rt: &HostRuntime, path: &str) -> io::Result<Vec<u8>> {
-    let mut bytes = Vec::new(rt.alloc());
-    let mut file = File::open(rt, path)?;
-    file.read_to_end(&mut bytes)?;
-    Ok(bytes)
 }
 
 /// What the last time of the work counted.

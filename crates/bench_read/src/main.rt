@@ -8,36 +8,46 @@
 use gimli_core::{DebugLineOffset, LittleEndian, Reader};
 use gimli_line::{ColumnType, DebugLine, IncompleteLineProgram, LineRow};
 use std::alloc::Global;
-use std::fs::File;
-use std::io::Read;
+use std::io::ErrorKind;
 use std::process::ExitCode;
 use std::time::Instant;
-use std::{env, io};
+use std::{env, fs, io};
 
 fn main(rt: HostRuntime) -> ExitCode {
-    match run(&rt) {
+    match start(&rt) {
         Ok(()) => ExitCode::from(0),
         Err(_) => ExitCode::from(1),
     }
 }
 
-fn run(rt: &HostRuntime) -> io::Result<()> {
+/// Makes the passes that the words after the program's name tell.
+fn start(rt: &HostRuntime) -> io::Result<()> {
     let arguments: Vec<String> = env::args(rt)?.collect(rt.alloc())?;
-    let Some(path) = arguments.get(1) else {
-        return Ok(());
+    let mut words = Vec::new(rt.alloc());
+    for word in arguments.iter().skip(1) {
+        words.push(word.as_str())?;
+    }
+    let (path, times, what) = match words.as_slice() {
+        [path, times] => (*path, *times, What::Rows),
+        [path, times, "sequences"] => (*path, *times, What::Sequences),
+        _ => return Err(io::Error::from(ErrorKind::InvalidInput)),
     };
-    let section = read_file(rt, path)?;
-    let times = match arguments.get(2) {
-        Some(word) => word.parse::<u64>().unwrap_or(7),
-        None => 7,
+    let Ok(times) = times.parse::<u64>() else {
+        return Err(io::Error::from(ErrorKind::InvalidInput));
     };
-    let (name, what) = match arguments.get(3) {
-        Some(_) => ("sequences", What::Sequences),
-        None => ("rows", What::Rows),
+    let section = fs::read(rt, path)?;
+    run(rt, &section, times, what)
+}
+
+/// Makes so many passes, and prints what each counted.
+fn run(rt: &HostRuntime, section: &[u8], times: u64, what: What) -> io::Result<()> {
+    let name = match what {
+        What::Rows => "rows",
+        What::Sequences => "sequences",
     };
     for _ in 0..times {
         let begin = Instant::now(rt)?;
-        let total = measure(rt.alloc(), &section, what);
+        let total = measure(rt.alloc(), section, what);
         let nanos = begin.elapsed(rt)?.as_nanos();
         println!(rt;
             "units {} {name} {} sum {}",
@@ -46,14 +56,6 @@ fn run(rt: &HostRuntime) -> io::Result<()> {
         eprintln!(rt; "{nanos} ns")?;
     }
     Ok(())
-}
-
-/// The bytes of a file.
-fn read_file(rt: &HostRuntime, path: &str) -> io::Result<Vec<u8>> {
-    let mut bytes = Vec::new(rt.alloc());
-    let mut file = File::open(rt, path)?;
-    file.read_to_end(&mut bytes)?;
-    Ok(bytes)
 }
 
 /// What is counted in a unit.

@@ -11,6 +11,7 @@ use gimli_build::{LineProgram, LineString};
 use gimli_bytes::{Address, DebugLine, EndianVec, LineStringTable, Result, StringTable};
 use gimli_core::{Encoding, Format, LineEncoding, LittleEndian};
 use std::alloc::Global;
+use std::io::ErrorKind;
 use std::process::ExitCode;
 use std::time::Instant;
 use std::{env, io};
@@ -29,7 +30,10 @@ fn main(rt: HostRuntime) -> ExitCode {
 fn start(rt: &HostRuntime) -> io::Result<u8> {
     let arguments: Vec<String> = env::args(rt)?.collect(rt.alloc())?;
     let sequences = match arguments.get(1) {
-        Some(word) => word.parse::<u64>().unwrap_or(1000),
+        Some(word) => {
+            let number = word.parse::<u64>();
+            number.map_err(|_| io::Error::from(ErrorKind::InvalidInput))?
+        }
         None => 1000,
     };
     for _ in 0..TIMES {

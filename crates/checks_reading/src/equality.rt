@@ -1,5 +1,6 @@
 //! Equality and order of what is read.
 
+use crate::check::{check, check_equal};
 use crate::instructions::executed_by_unit;
 use crate::units::{HEADER_OF_TWO_FILES, Slice, UNIT_OF_VERSION_4, program, slice, unit};
 use gimli_core::{
@@ -13,35 +14,8 @@ use gimli_line::LineInstruction::{
 };
 use gimli_line::{ColumnType, FileEntryFormat, LineInstruction, LineRow};
 use std::alloc::Global;
-use std::fmt::Debug;
 use std::num::NonZeroU64;
 use std::process::Abort;
-
-/// A condition holds.
-///
-/// A call of it, as of `check_equal`, is proved in a fraction of the time that the macro in its place takes.
-pub fn check(rt: &impl Abort, holds: bool) {
-    assert!(rt; holds);
-}
-
-/// A value is the one that is wanted.
-pub fn check_equal<T: Copy + PartialEq + Debug>(rt: &impl Abort, found: T, wanted: T) {
-    assert_eq!(rt; found, wanted);
-}
-
-/// A condition holds at a place.
-pub fn check_at<P: Copy + Debug>(rt: &impl Abort, holds: bool, place: P) {
-    assert!(rt; holds, "at {place:?}");
-}
-
-/// A value is the one that is wanted at a place.
-pub fn check_equal_at<T, P>(rt: &impl Abort, found: T, wanted: T, place: P)
-where
-    T: Copy + PartialEq + Debug,
-    P: Copy + Debug,
-{
-    assert_eq!(rt; found, wanted, "at {place:?}");
-}
 
 /// Each value equals itself and no other.
 fn check_distinct<T: PartialEq>(rt: &impl Abort, name: &str, values: &[T]) {

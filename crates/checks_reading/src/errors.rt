@@ -1,6 +1,6 @@
 //! The texts of the errors of reading.
 
-use crate::equality::check_equal;
+use crate::check::check_equal;
 use gimli_core::{Error, ReaderOffsetId};
 use std::alloc::{AllocError, Global};
 use std::process::Abort;

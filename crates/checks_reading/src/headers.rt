@@ -1,7 +1,7 @@
 //! Headers over a reader whose offsets have 32 bits, look-ups at the top of an index's range, sections over sections,
 //! and copies.
 
-use crate::equality::{check, check_equal};
+use crate::check::{check, check_equal};
 use crate::narrow::NarrowReader;
 use crate::units::{
     DEMO_UNIT, Slice, UNIT_OF_VERSION_4, UNIT_OF_VERSION_5, changed, is_directory, is_text,

@@ -1,6 +1,6 @@
 //! Instructions one by one: what comes after the last and after a refusal, and what each does to a row by itself.
 
-use crate::equality::{check, check_equal, check_equal_at};
+use crate::check::{check, check_equal, check_equal_at};
 use crate::units::{
     HEADER, HEADER_OF_RANGE_12, HEADER_OF_TWO_FILES, file_count, flags, is_text, numbers, program,
     slice, unit,

@@ -1,6 +1,6 @@
 //! Lookups, compared with a plain scan over the resumed rows of each sequence, for every address of a few hundred.
 
-use crate::equality::{check, check_at, check_equal, check_equal_at};
+use crate::check::{check, check_at, check_equal, check_equal_at};
 use crate::units::{DEMO_PROGRAM, HEADER, changed, cut_program, file_count, program, slice, unit};
 use gimli_core::{Error, Reader, Result};
 use gimli_line::{CompleteLineProgram, LineRow, LineSequence, ResumedLineRows};

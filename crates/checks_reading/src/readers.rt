@@ -1,6 +1,6 @@
 //! Each call of a reader, over a slice and over a reader of one's own, which has the default bodies alone.
 
-use crate::equality::check_equal;
+use crate::check::check_equal;
 use crate::narrow::{Narrow, NarrowReader};
 use gimli_core::RunTimeEndian::{Big, Little};
 use gimli_core::{EndianSlice, Error, Format, Reader, ReaderOffset, ReaderOffsetId, Result};

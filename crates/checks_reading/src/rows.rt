@@ -1,6 +1,6 @@
 //! The rows of a run, one by one: what comes after the last row and after a refusal, and the files at a row.
 
-use crate::equality::{check, check_at, check_equal, check_equal_at};
+use crate::check::{check, check_at, check_equal, check_equal_at};
 use crate::units::{HEADER, cut_program, file_count, is_text, program, slice, unit};
 use gimli_core::{Error, Reader, ReaderOffsetId};
 use gimli_line::{

@@ -1,6 +1,6 @@
 //! Offsets of two widths, and orders as types.
 
-use crate::equality::{check, check_equal};
+use crate::check::{check, check_equal};
 use crate::narrow::Narrow;
 use gimli_core::{
     BigEndian, Endianity, Error, LineEncoding, LittleEndian, ReaderOffset, Result, RunTimeEndian,

@@ -3,7 +3,8 @@
 ghost use Rattle.std.specs.Prelude.{◌≡◌, ◌<◌, length, false, IfOk, OnOk};
 ghost use Rattle.gimli_write.specs.LineText.{line_text, HasNoZero, IsNotEmpty};
 
-use crate::equality::{check, check_alike, check_distinct, check_equal};
+use crate::check::{check, check_equal};
+use crate::equality::{check_alike, check_distinct};
 use gimli_core::{
     DW_FORM_line_strp, DW_FORM_string, DW_FORM_strp, DwForm, Encoding, Format, LineEncoding,
 };
@@ -98,7 +99,7 @@ fn put_name(program: &mut LineProgram, alloc: Global, name: u8) -> Result<FileId
     put_file(program, alloc, name, None)
 }
 
-fn steps_of_accessors(rt: &impl Abort, alloc: Global) -> Result<()> {
+fn steps_of_encoding_of_a_new_program(rt: &impl Abort, alloc: Global) -> Result<()> {
     let program = program(alloc)?;
     check(rt, !program.is_none());
     check_equal(rt, program.version(), 4);
@@ -112,12 +113,16 @@ fn steps_of_accessors(rt: &impl Abort, alloc: Global) -> Result<()> {
 }
 
 #[test]
-fn accessors(rt: HostRuntime) {
-    check_equal(&rt, steps_of_accessors(&rt, rt.alloc()), Ok(()));
+fn encoding_of_a_new_program(rt: HostRuntime) {
+    check_equal(
+        &rt,
+        steps_of_encoding_of_a_new_program(&rt, rt.alloc()),
+        Ok(()),
+    );
 }
 
 #[test]
-fn no_program(rt: HostRuntime) {
+fn none_is_empty(rt: HostRuntime) {
     let none = LineProgram::none(rt.alloc());
     check(&rt, none.is_none());
     check_equal(&rt, none.address_size(), 0);
@@ -301,7 +306,11 @@ fn set_size(program: &mut LineProgram, file: FileId, size: u64)
     program.get_file_info_mut(file).size = size;
 }
 
-fn steps_of_details(rt: &impl Abort, alloc: Global, program: &mut LineProgram) -> Result<()>
+fn steps_of_details_set_again(
+    rt: &impl Abort,
+    alloc: Global,
+    program: &mut LineProgram,
+) -> Result<()>
     requires { program.old.is_none ≡ false }
 {
     let file = put_sized(program, alloc, 2)?;
@@ -317,11 +326,11 @@ fn steps_of_details(rt: &impl Abort, alloc: Global, program: &mut LineProgram) -
 }
 
 #[test]
-fn details(rt: HostRuntime) {
+fn details_set_again(rt: HostRuntime) {
     match program(rt.alloc()) {
         Ok(mut program) => check_equal(
             &rt,
-            steps_of_details(&rt, rt.alloc(), &mut program),
+            steps_of_details_set_again(&rt, rt.alloc(), &mut program),
             Ok(()),
         ),
         Err(error) => check_not_built(&rt, error),
@@ -575,7 +584,11 @@ fn address_in_mid_sequence(rt: HostRuntime) {
     }
 }
 
-fn steps_of_copies(rt: &impl Abort, alloc: Global, program: &mut LineProgram) -> Result<()>
+fn steps_of_copy_of_a_program(
+    rt: &impl Abort,
+    alloc: Global,
+    program: &mut LineProgram,
+) -> Result<()>
     requires { program.old.is_none ≡ false }
 {
     put_name(program, alloc, b'a')?;
@@ -590,9 +603,13 @@ fn steps_of_copies(rt: &impl Abort, alloc: Global, program: &mut LineProgram) ->
 }
 
 #[test]
-fn copies(rt: HostRuntime) {
+fn copy_of_a_program(rt: HostRuntime) {
     match program(rt.alloc()) {
-        Ok(mut program) => check_equal(&rt, steps_of_copies(&rt, rt.alloc(), &mut program), Ok(())),
+        Ok(mut program) => check_equal(
+            &rt,
+            steps_of_copy_of_a_program(&rt, rt.alloc(), &mut program),
+            Ok(()),
+        ),
         Err(error) => check_not_built(&rt, error),
     }
 }

@@ -1,7 +1,7 @@
 //! Conversions call by call: reads of either kind, the converter's own builder calls, closures that know no address, and
 //! what stands after a refusal.
 
-use crate::equality::{check, check_equal};
+use crate::check::{check, check_equal};
 use gimli_core::{
     DebugLineOffset, Encoding, EndianSlice, Format, LittleEndian, Reader, ReaderOffset,
 };

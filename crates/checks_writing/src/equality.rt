@@ -1,22 +1,10 @@
 //! Equality and hashes of what is built.
 
+use crate::check::check_equal;
 use gimli_write::{Address, FileInfo, LineString, LineStringId, StringId};
 use std::alloc::{AllocError, Global};
-use std::fmt::Debug;
 use std::hash::{DefaultHasher, Hash, Hasher};
 use std::process::Abort;
-
-/// A condition holds.
-///
-/// A call of it, as of `check_equal`, is proved in a fraction of the time that the macro in its place takes.
-pub fn check(rt: &impl Abort, holds: bool) {
-    assert!(rt; holds);
-}
-
-/// A value is the one that is wanted.
-pub fn check_equal<T: Copy + PartialEq + Debug>(rt: &impl Abort, found: T, wanted: T) {
-    assert_eq!(rt; found, wanted);
-}
 
 /// Each value equals itself and no other.
 pub fn check_distinct<T: PartialEq>(rt: &impl Abort, name: &str, values: &[T]) {

@@ -1,6 +1,6 @@
 //! The texts of the errors of writing and converting, and how one error becomes another.
 
-use crate::equality::check_equal;
+use crate::check::check_equal;
 use gimli_core::{DwEhPe, Error as ReadError};
 use gimli_write::{ConvertError, ConvertResult, Error, Result};
 use std::alloc::{AllocError, Global};
@@ -218,7 +218,10 @@ fn texts_of_conversion(rt: HostRuntime) {
 }
 
 /// A refusal of reading or writing prints as it does by itself.
-fn steps_of_texts_of_others(rt: &impl Abort, alloc: Global) -> std::result::Result<(), AllocError> {
+fn steps_of_texts_of_wrapped_errors(
+    rt: &impl Abort,
+    alloc: Global,
+) -> std::result::Result<(), AllocError> {
     let read = ReadError::AddressOverflow;
     let want = read.to_string(alloc)?;
     let text = ConvertError::Read(read).to_string(alloc)?;
@@ -233,11 +236,15 @@ fn steps_of_texts_of_others(rt: &impl Abort, alloc: Global) -> std::result::Resu
 }
 
 #[test]
-fn texts_of_others(rt: HostRuntime) {
-    check_equal(&rt, steps_of_texts_of_others(&rt, rt.alloc()), Ok(()));
+fn texts_of_wrapped_errors(rt: HostRuntime) {
+    check_equal(
+        &rt,
+        steps_of_texts_of_wrapped_errors(&rt, rt.alloc()),
+        Ok(()),
+    );
 }
 
-// ---- errors of errors
+// ---- errors turned into others
 
 fn of_read(error: ReadError) -> ConvertResult<()> {
     let result: std::result::Result<(), ReadError> = Err(error);
@@ -253,7 +260,7 @@ fn of_write(error: Error) -> ConvertResult<()> {
 
 /// A refusal of reading or writing is the converter's own variant of it, and want of memory the error's own.
 #[test]
-fn errors_of_errors(rt: HostRuntime) {
+fn errors_turned_into_others(rt: HostRuntime) {
     let read = ReadError::LineRangeZero;
     check_equal(&rt, of_read(read), Err(ConvertError::Read(read)));
     check_equal(&rt, ConvertError::from(read), ConvertError::Read(read));

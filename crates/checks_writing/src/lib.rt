@@ -9,6 +9,8 @@ mod builder;
 #[cfg(test)]
 mod built;
 #[cfg(test)]
+mod check;
+#[cfg(test)]
 mod conversions;
 #[cfg(test)]
 mod equality;

@@ -4,7 +4,7 @@ ghost use Rattle.std.specs.Prelude.{[]};
 ghost use Rattle.gimli_write.specs.Conditions.{CanWrite};
 
 use crate::built::{DEMO_UNIT, demo, demo_at, write};
-use crate::equality::{check, check_equal};
+use crate::check::{check, check_equal};
 use gimli_core::{
     BigEndian, DebugLineOffset, DebugLineStrOffset, DebugStrOffset, Encoding, LittleEndian,
 };

@@ -1,11 +1,11 @@
-//! Writers of one's own: one in an array, one that isn't plain, and one that isn't steady.
+//! Writers of one's own: one in an array, one that doesn't keep its bytes, and one that doesn't fail for memory alone.
 
 ghost use Rattle.std.specs.Prelude.{◌≡◌, ◌+◌, ◌≤◌, [], ◌++◌, length, take, drop, true, false, IsTrue, IfOk};
 ghost use Rattle.gimli_write.specs.Conditions.{CanWrite};
 ghost use Rattle.gimli_write.specs.LineText.{line_text, HasNoZero, IsWithin};
 
 use crate::built::{DEMO_UNIT, demo, demo_at, write};
-use crate::equality::{check, check_equal};
+use crate::check::{check, check_equal};
 use gimli_core::{
     DebugLineOffset, Encoding, Endianity, Format, LineEncoding, LittleEndian, SectionId,
 };
@@ -122,10 +122,10 @@ fn unit_in_an_array(rt: HostRuntime) {
     }
 }
 
-// ---- a writer that isn't plain
+// ---- a writer that doesn't keep its bytes
 
 /// Writes for an address and for an offset into a section what it is asked for, and not the number: such a writer
-/// isn't plain.
+/// doesn't keep its bytes.
 #[derive(Drop)]
 struct Noting {
     section: EndianVec<LittleEndian>,
@@ -328,9 +328,10 @@ fn references_by_their_own_call(rt: HostRuntime) {
     );
 }
 
-// ---- a writer that isn't steady
+// ---- a writer that doesn't fail for memory alone
 
-/// Keeps what is given to it, for so many calls, and then refuses for good: such a writer isn't steady.
+/// Keeps what is given to it, for so many calls, and then refuses for good: such a writer doesn't fail for memory
+/// alone.
 #[derive(Drop)]
 struct Tired<E: Endianity> {
     section: EndianVec<E>,
