@@ -1,5 +1,6 @@
 /* Line number programs of DWARF, versions 2 to 5, for C. The calls are those of libgimli_c.a, which is proved: called as this
- * page says, none has undefined behaviour, each returns, and each answers what is said here.
+ * page says, none has undefined behaviour, each returns, and each answers what is said here,
+ * with the exceptions that CALLING.md names.
  *
  * Build the library in crates/gimli_c by `rt lib`, and link with it and with the kit's c/liblibc_c.a, which hands malloc and
  * free on:
@@ -64,7 +65,7 @@ enum gimli_status {
     GIMLI_NO_SOURCE_FILE = 24,                         /* no directory or no file, in version 5 */
     GIMLI_NO_SUCH_DIRECTORY = 25,                      /* a file has the index of no directory */
     GIMLI_NO_SUCH_FILE = 26,                           /* a row has the number of no file */
-    GIMLI_ROW_OUT_OF_ORDER = 27,                       /* a row can't follow the one before it */
+    GIMLI_ROW_OUT_OF_ORDER = 27,                       /* a row can't follow the one before it, or its line or op_index is too large */
     GIMLI_UNKNOWN_FLAG = 28,                           /* a row has a flag that isn't known */
     GIMLI_NEED_VERSION_4 = 29,                         /* several operations in an instruction, before version 4 */
     GIMLI_UNIT_TOO_LONG = 30,                          /* a length or an address that doesn't fit its word */
@@ -224,7 +225,7 @@ typedef struct gimli_file_name {
  *
  * Rows are as gimli_line_rows gives them. A sequence begins with the first row, and after each with GIMLI_END_SEQUENCE; of such
  * a row address and op_index count. In a sequence addresses don't go down, and are a whole number of shortest instructions
- * after the first. */
+ * after the first. op_index is below maximum_operations_per_instruction, and the line of a row that isn't an end is below 2^63. */
 uint32_t gimli_line_write(const gimli_encoding *encoding, bool big, uint64_t details, const uint8_t *texts, size_t text_length,
                           const gimli_name *directories, size_t directory_count, const gimli_file_name *files,
                           size_t file_count, const gimli_row *rows, size_t row_count, uint8_t *unit, size_t room,
