@@ -4,9 +4,9 @@ use Rattle.std.specs.List.{list_any}
 use Rattle.std.specs.Str.Parse.{IsNumeral, digits_value}
 use Rattle.gimli_core.specs.declared.endianity.RunTimeEndian.{RunTimeEndian}
 use Rattle.gimli_core.specs.declared.endianity.RunTimeEndian.TheVariants.{Little, Big}
-use Rattle.line_commands.specs.declared.words.AddressSize.{AddressSize}
-use Rattle.line_commands.specs.declared.words.AddressSize.TheVariants.{One, Two, Four, Eight}
-use Rattle.line_commands.specs.declared.words.Place.{Place}
+use Rattle.unit_text.specs.declared.request.AddressSize.{AddressSize}
+use Rattle.unit_text.specs.declared.request.AddressSize.TheVariants.{One, Two, Four, Eight}
+use Rattle.unit_text.specs.declared.request.Place.{Place}
 use Rattle.line_commands.specs.declared.words.Numbers.{Numbers}
 use Rattle.line_commands.specs.declared.words.Query.{Query}
 use Rattle.line_commands.specs.declared.words.Command.{Command}
@@ -23,13 +23,6 @@ size_word One = codes "1"
 size_word Two = codes "2"
 size_word Four = codes "4"
 size_word Eight = codes "8"
-
--- its number of bytes
-abbrev pub size_number : AddressSize → ℕ
-size_number One = 1
-size_number Two = 2
-size_number Four = 4
-size_number Eight = 8
 
 -- these three words name a place: an order, a size and decimal digits
 pub record NamesPlace (order size offset : List ℕ) (place : Place) : Type 0 where

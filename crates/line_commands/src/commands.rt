@@ -10,12 +10,12 @@ use crate::print::{finished, print_line, print_program, print_rows};
 use crate::refusal::Refusal;
 use crate::section::{program_at, read_section};
 use crate::units::print_units;
-use crate::words::{Command, Place};
+use crate::words::Command;
 use gimli_core::Reader;
 use gimli_line::{CompleteLineProgram, LineProgram, LineRows, LineSequence};
 use std::alloc::Global;
 use std::io::{Read, Write};
-use unit_text::SequenceLine;
+use unit_text::{Place, SequenceLine};
 
 /// Does what the words after the program's name ask for, and answers the status of the program. `file` is the
 /// opened file that the second word names, where there is one.

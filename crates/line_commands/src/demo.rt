@@ -7,7 +7,6 @@ ghost use Rattle.line_commands.specs.Demo.{IsAtStart};
 use crate::print::{finished, print_program, print_row};
 use crate::refusal::Refusal;
 use crate::section::program_at;
-use crate::words::{AddressSize, Place};
 use gimli_core::{Encoding, Endianity, Format, LineEncoding, LittleEndian, RunTimeEndian};
 use gimli_write::{
     Address, ConvertError, DebugLine, EndianVec, Error, LineProgram, LineString, LineStringTable,
@@ -16,6 +15,7 @@ use gimli_write::{
 use row_text::print_bytes;
 use std::alloc::Global;
 use std::io::Write;
+use unit_text::{AddressSize, Place};
 
 /// Prints the bytes of the unit, and what is read of it.
 pub fn print_demo<O: Write>(alloc: Global, out: &mut O) -> Result<(), Refusal>

@@ -12,4 +12,4 @@ mod words;
 
 pub use commands::run;
 pub use refusal::Refusal;
-pub use words::{AddressSize, Command, Numbers, Place, Query};
+pub use words::{Command, Numbers, Query};

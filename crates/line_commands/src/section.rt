@@ -3,11 +3,11 @@
 ghost use Rattle.std.specs.Prelude.{◌≡◌, ◌≢◌, Err, IfErr, IsNone};
 
 use crate::refusal::Refusal;
-use crate::words::{AddressSize, Place};
 use gimli_core::{DebugLineOffset, EndianSlice, Reader, RunTimeEndian};
 use gimli_line::{DebugLine, IncompleteLineProgram};
 use std::alloc::Global;
 use std::io::Read;
+use unit_text::{AddressSize, Place};
 
 /// The bytes of the file.
 pub(crate) fn read_section<F: Read + Drop>(

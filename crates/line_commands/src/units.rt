@@ -5,13 +5,14 @@ ghost use Rattle.std.specs.Prelude.{◌≢◌, IfErr};
 use crate::print::{finished, print_line};
 use crate::refusal::Refusal;
 use crate::section::program_at;
-use crate::words::{Numbers, Place};
+use crate::words::Numbers;
 use gimli_core::Reader;
 use gimli_line::{LineProgram, LineRows};
 use section_units::offset_after;
 use std::alloc::Global;
 use std::fmt;
 use std::io::Write;
+use unit_text::Place;
 
 /// The line of a unit: its offset in the section, its version, and how many rows it gives, ends among them.
 #[derive(Clone, Copy)]

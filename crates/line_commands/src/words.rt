@@ -1,12 +1,12 @@
 //! The words after the program's name, and what they ask for.
 
-ghost use Rattle.std.specs.Prelude.{◌≡◌, ◌<◌, ◌^◌, ◌↔◌, ℕ, IfSome, IsSome, IsTrue, Some, codes};
+ghost use Rattle.std.specs.Prelude.{◌≡◌, ◌<◌, ◌^◌, ◌↔◌, ℕ, IfSome, IsSome, Some, codes};
 ghost use Rattle.std.specs.Str.Parse.{IsNumeral, digits_value};
 ghost use Rattle.std.specs.List.{list_any};
-ghost use Rattle.gimli_core.specs.Numbers.{is_address_size};
-ghost use Rattle.line_commands.specs.Words.{is_capital, NamesAddress};
+ghost use Rattle.line_commands.specs.Words.{is_capital, NamesAddress, NamesPlace};
 
 use gimli_core::RunTimeEndian;
+use unit_text::{AddressSize, Place, parse_order};
 
 /// A command, with what its words say.
 #[derive(Clone, Copy, Debug, PartialEq, Eq)]
@@ -23,17 +23,6 @@ pub enum Command {
     Units(Numbers),
     /// Prints the two rows of a unit that cover an address.
     Find(Query),
-}
-
-/// Where a unit stands in a section, and how its numbers are read.
-#[derive(Clone, Copy, Debug, PartialEq, Eq)]
-pub struct Place {
-    /// The order of bytes.
-    pub order: RunTimeEndian,
-    /// How wide an address is.
-    pub address_size: AddressSize,
-    /// The offset of the unit in the section.
-    pub offset: usize,
 }
 
 /// An address that is looked up in a unit.
@@ -54,32 +43,6 @@ pub struct Numbers {
     pub address_size: AddressSize,
 }
 
-/// How wide an address is.
-#[derive(Clone, Copy, Debug, PartialEq, Eq)]
-pub enum AddressSize {
-    One,
-    Two,
-    Four,
-    Eight,
-}
-
-impl AddressSize {
-    ghost use Rattle.line_commands.specs.Words.{size_number};
-
-    /// The number of bytes.
-    pub fn bytes(self) -> u8
-        ensures size { IsTrue (is_address_size result) }
-        ensures number { result ≡ size_number self }
-    {
-        match self {
-            AddressSize::One => 1,
-            AddressSize::Two => 2,
-            AddressSize::Four => 4,
-            AddressSize::Eight => 8,
-        }
-    }
-}
-
 impl Command {
     ghost use Rattle.std.specs.Prelude.{map};
     ghost use Rattle.line_commands.specs.Words.{IsCommand};
@@ -94,10 +57,10 @@ impl Command {
             ["demo"] => Some(Command::Demo),
             ["demo", "pieces"] => Some(Command::DemoPieces),
             ["rows", _file, order, size, offset] => {
-                Some(Command::Rows(Place::parse(order, size, offset)?))
+                Some(Command::Rows(parse_place(order, size, offset)?))
             }
             ["sequences", _file, order, size, offset] => {
-                Some(Command::Sequences(Place::parse(order, size, offset)?))
+                Some(Command::Sequences(parse_place(order, size, offset)?))
             }
             ["units", _file, order, size] => { Some(Command::Units(Numbers::parse(order, size)?)) }
             ["find", _file, order, size, offset, address] => {
@@ -105,25 +68,6 @@ impl Command {
             }
             _ => None,
         }
-    }
-}
-
-impl Place {
-    ghost use Rattle.line_commands.specs.Words.{NamesPlace};
-
-    /// The place that three words name.
-    fn parse(order: &str, size: &str, offset: &str) -> Option<Place>
-        ensures named { IfSome result (NamesPlace order.now size.now offset.now) }
-        ensures only { (place : Place) → NamesPlace order.now size.now offset.now place → result ≡ Some place }
-    {
-        let order = parse_order(order)?;
-        let address_size = parse_size(size)?;
-        let offset = parse_offset(offset)?;
-        Some(Place {
-            order,
-            address_size,
-            offset,
-        })
     }
 }
 
@@ -153,22 +97,25 @@ impl Query {
         ensures only { (query : Query) → NamesQuery order.now size.now offset.now address.now query
             → result ≡ Some query }
     {
-        let place = Place::parse(order, size, offset)?;
+        let place = parse_place(order, size, offset)?;
         let address = parse_address(address)?;
         Some(Query { place, address })
     }
 }
 
-/// An order of bytes.
-fn parse_order(word: &str) -> Option<RunTimeEndian>
-    ensures little { (result ≡ Some RunTimeEndian.Little) ↔ (word.now ≡ codes "little") }
-    ensures big { (result ≡ Some RunTimeEndian.Big) ↔ (word.now ≡ codes "big") }
+/// The place that three words name.
+fn parse_place(order: &str, size: &str, offset: &str) -> Option<Place>
+    ensures named { IfSome result (NamesPlace order.now size.now offset.now) }
+    ensures only { (place : Place) → NamesPlace order.now size.now offset.now place → result ≡ Some place }
 {
-    match word {
-        "little" => Some(RunTimeEndian::Little),
-        "big" => Some(RunTimeEndian::Big),
-        _ => None,
-    }
+    let order = parse_order(order)?;
+    let address_size = parse_size(size)?;
+    let offset = parse_offset(offset)?;
+    Some(Place {
+        order,
+        address_size,
+        offset,
+    })
 }
 
 /// How wide an address is.

@@ -6,7 +6,7 @@ use crate::header_text::print_header;
 use crate::instruction_text::print_instructions;
 use crate::lines::Lines;
 use crate::request::{Handed, Place};
-use crate::value_text::{Lender, Slice, print_refusal};
+use crate::value_text::{Lender, Slice};
 use gimli_core::{DebugLineOffset, EndianSlice, Error};
 use gimli_line::{DebugLine, IncompleteLineProgram, LineProgramHeader};
 use row_text::Attempts;
@@ -87,7 +87,7 @@ fn print_program<R: Lender>(
 ) {
     match program {
         Ok(program) => print_part(program.header(), part, lines),
-        Err(e) => print_refusal(e, lines),
+        Err(e) => lines.put_refusal(e),
     }
 }
 

@@ -1,7 +1,7 @@
 //! The instructions of a program, a line for each.
 
 use crate::lines::Lines;
-use crate::value_text::{Held, Lender, Value, print_refusal};
+use crate::value_text::{Held, Lender, Value};
 use gimli_line::{FileEntry, LineInstruction, LineProgramHeader};
 use std::fmt;
 
@@ -12,7 +12,7 @@ pub fn print_instructions<R: Lender>(header: &LineProgramHeader<R>, lines: &mut 
         match instructions.next_instruction(header) {
             Ok(Some(instruction)) => print_instruction(&instruction, lines),
             Ok(None) => return,
-            Err(e) => return print_refusal(e, lines),
+            Err(e) => return lines.put_refusal(e),
         }
     }
 }
@@ -52,6 +52,16 @@ impl<'a> Operands<'a> {
     fn number(n: u64) -> Operands<'a> {
         Operands::One(Held::Number(n))
     }
+
+    /// An opcode, and a number.
+    fn two(opcode: u8, n: u64) -> Operands<'a> {
+        Operands::Two(opcode, Held::Number(n))
+    }
+
+    /// An opcode, and the bytes behind it.
+    fn bytes<R: Lender>(opcode: u8, operands: &'a R) -> Operands<'a> {
+        Operands::Two(opcode, Held::Bytes(operands.lent()))
+    }
 }
 
 impl fmt::Display for Operands<'_> {
@@ -84,26 +94,17 @@ fn parts<R: Lender>(instruction: &LineInstruction<R>) -> (&'static str, Operands
             ("UnknownStandard0", Operands::number(u64::from(opcode.0)))
         }
         LineInstruction::UnknownStandard1(opcode, n) => {
-            (
-                "UnknownStandard1",
-                Operands::Two(opcode.0, Held::Number(*n)),
-            )
+            ("UnknownStandard1", Operands::two(opcode.0, *n))
         }
         LineInstruction::UnknownStandardN(opcode, operands) => {
-            (
-                "UnknownStandardN",
-                Operands::Two(opcode.0, Held::Bytes(operands.lent())),
-            )
+            ("UnknownStandardN", Operands::bytes(opcode.0, operands))
         }
         LineInstruction::EndSequence => ("EndSequence", Operands::Nothing),
         LineInstruction::SetAddress(n) => ("SetAddress", Operands::number(*n)),
         LineInstruction::DefineFile(_) => ("DefineFile", Operands::Nothing),
         LineInstruction::SetDiscriminator(n) => ("SetDiscriminator", Operands::number(*n)),
         LineInstruction::UnknownExtended(opcode, operands) => {
-            (
-                "UnknownExtended",
-                Operands::Two(opcode.0, Held::Bytes(operands.lent())),
-            )
+            ("UnknownExtended", Operands::bytes(opcode.0, operands))
         }
     }
 }

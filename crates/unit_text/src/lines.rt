@@ -1,6 +1,7 @@
 //! Lines that are printed one after another.
 
-use crate::value_text::Held;
+use crate::value_text::{Held, Refusal};
+use gimli_core::Error;
 use std::alloc::AllocError;
 use std::fmt;
 use std::io::Write;
@@ -34,6 +35,12 @@ impl<'o> Lines<'o> {
             Held::Bytes([]) => self.put(word),
             held => self.put(format_args!("{word} {held}")),
         }
+    }
+
+    /// Prints the line of a refusal.
+    pub fn put_refusal(&mut self, error: Error) {
+        let refusal = Refusal(error);
+        self.put(format_args!("error {refusal}"));
     }
 
     /// Whether memory was refused to a line.

@@ -1,6 +1,6 @@
 //! What the words after a command's name ask for.
 
-ghost use Rattle.std.specs.Prelude.{IsTrue};
+ghost use Rattle.std.specs.Prelude.{◌≡◌, ◌↔◌, IsTrue, Some, codes};
 ghost use Rattle.gimli_core.specs.Numbers.{is_address_size};
 
 use gimli_core::RunTimeEndian;
@@ -8,7 +8,7 @@ use row_text::{parse_number, parse_text};
 use std::alloc::{AllocError, Global};
 
 /// Where a unit stands in a section, and how its numbers are read.
-#[derive(Clone, Copy)]
+#[derive(Clone, Copy, Debug, PartialEq, Eq)]
 pub struct Place {
     /// The order of bytes.
     pub order: RunTimeEndian,
@@ -19,7 +19,7 @@ pub struct Place {
 }
 
 /// How wide an address is.
-#[derive(Clone, Copy)]
+#[derive(Clone, Copy, Debug, PartialEq, Eq)]
 pub enum AddressSize {
     One,
     Two,
@@ -48,9 +48,12 @@ pub enum Word {
 }
 
 impl AddressSize {
+    ghost use Rattle.unit_text.specs.Request.{size_number};
+
     /// The number of bytes.
     pub fn bytes(self) -> u8
-        ensures { IsTrue (is_address_size result) }
+        ensures size { IsTrue (is_address_size result) }
+        ensures number { result ≡ size_number self }
     {
         match self {
             AddressSize::One => 1,
@@ -87,7 +90,10 @@ impl Place {
 }
 
 /// An order of bytes.
-fn parse_order(word: &str) -> Option<RunTimeEndian> {
+pub fn parse_order(word: &str) -> Option<RunTimeEndian>
+    ensures little { (result ≡ Some RunTimeEndian.Little) ↔ (word.now ≡ codes "little") }
+    ensures big { (result ≡ Some RunTimeEndian.Big) ↔ (word.now ≡ codes "big") }
+{
     match word {
         "little" => Some(RunTimeEndian::Little),
         "big" => Some(RunTimeEndian::Big),

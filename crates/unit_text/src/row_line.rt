@@ -17,7 +17,14 @@ impl fmt::Display for RowLine {
         let column = column_number(&row);
         let isa = row.isa();
         let discriminator = row.discriminator();
-        let flags = Flags(row);
+        let flags = [
+            (row.is_stmt(), 's'),
+            (row.basic_block(), 'b'),
+            (row.end_sequence(), 'e'),
+            (row.prologue_end(), 'p'),
+            (row.epilogue_begin(), 'q'),
+        ];
+        let flags = Letters(&flags);
         write!(
             f,
             "{address:016x} {op_index} {file} {line} {column} {isa} {discriminator} {flags}"
@@ -61,26 +68,18 @@ fn column_number(row: &LineRow) -> u64 {
     }
 }
 
-/// The flags of a row, a letter for each that holds, or `-` for none.
+/// The letters of flags: of each that holds, or `-` for none.
 #[derive(Clone, Copy)]
-struct Flags(LineRow);
+pub struct Letters<'f>(pub &'f [(bool, char)]);
 
-impl fmt::Display for Flags {
+impl fmt::Display for Letters<'_> {
     fn fmt<W: fmt::Write>(&self, f: &mut fmt::Formatter<W>) -> fmt::Result {
-        let row = self.0;
-        let flags = [
-            (row.is_stmt(), 's'),
-            (row.basic_block(), 'b'),
-            (row.end_sequence(), 'e'),
-            (row.prologue_end(), 'p'),
-            (row.epilogue_begin(), 'q'),
-        ];
-        if !flags.iter().any(|(holds, _)| *holds) {
+        if !self.0.iter().any(|(holds, _)| *holds) {
             return f.write_char('-');
         }
-        for (holds, letter) in flags {
-            if holds {
-                f.write_char(letter)?;
+        for (holds, letter) in self.0 {
+            if *holds {
+                f.write_char(*letter)?;
             }
         }
         Ok(())

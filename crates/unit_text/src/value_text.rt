@@ -1,6 +1,5 @@
 //! Values of forms, files and refusals, as text.
 
-use crate::lines::Lines;
 use gimli_core::{AttributeValue, EndianSlice, Error, Reader, ReaderOffset, RunTimeEndian};
 use row_text::Digits;
 use std::fmt;
@@ -129,10 +128,4 @@ impl fmt::Display for Refusal {
             error => write!(f, "{error:?}"),
         }
     }
-}
-
-/// Prints the line of a refusal.
-pub fn print_refusal(error: Error, lines: &mut Lines<'_>) {
-    let refusal = Refusal(error);
-    lines.put(format_args!("error {refusal}"));
 }
