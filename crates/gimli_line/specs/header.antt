@@ -10,4 +10,3 @@ pub mod Outcome
 pub mod HeaderReading
 pub mod EntryReading
 pub mod Opening
-pub mod UnitAt

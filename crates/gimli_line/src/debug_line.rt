@@ -6,7 +6,7 @@ ghost use Rattle.gimli_core.specs.Numbers.{is_address_size};
 ghost use Rattle.gimli_core.specs.declared.attribute_value.AttributeValue.TheVariants.{String};
 ghost use Rattle.gimli_line.specs.header.Header.{HasOneOrder, unit_entry};
 ghost use Rattle.gimli_line.specs.header.HeaderGrammar.{taken};
-ghost use Rattle.gimli_line.specs.header.UnitAt.{HasUnitAt, IsUnitRefusal};
+ghost use Rattle.gimli_line.specs.UnitAt.{HasUnitAt, IsUnitRefusal};
 ghost use Rattle.gimli_line.specs.run.Unread.{unread};
 
 use crate::header::program_header::LineProgramHeader;

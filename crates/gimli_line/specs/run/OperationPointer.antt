@@ -1,6 +1,6 @@
 -- The address and the op_index of each place, and which parts of a program are hidden (DWARF 5, sections 6.2.2 and
 -- 6.2.5). The past of a place is the list of the instructions before it, the nearest first.
-use Rattle.std.specs.Prelude.{◌≡◌, ℕ, ◌+◌, ◌-◌, ◌*◌, ◌/◌, ◌%◌, ◌^◌, Bool, false, not, ◌||◌, ◌&&◌, nat_lt, nat_le, nat_eq, if◌then◌else◌, List, [], ◌∷◌, zip, Option, Some, None, option_map, IsTrue}
+use Rattle.std.specs.Prelude.{◌≡◌, ℕ, ◌+◌, ◌-◌, ◌*◌, ◌/◌, ◌%◌, ◌^◌, Bool, false, not, ◌||◌, ◌&&◌, nat_lt, nat_le, nat_eq, if◌then◌else◌, List, [], ◌∷◌, zip, Option, Some, None, option_map}
 use Rattle.gimli_line.specs.declared.run.instruction.LineInstruction.TheVariants.{Special, AdvancePc, ConstAddPc, FixedAddPc, EndSequence, SetAddress}
 use Rattle.gimli_line.specs.header.Parameters.{Parameters}
 use Rattle.gimli_line.specs.run.Instruction.{Ins, makes_row}
@@ -84,12 +84,6 @@ abbrev mutual
 abbrev pub overflows : Parameters → List Ins → Ins → Bool
 overflows parameters past i =
     (elim (target parameters i (pointer_at parameters past)) [ Some to ↦ exceeds parameters to | None ↦ false ]) && not (is_hidden parameters past)
-
-abbrev pub IsHidden : Parameters → List Ins → Type 0
-IsHidden parameters past = IsTrue (is_hidden parameters past)
-
-abbrev pub Overflows : Parameters → List Ins → Ins → Type 0
-Overflows parameters past i = IsTrue (overflows parameters past i)
 
 -- what stands since the last place that made a row or overflowed
 abbrev pub recent : Parameters → List Ins → List Ins

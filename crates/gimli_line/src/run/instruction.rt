@@ -7,8 +7,7 @@ ghost use Rattle.gimli_line.specs.run.InstructionReading.{bytes_at, passed_over}
 use crate::header::file_entry::FileEntry;
 use crate::header::forms::parse_offset;
 use crate::header::program_header::LineProgramHeader;
-use crate::run::row::LineRow;
-use gimli_core::{DwLne, DwLns, Error, Reader, ReaderOffset, Result, constants};
+use gimli_core::{DwLne, DwLns, Reader, ReaderOffset, Result, constants};
 use std::marker::Model;
 
 /// An instruction of a line program.
@@ -52,7 +51,8 @@ where
     UnknownStandardN(DwLns, R),
     /// Makes the last row of a sequence. All registers start anew after it.
     EndSequence,
-    /// Sets the address, and op_index to 0; or hides the rows to come, where the address stands for nothing.
+    /// Sets the address, and op_index to 0; or hides the rows to come, where it lies below the address before it or
+    /// stands for nothing.
     SetAddress(u64),
     /// Adds a file to the header's files, up to version 4.
     DefineFile(FileEntry<R, Offset>),
@@ -251,7 +251,7 @@ fn skip_operands<R: Reader>(input: &mut R, count: u8) -> Result<()>
 /// The instructions of a program that are still to come.
 #[derive(Clone, Debug, Drop)]
 pub struct LineInstructions<R: Reader> {
-    input: R,
+    pub(super) input: R,
 }
 
 impl<R: Reader> Model for LineInstructions<R> {
@@ -263,10 +263,8 @@ impl<R: Reader> Model for LineInstructions<R> {
 }
 
 impl<R: Reader> LineInstructions<R> {
-    ghost use Rattle.std.specs.Prelude.{◌≡◌, [], ◌++◌, List, ℕ, true, IfOk, IfErr, IsNone, option_map};
-    ghost use Rattle.gimli_line.specs.run.Execution.{Executed, ExecutedWell};
+    ghost use Rattle.std.specs.Prelude.{◌≡◌, [], ◌++◌, List, ℕ, IfOk, IfErr, option_map};
     ghost use Rattle.gimli_line.specs.run.Instruction.{ins_seen, InsHasOrder};
-    ghost use Rattle.gimli_line.specs.run.InstructionReading.{ins_at};
     ghost use Rattle.std.specs.Prelude.{Ok};
     ghost use Rattle.gimli_line.specs.run.NextInstruction.{TakesNext, EndsByFault};
     ghost use Rattle.gimli_line.specs.run.Machine.{IsAllowed};
@@ -302,44 +300,6 @@ impl<R: Reader> LineInstructions<R> {
         let mut input = self.input;
         input.truncate(len)?;
         Ok(LineInstructions { input })
-    }
-
-    /// Executes the next instruction on the registers, from its bytes, where it is one of those that are met most,
-    /// and says whether it makes a row. None, and nothing is changed, where it is another one or isn't there as a
-    /// whole. Refused by `AddressOverflow` as it is executed.
-    #[inline(always)]
-    pub(crate) fn execute_common(
-        &mut self,
-        header: &LineProgramHeader<R>,
-        row: &mut LineRow,
-    ) -> Result<Option<bool>>
-        ensures ok { IfOk result (λ found. IfSome found (λ made.
-            ExecutedWell header.now.meaning.parameters
-            (ins_at self.old.notation header.now.meaning self.old.bytes) self.new.bytes row.old row.new made)) }
-        ensures none { IfOk result (λ found. IsNone found → (self.new ≡ self.old) × (row.new ≡ row.old)) }
-        ensures err { IfErr result (λ e. (e ≡ Error.AddressOverflow)
-            × Executed header.now.meaning.parameters
-            (ins_at self.old.notation header.now.meaning self.old.bytes) self.new.bytes row.old row.new true) }
-        ensures notation { self.new.notation ≡ self.old.notation }
-    {
-        let mut input = self.input;
-        let Ok(opcode) = input.read_u8() else {
-            return Ok(None);
-        };
-        if opcode >= header.opcode_base() {
-            self.input = input;
-            match row.exec_special_opcode(opcode, &header.parameters) {
-                Err(e) => return Err(e),
-                Ok(()) => return Ok(Some(true)),
-            }
-        }
-        match row.exec_common_opcode(DwLns(opcode), &mut input) {
-            None => Ok(None),
-            Some(made) => {
-                self.input = input;
-                Ok(Some(made))
-            }
-        }
     }
 
     /// Takes the next instruction, by the header of its program; None where no bytes are left. Refused as the

@@ -137,7 +137,7 @@ impl LineRow {
         self.basic_block
     }
 
-    /// Whether this is the first byte after a sequence. What else the row says means nothing then.
+    /// Whether this is the first byte after a sequence. Beside the place, what the row says means nothing then.
     pub fn end_sequence(&self) -> bool
         ensures { result ≡ self.now.end_sequence }
     {
