@@ -4,3 +4,15 @@ use Rattle.std.specs.Prelude.{◌≡◌, Bool, Decides}
 -- it holds exactly where the two are the same, which is where they agree in all their parts
 abbrev pub IsExact : {A : Type 0} → (A → A → Bool) → Type 0
 IsExact {A} eq = (x y : A) → Decides (eq x y) (x ≡ y)
+
+-- it holds exactly where the two look the same, seen in such a way
+abbrev pub ComparesBy : {A B : Type 0} → (A → B) → (A → A → Bool) → Type 0
+ComparesBy {A} view eq = (x y : A) → Decides (eq x y) (view x ≡ view y)
+
+-- seen in two ways
+abbrev pub both : {A B C : Type 0} → (A → B) → (A → C) → A → B × C
+both first second x = (first x, second x)
+
+-- a clone is never refused, and it is the value itself
+abbrev pub GivesSame : {A : Type 0} → (A → A → Type 0) → (A → Type 0) → Type 0
+GivesSame {A} is_clone is_infallible = (x : A) → is_infallible x × ((y : A) → is_clone x y → y ≡ x)

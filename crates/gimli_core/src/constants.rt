@@ -113,7 +113,8 @@ pub const DW_FORM_GNU_str_index: DwForm = DwForm(0x1f02);
 
 pub const DW_FORM_GNU_strp_alt: DwForm = DwForm(0x1f21);
 
-/// How a pointer is encoded: a format in the low four bits, and what it is relative to in the three bits above.
+/// How a pointer is encoded: a format in the low four bits, and what it is relative to in the three bits above. The
+/// highest bit, 0x80, says that the pointer is indirect: neither `format` nor `application` keeps it.
 #[derive(Clone, Copy, Debug, PartialEq, Eq)]
 pub struct DwEhPe(pub u8);
 

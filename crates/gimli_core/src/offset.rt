@@ -67,13 +67,13 @@ pub trait ReaderAddress: Copy {
     ghost number: { Self → ℕ };
 
     /// The address so many bytes further on. Refused by `AddressOverflow`, exactly where it is above the
-    /// greatest address of the size.
+    /// greatest address of the size. Requires that `size` is 1, 2, 4 or 8.
     fn add_sized(self, length: u64, size: u8) -> Result<Self>
         requires { IsTrue (is_address_size size) }
         ensures { seen number result ≡ sized_sum (number self) length size };
 
     /// The least address that stands for nothing: the greatest of the size but one. Linkers put it, or the
-    /// greatest, in the place of an address that they dropped.
+    /// greatest, in the place of an address that they dropped. Requires that `size` is 1, 2, 4 or 8.
     fn min_tombstone(size: u8) -> Self
         requires { IsTrue (is_address_size size) }
         ensures { number result ≡ 2 ^ (8 * size) - 2 };

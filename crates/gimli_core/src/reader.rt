@@ -44,10 +44,12 @@ pub trait Reader: Copy {
 
     /// Lets all bytes go but the first `len`.
     fn truncate(&mut self, len: Self::Offset) -> Result<()>
-        ensures read { (seen (λ _. tt) result, bytes self.new) ≡ truncate_at (Self.Offset.number len) (bytes self.old) }
+        ensures read { (seen (λ _. tt) result, bytes self.new)
+            ≡ truncate_at (Self.Offset.number len) (bytes self.old) }
         ensures order { big self.new ≡ big self.old };
 
-    /// How many bytes stand in `base` before those that are left here, which are an end of those of `base`.
+    /// How many bytes stand in `base` before those that are left here. Requires that those left here are an end of those
+    /// that are left in `base`.
     fn offset_from(&self, base: &Self) -> Self::Offset
         requires { (front : List ℕ) × (bytes base.now ≡ front ++ bytes self.now) }
         ensures { Self.Offset.number result + length (bytes self.now) ≡ length (bytes base.now) };
@@ -58,12 +60,14 @@ pub trait Reader: Copy {
 
     /// Lets the first `len` bytes go.
     fn skip(&mut self, len: Self::Offset) -> Result<()>
-        ensures read { (seen (λ _. tt) result, bytes self.new) ≡ skip_at (Self.Offset.number len) (bytes self.old) }
+        ensures read { (seen (λ _. tt) result, bytes self.new)
+            ≡ skip_at (Self.Offset.number len) (bytes self.old) }
         ensures order { big self.new ≡ big self.old };
 
     /// Takes the first `len` bytes, as a reader of their own.
     fn split(&mut self, len: Self::Offset) -> Result<Self>
-        ensures read { (seen bytes result, bytes self.new) ≡ split_at (Self.Offset.number len) (bytes self.old) }
+        ensures read { (seen bytes result, bytes self.new)
+            ≡ split_at (Self.Offset.number len) (bytes self.old) }
         ensures order { big self.new ≡ big self.old }
         ensures part { IfOk result (λ part. big part ≡ big self.old) };
 
@@ -76,7 +80,8 @@ pub trait Reader: Copy {
     /// Takes as many bytes as the buffer has, into the buffer. Where they are missing, the buffer stays as
     /// it was too.
     fn read_slice(&mut self, buf: &mut [u8]) -> Result<()>
-        ensures read { (seen (λ _. buf.new) result, bytes self.new) ≡ split_at (length buf.old) (bytes self.old) }
+        ensures read { (seen (λ _. buf.new) result, bytes self.new)
+            ≡ split_at (length buf.old) (bytes self.old) }
         ensures order { big self.new ≡ big self.old }
         ensures refused { OnErr result (buf.new ≡ buf.old) };
 
@@ -146,7 +151,7 @@ pub trait Reader: Copy {
         Ok(self.endian().read_u64(&buf))
     }
 
-    /// Takes an unsigned number of `n` bytes, eight at most.
+    /// Takes an unsigned number of `n` bytes. Requires that `n` is 8 at most.
     fn read_uint(&mut self, n: usize) -> Result<u64>
         requires { n ≤ 8 }
         ensures read { (result, bytes self.new) ≡ number_at (big self.old) n (bytes self.old) }
@@ -240,7 +245,7 @@ pub trait Reader: Copy {
     /// has taken the first word, if it is there, and a length of eight bytes that is too large.
     #[tactic(auto, unfolding(crate::specs::Reading::initial_length_at))]
     fn read_initial_length(&mut self) -> Result<(Self::Offset, Format)>
-        ensures read { (seen (λ found. (Self.Offset.number found.0, found.1)) result, bytes self.new)
+        ensures read { (seen (λ read. (Self.Offset.number read.0, read.1)) result, bytes self.new)
             ≡ initial_length_at (big self.old) Self.Offset.limit (bytes self.old) }
         ensures order { big self.new ≡ big self.old }
     {
@@ -269,7 +274,7 @@ pub trait Reader: Copy {
         }
     }
 
-    /// Takes an address of `size` bytes.
+    /// Takes an address of `size` bytes. Requires that `size` is 1, 2, 4 or 8, as `read_address_size` gives it.
     fn read_address(&mut self, size: u8) -> Result<u64>
         requires { IsTrue (is_address_size size) }
         ensures read { (result, bytes self.new) ≡ number_at (big self.old) size (bytes self.old) }
