@@ -31,6 +31,18 @@ module _ {R Offset Endian : Type 0} (big : R → Bool) (order : Bool) where
   ValueHasOrder (String r) = big r ≡ order
   ValueHasOrder v = Unit {0}
 
+-- the order of bytes of the reader of a value, where it is a text or a block
+module _ {R Offset Endian : Type 0} (big : R → Bool) where
+  abbrev pub value_order : AttributeValue R Offset Endian → Option Bool
+  value_order (Block r) = Some (big r)
+  value_order (String r) = Some (big r)
+  value_order v = None
+
+-- a value, its readers seen by bytes and order, and its offsets by number
+module _ {R Offset Endian : Type 0} (bytes : R → List ℕ) (big : R → Bool) (number : Offset → ℕ) where
+  abbrev pub value_by : AttributeValue R Offset Endian → Value × Option Bool
+  value_by v = (value_seen bytes number v, value_order big v)
+
 -- the number of a value that is an unsigned number, or a signed one that isn't negative
 abbrev pub udata_value : {R Offset Endian : Type 0} → AttributeValue R Offset Endian → Option ℕ
 udata_value (Data1 n) = Some n

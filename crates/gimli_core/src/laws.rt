@@ -5,6 +5,7 @@ ghost use Rattle.std.specs.Prelude.{ℕ, Bool, ◌<◌, ◌^◌};
 ghost use Rattle.gimli_core.specs.Numbers.{SpellsNumber, number_bytes};
 ghost use Rattle.gimli_core.specs.Equality.{IsExact, ComparesBy, GivesSame, both};
 ghost use Rattle.gimli_core.specs.Notation.{Notation};
+ghost use Rattle.gimli_core.specs.Values.{value_by};
 ghost use Rattle.gimli_core.specs.declared.common.Format.{Format};
 ghost use Rattle.gimli_core.specs.Production.{Reads, byte, some_bytes, number, text, unsigned, unsigned_16, signed, offset_word, unit_length};
 ghost use Rattle.gimli_core.specs.Reading.{split_at, byte_at, number_at, text_at, unsigned_at, unsigned_16_at, signed_at, word_at, initial_length_at};
@@ -80,6 +81,13 @@ pub fn written_numbers()
 /// offsets.
 pub fn equal_values_are_same<R: Reader + PartialEq>()
     ensures { IsExact R.eq → IsExact R.Offset.eq → IsExact ⟦<AttributeValue<R> as PartialEq>⟧.eq }
+{}
+
+/// `==` of values holds exactly where they are of one form and agree in what they hold, readers in their bytes and order
+/// and offsets in their numbers, if this is so of readers and of offsets.
+pub fn equal_values_look_same<R: Reader + PartialEq>()
+    ensures { ComparesBy (both R.bytes R.big) R.eq → ComparesBy R.Offset.number R.Offset.eq →
+        ComparesBy (value_by R.bytes R.big R.Offset.number) ⟦<AttributeValue<R> as PartialEq>⟧.eq }
 {}
 
 /// `==` of numbers that have a type of their own holds exactly where the two are the same number.
