@@ -1,6 +1,6 @@
 ghost use Rattle.std.specs.Prelude.{◌≡◌, ℕ, ◌+◌, ◌≤◌, Bool, List, IsTrue, IfOk, IfErr, OnOk, OnErr, Ok, Err, length, take};
 ghost use Rattle.gimli_core.specs.Numbers.{number_bytes, SpellsUleb128, SpellsSleb128, IsShortest};
-ghost use Rattle.gimli_bytes.specs.Written.{Begins, Appends, Refuses, Overwrites, RefusesAt};
+ghost use Rattle.gimli_bytes.specs.Written.{Begins, Appends, Refuses, Untouched, Overwrites, RefusesAt};
 ghost use Rattle.gimli_bytes.specs.Number.{udata, sdata, twos_complement, uleb, sleb, address_bytes, escape_size, open_length, length_word, pointer_data, pointer_at_end};
 
 use crate::address::Address;
@@ -70,6 +70,8 @@ pub trait Writer {
             (address_bytes (big self.old) address size) (contents self.old) (contents self.new)) }
         ensures err { IsTrue fails_for_memory_alone →
             IfErr result (Refuses (address_bytes (big self.old) address size)) }
+        ensures untouched { IsTrue keeps_bytes → Untouched
+            (address_bytes (big self.old) address size) (contents self.old) (contents self.new) }
     {
         match address {
             Address::Constant(val) => self.write_udata(val, size),
@@ -87,6 +89,8 @@ pub trait Writer {
             (contents self.old) address eh_pe size) (contents self.old) (contents self.new)) }
         ensures err { IsTrue fails_for_memory_alone → IfErr result (Refuses
             (pointer_at_end (big self.old) (contents self.old) address eh_pe size)) }
+        ensures untouched { IsTrue keeps_bytes → Untouched (pointer_at_end (big self.old)
+            (contents self.old) address eh_pe size) (contents self.old) (contents self.new) }
     {
         match address {
             Address::Constant(val) => match eh_pe.application() {
@@ -111,6 +115,8 @@ pub trait Writer {
             (pointer_data (big self.old) val format size) (contents self.old) (contents self.new)) }
         ensures err { IsTrue fails_for_memory_alone →
             IfErr result (Refuses (pointer_data (big self.old) val format size)) }
+        ensures untouched { IsTrue keeps_bytes → Untouched
+            (pointer_data (big self.old) val format size) (contents self.old) (contents self.new) }
     {
         match format {
             constants::DW_EH_PE_absptr => self.write_udata(val, size),
@@ -135,6 +141,8 @@ pub trait Writer {
             (udata (big self.old) val size) (contents self.old) (contents self.new)) }
         ensures err { IsTrue fails_for_memory_alone →
             IfErr result (Refuses (udata (big self.old) val size)) }
+        ensures untouched { IsTrue keeps_bytes → Untouched
+            (udata (big self.old) val size) (contents self.old) (contents self.new) }
     {
         self.write_udata(val as u64, size)
     }
@@ -169,6 +177,8 @@ pub trait Writer {
             (Err Error.InvalidReference) (contents self.old) (contents self.new)) }
         ensures err { IsTrue fails_for_memory_alone →
             IfErr result (Refuses (Err Error.InvalidReference)) }
+        ensures untouched { IsTrue keeps_bytes → Untouched
+            (Err Error.InvalidReference) (contents self.old) (contents self.new) }
     {
         Err(Error::InvalidReference)
     }
@@ -312,6 +322,8 @@ pub trait Writer {
             (udata (big self.old) val size) (contents self.old) (contents self.new)) }
         ensures err { IsTrue fails_for_memory_alone →
             IfErr result (Refuses (udata (big self.old) val size)) }
+        ensures untouched { IsTrue keeps_bytes → Untouched
+            (udata (big self.old) val size) (contents self.old) (contents self.new) }
     {
         match size {
             1 => {
@@ -358,6 +370,8 @@ pub trait Writer {
             (sdata (big self.old) val size) (contents self.old) (contents self.new)) }
         ensures err { IsTrue fails_for_memory_alone →
             IfErr result (Refuses (sdata (big self.old) val size)) }
+        ensures untouched { IsTrue keeps_bytes → Untouched
+            (sdata (big self.old) val size) (contents self.old) (contents self.new) }
     {
         match size {
             1 => self.write_u8(bits_of_i8(val)?),
