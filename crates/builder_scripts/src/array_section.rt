@@ -50,6 +50,8 @@ impl Writer for ArraySection {
 
     ghost fails_for_memory_alone = { false };
 
+    ghost all_or_none = { false };
+
     fn endian(&self) -> RunTimeEndian {
         self.endian
     }

@@ -47,6 +47,8 @@ impl Writer for ArraySection {
 
     ghost fails_for_memory_alone = { false };
 
+    ghost all_or_none = { false };
+
     fn endian(&self) -> LittleEndian {
         LittleEndian
     }
@@ -155,6 +157,8 @@ impl Writer for Noting {
     ghost keeps_bytes = { false };
 
     ghost fails_for_memory_alone = { false };
+
+    ghost all_or_none = { false };
 
     fn endian(&self) -> LittleEndian {
         LittleEndian
@@ -348,6 +352,8 @@ impl<E: Endianity> Writer for Tired<E> {
     ghost keeps_bytes = { true };
 
     ghost fails_for_memory_alone = { false };
+
+    ghost all_or_none = { false };
 
     fn endian(&self) -> E {
         self.section.endian()

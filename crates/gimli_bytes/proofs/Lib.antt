@@ -7,3 +7,4 @@ pub mod PieceLemmas
 pub mod WrittenAs
 pub mod InitialLengths
 pub mod TablesWritten
+pub mod Variants

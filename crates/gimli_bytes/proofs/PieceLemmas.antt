@@ -13,7 +13,7 @@ use Rattle.std.proofs.lemmas.Nat.{div-add-mod', div_below}
 use native.Mathlib.Nat.{lt_of_mul-lt-mul_right}
 use Rattle.gimli_bytes.specs.Written.{patched}
 use Rattle.gimli_bytes.specs.declared.error.Error.TheVariants.{LengthOutOfBounds}
-use Rattle.gimli_bytes.specs.Pieces.{HaveSizes, ArePieces, put_over, in_use, HoldPieces}
+use Rattle.gimli_bytes.specs.Pieces.{HaveSizes, NeedsNoPiece, ArePieces, put_over, in_use, HoldPieces}
 
 abbrev pub Sized : ℕ → List (List ℕ) → Type 0
 Sized n pieces = All (λ piece. length piece ≡ n) pieces
@@ -232,3 +232,8 @@ patched-past old at bytes h past =
 pub piece-count : (n len : ℕ) (ps : List (List ℕ)) → HoldPieces n len ps → length ps ≡ div_ceil (length (take len (concat ps))) n
 piece-count n len ps h =
     count_is n len (length ps) h.positive h.enough h.needed ∙ ap (λ k. div_ceil k n) (sym (bytes-length n len ps h))
+
+-- where no more are needed
+pub no_piece : (n len more : ℕ) (ps : List (List ℕ)) → HoldPieces n len ps → NeedsNoPiece n (length (take len (concat ps))) more → div_ceil (len + more) n ≡ length ps
+no_piece n len more ps h e =
+    ap (λ k. div_ceil (k + more) n) (sym (bytes-length n len ps h)) ∙ e ∙ sym (piece-count n len ps h)

@@ -1,6 +1,6 @@
 -- The keys of a table, seen as texts.
 use Rattle.std.proofs.Common.{◌≡◌, ◌≢◌, ℕ, zero, suc, ◌+◌, Bool, true, false, cond, not, ◌||◌, List, [], ◌∷◌, ◌++◌, map, length, take, drop, get_or, Some, None, refl, sym, ap, ◌∙◌, arith, true≢false, position, nat_lt, if◌then◌else◌, ◌<◌, ◌≤◌, append_assoc, length-append}
-use Rattle.std.specs.Prelude.{bytes_eq, All, slice_get}
+use Rattle.std.specs.Prelude.{bytes_eq, All, Contains, slice_get}
 use Rattle.std.specs.List.{list_any, position_or_len, prefix_len}
 use Rattle.std.specs.declared.vec.Vec.{Vec}
 use Rattle.std.specs.declared.alloc.Global.{Global}
@@ -37,6 +37,11 @@ is_there ks t b e = any-map (bytes_eq t) (λ k. k.items) ks ∙ sym e
 
 place_is : (ks : List (Vec ℕ Global)) (t : List ℕ) → position_or_len (λ k. bytes_eq t k.items) ks ≡ place_of_text (texts_of ks) t
 place_is ks t = sym (prefix-map (λ x. not (bytes_eq t x)) (λ k. k.items) ks)
+
+-- a text that a search doesn't find is none of them
+pub not_there : (ks : List (Vec ℕ Global)) (t : List ℕ) → false ≡ list_any (λ k. bytes_eq t k.items) ks → Contains (texts_of ks) t → ⊥
+not_there ks t e h =
+    true≢false (sym (list_any_at (bytes_eq t) (texts_of ks) h.0 t h.1 ((bytes_eq-Decides t (get_or (texts_of ks) h.0 t)).1 (sym h.2))) ∙ is_there ks t false e)
 
 -- the place of a text that is there
 pub place_there : (ks : List (Vec ℕ Global)) (t : List ℕ) (i : ℕ) → Some i ≡ position (λ k. bytes_eq t k.items) ks → i ≡ place_of_text (texts_of ks) t

@@ -115,7 +115,8 @@ pointer_data big n format size =
 abbrev pub format_of : DwEhPe → DwEhPe
 format_of encoding = record { 0 = bit_and encoding.0 0x0f }
 
--- an address in a pointer encoding, as it is or relative to the place where it is written
+-- an address in a pointer encoding, as it is or relative to the place where it is written; the bit 0x80 (indirect)
+-- isn't looked at
 abbrev pub pointer_bytes : Bool → ℕ → Address → DwEhPe → ℕ → Result (List ℕ) Error
 pointer_bytes big place (Constant n) encoding size =
     if nat_eq (bit_and encoding.0 0x70) 0x00 then pointer_data big n (format_of encoding) size

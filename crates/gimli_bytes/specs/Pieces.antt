@@ -1,6 +1,7 @@
 -- Bytes in pieces of one size.
 use Rattle.std.specs.Prelude.{◌≡◌, ℕ, ◌+◌, ◌-◌, ◌*◌, ◌<◌, ◌≤◌, List, [], ◌∷◌, ◌++◌, All, length, take, drop}
 use Rattle.std.specs.List.{concat}
+use Rattle.std.specs.Int.{div_ceil}
 
 -- each piece has from 1 to n bytes, and one with another after it has n
 abbrev pub HaveSizes : ℕ → List (List ℕ) → Type 0
@@ -28,3 +29,7 @@ pub record HoldPieces (n len : ℕ) (pieces : List (List ℕ)) : Type 0 where
   pub sizes : All (λ piece. length piece ≡ n) pieces
   pub enough : len ≤ length pieces * n
   pub needed : length pieces * n < len + n
+
+-- behind so many bytes so many more need no further piece
+abbrev pub NeedsNoPiece : ℕ → ℕ → ℕ → Type 0
+NeedsNoPiece n len more = div_ceil (len + more) n ≡ div_ceil len n

@@ -18,6 +18,11 @@ abbrev pub Refuses : Result (List ℕ) Error → Error → Type 0
 Refuses (Ok bytes) e = e ≡ OutOfMemory
 Refuses (Err wanted) e = e ≡ wanted
 
+-- what an append leaves whose value or size is refused: the bytes as they were
+abbrev pub Untouched : Result (List ℕ) Error → List ℕ → List ℕ → Type 0
+Untouched (Ok bytes) old new = Unit {0}
+Untouched (Err e) old new = new ≡ old
+
 -- bytes put over the old ones from a place on, or the refusal of the place: it may be the end, and no byte may pass
 -- the end
 abbrev pub patched : List ℕ → ℕ → List ℕ → Result (List ℕ) Error

@@ -3,12 +3,12 @@ ghost use Rattle.std.specs.Prelude.{◌≡◌, ◌++◌, [], true, IfOk, IfErr, 
 use crate::error::{Error, Result};
 use crate::writer::Writer;
 use gimli_core::Endianity;
-use std::alloc::Global;
+use std::alloc::{AllocError, Global};
 use std::marker::Model;
 
 /// A section in one vector, and the order of its numbers. It keeps exactly its bytes and fails for memory alone, and a refused `write`
 /// changes nothing.
-#[derive(Clone, Debug, Drop)]
+#[derive(Debug, Drop)]
 pub struct EndianVec<E: Endianity> {
     vec: Vec<u8>,
     endian: E,
@@ -76,6 +76,16 @@ impl<E: Endianity> EndianVec<E> {
         ensures ok { IfOk result (λ copy. copy ≡ self.now) }
         ensures memory { IfErr result (λ e. e ≡ Error.OutOfMemory) }
     {
+        Ok(Clone::clone(self)?)
+    }
+}
+
+impl<E: Endianity> Clone for EndianVec<E> {
+    ghost use Rattle.std.specs.Prelude.{◌≡◌};
+
+    ghost is_clone = { λ section copy. copy ≡ section };
+
+    fn clone(&self) -> std::result::Result<EndianVec<E>, AllocError> {
         Ok(EndianVec {
             vec: self.vec.clone()?,
             endian: self.endian,
@@ -93,6 +103,8 @@ impl<E: Endianity> Writer for EndianVec<E> {
     ghost keeps_bytes = { true };
 
     ghost fails_for_memory_alone = { true };
+
+    ghost all_or_none = { true };
 
     fn endian(&self) -> E
         ensures { result ≡ self.now.endian }

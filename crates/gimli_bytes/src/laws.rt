@@ -3,7 +3,9 @@
 ghost use Rattle.std.specs.Prelude.{◌≡◌, ◌≢◌, ℕ, ◌+◌, ◌<◌, ◌≤◌, ◌^◌, ℤ, List, ◌∷◌, ◌++◌, length, drop, Some, All, slice_get, FitsSigned};
 ghost use Rattle.std.specs.Bool.{Decides};
 ghost use Rattle.std.specs.Int.{w64};
+ghost use Rattle.gimli_core.specs.Equality.{IsExact};
 ghost use Rattle.gimli_core.specs.Numbers.{SpellsUleb128, SpellsSleb128, IsShortest};
+ghost use Rattle.gimli_bytes.specs.Clones.{GivesSame};
 ghost use Rattle.gimli_bytes.specs.Number.{uleb, sleb};
 ghost use Rattle.gimli_bytes.specs.declared.address.Address.{Address};
 ghost use Rattle.gimli_bytes.specs.declared.str.StringId.{StringId};
@@ -11,7 +13,10 @@ ghost use Rattle.gimli_bytes.specs.declared.str.LineStringId.{LineStringId};
 ghost use Rattle.gimli_bytes.specs.Texts.{AreTexts, with_text, table_bytes, byte_count, offset_of};
 
 use crate::address::Address;
+use crate::endian_vec::EndianVec;
+use crate::error::Error;
 use crate::str::{LineStringId, StringId};
+use gimli_core::Endianity;
 
 /// `==` holds of two addresses, and of two ids, exactly where all their parts agree.
 pub fn equal_addresses_and_ids()
@@ -19,6 +24,16 @@ pub fn equal_addresses_and_ids()
     ensures string { (a b : StringId) → Decides (⟦<StringId as PartialEq>⟧.eq a b) (a ≡ b) }
     ensures line_string { (a b : LineStringId) →
         Decides (⟦<LineStringId as PartialEq>⟧.eq a b) (a ≡ b) }
+{}
+
+/// `==` of errors holds exactly where they are of one kind and agree in what they hold.
+pub fn equal_errors_are_same()
+    ensures { IsExact ⟦<Error as PartialEq>⟧.eq }
+{}
+
+/// A clone of a section is equal to it.
+pub fn clones_are_same<E: Endianity>()
+    ensures { GivesSame ⟦<EndianVec<E> as Clone>⟧.is_clone }
 {}
 
 /// What `write_uleb128` appends is a spelling of the number, and no other is shorter.

@@ -1,7 +1,7 @@
-ghost use Rattle.std.specs.Prelude.{◌≡◌, ℕ, ◌+◌, ◌<◌, ◌≤◌, ◌^◌, ◌++◌, [], true, IfOk, IfErr, OnOk, OnErr, All, length};
+ghost use Rattle.std.specs.Prelude.{◌≡◌, ℕ, ◌+◌, ◌<◌, ◌≤◌, ◌^◌, ◌++◌, [], true, IsOk, IfOk, IfErr, OnOk, OnErr, All, length};
 ghost use Rattle.std.specs.List.{concat};
 ghost use Rattle.std.specs.Int.{div_ceil};
-ghost use Rattle.gimli_bytes.specs.Pieces.{ArePieces, put_over};
+ghost use Rattle.gimli_bytes.specs.Pieces.{ArePieces, NeedsNoPiece, put_over};
 
 use crate::error::{Error, Result};
 use crate::writer::Writer;
@@ -50,6 +50,7 @@ impl Piece {
 // So many pieces, each with memory for so many bytes.
 fn new_pieces(alloc: Global, count: usize, size: usize) -> Result<Vec<Piece>>
     ensures count { IfOk result (λ pieces. length pieces.items ≡ count) }
+    ensures none { count ≡ 0 → IsOk result }
     ensures sizes { IfOk result (λ pieces. All (λ piece. length piece ≡ size) pieces.items) }
     ensures memory { IfErr result (λ e. e ≡ Error.OutOfMemory) }
 {
@@ -137,11 +138,13 @@ impl<E: Endianity, const N: usize> PieceVec<E, N> {
     }
 
     /// Appends bytes, as the writer's call does. Refused for want of memory alone, and then nothing is changed; a length past the
-    /// greatest `usize` counts as a refused growth.
+    /// greatest `usize` counts as a refused growth. Bytes for which the last piece has room are not refused, nor is an empty slice.
     pub fn write(&mut self, bytes: &[u8]) -> Result<()>
         ensures ok { OnOk result
             (self.new ≡ record self.old { bytes = self.old.bytes ++ bytes.now }) }
         ensures err { OnErr result (self.new ≡ self.old) }
+        ensures room { length self.old.bytes + length bytes.now < 2 ^ 64 → NeedsNoPiece N
+            (length self.old.bytes) (length bytes.now) → IsOk result }
         ensures memory { IfErr result (λ e. e ≡ Error.OutOfMemory) }
     {
         if bytes.len() > usize::MAX - self.len {
@@ -179,6 +182,8 @@ impl<E: Endianity, const N: usize> Writer for PieceVec<E, N> {
     ghost keeps_bytes = { true };
 
     ghost fails_for_memory_alone = { true };
+
+    ghost all_or_none = { true };
 
     fn endian(&self) -> E
         ensures { result ≡ self.now.endian }

@@ -1,4 +1,4 @@
-ghost use Rattle.std.specs.Prelude.{◌≡◌, ◌≢◌, ℕ, ◌<◌, ◌^◌, List, [], length, IfOk, IfErr, OnOk, OnErr, Ok, Some, IsTrue, All, slice_get};
+ghost use Rattle.std.specs.Prelude.{◌≡◌, ◌≢◌, ℕ, ◌<◌, ◌^◌, List, [], length, IfOk, IfErr, OnOk, OnErr, Ok, Some, IsOk, IsTrue, All, Contains, slice_get};
 ghost use Rattle.gimli_bytes.specs.Texts.{AreTexts, KeepsTexts, with_text, place_of_text, offset_of, table_bytes, byte_count};
 ghost use Rattle.gimli_bytes.specs.Written.{Begins, Appends, Refuses};
 
@@ -63,6 +63,7 @@ impl Texts {
         ensures id { IfOk result (λ index. index ≡ place_of_text self.old text.now) }
         ensures found { IfOk result (λ index. slice_get self.new index ≡ Some text.now) }
         ensures stays { OnOk result (KeepsTexts self.old self.new) }
+        ensures there { Contains self.old text.now → IsOk result }
         ensures err { OnErr result (self.new ≡ self.old) }
         ensures memory { IfErr result (λ e. e ≡ Error.OutOfMemory) }
     {
@@ -138,15 +139,16 @@ impl StringTable {
         }
     }
 
-    /// Puts a text without zero bytes last, and answers its id; a text that is there has its old id, and
-    /// nothing changes. Refused for want of memory alone, as is a table of more bytes than `usize` can count;
-    /// then the table is as it was.
+    /// Puts a text last, and answers its id; a text that is there has its old id, nothing changes, and it is
+    /// never refused. Others are refused for want of memory alone, as is a table of more bytes than `usize`
+    /// can count; then the table is as it was. Requires a text without zero bytes.
     pub fn add(&mut self, text: &[u8]) -> Result<StringId>
         requires { All (λ b. b ≢ 0) text.now }
         ensures ok { OnOk result (self.new ≡ with_text self.old text.now) }
         ensures id { IfOk result (λ id. id.0 ≡ place_of_text self.old text.now) }
         ensures found { IfOk result (λ id. slice_get self.new id.0 ≡ Some text.now) }
         ensures stays { OnOk result (KeepsTexts self.old self.new) }
+        ensures there { Contains self.old text.now → IsOk result }
         ensures err { OnErr result (self.new ≡ self.old) }
         ensures memory { IfErr result (λ e. e ≡ Error.OutOfMemory) }
     {
@@ -162,7 +164,7 @@ impl StringTable {
         self.texts.count()
     }
 
-    /// The text of an id.
+    /// The text of an id. Requires an id of this table: below `count`.
     pub fn get(&self, id: StringId) -> &[u8]
         requires { id.0 < length self.now }
         ensures text { slice_get self.now id.0 ≡ Some result.now }
@@ -171,7 +173,8 @@ impl StringTable {
         self.texts.get(id.0)
     }
 
-    /// Where the text of an id begins in the section, if the table is written to an empty one.
+    /// Where the text of an id begins in the section, if the table is written to an empty one. Requires an id
+    /// of this table: below `count`.
     pub fn offset(&self, id: StringId) -> DebugStrOffset
         requires { id.0 < length self.now }
         ensures offset { result.0 ≡ offset_of self.now id.0 }
@@ -227,15 +230,16 @@ impl LineStringTable {
         self.texts.strings.allocator()
     }
 
-    /// Puts a text without zero bytes last, and answers its id; a text that is there has its old id, and
-    /// nothing changes. Refused for want of memory alone, as is a table of more bytes than `usize` can count;
-    /// then the table is as it was.
+    /// Puts a text last, and answers its id; a text that is there has its old id, nothing changes, and it is
+    /// never refused. Others are refused for want of memory alone, as is a table of more bytes than `usize`
+    /// can count; then the table is as it was. Requires a text without zero bytes.
     pub fn add(&mut self, text: &[u8]) -> Result<LineStringId>
         requires { All (λ b. b ≢ 0) text.now }
         ensures ok { OnOk result (self.new ≡ with_text self.old text.now) }
         ensures id { IfOk result (λ id. id.0 ≡ place_of_text self.old text.now) }
         ensures found { IfOk result (λ id. slice_get self.new id.0 ≡ Some text.now) }
         ensures stays { OnOk result (KeepsTexts self.old self.new) }
+        ensures there { Contains self.old text.now → IsOk result }
         ensures err { OnErr result (self.new ≡ self.old) }
         ensures memory { IfErr result (λ e. e ≡ Error.OutOfMemory) }
     {
@@ -251,7 +255,7 @@ impl LineStringTable {
         self.texts.count()
     }
 
-    /// The text of an id.
+    /// The text of an id. Requires an id of this table: below `count`.
     pub fn get(&self, id: LineStringId) -> &[u8]
         requires { id.0 < length self.now }
         ensures text { slice_get self.now id.0 ≡ Some result.now }
@@ -260,7 +264,8 @@ impl LineStringTable {
         self.texts.get(id.0)
     }
 
-    /// Where the text of an id begins in the section, if the table is written to an empty one.
+    /// Where the text of an id begins in the section, if the table is written to an empty one. Requires an id
+    /// of this table: below `count`.
     pub fn offset(&self, id: LineStringId) -> DebugLineStrOffset
         requires { id.0 < length self.now }
         ensures offset { result.0 ≡ offset_of self.now id.0 }

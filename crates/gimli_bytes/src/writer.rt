@@ -1,6 +1,6 @@
 ghost use Rattle.std.specs.Prelude.{◌≡◌, ℕ, ◌+◌, ◌≤◌, Bool, List, IsTrue, IfOk, IfErr, OnOk, OnErr, Ok, Err, length, take};
 ghost use Rattle.gimli_core.specs.Numbers.{number_bytes, SpellsUleb128, SpellsSleb128, IsShortest};
-ghost use Rattle.gimli_bytes.specs.Written.{Begins, Appends, Refuses, Overwrites, RefusesAt};
+ghost use Rattle.gimli_bytes.specs.Written.{Begins, Appends, Refuses, Untouched, Overwrites, RefusesAt};
 ghost use Rattle.gimli_bytes.specs.Number.{udata, sdata, twos_complement, uleb, sleb, address_bytes, escape_size, open_length, length_word, pointer_data, pointer_at_end};
 
 use crate::address::Address;
@@ -32,6 +32,10 @@ pub trait Writer {
     /// `write_at` under it.
     ghost fails_for_memory_alone: { Bool };
 
+    /// Whether a writer of this type appends either all bytes of a `write` or none. Then each call
+    /// that makes at most one `write` does so too: all that append but `write_initial_length`.
+    ghost all_or_none: { Bool };
+
     /// The order of bytes.
     fn endian(&self) -> Self::Endian
         ensures { Self.Endian.big result ≡ big self.now };
@@ -46,7 +50,8 @@ pub trait Writer {
         ensures ordered { big self.new ≡ big self.old }
         ensures ok { IsTrue keeps_bytes →
             OnOk result (Appends (Ok bytes.now) (contents self.old) (contents self.new)) }
-        ensures err { IsTrue fails_for_memory_alone → IfErr result (Refuses (Ok bytes.now)) };
+        ensures err { IsTrue fails_for_memory_alone → IfErr result (Refuses (Ok bytes.now)) }
+        ensures none { IsTrue all_or_none → OnErr result (contents self.new ≡ contents self.old) };
 
     /// Writes over the bytes from an offset on. Refused by `OffsetOutOfBounds` where the offset
     /// is past the end of the section, else by `LengthOutOfBounds` where the bytes would pass the
@@ -70,6 +75,9 @@ pub trait Writer {
             (address_bytes (big self.old) address size) (contents self.old) (contents self.new)) }
         ensures err { IsTrue fails_for_memory_alone →
             IfErr result (Refuses (address_bytes (big self.old) address size)) }
+        ensures untouched { IsTrue keeps_bytes → Untouched
+            (address_bytes (big self.old) address size) (contents self.old) (contents self.new) }
+        ensures none { IsTrue all_or_none → OnErr result (contents self.new ≡ contents self.old) }
     {
         match address {
             Address::Constant(val) => self.write_udata(val, size),
@@ -79,7 +87,8 @@ pub trait Writer {
 
     /// Appends an address in a pointer encoding of `.eh_frame`: as it is, or relative to the end
     /// of the section. A symbol is `InvalidAddress`, an address that is relative to anything else
-    /// `UnsupportedPointerEncoding`; the number is refused as by `write_eh_pointer_data`.
+    /// `UnsupportedPointerEncoding`; the number is refused as by `write_eh_pointer_data`. The bit
+    /// 0x80 of the encoding, by which the pointer is the place of the address, isn't looked at.
     fn write_eh_pointer(&mut self, address: Address, eh_pe: DwEhPe, size: u8) -> Result<()>
         ensures keeps { Begins (contents self.old) (contents self.new) }
         ensures ordered { big self.new ≡ big self.old }
@@ -87,6 +96,9 @@ pub trait Writer {
             (contents self.old) address eh_pe size) (contents self.old) (contents self.new)) }
         ensures err { IsTrue fails_for_memory_alone → IfErr result (Refuses
             (pointer_at_end (big self.old) (contents self.old) address eh_pe size)) }
+        ensures untouched { IsTrue keeps_bytes → Untouched (pointer_at_end (big self.old)
+            (contents self.old) address eh_pe size) (contents self.old) (contents self.new) }
+        ensures none { IsTrue all_or_none → OnErr result (contents self.new ≡ contents self.old) }
     {
         match address {
             Address::Constant(val) => match eh_pe.application() {
@@ -111,6 +123,9 @@ pub trait Writer {
             (pointer_data (big self.old) val format size) (contents self.old) (contents self.new)) }
         ensures err { IsTrue fails_for_memory_alone →
             IfErr result (Refuses (pointer_data (big self.old) val format size)) }
+        ensures untouched { IsTrue keeps_bytes → Untouched
+            (pointer_data (big self.old) val format size) (contents self.old) (contents self.new) }
+        ensures none { IsTrue all_or_none → OnErr result (contents self.new ≡ contents self.old) }
     {
         match format {
             constants::DW_EH_PE_absptr => self.write_udata(val, size),
@@ -135,6 +150,9 @@ pub trait Writer {
             (udata (big self.old) val size) (contents self.old) (contents self.new)) }
         ensures err { IsTrue fails_for_memory_alone →
             IfErr result (Refuses (udata (big self.old) val size)) }
+        ensures untouched { IsTrue keeps_bytes → Untouched
+            (udata (big self.old) val size) (contents self.old) (contents self.new) }
+        ensures none { IsTrue all_or_none → OnErr result (contents self.new ≡ contents self.old) }
     {
         self.write_udata(val as u64, size)
     }
@@ -169,6 +187,9 @@ pub trait Writer {
             (Err Error.InvalidReference) (contents self.old) (contents self.new)) }
         ensures err { IsTrue fails_for_memory_alone →
             IfErr result (Refuses (Err Error.InvalidReference)) }
+        ensures untouched { IsTrue keeps_bytes → Untouched
+            (Err Error.InvalidReference) (contents self.old) (contents self.new) }
+        ensures none { IsTrue all_or_none → OnErr result (contents self.new ≡ contents self.old) }
     {
         Err(Error::InvalidReference)
     }
@@ -181,6 +202,7 @@ pub trait Writer {
             (Ok (number_bytes (big self.old) 1 val)) (contents self.old) (contents self.new)) }
         ensures err { IsTrue fails_for_memory_alone →
             IfErr result (Refuses (Ok (number_bytes (big self.old) 1 val))) }
+        ensures none { IsTrue all_or_none → OnErr result (contents self.new ≡ contents self.old) }
     {
         self.write(&[val])
     }
@@ -193,6 +215,7 @@ pub trait Writer {
             (Ok (number_bytes (big self.old) 2 val)) (contents self.old) (contents self.new)) }
         ensures err { IsTrue fails_for_memory_alone →
             IfErr result (Refuses (Ok (number_bytes (big self.old) 2 val))) }
+        ensures none { IsTrue all_or_none → OnErr result (contents self.new ≡ contents self.old) }
     {
         self.write(&bytes_of_u16(self.endian(), val))
     }
@@ -205,6 +228,7 @@ pub trait Writer {
             (Ok (number_bytes (big self.old) 4 val)) (contents self.old) (contents self.new)) }
         ensures err { IsTrue fails_for_memory_alone →
             IfErr result (Refuses (Ok (number_bytes (big self.old) 4 val))) }
+        ensures none { IsTrue all_or_none → OnErr result (contents self.new ≡ contents self.old) }
     {
         self.write(&bytes_of_u32(self.endian(), val))
     }
@@ -217,6 +241,7 @@ pub trait Writer {
             (Ok (number_bytes (big self.old) 8 val)) (contents self.old) (contents self.new)) }
         ensures err { IsTrue fails_for_memory_alone →
             IfErr result (Refuses (Ok (number_bytes (big self.old) 8 val))) }
+        ensures none { IsTrue all_or_none → OnErr result (contents self.new ≡ contents self.old) }
     {
         self.write(&bytes_of_u64(self.endian(), val))
     }
@@ -229,6 +254,7 @@ pub trait Writer {
             (Ok (number_bytes (big self.old) 16 val)) (contents self.old) (contents self.new)) }
         ensures err { IsTrue fails_for_memory_alone →
             IfErr result (Refuses (Ok (number_bytes (big self.old) 16 val))) }
+        ensures none { IsTrue all_or_none → OnErr result (contents self.new ≡ contents self.old) }
     {
         self.write(&bytes_of_u128(self.endian(), val))
     }
@@ -312,6 +338,9 @@ pub trait Writer {
             (udata (big self.old) val size) (contents self.old) (contents self.new)) }
         ensures err { IsTrue fails_for_memory_alone →
             IfErr result (Refuses (udata (big self.old) val size)) }
+        ensures untouched { IsTrue keeps_bytes → Untouched
+            (udata (big self.old) val size) (contents self.old) (contents self.new) }
+        ensures none { IsTrue all_or_none → OnErr result (contents self.new ≡ contents self.old) }
     {
         match size {
             1 => {
@@ -358,6 +387,9 @@ pub trait Writer {
             (sdata (big self.old) val size) (contents self.old) (contents self.new)) }
         ensures err { IsTrue fails_for_memory_alone →
             IfErr result (Refuses (sdata (big self.old) val size)) }
+        ensures untouched { IsTrue keeps_bytes → Untouched
+            (sdata (big self.old) val size) (contents self.old) (contents self.new) }
+        ensures none { IsTrue all_or_none → OnErr result (contents self.new ≡ contents self.old) }
     {
         match size {
             1 => self.write_u8(bits_of_i8(val)?),
@@ -424,6 +456,7 @@ pub trait Writer {
         ensures ok { IsTrue keeps_bytes →
             OnOk result (Appends (Ok (uleb val)) (contents self.old) (contents self.new)) }
         ensures err { IsTrue fails_for_memory_alone → IfErr result (Refuses (Ok (uleb val))) }
+        ensures none { IsTrue all_or_none → OnErr result (contents self.new ≡ contents self.old) }
     {
         if val < 128 {
             return self.write(&[val as u8]);
@@ -440,6 +473,7 @@ pub trait Writer {
         ensures ok { IsTrue keeps_bytes →
             OnOk result (Appends (Ok (sleb val)) (contents self.old) (contents self.new)) }
         ensures err { IsTrue fails_for_memory_alone → IfErr result (Refuses (Ok (sleb val))) }
+        ensures none { IsTrue all_or_none → OnErr result (contents self.new ≡ contents self.old) }
     {
         if has_seven_bits(val) {
             return self.write(&[low_bits(val)]);

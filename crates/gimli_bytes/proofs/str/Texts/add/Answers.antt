@@ -2,7 +2,7 @@ use Rattle.std.proofs.Common.{rules, ◌≡◌, sym, ap, ◌∙◌, false, true,
 use Rattle.std.specs.Prelude.{slice_get}
 use Rattle.gimli_bytes.specs.Texts.{with_text, place_of_text}
 use Rattle.gimli_bytes.specs.TextsInside.{texts_of}
-use Rattle.gimli_bytes.proofs.TextLemmas.{is_there, place_there, place_new, texts_new, with_text-there, byte_count-new, with_text-AreTexts, with_text-found, with_text-KeepsTexts}
+use Rattle.gimli_bytes.proofs.TextLemmas.{is_there, not_there, place_there, place_new, texts_new, with_text-there, byte_count-new, with_text-AreTexts, with_text-found, with_text-KeepsTexts}
 use Rattle.gimli_bytes.proofs.str.Texts.add.Goals as goal
 
 pub returns-in-Some-clause-ok : goal.returns-in-Some-clause-ok
@@ -51,3 +51,15 @@ returns-clause-found c =
 
 pub returns-clause-stays : goal.returns-clause-stays
 returns-clause-stays c = rw (← c.self.view_is) (rw (added c) (with_text-KeepsTexts (texts_of c.self.inside.strings.keys) c.args.text.now))
+
+pub returns-then-text-self-clause-there : goal.returns-then-text-self-clause-there
+returns-then-text-self-clause-there c =
+    rw (← c.self.view_is) (λ there. absurd (not_there c.self.inside.strings.keys c.args.text.now c.in_default.ensures.found there))
+
+pub returns-in_err-copy-clause-there : goal.returns-in_err-copy-clause-there
+returns-in_err-copy-clause-there c =
+    rw (← c.self.view_is) (λ there. absurd (not_there c.self.inside.strings.keys c.args.text.now c.in_default.ensures.found there))
+
+pub returns-in_err-index-clause-there : goal.returns-in_err-index-clause-there
+returns-in_err-index-clause-there c =
+    rw (← c.self.view_is) (λ there. absurd (not_there c.self.inside.strings.keys c.args.text.now c.in_default.ensures.found there))
