@@ -1,13 +1,14 @@
 //! Laws of the two grammars: a unit has one header or one refusal, a program is decoded in one way. And laws of what
 //! a run gives.
 
-ghost use Rattle.std.specs.Prelude.{◌≡◌, ◌≢◌, ◌≤◌, ◌⊎◌, ◌+◌, ℕ, Bool, List, [], Option, Some, length};
+ghost use Rattle.std.specs.Prelude.{◌≡◌, ◌≢◌, ◌≤◌, ◌⊎◌, ◌+◌, ℕ, Bool, List, [], Option, Some, length, nat_eq};
 ghost use Rattle.std.specs.Ordering.{nat_cmp};
 ghost use Rattle.gimli_core.specs.Equality.{IsExact};
 ghost use Rattle.gimli_core.specs.Notation.{Notation};
 ghost use Rattle.gimli_core.specs.declared.common.Format.{Format};
 ghost use Rattle.gimli_core.specs.declared.error.Error.{Error};
 ghost use Rattle.gimli_line.specs.header.Header.{Header, UnitEntry};
+ghost use Rattle.gimli_line.specs.header.HeaderParts.{ComparesParts};
 ghost use Rattle.gimli_line.specs.header.HeaderGrammar.{SpellsUnit, HasHeaderFault, HasUnit, HasNoUnit, HaveCountedEntries};
 ghost use Rattle.gimli_line.specs.run.Events.{events_behind, row_at, GivesRow};
 ghost use Rattle.gimli_line.specs.run.Instruction.{Ins};
@@ -21,14 +22,18 @@ ghost use Rattle.gimli_line.specs.run.Machine.{run, initial, is_refused};
 ghost use Rattle.gimli_line.specs.run.NonDecreasing.{AreOneSequence, NeverBelow};
 ghost use Rattle.gimli_line.specs.header.Parameters.{Parameters};
 ghost use Rattle.gimli_line.specs.run.Row.{column_number};
+ghost use Rattle.gimli_line.specs.Clones.{AreAlwaysCloned, IsSameClone};
 ghost use Rattle.gimli_line.specs.declared.header.file_entry.FileEntryFormat.{FileEntryFormat};
 ghost use Rattle.gimli_line.specs.declared.run.row.ColumnType.{ColumnType as Column};
 
+use crate::debug_line::DebugLine;
 use crate::header::file_entry::{FileEntry, FileEntryFormat};
+use crate::header::program_header::LineProgramHeader;
 use crate::run::instruction::LineInstruction;
+use crate::run::program::{CompleteLineProgram, IncompleteLineProgram};
 use crate::run::row::{ColumnType, LineRow};
 use gimli_core::laws::equal_values_are_same;
-use gimli_core::{AttributeValue, Reader};
+use gimli_core::{AttributeValue, Encoding, LineEncoding, Reader};
 
 /// Bytes begin with a unit, or they have a refusal.
 pub fn unit_or_refusal()
@@ -98,8 +103,10 @@ pub fn addresses_never_go_down()
         → NeverBelow 0 (events_behind parameters past list) }
 {}
 
-/// Columns are ordered by their numbers; the left edge, which stands for 0, is below them all.
+/// Columns are compared by their numbers; the left edge, which stands for 0, is below them all.
 pub fn columns_are_ordered()
+    ensures equal { (a b : Column) →
+        ⟦<ColumnType as PartialEq>⟧.eq a b ≡ nat_eq (column_number a) (column_number b) }
     ensures total { (a b : Column) →
         ⟦<ColumnType as Ord>⟧.cmp a b ≡ nat_cmp (column_number a) (column_number b) }
     ensures partial { (a b : Column) → ⟦<ColumnType as PartialOrd>⟧.partial_cmp a b
@@ -125,6 +132,8 @@ pub fn one_pointer_list()
 pub fn equal_parts_are_same()
     ensures formats { IsExact ⟦<FileEntryFormat as PartialEq>⟧.eq }
     ensures rows { IsExact ⟦<LineRow as PartialEq>⟧.eq }
+    ensures encodings { IsExact ⟦<Encoding as PartialEq>⟧.eq }
+    ensures line_encodings { IsExact ⟦<LineEncoding as PartialEq>⟧.eq }
 {}
 
 /// `==` of files holds exactly where all their parts agree, if this is so of readers and of offsets.
@@ -155,6 +164,45 @@ pub fn equal_instructions_are_same<R: Reader + PartialEq>()
 {
     equal_files_are_same::<R>();
 }
+
+/// `==` of headers holds exactly where all their parts agree, if this is so of readers and of offsets.
+pub fn equal_headers_are_same<R: Reader + PartialEq>()
+    ensures { IsExact R.eq → IsExact R.Offset.eq
+        → ComparesParts ⟦<LineProgramHeader<R> as PartialEq>⟧.eq }
+{
+    equal_values_are_same::<R>();
+    equal_files_are_same::<R>();
+    equal_parts_are_same();
+}
+
+/// `==` of programs holds exactly where their headers agree in all parts, if this is so of readers and of offsets.
+pub fn equal_programs_are_same<R: Reader + PartialEq>()
+    ensures incomplete { IsExact R.eq → IsExact R.Offset.eq
+        → ComparesParts ⟦<IncompleteLineProgram<R> as PartialEq>⟧.eq }
+    ensures complete { IsExact R.eq → IsExact R.Offset.eq
+        → ComparesParts ⟦<CompleteLineProgram<R> as PartialEq>⟧.eq }
+{
+    equal_headers_are_same::<R>();
+}
+
+/// What `clone` makes of a file, of an instruction or of a section is the same, if this is so of readers and of offsets.
+pub fn clones_are_same<R: Reader>()
+    ensures files { IsSameClone R.is_clone → IsSameClone R.Offset.is_clone
+        → IsSameClone ⟦<FileEntry<R> as Clone>⟧.is_clone }
+    ensures instructions { IsSameClone R.is_clone → IsSameClone R.Offset.is_clone
+        → IsSameClone ⟦<LineInstruction<R> as Clone>⟧.is_clone }
+    ensures sections { IsSameClone R.is_clone → IsSameClone ⟦<DebugLine<R> as Clone>⟧.is_clone }
+{}
+
+/// `clone` of a file, of an instruction or of a section is never refused, if this is so of readers and of offsets.
+pub fn clones_are_given<R: Reader>()
+    ensures files { AreAlwaysCloned R.is_infallible → AreAlwaysCloned R.Offset.is_infallible
+        → AreAlwaysCloned ⟦<FileEntry<R> as Clone>⟧.is_infallible }
+    ensures instructions { AreAlwaysCloned R.is_infallible → AreAlwaysCloned R.Offset.is_infallible
+        → AreAlwaysCloned ⟦<LineInstruction<R> as Clone>⟧.is_infallible }
+    ensures sections { AreAlwaysCloned R.is_infallible
+        → AreAlwaysCloned ⟦<DebugLine<R> as Clone>⟧.is_infallible }
+{}
 
 /// The instructions and the end that are taken of a program one by one are those that it is decoded into.
 pub fn instructions_are_taken()
