@@ -8,15 +8,16 @@ ghost use Rattle.gimli_core.specs.Notation.{Notation};
 ghost use Rattle.gimli_core.specs.declared.common.Format.{Format};
 ghost use Rattle.gimli_core.specs.declared.error.Error.{Error};
 ghost use Rattle.gimli_line.specs.header.Header.{Header, UnitEntry};
-ghost use Rattle.gimli_line.specs.header.HeaderParts.{ComparesParts};
+ghost use Rattle.gimli_line.specs.header.HeaderParts.{ComparesParts, entry_count, parts_of};
 ghost use Rattle.gimli_line.specs.header.HeaderGrammar.{SpellsUnit, HasHeaderFault, HasUnit, HasNoUnit, HaveCountedEntries};
 ghost use Rattle.gimli_line.specs.run.Events.{events_behind, row_at, GivesRow};
 ghost use Rattle.gimli_line.specs.run.Instruction.{Ins};
-ghost use Rattle.gimli_line.specs.run.EventsWithFiles.{EventsWithFiles, FilesAtEnd, events_with_files_behind, machine_events, registers_after, registers_at};
+ghost use Rattle.gimli_line.specs.run.EventsWithFiles.{events_with_files_behind, machine_events, registers_after, registers_at};
 ghost use Rattle.gimli_line.specs.run.InstructionGrammar.{Decodes, AreDecodedOnce, instruction_production, IsInstructionRefusal};
 ghost use Rattle.gimli_line.specs.run.InstructionReading.{decoded_at};
 ghost use Rattle.gimli_line.specs.run.OperationPointer.{OperationPointer, IsPointerList, pointers, is_hidden, overflows};
-ghost use Rattle.gimli_line.specs.run.Rows.{events_left, files_at_end, started};
+ghost use Rattle.gimli_line.specs.run.Rows.{started};
+ghost use Rattle.gimli_line.specs.run.Started.{GivesEvents, GivesFiles};
 ghost use Rattle.gimli_line.specs.run.Unread.{Unread};
 ghost use Rattle.gimli_line.specs.run.Machine.{run, initial, is_refused};
 ghost use Rattle.gimli_line.specs.run.NonDecreasing.{AreOneSequence, NeverBelow};
@@ -37,18 +38,18 @@ use gimli_core::{AttributeValue, Encoding, LineEncoding, Reader};
 
 /// Bytes begin with a unit, or they have a refusal.
 pub fn unit_or_refusal()
-    ensures { (notation : Notation) (unit_entry : UnitEntry) (bytes : List ℕ) →
-        HasUnit notation unit_entry bytes ⊎ HasNoUnit notation unit_entry bytes }
+    ensures { (notation : Notation) (entry : UnitEntry) (bytes : List ℕ) →
+        HasUnit notation entry bytes ⊎ HasNoUnit notation entry bytes }
 {}
 
 /// They don't have both, the header is one, and so is the refusal.
 pub fn one_unit_or_refusal()
-    ensures both { (notation : Notation) (unit_entry : UnitEntry) (bytes : List ℕ) →
-        HasUnit notation unit_entry bytes → HasNoUnit notation unit_entry bytes → ⊥ }
-    ensures header { (notation : Notation) (unit_entry : UnitEntry) (bytes : List ℕ) (h k : Header)
-        → SpellsUnit notation unit_entry bytes h → SpellsUnit notation unit_entry bytes k → h ≡ k }
-    ensures refusal { (notation : Notation) (unit_entry : UnitEntry) (bytes : List ℕ) (e d : Error) →
-        HasHeaderFault notation unit_entry bytes e → HasHeaderFault notation unit_entry bytes d → e ≡ d }
+    ensures both { (notation : Notation) (entry : UnitEntry) (bytes : List ℕ) →
+        HasUnit notation entry bytes → HasNoUnit notation entry bytes → ⊥ }
+    ensures header { (notation : Notation) (entry : UnitEntry) (bytes : List ℕ) (h k : Header)
+        → SpellsUnit notation entry bytes h → SpellsUnit notation entry bytes k → h ≡ k }
+    ensures refusal { (notation : Notation) (entry : UnitEntry) (bytes : List ℕ) (e d : Error) →
+        HasHeaderFault notation entry bytes e → HasHeaderFault notation entry bytes d → e ≡ d }
 {}
 
 /// A program is decoded into instructions, and in one way.
@@ -75,12 +76,12 @@ pub fn entries_are_bounded()
 /// Both tables of a header together have no more entries than its length counts bytes, whatever they give as their
 /// counts. What that length counts and the program stand within the unit, and the unit within the input.
 pub fn tables_are_bounded()
-    ensures entries { (notation : Notation) (unit_entry : UnitEntry) (bytes : List ℕ) (h : Header) →
-        SpellsUnit notation unit_entry bytes h → length h.directories + length h.files ≤ h.header_length }
-    ensures header { (notation : Notation) (unit_entry : UnitEntry) (bytes : List ℕ) (h : Header) →
-        SpellsUnit notation unit_entry bytes h → h.header_length + length h.program ≤ h.unit_length }
-    ensures unit { (notation : Notation) (unit_entry : UnitEntry) (bytes : List ℕ) (h : Header) →
-        SpellsUnit notation unit_entry bytes h → h.unit_length ≤ length bytes }
+    ensures entries { (notation : Notation) (entry : UnitEntry) (bytes : List ℕ) (h : Header) →
+        SpellsUnit notation entry bytes h → entry_count h ≤ h.header_length }
+    ensures header { (notation : Notation) (entry : UnitEntry) (bytes : List ℕ) (h : Header) →
+        SpellsUnit notation entry bytes h → h.header_length + length h.program ≤ h.unit_length }
+    ensures unit { (notation : Notation) (entry : UnitEntry) (bytes : List ℕ) (h : Header) →
+        SpellsUnit notation entry bytes h → h.unit_length ≤ length bytes }
 {}
 
 /// The machine, run from the registers at the start of a sequence, gives the rows and faults that looking back says,
@@ -91,9 +92,9 @@ pub fn machine_gives_events()
     ensures machine { (appends : Bool) (h : Header) (list : List Ins) (end : Option Error) →
         machine_events appends h list end ≡ events_with_files_behind appends h [] list end }
     ensures started { (appends : Bool) (h : Header) (notation : Notation) (o : ℕ) (unread : Unread) →
-        EventsWithFiles unread.notation appends h unread.bytes (events_left (started appends h notation o unread)) }
+        GivesEvents appends h unread (started appends h notation o unread) }
     ensures files { (appends : Bool) (h : Header) (notation : Notation) (o : ℕ) (unread : Unread) →
-        FilesAtEnd unread.notation appends h unread.bytes (files_at_end (started appends h notation o unread)) }
+        GivesFiles appends h unread (started appends h notation o unread) }
 {}
 
 /// Between two ends of sequences, whether their rows are hidden or not, and from the start to the first, the addresses
@@ -173,6 +174,15 @@ pub fn equal_headers_are_same<R: Reader + PartialEq>()
     equal_values_are_same::<R>();
     equal_files_are_same::<R>();
     equal_parts_are_same();
+}
+
+/// Headers that agree in all their parts say the same, in the same notation.
+pub fn same_parts_say_same<R: Reader>(x: &LineProgramHeader<R>, y: &LineProgramHeader<R>)
+    ensures meaning { parts_of x.now ≡ parts_of y.now → x.now.meaning ≡ y.now.meaning }
+    ensures notation { parts_of x.now ≡ parts_of y.now → x.now.notation ≡ y.now.notation }
+{
+    let _first = x.parameters;
+    let _second = y.parameters;
 }
 
 /// `==` of programs holds exactly where their headers agree in all parts, if this is so of readers and of offsets.

@@ -1,8 +1,8 @@
--- The parts of a header, which `==` of headers compares.
-use Rattle.std.specs.Prelude.{◌≡◌, Bool, List, Option, Decides}
+-- The parts of a header, which `==` of headers compares, and how many entries its tables have.
+use Rattle.std.specs.Prelude.{◌≡◌, ℕ, ◌+◌, Bool, List, length, Option, Decides}
 use Rattle.gimli_core.specs.declared.attribute_value.AttributeValue.{AttributeValue}
 use Rattle.gimli_core.specs.declared.common.DebugLineOffset.{DebugLineOffset}
-use Rattle.gimli_line.specs.header.Header.{SeenHeader}
+use Rattle.gimli_line.specs.header.Header.{Header, SeenHeader}
 use Rattle.gimli_line.specs.header.Parameters.{Parameters}
 use Rattle.gimli_line.specs.declared.header.file_entry.FileEntry.{FileEntry}
 use Rattle.gimli_line.specs.declared.header.file_entry.FileEntryFormat.{FileEntryFormat}
@@ -42,3 +42,7 @@ module _ {R Offset Endian : Type 0} where
   -- an equality of headers holds exactly where the two agree in all their parts
   abbrev pub ComparesParts : (SeenHeader R Offset Endian → SeenHeader R Offset Endian → Bool) → Type 0
   ComparesParts eq = (x y : SeenHeader R Offset Endian) → Decides (eq x y) (parts_of x ≡ parts_of y)
+
+-- the entries of both tables together
+abbrev pub entry_count : Header → ℕ
+entry_count h = length h.directories + length h.files
