@@ -42,7 +42,7 @@ pub enum ColumnType {
 
 impl LineRow {
     ghost use Rattle.gimli_core.specs.Notation.{Notation};
-    ghost use Rattle.gimli_line.specs.header.Header.{Header, file_of};
+    ghost use Rattle.gimli_line.specs.header.Header.{Header, file_of, own_file_of};
     ghost use Rattle.gimli_line.specs.run.Instruction.{ins_seen, makes_row, header_behind};
     ghost use Rattle.gimli_line.specs.header.File.{file_seen};
     ghost use Rattle.gimli_line.specs.run.Machine.{initial, reset_row, rebased, IsAllowed, is_refused, stepped, with_register};
@@ -99,8 +99,9 @@ impl LineRow {
         &self,
         header: &'header LineProgramHeader<R>,
     ) -> Option<&'header FileEntry<R>>
-        ensures { option_map (λ found. file_seen R.bytes R.Offset.number found.now) result
+        ensures file { option_map (λ found. file_seen R.bytes R.Offset.number found.now) result
             ≡ file_of header.now.meaning self.now.file }
+        ensures own { option_map (λ found. found.now) result ≡ own_file_of header.now self.now.file }
     {
         header.file(self.file)
     }
@@ -181,8 +182,9 @@ impl LineRow {
 
     /// Executes an instruction, and says whether it makes a row, which may be hidden. A file that it defines is
     /// added to the program. Refused by `AddressOverflow` where the address would pass the greatest one of its
-    /// size; the address stays then, and line and op_index go on. Refused by `OutOfMemory` where a file can't be
-    /// added; nothing is changed then.
+    /// size: the address stays then, and at a fixed advance op_index does too; else op_index goes on, and the line
+    /// does at a special opcode. Refused by `OutOfMemory` where a file can't be added; nothing is changed then.
+    /// Requires of a special opcode that it isn't below the opcode base of the program.
     pub fn execute<R: Reader, P: LineProgram<R>>(
         &mut self,
         instruction: LineInstruction<R>,
