@@ -5,7 +5,7 @@ ghost use Rattle.std.specs.Bool.{Decides};
 ghost use Rattle.std.specs.Int.{w64};
 ghost use Rattle.gimli_core.specs.Equality.{IsExact};
 ghost use Rattle.gimli_core.specs.Numbers.{SpellsUleb128, SpellsSleb128, IsShortest};
-ghost use Rattle.gimli_bytes.specs.Clones.{GivesSame};
+ghost use Rattle.gimli_bytes.specs.Clones.{IsSameClone};
 ghost use Rattle.gimli_bytes.specs.Number.{uleb, sleb};
 ghost use Rattle.gimli_bytes.specs.declared.address.Address.{Address};
 ghost use Rattle.gimli_bytes.specs.declared.str.StringId.{StringId};
@@ -33,7 +33,7 @@ pub fn equal_errors_are_same()
 
 /// A clone of a section is equal to it.
 pub fn clones_are_same<E: Endianity>()
-    ensures { GivesSame ⟦<EndianVec<E> as Clone>⟧.is_clone }
+    ensures { IsSameClone ⟦<EndianVec<E> as Clone>⟧.is_clone }
 {}
 
 /// What `write_uleb128` appends is a spelling of the number, and no other is shorter.

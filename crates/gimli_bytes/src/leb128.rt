@@ -75,7 +75,7 @@ impl Leb128 {
 }
 
 /// The lowest seven bits of a number, in two's complement.
-pub fn low_bits(val: i64) -> u8
+pub(crate) fn low_bits(val: i64) -> u8
     ensures value { result ≡ low_bits_of val }
     ensures small { result < 128 }
 {
@@ -83,7 +83,7 @@ pub fn low_bits(val: i64) -> u8
 }
 
 /// Whether seven bits hold the number, with its sign.
-pub fn has_seven_bits(val: i64) -> bool
+pub(crate) fn has_seven_bits(val: i64) -> bool
     ensures { result ≡ holds_seven_bits val }
 {
     -64 <= val && val < 64

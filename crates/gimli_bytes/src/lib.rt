@@ -17,7 +17,7 @@ mod writer;
 pub use address::Address;
 pub use endian_vec::EndianVec;
 pub use error::{Error, Result};
-pub use leb128::{Leb128, has_seven_bits, low_bits};
+pub use leb128::Leb128;
 pub use piece_vec::{PieceVec, Pieces};
 pub use section::{DebugLine, DebugLineStr, DebugStr};
 pub use str::{LineStringId, LineStringTable, StringId, StringTable};
