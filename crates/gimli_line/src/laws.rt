@@ -91,10 +91,10 @@ pub fn machine_gives_events()
         run parameters (initial parameters) list ≡ events_behind parameters [] list }
     ensures machine { (appends : Bool) (h : Header) (list : List Ins) (end : Option Error) →
         machine_events appends h list end ≡ events_with_files_behind appends h [] list end }
-    ensures started { (appends : Bool) (h : Header) (notation : Notation) (o : ℕ) (unread : Unread) →
-        GivesEvents appends h unread (started appends h notation o unread) }
-    ensures files { (appends : Bool) (h : Header) (notation : Notation) (o : ℕ) (unread : Unread) →
-        GivesFiles appends h unread (started appends h notation o unread) }
+    ensures started { (appends : Bool) (h : Header) (notation : Notation) (o : ℕ)
+        (unread : Unread) → GivesEvents appends h unread (started appends h notation o unread) }
+    ensures files { (appends : Bool) (h : Header) (notation : Notation) (o : ℕ)
+        (unread : Unread) → GivesFiles appends h unread (started appends h notation o unread) }
 {}
 
 /// Between two ends of sequences, whether their rows are hidden or not, and from the start to the first, the addresses
