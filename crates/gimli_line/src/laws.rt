@@ -30,9 +30,10 @@ ghost use Rattle.gimli_line.specs.declared.run.row.ColumnType.{ColumnType as Col
 use crate::debug_line::DebugLine;
 use crate::header::file_entry::{FileEntry, FileEntryFormat};
 use crate::header::program_header::LineProgramHeader;
-use crate::run::instruction::LineInstruction;
+use crate::run::instruction::{LineInstruction, LineInstructions};
 use crate::run::program::{CompleteLineProgram, IncompleteLineProgram};
 use crate::run::row::{ColumnType, LineRow};
+use crate::run::sequences::LineSequence;
 use gimli_core::laws::equal_values_are_same;
 use gimli_core::{AttributeValue, Encoding, LineEncoding, Reader};
 
@@ -91,10 +92,10 @@ pub fn machine_gives_events()
         run parameters (initial parameters) list ≡ events_behind parameters [] list }
     ensures machine { (appends : Bool) (h : Header) (list : List Ins) (end : Option Error) →
         machine_events appends h list end ≡ events_with_files_behind appends h [] list end }
-    ensures started { (appends : Bool) (h : Header) (notation : Notation) (o : ℕ) (unread : Unread) →
-        GivesEvents appends h unread (started appends h notation o unread) }
-    ensures files { (appends : Bool) (h : Header) (notation : Notation) (o : ℕ) (unread : Unread) →
-        GivesFiles appends h unread (started appends h notation o unread) }
+    ensures started { (appends : Bool) (h : Header) (notation : Notation) (o : ℕ)
+        (unread : Unread) → GivesEvents appends h unread (started appends h notation o unread) }
+    ensures files { (appends : Bool) (h : Header) (notation : Notation) (o : ℕ)
+        (unread : Unread) → GivesFiles appends h unread (started appends h notation o unread) }
 {}
 
 /// Between two ends of sequences, whether their rows are hidden or not, and from the start to the first, the addresses
@@ -195,16 +196,21 @@ pub fn equal_programs_are_same<R: Reader + PartialEq>()
     equal_headers_are_same::<R>();
 }
 
-/// What `clone` makes of a file, of an instruction or of a section is the same, if this is so of readers and of offsets.
+/// What `clone` makes of a file, of an instruction, of a section, of instructions to come or of a sequence is the same,
+/// if this is so of readers and of offsets.
 pub fn clones_are_same<R: Reader>()
     ensures files { IsSameClone R.is_clone → IsSameClone R.Offset.is_clone
         → IsSameClone ⟦<FileEntry<R> as Clone>⟧.is_clone }
     ensures instructions { IsSameClone R.is_clone → IsSameClone R.Offset.is_clone
         → IsSameClone ⟦<LineInstruction<R> as Clone>⟧.is_clone }
     ensures sections { IsSameClone R.is_clone → IsSameClone ⟦<DebugLine<R> as Clone>⟧.is_clone }
+    ensures unread { IsSameClone R.is_clone
+        → IsSameClone ⟦<LineInstructions<R> as Clone>⟧.is_clone }
+    ensures sequences { IsSameClone R.is_clone
+        → IsSameClone ⟦<LineSequence<R> as Clone>⟧.is_clone }
 {}
 
-/// `clone` of a file, of an instruction or of a section is never refused, if this is so of readers and of offsets.
+/// `clone` of these is never refused, if this is so of readers and of offsets.
 pub fn clones_are_given<R: Reader>()
     ensures files { AreAlwaysCloned R.is_infallible → AreAlwaysCloned R.Offset.is_infallible
         → AreAlwaysCloned ⟦<FileEntry<R> as Clone>⟧.is_infallible }
@@ -212,6 +218,10 @@ pub fn clones_are_given<R: Reader>()
         → AreAlwaysCloned ⟦<LineInstruction<R> as Clone>⟧.is_infallible }
     ensures sections { AreAlwaysCloned R.is_infallible
         → AreAlwaysCloned ⟦<DebugLine<R> as Clone>⟧.is_infallible }
+    ensures unread { AreAlwaysCloned R.is_infallible
+        → AreAlwaysCloned ⟦<LineInstructions<R> as Clone>⟧.is_infallible }
+    ensures sequences { AreAlwaysCloned R.is_infallible
+        → AreAlwaysCloned ⟦<LineSequence<R> as Clone>⟧.is_infallible }
 {}
 
 /// The instructions and the end that are taken of a program one by one are those that it is decoded into.

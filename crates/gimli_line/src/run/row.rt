@@ -101,7 +101,8 @@ impl LineRow {
     ) -> Option<&'header FileEntry<R>>
         ensures file { option_map (λ found. file_seen R.bytes R.Offset.number found.now) result
             ≡ file_of header.now.meaning self.now.file }
-        ensures own { option_map (λ found. found.now) result ≡ own_file_of header.now self.now.file }
+        ensures own { option_map (λ found. found.now) result
+            ≡ own_file_of header.now self.now.file }
     {
         header.file(self.file)
     }
