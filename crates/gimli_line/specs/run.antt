@@ -14,6 +14,7 @@ pub mod EventsWithFiles
 pub mod RunState
 pub mod Progress
 pub mod Rows
+pub mod Started
 pub mod Sequences
 pub mod SequenceSplit
 pub mod NonDecreasing

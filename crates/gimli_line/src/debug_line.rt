@@ -44,7 +44,8 @@ impl<'i, E: Endianity> DebugLine<EndianSlice<'i, E>> {
 impl<R: Reader> DebugLine<R> {
     /// The line program whose header stands at an offset. In version 5 the address size, the directory and the
     /// name that are handed in mean nothing. An offset past the end leaves no bytes. Refused as the first part of
-    /// the header that isn't met says, or by `OutOfMemory`.
+    /// the header that isn't met says, or by `OutOfMemory`. Requires an address size of 1, 2, 4 or 8, whatever the
+    /// version is.
     pub fn program(
         &self,
         alloc: Global,
@@ -93,7 +94,8 @@ impl<R: Reader> DebugLine<R> {
 }
 
 impl<T> DebugLine<T> {
-    /// The section over what `borrow` makes of the contents of this one.
+    /// The section over what `borrow` makes of the contents of this one. Requires that `borrow` may be called on
+    /// any contents.
     pub fn borrow<'a, F, R>(&'a self, mut borrow: F) -> DebugLine<R>
     where
         F: FnMut(&'a T) -> R + Drop,

@@ -1,49 +1,55 @@
 //! Laws of the two grammars: a unit has one header or one refusal, a program is decoded in one way. And laws of what
 //! a run gives.
 
-ghost use Rattle.std.specs.Prelude.{◌≡◌, ◌≢◌, ◌≤◌, ◌⊎◌, ◌+◌, ℕ, Bool, List, [], Option, Some, length};
+ghost use Rattle.std.specs.Prelude.{◌≡◌, ◌≢◌, ◌≤◌, ◌⊎◌, ◌+◌, ℕ, Bool, List, [], Option, Some, length, nat_eq};
 ghost use Rattle.std.specs.Ordering.{nat_cmp};
 ghost use Rattle.gimli_core.specs.Equality.{IsExact};
 ghost use Rattle.gimli_core.specs.Notation.{Notation};
 ghost use Rattle.gimli_core.specs.declared.common.Format.{Format};
 ghost use Rattle.gimli_core.specs.declared.error.Error.{Error};
 ghost use Rattle.gimli_line.specs.header.Header.{Header, UnitEntry};
+ghost use Rattle.gimli_line.specs.header.HeaderParts.{ComparesParts, entry_count, parts_of};
 ghost use Rattle.gimli_line.specs.header.HeaderGrammar.{SpellsUnit, HasHeaderFault, HasUnit, HasNoUnit, HaveCountedEntries};
 ghost use Rattle.gimli_line.specs.run.Events.{events_behind, row_at, GivesRow};
 ghost use Rattle.gimli_line.specs.run.Instruction.{Ins};
-ghost use Rattle.gimli_line.specs.run.EventsWithFiles.{EventsWithFiles, FilesAtEnd, events_with_files_behind, machine_events, registers_after, registers_at};
+ghost use Rattle.gimli_line.specs.run.EventsWithFiles.{events_with_files_behind, machine_events, registers_after, registers_at};
 ghost use Rattle.gimli_line.specs.run.InstructionGrammar.{Decodes, AreDecodedOnce, instruction_production, IsInstructionRefusal};
 ghost use Rattle.gimli_line.specs.run.InstructionReading.{decoded_at};
 ghost use Rattle.gimli_line.specs.run.OperationPointer.{OperationPointer, IsPointerList, pointers, is_hidden, overflows};
-ghost use Rattle.gimli_line.specs.run.Rows.{events_left, files_at_end, started};
+ghost use Rattle.gimli_line.specs.run.Rows.{started};
+ghost use Rattle.gimli_line.specs.run.Started.{GivesEvents, GivesFiles};
 ghost use Rattle.gimli_line.specs.run.Unread.{Unread};
 ghost use Rattle.gimli_line.specs.run.Machine.{run, initial, is_refused};
 ghost use Rattle.gimli_line.specs.run.NonDecreasing.{AreOneSequence, NeverBelow};
 ghost use Rattle.gimli_line.specs.header.Parameters.{Parameters};
 ghost use Rattle.gimli_line.specs.run.Row.{column_number};
+ghost use Rattle.gimli_line.specs.Clones.{AreAlwaysCloned, IsSameClone};
 ghost use Rattle.gimli_line.specs.declared.header.file_entry.FileEntryFormat.{FileEntryFormat};
 ghost use Rattle.gimli_line.specs.declared.run.row.ColumnType.{ColumnType as Column};
 
+use crate::debug_line::DebugLine;
 use crate::header::file_entry::{FileEntry, FileEntryFormat};
+use crate::header::program_header::LineProgramHeader;
 use crate::run::instruction::LineInstruction;
+use crate::run::program::{CompleteLineProgram, IncompleteLineProgram};
 use crate::run::row::{ColumnType, LineRow};
 use gimli_core::laws::equal_values_are_same;
-use gimli_core::{AttributeValue, Reader};
+use gimli_core::{AttributeValue, Encoding, LineEncoding, Reader};
 
 /// Bytes begin with a unit, or they have a refusal.
 pub fn unit_or_refusal()
-    ensures { (notation : Notation) (unit_entry : UnitEntry) (bytes : List ℕ) →
-        HasUnit notation unit_entry bytes ⊎ HasNoUnit notation unit_entry bytes }
+    ensures { (notation : Notation) (entry : UnitEntry) (bytes : List ℕ) →
+        HasUnit notation entry bytes ⊎ HasNoUnit notation entry bytes }
 {}
 
 /// They don't have both, the header is one, and so is the refusal.
 pub fn one_unit_or_refusal()
-    ensures both { (notation : Notation) (unit_entry : UnitEntry) (bytes : List ℕ) →
-        HasUnit notation unit_entry bytes → HasNoUnit notation unit_entry bytes → ⊥ }
-    ensures header { (notation : Notation) (unit_entry : UnitEntry) (bytes : List ℕ) (h k : Header)
-        → SpellsUnit notation unit_entry bytes h → SpellsUnit notation unit_entry bytes k → h ≡ k }
-    ensures refusal { (notation : Notation) (unit_entry : UnitEntry) (bytes : List ℕ) (e d : Error) →
-        HasHeaderFault notation unit_entry bytes e → HasHeaderFault notation unit_entry bytes d → e ≡ d }
+    ensures both { (notation : Notation) (entry : UnitEntry) (bytes : List ℕ) →
+        HasUnit notation entry bytes → HasNoUnit notation entry bytes → ⊥ }
+    ensures header { (notation : Notation) (entry : UnitEntry) (bytes : List ℕ) (h k : Header)
+        → SpellsUnit notation entry bytes h → SpellsUnit notation entry bytes k → h ≡ k }
+    ensures refusal { (notation : Notation) (entry : UnitEntry) (bytes : List ℕ) (e d : Error) →
+        HasHeaderFault notation entry bytes e → HasHeaderFault notation entry bytes d → e ≡ d }
 {}
 
 /// A program is decoded into instructions, and in one way.
@@ -70,12 +76,12 @@ pub fn entries_are_bounded()
 /// Both tables of a header together have no more entries than its length counts bytes, whatever they give as their
 /// counts. What that length counts and the program stand within the unit, and the unit within the input.
 pub fn tables_are_bounded()
-    ensures entries { (notation : Notation) (unit_entry : UnitEntry) (bytes : List ℕ) (h : Header) →
-        SpellsUnit notation unit_entry bytes h → length h.directories + length h.files ≤ h.header_length }
-    ensures header { (notation : Notation) (unit_entry : UnitEntry) (bytes : List ℕ) (h : Header) →
-        SpellsUnit notation unit_entry bytes h → h.header_length + length h.program ≤ h.unit_length }
-    ensures unit { (notation : Notation) (unit_entry : UnitEntry) (bytes : List ℕ) (h : Header) →
-        SpellsUnit notation unit_entry bytes h → h.unit_length ≤ length bytes }
+    ensures entries { (notation : Notation) (entry : UnitEntry) (bytes : List ℕ) (h : Header) →
+        SpellsUnit notation entry bytes h → entry_count h ≤ h.header_length }
+    ensures header { (notation : Notation) (entry : UnitEntry) (bytes : List ℕ) (h : Header) →
+        SpellsUnit notation entry bytes h → h.header_length + length h.program ≤ h.unit_length }
+    ensures unit { (notation : Notation) (entry : UnitEntry) (bytes : List ℕ) (h : Header) →
+        SpellsUnit notation entry bytes h → h.unit_length ≤ length bytes }
 {}
 
 /// The machine, run from the registers at the start of a sequence, gives the rows and faults that looking back says,
@@ -86,9 +92,9 @@ pub fn machine_gives_events()
     ensures machine { (appends : Bool) (h : Header) (list : List Ins) (end : Option Error) →
         machine_events appends h list end ≡ events_with_files_behind appends h [] list end }
     ensures started { (appends : Bool) (h : Header) (notation : Notation) (o : ℕ) (unread : Unread) →
-        EventsWithFiles unread.notation appends h unread.bytes (events_left (started appends h notation o unread)) }
+        GivesEvents appends h unread (started appends h notation o unread) }
     ensures files { (appends : Bool) (h : Header) (notation : Notation) (o : ℕ) (unread : Unread) →
-        FilesAtEnd unread.notation appends h unread.bytes (files_at_end (started appends h notation o unread)) }
+        GivesFiles appends h unread (started appends h notation o unread) }
 {}
 
 /// Between two ends of sequences, whether their rows are hidden or not, and from the start to the first, the addresses
@@ -98,8 +104,10 @@ pub fn addresses_never_go_down()
         → NeverBelow 0 (events_behind parameters past list) }
 {}
 
-/// Columns are ordered by their numbers; the left edge, which stands for 0, is below them all.
+/// Columns are compared by their numbers; the left edge, which stands for 0, is below them all.
 pub fn columns_are_ordered()
+    ensures equal { (a b : Column) →
+        ⟦<ColumnType as PartialEq>⟧.eq a b ≡ nat_eq (column_number a) (column_number b) }
     ensures total { (a b : Column) →
         ⟦<ColumnType as Ord>⟧.cmp a b ≡ nat_cmp (column_number a) (column_number b) }
     ensures partial { (a b : Column) → ⟦<ColumnType as PartialOrd>⟧.partial_cmp a b
@@ -125,6 +133,8 @@ pub fn one_pointer_list()
 pub fn equal_parts_are_same()
     ensures formats { IsExact ⟦<FileEntryFormat as PartialEq>⟧.eq }
     ensures rows { IsExact ⟦<LineRow as PartialEq>⟧.eq }
+    ensures encodings { IsExact ⟦<Encoding as PartialEq>⟧.eq }
+    ensures line_encodings { IsExact ⟦<LineEncoding as PartialEq>⟧.eq }
 {}
 
 /// `==` of files holds exactly where all their parts agree, if this is so of readers and of offsets.
@@ -155,6 +165,54 @@ pub fn equal_instructions_are_same<R: Reader + PartialEq>()
 {
     equal_files_are_same::<R>();
 }
+
+/// `==` of headers holds exactly where all their parts agree, if this is so of readers and of offsets.
+pub fn equal_headers_are_same<R: Reader + PartialEq>()
+    ensures { IsExact R.eq → IsExact R.Offset.eq
+        → ComparesParts ⟦<LineProgramHeader<R> as PartialEq>⟧.eq }
+{
+    equal_values_are_same::<R>();
+    equal_files_are_same::<R>();
+    equal_parts_are_same();
+}
+
+/// Headers that agree in all their parts say the same, in the same notation.
+pub fn same_parts_say_same<R: Reader>(x: &LineProgramHeader<R>, y: &LineProgramHeader<R>)
+    ensures meaning { parts_of x.now ≡ parts_of y.now → x.now.meaning ≡ y.now.meaning }
+    ensures notation { parts_of x.now ≡ parts_of y.now → x.now.notation ≡ y.now.notation }
+{
+    let _first = x.parameters;
+    let _second = y.parameters;
+}
+
+/// `==` of programs holds exactly where their headers agree in all parts, if this is so of readers and of offsets.
+pub fn equal_programs_are_same<R: Reader + PartialEq>()
+    ensures incomplete { IsExact R.eq → IsExact R.Offset.eq
+        → ComparesParts ⟦<IncompleteLineProgram<R> as PartialEq>⟧.eq }
+    ensures complete { IsExact R.eq → IsExact R.Offset.eq
+        → ComparesParts ⟦<CompleteLineProgram<R> as PartialEq>⟧.eq }
+{
+    equal_headers_are_same::<R>();
+}
+
+/// What `clone` makes of a file, of an instruction or of a section is the same, if this is so of readers and of offsets.
+pub fn clones_are_same<R: Reader>()
+    ensures files { IsSameClone R.is_clone → IsSameClone R.Offset.is_clone
+        → IsSameClone ⟦<FileEntry<R> as Clone>⟧.is_clone }
+    ensures instructions { IsSameClone R.is_clone → IsSameClone R.Offset.is_clone
+        → IsSameClone ⟦<LineInstruction<R> as Clone>⟧.is_clone }
+    ensures sections { IsSameClone R.is_clone → IsSameClone ⟦<DebugLine<R> as Clone>⟧.is_clone }
+{}
+
+/// `clone` of a file, of an instruction or of a section is never refused, if this is so of readers and of offsets.
+pub fn clones_are_given<R: Reader>()
+    ensures files { AreAlwaysCloned R.is_infallible → AreAlwaysCloned R.Offset.is_infallible
+        → AreAlwaysCloned ⟦<FileEntry<R> as Clone>⟧.is_infallible }
+    ensures instructions { AreAlwaysCloned R.is_infallible → AreAlwaysCloned R.Offset.is_infallible
+        → AreAlwaysCloned ⟦<LineInstruction<R> as Clone>⟧.is_infallible }
+    ensures sections { AreAlwaysCloned R.is_infallible
+        → AreAlwaysCloned ⟦<DebugLine<R> as Clone>⟧.is_infallible }
+{}
 
 /// The instructions and the end that are taken of a program one by one are those that it is decoded into.
 pub fn instructions_are_taken()

@@ -39,7 +39,7 @@ files_production = closed (do
   path ← name
   file_production path)
 
--- ---- tables of version 5 (DWARF 5, section 6.2.4, parts 14 to 19)
+-- ---- tables of version 5 (DWARF 5, section 6.2.4, parts 13 to 20)
 
 -- one format: a content type, those that are too large as ffff, and a form
 abbrev pub format_production : Production FileEntryFormat

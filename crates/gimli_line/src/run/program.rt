@@ -33,8 +33,8 @@ pub trait LineProgram<R: Reader> {
     /// Adds a file that the program defines, where the list of files isn't complete. Refused by `OutOfMemory`
     /// alone; nothing is changed then.
     fn add_file(&mut self, file: FileEntry<R>) -> Result<()>
-        ensures ok { OnOk result (meaning self.new
-            ≡ with_defined_file appends (file_seen R.bytes R.Offset.number file) (meaning self.old)) }
+        ensures ok { OnOk result (meaning self.new ≡ with_defined_file appends
+            (file_seen R.bytes R.Offset.number file) (meaning self.old)) }
         ensures err { OnErr result (meaning self.new ≡ meaning self.old) }
         ensures memory { IfErr result (λ e. (e ≡ Error.OutOfMemory) × (appends ≡ true)) }
         ensures notation { notation self.new ≡ notation self.old }
@@ -193,7 +193,8 @@ impl<'program, R: Reader> LineProgram<R> for &'program CompleteLineProgram<R> {
         ensures err { OnErr result (self.new.now.meaning ≡ self.old.now.meaning) }
         ensures memory { IfErr result (λ e. (e ≡ Error.OutOfMemory) × (false ≡ true)) }
         ensures notation { self.new.now.notation ≡ self.old.now.notation }
-        ensures offset { R.Offset.number self.new.now.offset.0 ≡ R.Offset.number self.old.now.offset.0 }
+        ensures offset { R.Offset.number self.new.now.offset.0
+            ≡ R.Offset.number self.old.now.offset.0 }
         ensures only { IsOk result }
     {
         Ok(())

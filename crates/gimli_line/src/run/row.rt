@@ -181,8 +181,9 @@ impl LineRow {
 
     /// Executes an instruction, and says whether it makes a row, which may be hidden. A file that it defines is
     /// added to the program. Refused by `AddressOverflow` where the address would pass the greatest one of its
-    /// size; the address stays then, and line and op_index go on. Refused by `OutOfMemory` where a file can't be
-    /// added; nothing is changed then.
+    /// size: the address stays then, and at a fixed advance op_index does too; else op_index goes on, and the line
+    /// does at a special opcode. Refused by `OutOfMemory` where a file can't be added; nothing is changed then.
+    /// Requires of a special opcode that it isn't below the opcode base of the program.
     pub fn execute<R: Reader, P: LineProgram<R>>(
         &mut self,
         instruction: LineInstruction<R>,

@@ -1,0 +1,48 @@
+-- The parts of a header, which `==` of headers compares, and how many entries its tables have.
+use Rattle.std.specs.Prelude.{◌≡◌, ℕ, ◌+◌, Bool, List, length, Option, Decides}
+use Rattle.gimli_core.specs.declared.attribute_value.AttributeValue.{AttributeValue}
+use Rattle.gimli_core.specs.declared.common.DebugLineOffset.{DebugLineOffset}
+use Rattle.gimli_line.specs.header.Header.{Header, SeenHeader}
+use Rattle.gimli_line.specs.header.Parameters.{Parameters}
+use Rattle.gimli_line.specs.declared.header.file_entry.FileEntry.{FileEntry}
+use Rattle.gimli_line.specs.declared.header.file_entry.FileEntryFormat.{FileEntryFormat}
+
+-- all that a header holds, wherever in memory its lists stand
+pub record HeaderParts (R Offset Endian : Type 0) : Type 0 where
+  pub parameters : Parameters
+  pub offset : DebugLineOffset Offset
+  pub unit_length : Offset
+  pub header_length : Offset
+  pub operand_counts : R
+  pub directory_formats : List FileEntryFormat
+  pub directories : List (AttributeValue R Offset Endian)
+  pub file_formats : List FileEntryFormat
+  pub files : List (FileEntry R Offset Endian)
+  pub program : R
+  pub comp_dir : Option R
+  pub comp_file : Option (FileEntry R Offset Endian)
+
+module _ {R Offset Endian : Type 0} where
+  abbrev pub parts_of : SeenHeader R Offset Endian → HeaderParts R Offset Endian
+  parts_of h = record {
+    parameters = h.parameters;
+    offset = h.offset;
+    unit_length = h.unit_length;
+    header_length = h.header_length;
+    operand_counts = h.standard_opcode_lengths;
+    directory_formats = h.directory_entry_format.items;
+    directories = h.include_directories.items;
+    file_formats = h.file_name_entry_format.items;
+    files = h.file_names.items;
+    program = h.program_buf;
+    comp_dir = h.comp_dir;
+    comp_file = h.comp_file;
+  }
+
+  -- an equality of headers holds exactly where the two agree in all their parts
+  abbrev pub ComparesParts : (SeenHeader R Offset Endian → SeenHeader R Offset Endian → Bool) → Type 0
+  ComparesParts eq = (x y : SeenHeader R Offset Endian) → Decides (eq x y) (parts_of x ≡ parts_of y)
+
+-- the entries of both tables together
+abbrev pub entry_count : Header → ℕ
+entry_count h = length h.directories + length h.files

@@ -1,0 +1,15 @@
+-- What rows that start with the header of a program and with instructions give.
+use Rattle.std.specs.Prelude.{Bool}
+use Rattle.gimli_line.specs.header.Header.{Header}
+use Rattle.gimli_line.specs.run.Unread.{Unread}
+use Rattle.gimli_line.specs.run.RunState.{RunState}
+use Rattle.gimli_line.specs.run.Rows.{events_left, files_at_end}
+use Rattle.gimli_line.specs.run.EventsWithFiles.{EventsWithFiles, FilesAtEnd}
+
+-- the events to come are those of the instructions, with the files of the header at each
+abbrev pub GivesEvents : Bool → Header → Unread → RunState → Type 0
+GivesEvents appends h unread rows = EventsWithFiles unread.notation appends h unread.bytes (events_left rows)
+
+-- the files at the end are those of the header and those that the instructions define
+abbrev pub GivesFiles : Bool → Header → Unread → RunState → Type 0
+GivesFiles appends h unread rows = FilesAtEnd unread.notation appends h unread.bytes (files_at_end rows)
