@@ -23,3 +23,8 @@ options same (Some a) (Some b) = (λ e. ap Some ((same a b).0 e), λ e. (same a 
 options same (Some a) None = (λ e. absurd cc, λ e. absurd cc)
 options same None (Some b) = (λ e. absurd cc, λ e. absurd cc)
 options same None None = (λ _. refl, λ _. refl)
+
+-- one of each, where both are there
+abbrev pub zipped : {A B : Type 0} → Option A → Option B → Option (A × B)
+zipped (Some a) (Some b) = Some (a, b)
+zipped p q = None

@@ -1,12 +1,14 @@
 //! Laws of the two grammars: a unit has one header or one refusal, a program is decoded in one way. And laws of what
 //! a run gives.
 
-ghost use Rattle.std.specs.Prelude.{◌≡◌, ◌≢◌, ◌≤◌, ◌⊎◌, ◌+◌, ℕ, Bool, List, [], Option, Some, length, nat_eq};
+ghost use Rattle.std.specs.Prelude.{◌≡◌, ◌≢◌, ◌≤◌, ◌⊎◌, ◌+◌, ℕ, Bool, List, [], Option, Some, length, nat_eq, option_map};
 ghost use Rattle.std.specs.Ordering.{nat_cmp};
-ghost use Rattle.gimli_core.specs.Equality.{IsExact};
+ghost use Rattle.gimli_core.specs.Equality.{ComparesBy, IsExact, both};
 ghost use Rattle.gimli_core.specs.Notation.{Notation};
+ghost use Rattle.gimli_core.specs.Values.{value_by};
 ghost use Rattle.gimli_core.specs.declared.common.Format.{Format};
 ghost use Rattle.gimli_core.specs.declared.error.Error.{Error};
+ghost use Rattle.gimli_line.specs.header.File.{file_by};
 ghost use Rattle.gimli_line.specs.header.Header.{Header, UnitEntry};
 ghost use Rattle.gimli_line.specs.header.HeaderParts.{ComparesParts, entry_count, parts_of};
 ghost use Rattle.gimli_line.specs.header.HeaderGrammar.{SpellsUnit, HasHeaderFault, HasUnit, HasNoUnit, HaveCountedEntries};
@@ -33,7 +35,7 @@ use crate::header::program_header::LineProgramHeader;
 use crate::run::instruction::LineInstruction;
 use crate::run::program::{CompleteLineProgram, IncompleteLineProgram};
 use crate::run::row::{ColumnType, LineRow};
-use gimli_core::laws::equal_values_are_same;
+use gimli_core::laws::{equal_values_are_same, equal_values_look_same};
 use gimli_core::{AttributeValue, Encoding, LineEncoding, Reader};
 
 /// Bytes begin with a unit, or they have a refusal.
@@ -157,6 +159,26 @@ fn equal_sources_are_same<R: Reader + PartialEq>()
 fn equal_digests_are_same()
     ensures { IsExact ⟦<[u8; 16] as PartialEq>⟧.eq }
 {}
+
+/// `==` of files holds exactly where all their parts agree, readers in their bytes and order and offsets in their numbers,
+/// if this is so of readers and of offsets.
+pub fn equal_files_look_same<R: Reader + PartialEq>()
+    ensures { ComparesBy (both R.bytes R.big) R.eq → ComparesBy R.Offset.number R.Offset.eq →
+        ComparesBy (file_by R.bytes R.big R.Offset.number) ⟦<FileEntry<R> as PartialEq>⟧.eq }
+{
+    equal_values_look_same::<R>();
+    equal_sources_look_same::<R>();
+    equal_digests_are_same();
+}
+
+/// The same of the source texts of files.
+fn equal_sources_look_same<R: Reader + PartialEq>()
+    ensures { ComparesBy (both R.bytes R.big) R.eq → ComparesBy R.Offset.number R.Offset.eq →
+        ComparesBy (option_map (value_by R.bytes R.big R.Offset.number))
+        ⟦<Option<AttributeValue<R>> as PartialEq>⟧.eq }
+{
+    equal_values_look_same::<R>();
+}
 
 /// `==` of instructions holds exactly where they are of one kind and agree in their operands, if this is so of readers
 /// and of offsets.
