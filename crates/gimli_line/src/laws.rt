@@ -10,7 +10,7 @@ ghost use Rattle.gimli_core.specs.declared.common.Format.{Format};
 ghost use Rattle.gimli_core.specs.declared.error.Error.{Error};
 ghost use Rattle.gimli_line.specs.header.File.{file_by};
 ghost use Rattle.gimli_line.specs.header.Header.{Header, UnitEntry};
-ghost use Rattle.gimli_line.specs.header.HeaderParts.{ComparesParts, entry_count, parts_of};
+ghost use Rattle.gimli_line.specs.header.HeaderParts.{ComparesParts, entry_count, header_by, parts_of};
 ghost use Rattle.gimli_line.specs.header.HeaderGrammar.{SpellsUnit, HasHeaderFault, HasUnit, HasNoUnit, HaveCountedEntries};
 ghost use Rattle.gimli_line.specs.run.Events.{events_behind, row_at, GivesRow};
 ghost use Rattle.gimli_line.specs.run.Instruction.{Ins};
@@ -198,6 +198,18 @@ pub fn equal_headers_are_same<R: Reader + PartialEq>()
     equal_parts_are_same();
 }
 
+/// `==` of headers holds exactly where all their parts agree, readers in their bytes and order and offsets in their
+/// numbers, if this is so of readers and of offsets.
+pub fn equal_headers_look_same<R: Reader + PartialEq>()
+    ensures { ComparesBy (both R.bytes R.big) R.eq → ComparesBy R.Offset.number R.Offset.eq →
+        ComparesBy (header_by R.bytes R.big R.Offset.number)
+        ⟦<LineProgramHeader<R> as PartialEq>⟧.eq }
+{
+    equal_values_look_same::<R>();
+    equal_files_look_same::<R>();
+    equal_parts_are_same();
+}
+
 /// Headers that agree in all their parts say the same, in the same notation.
 pub fn same_parts_say_same<R: Reader>(x: &LineProgramHeader<R>, y: &LineProgramHeader<R>)
     ensures meaning { parts_of x.now ≡ parts_of y.now → x.now.meaning ≡ y.now.meaning }
@@ -215,6 +227,19 @@ pub fn equal_programs_are_same<R: Reader + PartialEq>()
         → ComparesParts ⟦<CompleteLineProgram<R> as PartialEq>⟧.eq }
 {
     equal_headers_are_same::<R>();
+}
+
+/// `==` of programs holds exactly where all parts of their headers agree, readers in their bytes and order and offsets in
+/// their numbers, if this is so of readers and of offsets.
+pub fn equal_programs_look_same<R: Reader + PartialEq>()
+    ensures incomplete { ComparesBy (both R.bytes R.big) R.eq → ComparesBy R.Offset.number R.Offset.eq →
+        ComparesBy (header_by R.bytes R.big R.Offset.number)
+        ⟦<IncompleteLineProgram<R> as PartialEq>⟧.eq }
+    ensures complete { ComparesBy (both R.bytes R.big) R.eq → ComparesBy R.Offset.number R.Offset.eq →
+        ComparesBy (header_by R.bytes R.big R.Offset.number)
+        ⟦<CompleteLineProgram<R> as PartialEq>⟧.eq }
+{
+    equal_headers_look_same::<R>();
 }
 
 /// What `clone` makes of a file, of an instruction or of a section is the same, if this is so of readers and of offsets.
