@@ -13,7 +13,7 @@ ghost use Rattle.gimli_line.specs.header.Header.{Header, UnitEntry};
 ghost use Rattle.gimli_line.specs.header.HeaderParts.{ComparesParts, entry_count, header_by, parts_of};
 ghost use Rattle.gimli_line.specs.header.HeaderGrammar.{SpellsUnit, HasHeaderFault, HasUnit, HasNoUnit, HaveCountedEntries};
 ghost use Rattle.gimli_line.specs.run.Events.{events_behind, row_at, GivesRow};
-ghost use Rattle.gimli_line.specs.run.Instruction.{Ins};
+ghost use Rattle.gimli_line.specs.run.Instruction.{Ins, ins_by};
 ghost use Rattle.gimli_line.specs.run.EventsWithFiles.{events_with_files_behind, machine_events, registers_after, registers_at};
 ghost use Rattle.gimli_line.specs.run.InstructionGrammar.{Decodes, AreDecodedOnce, instruction_production, IsInstructionRefusal};
 ghost use Rattle.gimli_line.specs.run.InstructionReading.{decoded_at};
@@ -186,6 +186,16 @@ pub fn equal_instructions_are_same<R: Reader + PartialEq>()
     ensures { IsExact R.eq → IsExact R.Offset.eq → IsExact ⟦<LineInstruction<R> as PartialEq>⟧.eq }
 {
     equal_files_are_same::<R>();
+}
+
+/// `==` of instructions holds exactly where they are of one kind and agree in their operands, readers in their bytes and
+/// order and offsets in their numbers, if this is so of readers and of offsets.
+pub fn equal_instructions_look_same<R: Reader + PartialEq>()
+    ensures { ComparesBy (both R.bytes R.big) R.eq → ComparesBy R.Offset.number R.Offset.eq →
+        ComparesBy (ins_by R.bytes R.big R.Offset.number)
+        ⟦<LineInstruction<R> as PartialEq>⟧.eq }
+{
+    equal_files_look_same::<R>();
 }
 
 /// `==` of headers holds exactly where all their parts agree, if this is so of readers and of offsets.
