@@ -3,7 +3,7 @@
 
 ghost use Rattle.std.specs.Prelude.{◌≡◌, ◌≢◌, ◌≤◌, ◌⊎◌, ◌+◌, ℕ, Bool, List, [], Option, Some, length, nat_eq, option_map};
 ghost use Rattle.std.specs.Ordering.{nat_cmp};
-ghost use Rattle.gimli_core.specs.Equality.{ComparesBy, IsExact, both};
+ghost use Rattle.gimli_core.specs.Equality.{ComparesBy, GivesSame, IsExact, both};
 ghost use Rattle.gimli_core.specs.Notation.{Notation};
 ghost use Rattle.gimli_core.specs.Values.{value_by};
 ghost use Rattle.gimli_core.specs.declared.common.Format.{Format};
@@ -25,7 +25,6 @@ ghost use Rattle.gimli_line.specs.run.Machine.{run, initial, is_refused};
 ghost use Rattle.gimli_line.specs.run.NonDecreasing.{AreOneSequence, NeverBelow};
 ghost use Rattle.gimli_line.specs.header.Parameters.{Parameters};
 ghost use Rattle.gimli_line.specs.run.Row.{column_number};
-ghost use Rattle.gimli_line.specs.Clones.{AreAlwaysCloned, IsSameClone};
 ghost use Rattle.gimli_line.specs.declared.header.file_entry.FileEntryFormat.{FileEntryFormat};
 ghost use Rattle.gimli_line.specs.declared.run.row.ColumnType.{ColumnType as Column};
 
@@ -35,8 +34,8 @@ use crate::header::program_header::LineProgramHeader;
 use crate::run::instruction::LineInstruction;
 use crate::run::program::{CompleteLineProgram, IncompleteLineProgram};
 use crate::run::row::{ColumnType, LineRow};
-use gimli_core::laws::{equal_values_are_same, equal_values_look_same};
-use gimli_core::{AttributeValue, Encoding, LineEncoding, Reader};
+use gimli_core::laws::{equal_encodings_are_same, equal_values_are_same, equal_values_look_same};
+use gimli_core::{AttributeValue, Reader};
 
 /// Bytes begin with a unit, or they have a refusal.
 pub fn unit_or_refusal()
@@ -135,8 +134,6 @@ pub fn one_pointer_list()
 pub fn equal_parts_are_same()
     ensures formats { IsExact ⟦<FileEntryFormat as PartialEq>⟧.eq }
     ensures rows { IsExact ⟦<LineRow as PartialEq>⟧.eq }
-    ensures encodings { IsExact ⟦<Encoding as PartialEq>⟧.eq }
-    ensures line_encodings { IsExact ⟦<LineEncoding as PartialEq>⟧.eq }
 {}
 
 /// `==` of files holds exactly where all their parts agree, if this is so of readers and of offsets.
@@ -205,6 +202,7 @@ pub fn equal_headers_are_same<R: Reader + PartialEq>()
 {
     equal_values_are_same::<R>();
     equal_files_are_same::<R>();
+    equal_encodings_are_same();
     equal_parts_are_same();
 }
 
@@ -217,6 +215,7 @@ pub fn equal_headers_look_same<R: Reader + PartialEq>()
 {
     equal_values_look_same::<R>();
     equal_files_look_same::<R>();
+    equal_encodings_are_same();
     equal_parts_are_same();
 }
 
@@ -252,23 +251,17 @@ pub fn equal_programs_look_same<R: Reader + PartialEq>()
     equal_headers_look_same::<R>();
 }
 
-/// What `clone` makes of a file, of an instruction or of a section is the same, if this is so of readers and of offsets.
+/// `clone` of a file, of an instruction or of a section is never refused, and gives the same, if this is so of readers and
+/// of offsets.
 pub fn clones_are_same<R: Reader>()
-    ensures files { IsSameClone R.is_clone → IsSameClone R.Offset.is_clone
-        → IsSameClone ⟦<FileEntry<R> as Clone>⟧.is_clone }
-    ensures instructions { IsSameClone R.is_clone → IsSameClone R.Offset.is_clone
-        → IsSameClone ⟦<LineInstruction<R> as Clone>⟧.is_clone }
-    ensures sections { IsSameClone R.is_clone → IsSameClone ⟦<DebugLine<R> as Clone>⟧.is_clone }
-{}
-
-/// `clone` of a file, of an instruction or of a section is never refused, if this is so of readers and of offsets.
-pub fn clones_are_given<R: Reader>()
-    ensures files { AreAlwaysCloned R.is_infallible → AreAlwaysCloned R.Offset.is_infallible
-        → AreAlwaysCloned ⟦<FileEntry<R> as Clone>⟧.is_infallible }
-    ensures instructions { AreAlwaysCloned R.is_infallible → AreAlwaysCloned R.Offset.is_infallible
-        → AreAlwaysCloned ⟦<LineInstruction<R> as Clone>⟧.is_infallible }
-    ensures sections { AreAlwaysCloned R.is_infallible
-        → AreAlwaysCloned ⟦<DebugLine<R> as Clone>⟧.is_infallible }
+    ensures files { GivesSame R.is_clone R.is_infallible
+        → GivesSame R.Offset.is_clone R.Offset.is_infallible → GivesSame
+        ⟦<FileEntry<R> as Clone>⟧.is_clone ⟦<FileEntry<R> as Clone>⟧.is_infallible }
+    ensures instructions { GivesSame R.is_clone R.is_infallible
+        → GivesSame R.Offset.is_clone R.Offset.is_infallible → GivesSame
+        ⟦<LineInstruction<R> as Clone>⟧.is_clone ⟦<LineInstruction<R> as Clone>⟧.is_infallible }
+    ensures sections { GivesSame R.is_clone R.is_infallible → GivesSame
+        ⟦<DebugLine<R> as Clone>⟧.is_clone ⟦<DebugLine<R> as Clone>⟧.is_infallible }
 {}
 
 /// The instructions and the end that are taken of a program one by one are those that it is decoded into.
