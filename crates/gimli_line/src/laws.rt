@@ -31,9 +31,10 @@ ghost use Rattle.gimli_line.specs.declared.run.row.ColumnType.{ColumnType as Col
 use crate::debug_line::DebugLine;
 use crate::header::file_entry::{FileEntry, FileEntryFormat};
 use crate::header::program_header::LineProgramHeader;
-use crate::run::instruction::LineInstruction;
+use crate::run::instruction::{LineInstruction, LineInstructions};
 use crate::run::program::{CompleteLineProgram, IncompleteLineProgram};
 use crate::run::row::{ColumnType, LineRow};
+use crate::run::sequences::LineSequence;
 use gimli_core::laws::{equal_encodings_are_same, equal_values_are_same, equal_values_look_same};
 use gimli_core::{AttributeValue, Reader};
 
@@ -92,10 +93,10 @@ pub fn machine_gives_events()
         run parameters (initial parameters) list ≡ events_behind parameters [] list }
     ensures machine { (appends : Bool) (h : Header) (list : List Ins) (end : Option Error) →
         machine_events appends h list end ≡ events_with_files_behind appends h [] list end }
-    ensures started { (appends : Bool) (h : Header) (notation : Notation) (o : ℕ) (unread : Unread) →
-        GivesEvents appends h unread (started appends h notation o unread) }
-    ensures files { (appends : Bool) (h : Header) (notation : Notation) (o : ℕ) (unread : Unread) →
-        GivesFiles appends h unread (started appends h notation o unread) }
+    ensures started { (appends : Bool) (h : Header) (notation : Notation) (o : ℕ)
+        (unread : Unread) → GivesEvents appends h unread (started appends h notation o unread) }
+    ensures files { (appends : Bool) (h : Header) (notation : Notation) (o : ℕ)
+        (unread : Unread) → GivesFiles appends h unread (started appends h notation o unread) }
 {}
 
 /// Between two ends of sequences, whether their rows are hidden or not, and from the start to the first, the addresses
@@ -136,7 +137,8 @@ pub fn equal_parts_are_same()
     ensures rows { IsExact ⟦<LineRow as PartialEq>⟧.eq }
 {}
 
-/// `==` of files holds exactly where all their parts agree, if this is so of readers and of offsets.
+/// `==` of files holds exactly where all their parts agree, if this is so of readers and of offsets. It isn't so of
+/// readers over slices, since a slice is a place too: of files over these `equal_files_look_same` speaks.
 pub fn equal_files_are_same<R: Reader + PartialEq>()
     ensures { IsExact R.eq → IsExact R.Offset.eq → IsExact ⟦<FileEntry<R> as PartialEq>⟧.eq }
 {
@@ -157,8 +159,9 @@ fn equal_digests_are_same()
     ensures { IsExact ⟦<[u8; 16] as PartialEq>⟧.eq }
 {}
 
-/// `==` of files holds exactly where all their parts agree, readers in their bytes and order and offsets in their numbers,
-/// if this is so of readers and of offsets.
+/// `==` of files holds exactly where all their parts agree, readers in their bytes and order and offsets in their
+/// numbers, if this is so of readers and of offsets. It is so of readers over slices (gimli_core's
+/// `equal_slices_are_same`).
 pub fn equal_files_look_same<R: Reader + PartialEq>()
     ensures { ComparesBy (both R.bytes R.big) R.eq → ComparesBy R.Offset.number R.Offset.eq →
         ComparesBy (file_by R.bytes R.big R.Offset.number) ⟦<FileEntry<R> as PartialEq>⟧.eq }
@@ -178,15 +181,15 @@ fn equal_sources_look_same<R: Reader + PartialEq>()
 }
 
 /// `==` of instructions holds exactly where they are of one kind and agree in their operands, if this is so of readers
-/// and of offsets.
+/// and of offsets. Of instructions over slices `equal_instructions_look_same` speaks.
 pub fn equal_instructions_are_same<R: Reader + PartialEq>()
     ensures { IsExact R.eq → IsExact R.Offset.eq → IsExact ⟦<LineInstruction<R> as PartialEq>⟧.eq }
 {
     equal_files_are_same::<R>();
 }
 
-/// `==` of instructions holds exactly where they are of one kind and agree in their operands, readers in their bytes and
-/// order and offsets in their numbers, if this is so of readers and of offsets.
+/// `==` of instructions holds exactly where they are of one kind and agree in their operands, readers in their bytes
+/// and order and offsets in their numbers, if this is so of readers and of offsets, as it is of readers over slices.
 pub fn equal_instructions_look_same<R: Reader + PartialEq>()
     ensures { ComparesBy (both R.bytes R.big) R.eq → ComparesBy R.Offset.number R.Offset.eq →
         ComparesBy (ins_by R.bytes R.big R.Offset.number)
@@ -195,7 +198,8 @@ pub fn equal_instructions_look_same<R: Reader + PartialEq>()
     equal_files_look_same::<R>();
 }
 
-/// `==` of headers holds exactly where all their parts agree, if this is so of readers and of offsets.
+/// `==` of headers holds exactly where all their parts agree, if this is so of readers and of offsets. Of headers over
+/// slices `equal_headers_look_same` speaks.
 pub fn equal_headers_are_same<R: Reader + PartialEq>()
     ensures { IsExact R.eq → IsExact R.Offset.eq
         → ComparesParts ⟦<LineProgramHeader<R> as PartialEq>⟧.eq }
@@ -207,7 +211,7 @@ pub fn equal_headers_are_same<R: Reader + PartialEq>()
 }
 
 /// `==` of headers holds exactly where all their parts agree, readers in their bytes and order and offsets in their
-/// numbers, if this is so of readers and of offsets.
+/// numbers, if this is so of readers and of offsets, as it is of readers over slices.
 pub fn equal_headers_look_same<R: Reader + PartialEq>()
     ensures { ComparesBy (both R.bytes R.big) R.eq → ComparesBy R.Offset.number R.Offset.eq →
         ComparesBy (header_by R.bytes R.big R.Offset.number)
@@ -228,7 +232,8 @@ pub fn same_parts_say_same<R: Reader>(x: &LineProgramHeader<R>, y: &LineProgramH
     let _second = y.parameters;
 }
 
-/// `==` of programs holds exactly where their headers agree in all parts, if this is so of readers and of offsets.
+/// `==` of programs holds exactly where their headers agree in all parts, if this is so of readers and of offsets. Of
+/// programs over slices `equal_programs_look_same` speaks.
 pub fn equal_programs_are_same<R: Reader + PartialEq>()
     ensures incomplete { IsExact R.eq → IsExact R.Offset.eq
         → ComparesParts ⟦<IncompleteLineProgram<R> as PartialEq>⟧.eq }
@@ -238,8 +243,8 @@ pub fn equal_programs_are_same<R: Reader + PartialEq>()
     equal_headers_are_same::<R>();
 }
 
-/// `==` of programs holds exactly where all parts of their headers agree, readers in their bytes and order and offsets in
-/// their numbers, if this is so of readers and of offsets.
+/// `==` of programs holds exactly where all parts of their headers agree, readers in their bytes and order and offsets
+/// in their numbers, if this is so of readers and of offsets, as it is of readers over slices.
 pub fn equal_programs_look_same<R: Reader + PartialEq>()
     ensures incomplete { ComparesBy (both R.bytes R.big) R.eq → ComparesBy R.Offset.number R.Offset.eq →
         ComparesBy (header_by R.bytes R.big R.Offset.number)
@@ -251,8 +256,9 @@ pub fn equal_programs_look_same<R: Reader + PartialEq>()
     equal_headers_look_same::<R>();
 }
 
-/// `clone` of a file, of an instruction or of a section is never refused, and gives the same, if this is so of readers and
-/// of offsets.
+/// `clone` of a file, of an instruction, of a section, of instructions to come or of a sequence is never refused, and
+/// gives the same, if this is so of readers and of offsets. It is so of readers over slices (gimli_core's
+/// `clones_of_slices_are_same`).
 pub fn clones_are_same<R: Reader>()
     ensures files { GivesSame R.is_clone R.is_infallible
         → GivesSame R.Offset.is_clone R.Offset.is_infallible → GivesSame
@@ -262,6 +268,10 @@ pub fn clones_are_same<R: Reader>()
         ⟦<LineInstruction<R> as Clone>⟧.is_clone ⟦<LineInstruction<R> as Clone>⟧.is_infallible }
     ensures sections { GivesSame R.is_clone R.is_infallible → GivesSame
         ⟦<DebugLine<R> as Clone>⟧.is_clone ⟦<DebugLine<R> as Clone>⟧.is_infallible }
+    ensures unread { GivesSame R.is_clone R.is_infallible → GivesSame
+        ⟦<LineInstructions<R> as Clone>⟧.is_clone ⟦<LineInstructions<R> as Clone>⟧.is_infallible }
+    ensures sequences { GivesSame R.is_clone R.is_infallible → GivesSame
+        ⟦<LineSequence<R> as Clone>⟧.is_clone ⟦<LineSequence<R> as Clone>⟧.is_infallible }
 {}
 
 /// The instructions and the end that are taken of a program one by one are those that it is decoded into.

@@ -101,10 +101,12 @@ where
     Offset: ReaderOffset,
 {
     ghost use Rattle.gimli_line.specs.header.Header.{directory_of, file_of, own_directory_of, own_file_of, has_content, with_file};
+    ghost use Rattle.gimli_line.specs.header.HeaderParts.{parts_of};
     ghost use Rattle.gimli_line.specs.header.File.{file_seen};
 
-    /// A copy, which says what the header says. Refused by `OutOfMemory` alone.
+    /// A copy, which agrees with the header in all its parts and says what it says. Refused by `OutOfMemory` alone.
     pub fn clone(&self) -> Result<Self>
+        ensures parts { IfOk result (λ copy. parts_of copy ≡ parts_of self.now) }
         ensures meaning { IfOk result (λ copy. copy.meaning ≡ self.now.meaning) }
         ensures notation { IfOk result (λ copy. copy.notation ≡ self.now.notation) }
         ensures offset { IfOk result (λ copy. copy.offset ≡ self.now.offset) }

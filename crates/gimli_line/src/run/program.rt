@@ -71,9 +71,11 @@ where
     Offset: ReaderOffset,
 {
     ghost use Rattle.std.specs.Prelude.{◌≡◌, IfErr, IfOk};
+    ghost use Rattle.gimli_line.specs.header.HeaderParts.{parts_of};
 
-    /// A copy, which says what the program says. Refused by `OutOfMemory` alone.
+    /// A copy, which agrees with the program in all its parts and says what it says. Refused by `OutOfMemory` alone.
     pub fn clone(&self) -> Result<Self>
+        ensures parts { IfOk result (λ copy. parts_of copy ≡ parts_of self.now) }
         ensures meaning { IfOk result (λ copy. copy.meaning ≡ self.now.meaning) }
         ensures notation { IfOk result (λ copy. copy.notation ≡ self.now.notation) }
         ensures offset { IfOk result (λ copy. copy.offset ≡ self.now.offset) }
@@ -151,9 +153,11 @@ where
     Offset: ReaderOffset,
 {
     ghost use Rattle.std.specs.Prelude.{◌≡◌, IfErr, IfOk};
+    ghost use Rattle.gimli_line.specs.header.HeaderParts.{parts_of};
 
-    /// A copy, which says what the program says. Refused by `OutOfMemory` alone.
+    /// A copy, which agrees with the program in all its parts and says what it says. Refused by `OutOfMemory` alone.
     pub fn clone(&self) -> Result<Self>
+        ensures parts { IfOk result (λ copy. parts_of copy ≡ parts_of self.now) }
         ensures meaning { IfOk result (λ copy. copy.meaning ≡ self.now.meaning) }
         ensures notation { IfOk result (λ copy. copy.notation ≡ self.now.notation) }
         ensures offset { IfOk result (λ copy. copy.offset ≡ self.now.offset) }

@@ -42,7 +42,7 @@ pub enum ColumnType {
 
 impl LineRow {
     ghost use Rattle.gimli_core.specs.Notation.{Notation};
-    ghost use Rattle.gimli_line.specs.header.Header.{Header, file_of};
+    ghost use Rattle.gimli_line.specs.header.Header.{Header, file_of, own_file_of};
     ghost use Rattle.gimli_line.specs.run.Instruction.{ins_seen, makes_row, header_behind};
     ghost use Rattle.gimli_line.specs.header.File.{file_seen};
     ghost use Rattle.gimli_line.specs.run.Machine.{initial, reset_row, rebased, IsAllowed, is_refused, stepped, with_register};
@@ -99,8 +99,10 @@ impl LineRow {
         &self,
         header: &'header LineProgramHeader<R>,
     ) -> Option<&'header FileEntry<R>>
-        ensures { option_map (λ found. file_seen R.bytes R.Offset.number found.now) result
+        ensures file { option_map (λ found. file_seen R.bytes R.Offset.number found.now) result
             ≡ file_of header.now.meaning self.now.file }
+        ensures own { option_map (λ found. found.now) result
+            ≡ own_file_of header.now self.now.file }
     {
         header.file(self.file)
     }

@@ -22,3 +22,15 @@ returns-clause-sections g c readers x =
     let given : (r : g.row.R.Denot) → g.R.Clone.is_infallible r = λ r. (readers r).0 in
     let same : (r s : g.row.R.Denot) → g.R.Clone.is_clone r s → s ≡ r = λ r s. (readers r).1 s in
     (search rules, λ y clone. search rules)
+
+pub returns-clause-unread : goal.returns-clause-unread
+returns-clause-unread g c readers x =
+    let given : (r : g.row.R.Denot) → g.R.Clone.is_infallible r = λ r. (readers r).0 in
+    let same : (r s : g.row.R.Denot) → g.R.Clone.is_clone r s → s ≡ r = λ r s. (readers r).1 s in
+    (search rules, λ y clone. search rules)
+
+pub returns-clause-sequences : goal.returns-clause-sequences
+returns-clause-sequences g c readers x =
+    let given : (r : g.row.R.Denot) → g.R.Clone.is_infallible r = λ r. (readers r).0 in
+    let same : (r s : g.row.R.Denot) → g.R.Clone.is_clone r s → s ≡ r = λ r s. (readers r).1 s in
+    (search rules, λ y clone. search rules)
