@@ -1,3 +1,4 @@
+pub mod Clones
 pub mod header
 pub mod run
 pub mod UnitAt

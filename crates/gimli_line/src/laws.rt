@@ -3,14 +3,14 @@
 
 ghost use Rattle.std.specs.Prelude.{◌≡◌, ◌≢◌, ◌≤◌, ◌⊎◌, ◌+◌, ℕ, Bool, List, [], Option, Some, length, nat_eq, option_map};
 ghost use Rattle.std.specs.Ordering.{nat_cmp};
-ghost use Rattle.gimli_core.specs.Equality.{ComparesBy, GivesSame, IsExact, both};
+ghost use Rattle.gimli_core.specs.Equality.{ComparesBy, IsExact, both};
 ghost use Rattle.gimli_core.specs.Notation.{Notation};
 ghost use Rattle.gimli_core.specs.Values.{value_by};
 ghost use Rattle.gimli_core.specs.declared.common.Format.{Format};
 ghost use Rattle.gimli_core.specs.declared.error.Error.{Error};
 ghost use Rattle.gimli_line.specs.header.File.{file_by};
 ghost use Rattle.gimli_line.specs.header.Header.{Header, UnitEntry};
-ghost use Rattle.gimli_line.specs.header.HeaderParts.{ComparesParts, entry_count, header_by, parts_of};
+ghost use Rattle.gimli_line.specs.header.HeaderParts.{ComparesParts, ComparesSeen, entry_count, parts_of};
 ghost use Rattle.gimli_line.specs.header.HeaderGrammar.{SpellsUnit, HasHeaderFault, HasUnit, HasNoUnit, HaveCountedEntries};
 ghost use Rattle.gimli_line.specs.run.Events.{events_behind, row_at, GivesRow};
 ghost use Rattle.gimli_line.specs.run.Instruction.{Ins, ins_by};
@@ -25,6 +25,7 @@ ghost use Rattle.gimli_line.specs.run.Machine.{run, initial, is_refused};
 ghost use Rattle.gimli_line.specs.run.NonDecreasing.{AreOneSequence, NeverBelow};
 ghost use Rattle.gimli_line.specs.header.Parameters.{Parameters};
 ghost use Rattle.gimli_line.specs.run.Row.{column_number};
+ghost use Rattle.gimli_line.specs.Clones.{AreAlwaysCloned, IsSameClone};
 ghost use Rattle.gimli_line.specs.declared.header.file_entry.FileEntryFormat.{FileEntryFormat};
 ghost use Rattle.gimli_line.specs.declared.run.row.ColumnType.{ColumnType as Column};
 
@@ -192,8 +193,7 @@ pub fn equal_instructions_are_same<R: Reader + PartialEq>()
 /// and order and offsets in their numbers, if this is so of readers and of offsets, as it is of readers over slices.
 pub fn equal_instructions_look_same<R: Reader + PartialEq>()
     ensures { ComparesBy (both R.bytes R.big) R.eq → ComparesBy R.Offset.number R.Offset.eq →
-        ComparesBy (ins_by R.bytes R.big R.Offset.number)
-        ⟦<LineInstruction<R> as PartialEq>⟧.eq }
+        ComparesBy (ins_by R.bytes R.big R.Offset.number) ⟦<LineInstruction<R> as PartialEq>⟧.eq }
 {
     equal_files_look_same::<R>();
 }
@@ -214,8 +214,7 @@ pub fn equal_headers_are_same<R: Reader + PartialEq>()
 /// numbers, if this is so of readers and of offsets, as it is of readers over slices.
 pub fn equal_headers_look_same<R: Reader + PartialEq>()
     ensures { ComparesBy (both R.bytes R.big) R.eq → ComparesBy R.Offset.number R.Offset.eq →
-        ComparesBy (header_by R.bytes R.big R.Offset.number)
-        ⟦<LineProgramHeader<R> as PartialEq>⟧.eq }
+        ComparesSeen R.bytes R.big R.Offset.number ⟦<LineProgramHeader<R> as PartialEq>⟧.eq }
 {
     equal_values_look_same::<R>();
     equal_files_look_same::<R>();
@@ -246,32 +245,40 @@ pub fn equal_programs_are_same<R: Reader + PartialEq>()
 /// `==` of programs holds exactly where all parts of their headers agree, readers in their bytes and order and offsets
 /// in their numbers, if this is so of readers and of offsets, as it is of readers over slices.
 pub fn equal_programs_look_same<R: Reader + PartialEq>()
-    ensures incomplete { ComparesBy (both R.bytes R.big) R.eq → ComparesBy R.Offset.number R.Offset.eq →
-        ComparesBy (header_by R.bytes R.big R.Offset.number)
-        ⟦<IncompleteLineProgram<R> as PartialEq>⟧.eq }
-    ensures complete { ComparesBy (both R.bytes R.big) R.eq → ComparesBy R.Offset.number R.Offset.eq →
-        ComparesBy (header_by R.bytes R.big R.Offset.number)
-        ⟦<CompleteLineProgram<R> as PartialEq>⟧.eq }
+    ensures parsed { ComparesBy (both R.bytes R.big) R.eq → ComparesBy R.Offset.number R.Offset.eq →
+        ComparesSeen R.bytes R.big R.Offset.number ⟦<IncompleteLineProgram<R> as PartialEq>⟧.eq }
+    ensures whole { ComparesBy (both R.bytes R.big) R.eq → ComparesBy R.Offset.number R.Offset.eq →
+        ComparesSeen R.bytes R.big R.Offset.number ⟦<CompleteLineProgram<R> as PartialEq>⟧.eq }
 {
     equal_headers_look_same::<R>();
 }
 
-/// `clone` of a file, of an instruction, of a section, of instructions to come or of a sequence is never refused, and
-/// gives the same, if this is so of readers and of offsets. It is so of readers over slices (gimli_core's
-/// `clones_of_slices_are_same`).
+/// What `clone` makes of a file, of an instruction, of a section, of instructions to come or of a sequence is the same,
+/// if this is so of readers and of offsets.
 pub fn clones_are_same<R: Reader>()
-    ensures files { GivesSame R.is_clone R.is_infallible
-        → GivesSame R.Offset.is_clone R.Offset.is_infallible → GivesSame
-        ⟦<FileEntry<R> as Clone>⟧.is_clone ⟦<FileEntry<R> as Clone>⟧.is_infallible }
-    ensures instructions { GivesSame R.is_clone R.is_infallible
-        → GivesSame R.Offset.is_clone R.Offset.is_infallible → GivesSame
-        ⟦<LineInstruction<R> as Clone>⟧.is_clone ⟦<LineInstruction<R> as Clone>⟧.is_infallible }
-    ensures sections { GivesSame R.is_clone R.is_infallible → GivesSame
-        ⟦<DebugLine<R> as Clone>⟧.is_clone ⟦<DebugLine<R> as Clone>⟧.is_infallible }
-    ensures unread { GivesSame R.is_clone R.is_infallible → GivesSame
-        ⟦<LineInstructions<R> as Clone>⟧.is_clone ⟦<LineInstructions<R> as Clone>⟧.is_infallible }
-    ensures sequences { GivesSame R.is_clone R.is_infallible → GivesSame
-        ⟦<LineSequence<R> as Clone>⟧.is_clone ⟦<LineSequence<R> as Clone>⟧.is_infallible }
+    ensures files { IsSameClone R.is_clone → IsSameClone R.Offset.is_clone
+        → IsSameClone ⟦<FileEntry<R> as Clone>⟧.is_clone }
+    ensures instructions { IsSameClone R.is_clone → IsSameClone R.Offset.is_clone
+        → IsSameClone ⟦<LineInstruction<R> as Clone>⟧.is_clone }
+    ensures sections { IsSameClone R.is_clone → IsSameClone ⟦<DebugLine<R> as Clone>⟧.is_clone }
+    ensures unread { IsSameClone R.is_clone
+        → IsSameClone ⟦<LineInstructions<R> as Clone>⟧.is_clone }
+    ensures sequences { IsSameClone R.is_clone
+        → IsSameClone ⟦<LineSequence<R> as Clone>⟧.is_clone }
+{}
+
+/// `clone` of these is never refused, if this is so of readers and of offsets.
+pub fn clones_are_given<R: Reader>()
+    ensures files { AreAlwaysCloned R.is_infallible → AreAlwaysCloned R.Offset.is_infallible
+        → AreAlwaysCloned ⟦<FileEntry<R> as Clone>⟧.is_infallible }
+    ensures instructions { AreAlwaysCloned R.is_infallible → AreAlwaysCloned R.Offset.is_infallible
+        → AreAlwaysCloned ⟦<LineInstruction<R> as Clone>⟧.is_infallible }
+    ensures sections { AreAlwaysCloned R.is_infallible
+        → AreAlwaysCloned ⟦<DebugLine<R> as Clone>⟧.is_infallible }
+    ensures unread { AreAlwaysCloned R.is_infallible
+        → AreAlwaysCloned ⟦<LineInstructions<R> as Clone>⟧.is_infallible }
+    ensures sequences { AreAlwaysCloned R.is_infallible
+        → AreAlwaysCloned ⟦<LineSequence<R> as Clone>⟧.is_infallible }
 {}
 
 /// The instructions and the end that are taken of a program one by one are those that it is decoded into.

@@ -1,6 +1,6 @@
 -- The parts of a header, which `==` of headers compares, and how many entries its tables have.
 use Rattle.std.specs.Prelude.{◌≡◌, ℕ, ◌+◌, Bool, List, length, map, Option, option_map, Decides}
-use Rattle.gimli_core.specs.Equality.{both}
+use Rattle.gimli_core.specs.Equality.{ComparesBy, both}
 use Rattle.gimli_core.specs.Values.{Value, value_by}
 use Rattle.gimli_core.specs.declared.attribute_value.AttributeValue.{AttributeValue}
 use Rattle.gimli_core.specs.declared.common.DebugLineOffset.{DebugLineOffset}
@@ -10,7 +10,8 @@ use Rattle.gimli_line.specs.header.Parameters.{Parameters}
 use Rattle.gimli_line.specs.declared.header.file_entry.FileEntry.{FileEntry}
 use Rattle.gimli_line.specs.declared.header.file_entry.FileEntryFormat.{FileEntryFormat}
 
--- all that a header holds, wherever in memory its lists stand: its readers, offsets, directories and files are these
+-- all that a header holds, wherever in memory its lists stand: its readers, offsets, directories and files
+-- are of these types
 pub record HeaderParts (R Offset Directory File : Type 0) : Type 0 where
   pub parameters : Parameters
   pub offset : DebugLineOffset Offset
@@ -54,6 +55,7 @@ module _ {R Offset Endian : Type 0} where
   abbrev pub ComparesParts : (SeenHeader R Offset Endian → SeenHeader R Offset Endian → Bool) → Type 0
   ComparesParts eq = (x y : SeenHeader R Offset Endian) → Decides (eq x y) (parts_of x ≡ parts_of y)
 
+-- a header by its parts as they are seen
 module _ {R Offset Endian : Type 0} (bytes : R → List ℕ) (big : R → Bool) (number : Offset → ℕ) where
   abbrev pub header_by : SeenHeader R Offset Endian → SeenParts
   header_by h = record {
@@ -70,6 +72,10 @@ module _ {R Offset Endian : Type 0} (bytes : R → List ℕ) (big : R → Bool) 
     comp_dir = option_map (both bytes big) h.comp_dir;
     comp_file = option_map (file_by bytes big number) h.comp_file;
   }
+
+  -- an equality of headers holds exactly where the two agree in all their parts as they are seen
+  abbrev pub ComparesSeen : (SeenHeader R Offset Endian → SeenHeader R Offset Endian → Bool) → Type 0
+  ComparesSeen = ComparesBy header_by
 
 -- the entries of both tables together
 abbrev pub entry_count : Header → ℕ
