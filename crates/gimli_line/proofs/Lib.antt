@@ -10,6 +10,7 @@ pub mod InstructionRefusals
 pub mod Bounds
 pub mod Programs
 pub mod Headers
+pub mod HeaderParts
 pub mod Loops
 pub mod Entries
 pub mod Opened

@@ -1,17 +1,19 @@
 //! Laws of the two grammars: a unit has one header or one refusal, a program is decoded in one way. And laws of what
 //! a run gives.
 
-ghost use Rattle.std.specs.Prelude.{◌≡◌, ◌≢◌, ◌≤◌, ◌⊎◌, ◌+◌, ℕ, Bool, List, [], Option, Some, length, nat_eq};
+ghost use Rattle.std.specs.Prelude.{◌≡◌, ◌≢◌, ◌≤◌, ◌⊎◌, ◌+◌, ℕ, Bool, List, [], Option, Some, length, nat_eq, option_map};
 ghost use Rattle.std.specs.Ordering.{nat_cmp};
-ghost use Rattle.gimli_core.specs.Equality.{IsExact};
+ghost use Rattle.gimli_core.specs.Equality.{ComparesBy, IsExact, both};
 ghost use Rattle.gimli_core.specs.Notation.{Notation};
+ghost use Rattle.gimli_core.specs.Values.{value_by};
 ghost use Rattle.gimli_core.specs.declared.common.Format.{Format};
 ghost use Rattle.gimli_core.specs.declared.error.Error.{Error};
+ghost use Rattle.gimli_line.specs.header.File.{file_by};
 ghost use Rattle.gimli_line.specs.header.Header.{Header, UnitEntry};
-ghost use Rattle.gimli_line.specs.header.HeaderParts.{ComparesParts, entry_count, parts_of};
+ghost use Rattle.gimli_line.specs.header.HeaderParts.{ComparesParts, ComparesSeen, entry_count, parts_of};
 ghost use Rattle.gimli_line.specs.header.HeaderGrammar.{SpellsUnit, HasHeaderFault, HasUnit, HasNoUnit, HaveCountedEntries};
 ghost use Rattle.gimli_line.specs.run.Events.{events_behind, row_at, GivesRow};
-ghost use Rattle.gimli_line.specs.run.Instruction.{Ins};
+ghost use Rattle.gimli_line.specs.run.Instruction.{Ins, ins_by};
 ghost use Rattle.gimli_line.specs.run.EventsWithFiles.{events_with_files_behind, machine_events, registers_after, registers_at};
 ghost use Rattle.gimli_line.specs.run.InstructionGrammar.{Decodes, AreDecodedOnce, instruction_production, IsInstructionRefusal};
 ghost use Rattle.gimli_line.specs.run.InstructionReading.{decoded_at};
@@ -34,8 +36,8 @@ use crate::run::instruction::{LineInstruction, LineInstructions};
 use crate::run::program::{CompleteLineProgram, IncompleteLineProgram};
 use crate::run::row::{ColumnType, LineRow};
 use crate::run::sequences::LineSequence;
-use gimli_core::laws::equal_values_are_same;
-use gimli_core::{AttributeValue, Encoding, LineEncoding, Reader};
+use gimli_core::laws::{equal_encodings_are_same, equal_values_are_same, equal_values_look_same};
+use gimli_core::{AttributeValue, Reader};
 
 /// Bytes begin with a unit, or they have a refusal.
 pub fn unit_or_refusal()
@@ -134,11 +136,10 @@ pub fn one_pointer_list()
 pub fn equal_parts_are_same()
     ensures formats { IsExact ⟦<FileEntryFormat as PartialEq>⟧.eq }
     ensures rows { IsExact ⟦<LineRow as PartialEq>⟧.eq }
-    ensures encodings { IsExact ⟦<Encoding as PartialEq>⟧.eq }
-    ensures line_encodings { IsExact ⟦<LineEncoding as PartialEq>⟧.eq }
 {}
 
-/// `==` of files holds exactly where all their parts agree, if this is so of readers and of offsets.
+/// `==` of files holds exactly where all their parts agree, if this is so of readers and of offsets. It isn't so of
+/// readers over slices, since a slice is a place too: of files over these `equal_files_look_same` speaks.
 pub fn equal_files_are_same<R: Reader + PartialEq>()
     ensures { IsExact R.eq → IsExact R.Offset.eq → IsExact ⟦<FileEntry<R> as PartialEq>⟧.eq }
 {
@@ -159,21 +160,65 @@ fn equal_digests_are_same()
     ensures { IsExact ⟦<[u8; 16] as PartialEq>⟧.eq }
 {}
 
+/// `==` of files holds exactly where all their parts agree, readers in their bytes and order and offsets in their
+/// numbers, if this is so of readers and of offsets. It is so of readers over slices (gimli_core's
+/// `equal_slices_are_same`).
+pub fn equal_files_look_same<R: Reader + PartialEq>()
+    ensures { ComparesBy (both R.bytes R.big) R.eq → ComparesBy R.Offset.number R.Offset.eq →
+        ComparesBy (file_by R.bytes R.big R.Offset.number) ⟦<FileEntry<R> as PartialEq>⟧.eq }
+{
+    equal_values_look_same::<R>();
+    equal_sources_look_same::<R>();
+    equal_digests_are_same();
+}
+
+/// The same of the source texts of files.
+fn equal_sources_look_same<R: Reader + PartialEq>()
+    ensures { ComparesBy (both R.bytes R.big) R.eq → ComparesBy R.Offset.number R.Offset.eq →
+        ComparesBy (option_map (value_by R.bytes R.big R.Offset.number))
+        ⟦<Option<AttributeValue<R>> as PartialEq>⟧.eq }
+{
+    equal_values_look_same::<R>();
+}
+
 /// `==` of instructions holds exactly where they are of one kind and agree in their operands, if this is so of readers
-/// and of offsets.
+/// and of offsets. Of instructions over slices `equal_instructions_look_same` speaks.
 pub fn equal_instructions_are_same<R: Reader + PartialEq>()
     ensures { IsExact R.eq → IsExact R.Offset.eq → IsExact ⟦<LineInstruction<R> as PartialEq>⟧.eq }
 {
     equal_files_are_same::<R>();
 }
 
-/// `==` of headers holds exactly where all their parts agree, if this is so of readers and of offsets.
+/// `==` of instructions holds exactly where they are of one kind and agree in their operands, readers in their bytes
+/// and order and offsets in their numbers, if this is so of readers and of offsets, as it is of readers over slices.
+pub fn equal_instructions_look_same<R: Reader + PartialEq>()
+    ensures { ComparesBy (both R.bytes R.big) R.eq → ComparesBy R.Offset.number R.Offset.eq →
+        ComparesBy (ins_by R.bytes R.big R.Offset.number) ⟦<LineInstruction<R> as PartialEq>⟧.eq }
+{
+    equal_files_look_same::<R>();
+}
+
+/// `==` of headers holds exactly where all their parts agree, if this is so of readers and of offsets. Of headers over
+/// slices `equal_headers_look_same` speaks.
 pub fn equal_headers_are_same<R: Reader + PartialEq>()
     ensures { IsExact R.eq → IsExact R.Offset.eq
         → ComparesParts ⟦<LineProgramHeader<R> as PartialEq>⟧.eq }
 {
     equal_values_are_same::<R>();
     equal_files_are_same::<R>();
+    equal_encodings_are_same();
+    equal_parts_are_same();
+}
+
+/// `==` of headers holds exactly where all their parts agree, readers in their bytes and order and offsets in their
+/// numbers, if this is so of readers and of offsets, as it is of readers over slices.
+pub fn equal_headers_look_same<R: Reader + PartialEq>()
+    ensures { ComparesBy (both R.bytes R.big) R.eq → ComparesBy R.Offset.number R.Offset.eq →
+        ComparesSeen R.bytes R.big R.Offset.number ⟦<LineProgramHeader<R> as PartialEq>⟧.eq }
+{
+    equal_values_look_same::<R>();
+    equal_files_look_same::<R>();
+    equal_encodings_are_same();
     equal_parts_are_same();
 }
 
@@ -186,7 +231,8 @@ pub fn same_parts_say_same<R: Reader>(x: &LineProgramHeader<R>, y: &LineProgramH
     let _second = y.parameters;
 }
 
-/// `==` of programs holds exactly where their headers agree in all parts, if this is so of readers and of offsets.
+/// `==` of programs holds exactly where their headers agree in all parts, if this is so of readers and of offsets. Of
+/// programs over slices `equal_programs_look_same` speaks.
 pub fn equal_programs_are_same<R: Reader + PartialEq>()
     ensures incomplete { IsExact R.eq → IsExact R.Offset.eq
         → ComparesParts ⟦<IncompleteLineProgram<R> as PartialEq>⟧.eq }
@@ -194,6 +240,17 @@ pub fn equal_programs_are_same<R: Reader + PartialEq>()
         → ComparesParts ⟦<CompleteLineProgram<R> as PartialEq>⟧.eq }
 {
     equal_headers_are_same::<R>();
+}
+
+/// `==` of programs holds exactly where all parts of their headers agree, readers in their bytes and order and offsets
+/// in their numbers, if this is so of readers and of offsets, as it is of readers over slices.
+pub fn equal_programs_look_same<R: Reader + PartialEq>()
+    ensures parsed { ComparesBy (both R.bytes R.big) R.eq → ComparesBy R.Offset.number R.Offset.eq →
+        ComparesSeen R.bytes R.big R.Offset.number ⟦<IncompleteLineProgram<R> as PartialEq>⟧.eq }
+    ensures whole { ComparesBy (both R.bytes R.big) R.eq → ComparesBy R.Offset.number R.Offset.eq →
+        ComparesSeen R.bytes R.big R.Offset.number ⟦<CompleteLineProgram<R> as PartialEq>⟧.eq }
+{
+    equal_headers_look_same::<R>();
 }
 
 /// What `clone` makes of a file, of an instruction, of a section, of instructions to come or of a sequence is the same,

@@ -1,29 +1,41 @@
 -- The parts of a header, which `==` of headers compares, and how many entries its tables have.
-use Rattle.std.specs.Prelude.{◌≡◌, ℕ, ◌+◌, Bool, List, length, Option, Decides}
+use Rattle.std.specs.Prelude.{◌≡◌, ℕ, ◌+◌, Bool, List, length, map, Option, option_map, Decides}
+use Rattle.gimli_core.specs.Equality.{ComparesBy, both}
+use Rattle.gimli_core.specs.Values.{Value, value_by}
 use Rattle.gimli_core.specs.declared.attribute_value.AttributeValue.{AttributeValue}
 use Rattle.gimli_core.specs.declared.common.DebugLineOffset.{DebugLineOffset}
+use Rattle.gimli_line.specs.header.File.{File, FileOrders, file_by}
 use Rattle.gimli_line.specs.header.Header.{Header, SeenHeader}
 use Rattle.gimli_line.specs.header.Parameters.{Parameters}
 use Rattle.gimli_line.specs.declared.header.file_entry.FileEntry.{FileEntry}
 use Rattle.gimli_line.specs.declared.header.file_entry.FileEntryFormat.{FileEntryFormat}
 
--- all that a header holds, wherever in memory its lists stand
-pub record HeaderParts (R Offset Endian : Type 0) : Type 0 where
+-- all that a header holds, wherever in memory its lists stand: its readers, offsets, directories and files
+-- are of these types
+pub record HeaderParts (R Offset Directory File : Type 0) : Type 0 where
   pub parameters : Parameters
   pub offset : DebugLineOffset Offset
   pub unit_length : Offset
   pub header_length : Offset
   pub operand_counts : R
   pub directory_formats : List FileEntryFormat
-  pub directories : List (AttributeValue R Offset Endian)
+  pub directories : List Directory
   pub file_formats : List FileEntryFormat
-  pub files : List (FileEntry R Offset Endian)
+  pub files : List File
   pub program : R
   pub comp_dir : Option R
-  pub comp_file : Option (FileEntry R Offset Endian)
+  pub comp_file : Option File
+
+-- the parts as they are
+abbrev pub OwnParts : (R Offset Endian : Type 0) → Type 0
+OwnParts R Offset Endian = HeaderParts R Offset (AttributeValue R Offset Endian) (FileEntry R Offset Endian)
+
+-- the parts as they are seen: readers by bytes and order, offsets by number
+abbrev pub SeenParts : Type 0
+SeenParts = HeaderParts (List ℕ × Bool) ℕ (Value × Option Bool) (File × FileOrders)
 
 module _ {R Offset Endian : Type 0} where
-  abbrev pub parts_of : SeenHeader R Offset Endian → HeaderParts R Offset Endian
+  abbrev pub parts_of : SeenHeader R Offset Endian → OwnParts R Offset Endian
   parts_of h = record {
     parameters = h.parameters;
     offset = h.offset;
@@ -42,6 +54,28 @@ module _ {R Offset Endian : Type 0} where
   -- an equality of headers holds exactly where the two agree in all their parts
   abbrev pub ComparesParts : (SeenHeader R Offset Endian → SeenHeader R Offset Endian → Bool) → Type 0
   ComparesParts eq = (x y : SeenHeader R Offset Endian) → Decides (eq x y) (parts_of x ≡ parts_of y)
+
+-- a header by its parts as they are seen
+module _ {R Offset Endian : Type 0} (bytes : R → List ℕ) (big : R → Bool) (number : Offset → ℕ) where
+  abbrev pub header_by : SeenHeader R Offset Endian → SeenParts
+  header_by h = record {
+    parameters = h.parameters;
+    offset = record { 0 = number h.offset.0 };
+    unit_length = number h.unit_length;
+    header_length = number h.header_length;
+    operand_counts = both bytes big h.standard_opcode_lengths;
+    directory_formats = h.directory_entry_format.items;
+    directories = map (value_by bytes big number) h.include_directories.items;
+    file_formats = h.file_name_entry_format.items;
+    files = map (file_by bytes big number) h.file_names.items;
+    program = both bytes big h.program_buf;
+    comp_dir = option_map (both bytes big) h.comp_dir;
+    comp_file = option_map (file_by bytes big number) h.comp_file;
+  }
+
+  -- an equality of headers holds exactly where the two agree in all their parts as they are seen
+  abbrev pub ComparesSeen : (SeenHeader R Offset Endian → SeenHeader R Offset Endian → Bool) → Type 0
+  ComparesSeen = ComparesBy header_by
 
 -- the entries of both tables together
 abbrev pub entry_count : Header → ℕ

@@ -1,6 +1,6 @@
 -- Instructions, with lists of bytes in the place of readers and numbers in the place of offsets.
-use Rattle.std.specs.Prelude.{◌≡◌, ℕ, List, Bool, true, false}
-use Rattle.gimli_line.specs.header.File.{File, file_seen, FileHasOrder}
+use Rattle.std.specs.Prelude.{◌≡◌, ℕ, List, Bool, true, false, Some, None}
+use Rattle.gimli_line.specs.header.File.{File, file_seen, FileHasOrder, FileOrders, file_orders}
 use Rattle.gimli_line.specs.header.Header.{Header, added}
 use Rattle.gimli_line.specs.declared.run.instruction.LineInstruction.{LineInstruction}
 use Rattle.gimli_line.specs.declared.run.instruction.LineInstruction.TheVariants.{Special, Copy, AdvancePc, AdvanceLine, SetFile, SetColumn, NegateStatement, SetBasicBlock, ConstAddPc, FixedAddPc, SetPrologueEnd, SetEpilogueBegin, SetIsa, UnknownStandard0, UnknownStandard1, UnknownStandardN, EndSequence, SetAddress, DefineFile, SetDiscriminator, UnknownExtended}
@@ -41,6 +41,19 @@ module _ {R Offset Endian : Type 0} (big : R → Bool) (order : Bool) where
   InsHasOrder (UnknownExtended o r) = big r ≡ order
   InsHasOrder (DefineFile f) = FileHasOrder big order f
   InsHasOrder i = Unit {0}
+
+-- the orders of bytes of an instruction's readers: of its operands or its file's path, and of its file's source
+module _ {R Offset Endian : Type 0} (big : R → Bool) where
+  abbrev pub ins_orders : LineInstruction R Offset Endian → FileOrders
+  ins_orders (UnknownStandardN o r) = (Some (big r), None)
+  ins_orders (UnknownExtended o r) = (Some (big r), None)
+  ins_orders (DefineFile f) = file_orders big f
+  ins_orders i = (None, None)
+
+-- an instruction, its readers seen by bytes and order, and its offsets by number
+module _ {R Offset Endian : Type 0} (bytes : R → List ℕ) (big : R → Bool) (number : Offset → ℕ) where
+  abbrev pub ins_by : LineInstruction R Offset Endian → Ins × FileOrders
+  ins_by i = (ins_seen bytes number i, ins_orders big i)
 
 -- ---- kinds of instructions
 

@@ -4,17 +4,17 @@ use Rattle.gimli_core.specs.Values.{value_seen}
 use Rattle.gimli_core.specs.Notation.{Notation}
 use Rattle.gimli_line.specs.header.File.{file_seen}
 use Rattle.gimli_line.specs.header.Header.{Header, SeenHeader}
-use Rattle.gimli_line.specs.header.HeaderParts.{HeaderParts, parts_of}
+use Rattle.gimli_line.specs.header.HeaderParts.{OwnParts, parts_of}
 use Rattle.gimli_line.proofs.laws.same_parts_say_same.Goals as goal
 
 module _ {R Offset Endian : Type 0} where
   -- what headers say that is told by their parts
-  same_told : {A : Type 0} (told : HeaderParts R Offset Endian → A) (say : SeenHeader R Offset Endian → A) (seen x other y : SeenHeader R Offset Endian) → seen ≡ x → other ≡ y
+  same_told : {A : Type 0} (told : OwnParts R Offset Endian → A) (say : SeenHeader R Offset Endian → A) (seen x other y : SeenHeader R Offset Endian) → seen ≡ x → other ≡ y
       → say seen ≡ told (parts_of seen) → say other ≡ told (parts_of other) → parts_of x ≡ parts_of y → say x ≡ say y
   same_told told say seen x other y is to first second e =
       sym (ap say is) ∙ first ∙ ap (λ h. told (parts_of h)) is ∙ ap told e ∙ sym (ap (λ h. told (parts_of h)) to) ∙ sym second ∙ ap say to
 
-  abbrev meaning_told : (R → List ℕ) → (Offset → ℕ) → HeaderParts R Offset Endian → Header
+  abbrev meaning_told : (R → List ℕ) → (Offset → ℕ) → OwnParts R Offset Endian → Header
   meaning_told bytes number p = record {
     parameters = p.parameters;
     unit_length = number p.unit_length;
@@ -29,7 +29,7 @@ module _ {R Offset Endian : Type 0} where
     comp_file = option_map (file_seen bytes number) p.comp_file;
   }
 
-  abbrev notation_told : (R → Bool) → ℕ → HeaderParts R Offset Endian → Notation
+  abbrev notation_told : (R → Bool) → ℕ → OwnParts R Offset Endian → Notation
   notation_told big limit p = record { big = big p.program; limit = limit }
 
 pub returns-clause-meaning : goal.returns-clause-meaning
