@@ -163,6 +163,18 @@ pub fn equal_rows_and_items()
     ensures item { (a b : BuiltItem) → Decides (⟦<BuiltItem as PartialEq>⟧.eq a b) (a ≡ b) }
 {}
 
+/// A clone of an id, a row or an item is the same, and is never refused.
+pub fn clones_are_the_same()
+    ensures directory { (i j : ℕ) → ⟦<DirectoryId as Clone>⟧.is_clone i j → j ≡ i }
+    ensures directory_cloned { (i : ℕ) → ⟦<DirectoryId as Clone>⟧.is_infallible i }
+    ensures file { (i j : ℕ) → ⟦<FileId as Clone>⟧.is_clone i j → j ≡ i }
+    ensures file_cloned { (i : ℕ) → ⟦<FileId as Clone>⟧.is_infallible i }
+    ensures row { (a b : LineRow) → ⟦<LineRow as Clone>⟧.is_clone a b → b ≡ a }
+    ensures row_cloned { (a : LineRow) → ⟦<LineRow as Clone>⟧.is_infallible a }
+    ensures item { (a b : BuiltItem) → ⟦<BuiltItem as Clone>⟧.is_clone a b → b ≡ a }
+    ensures item_cloned { (a : BuiltItem) → ⟦<BuiltItem as Clone>⟧.is_infallible a }
+{}
+
 /// The same text hashes alike, wherever it lies in memory.
 pub fn equal_texts_hash_alike()
     ensures { (s t : LineString) → line_text s ≡ line_text t →

@@ -21,7 +21,8 @@ fn addresses_never_go_down(rows: &[LineRow]) -> bool
     true
 }
 
-/// The rows of one sequence, in order. Of its calls, one alone tells an address, and that one counts it as a probe.
+/// The rows of one sequence, in order. A search reads addresses by `address` alone, which counts each as a probe; `pair`
+/// hands out the two rows that it found, and counts nothing.
 #[derive(Debug, Drop)]
 pub(crate) struct KeptRows {
     rows: Vec<LineRow>,

@@ -63,7 +63,8 @@ impl LineProgram {
 
     /// A program without a row. The working directory is directory 0. From version 5 on the source file is
     /// file 0, in the directory that is handed for it, else in the working directory; up to version 4 it is
-    /// not used. Refused for want of memory alone.
+    /// not used. Requires encodings that `accepts` answers with true, and texts without a zero byte. Refused for
+    /// want of memory alone.
     pub fn new(
         alloc: Global,
         encoding: Encoding,
@@ -350,8 +351,8 @@ impl LineProgram {
         ensures { result ≡ previous_place self.now.items }
     {
         match self.items.last() {
-            Some(BuiltItem::Row(row)) => (row.address_offset, row.op_index),
-            _ => (0, 0),
+            Some(item) => item.place(),
+            None => (0, 0),
         }
     }
 

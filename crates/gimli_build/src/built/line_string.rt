@@ -20,9 +20,9 @@ impl LineString {
     ghost use Rattle.gimli_bytes.specs.Texts.{KeepsTexts};
     ghost use Rattle.gimli_build.specs.Version5Tables.{text_form};
 
-    /// Makes a text of bytes without a zero byte, in the form that is usual for programs of this encoding:
-    /// up to version 4 a copy of the bytes, in the later ones a text of the table, to which it is added.
-    /// Refused for want of memory alone; then the table is as it was.
+    /// Makes a text of bytes, in the form that is usual for programs of this encoding: up to version 4 a copy
+    /// of the bytes, in the later ones a text of the table, to which it is added. Requires bytes without a zero
+    /// byte. Refused for want of memory alone; then the table is as it was.
     pub fn new(
         text: &[u8],
         encoding: Encoding,
@@ -61,7 +61,7 @@ impl LineString {
         }
     }
 
-    /// The bytes of the text, which is in these tables if it isn't in the program.
+    /// The bytes of the text. Requires tables that have it, if it isn't in the program itself.
     pub fn get<'a>(
         &'a self,
         strings: &'a StringTable,

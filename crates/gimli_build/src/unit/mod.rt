@@ -29,13 +29,14 @@ impl LineProgram {
     /// written; the table of their form has it then.
     ///
     /// Refused by `IncompatibleLineProgramEncoding` where the encoding of the unit that the program is for has
-    /// another address size, or a version below 5 where the program's is 5 or more; nothing is appended then. Refused
-    /// by `UnsupportedVersion` below version 2 and above version 5, by `NeedVersion(4)` where an earlier version has
-    /// more than one operation in an instruction, by `LineStringFormMismatch` for a text of another form than the
-    /// first directory, path or source, or up to version 4 for a name that isn't in the program itself, by
-    /// `ValueTooLarge` for a length or an offset that its word can't hold and an address that is too wide, by
-    /// `InvalidAddress` for a symbol, and by `InitialLengthOverflow` for a unit length that is reserved; for want of
-    /// memory; or as the writer refuses. The old bytes stay a beginning of the section then.
+    /// another address size, or a version below 5 where the program's is 5 or more; nothing is appended then, and
+    /// both tables stay as they are. Refused by `UnsupportedVersion` below version 2 and above version 5, by
+    /// `NeedVersion(4)` where an earlier version has more than one operation in an instruction, by
+    /// `LineStringFormMismatch` for a text of another form than the first directory, path or source, or up to version
+    /// 4 for a name that isn't in the program itself, by `ValueTooLarge` for a length or an offset that its word
+    /// can't hold and an address that is too wide, by `InvalidAddress` for a symbol, and by `InitialLengthOverflow`
+    /// for a unit length that is reserved; for want of memory; or as the writer refuses. The old bytes stay a
+    /// beginning of the section then.
     pub fn write<W: Writer>(
         &self,
         w: &mut DebugLine<W>,
@@ -57,6 +58,8 @@ impl LineProgram {
             (IsWriteRefusal (W.big w.old.0) encoding self.now strings.old line_strings.old) }
         ensures incompatible { IsTrue (is_incompatible encoding self.now.encoding) →
             (result ≡ Err Error.IncompatibleLineProgramEncoding) × (w.new ≡ w.old) }
+        ensures incompatible_tables { IsTrue (is_incompatible encoding self.now.encoding) →
+            (strings.new ≡ strings.old) × (line_strings.new ≡ line_strings.old) }
         ensures strings { OnOk result (strings.new ≡ strings_behind self.now strings.old) }
         ensures line_strings { OnOk result
             (line_strings.new ≡ line_strings_behind self.now line_strings.old) }
