@@ -40,10 +40,10 @@ fn first_path<R: Reader>(
         (value_seen R.bytes R.Offset.number value))) }
     ensures no_zero { IfOk result (λ path. All (λ b. b ≢ 0) path.items) }
 {
-    if header.version() <= 4 {
-        source_text(alloc, value, sections)
-    } else {
+    if header.version() >= 5 {
         source_path(alloc, version, value, sections)
+    } else {
+        source_text(alloc, value, sections)
     }
 }
 
