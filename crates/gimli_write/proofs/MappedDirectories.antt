@@ -22,7 +22,7 @@ use Rattle.gimli_write.specs.declared.convert_error.ConvertError.TheVariants.{Re
 use Rattle.gimli_write.specs.convert.Texts.{◌>>=◌, without_zero, source_text, source_path}
 use Rattle.gimli_write.specs.convert.Lists.{Lists, version_of, with_path, directory_added, file_parts, with_parts, file_added, all_added}
 use Rattle.gimli_write.specs.convert.Mapped.{IsDirectoryPath}
-use Rattle.gimli_write.specs.convert.Preparation.{SourceFile, working_directory, first_texts, started_lists, first_ids, Handed, encoding_of, needed_from_5}
+use Rattle.gimli_write.specs.convert.Preparation.{SourceFile, first_path, working_directory, first_texts, started_lists, first_ids, Handed, encoding_of, needed_from_5}
 use Rattle.gimli_write.proofs.ReadTexts.{text_read}
 use Rattle.gimli_write.proofs.MappedLists.{took, same_ok, sources_table, IsPrepared}
 use Rattle.gimli_write.proofs.MappedTexts.{grown_place, grown_any, own_place, own_any, same_text, IsMade, HasMade, has_itself, has_then, is_made, is_same, table_has, made_apart}
@@ -53,6 +53,13 @@ source_path_of version sections v path is =
     by : (text : List ℕ) (b : Bool) → (if b then Err InvalidAttributeValue else Ok text) ≡ Ok path → text ≡ path
     by text true so = absurd cc
     by text false so = cc
+
+first_path_of : (version : ℕ) (sections : Sections) (h : Header) (v : Value) (path : List ℕ) → first_path version sections h v ≡ Ok path → text_of sections v ≡ Ok path
+first_path_of version sections h v path is = by (nat_le h.parameters.encoding.version 4) is
+  where
+    by : (old : Bool) → (if old then source_text sections v else source_path version sections v) ≡ Ok path → text_of sections v ≡ Ok path
+    by true so = source_text_of sections v path so
+    by false so = source_path_of version sections v path so
 
 -- ---- entries of tables
 
@@ -206,8 +213,8 @@ module _ (sections : Sections) (h : Header) where
       none true so = cc
       none false so = absurd cc
 
-      by : (o : Option Value) → option_map_or (source_text sections) o (needed_from_5 version [] MissingCompilationDirectory) ≡ Ok directory → IsDirectoryPath sections o directory
-      by (Some v) so = text_read sections v directory (source_text_of sections v directory so)
+      by : (o : Option Value) → option_map_or (first_path version sections h) o (needed_from_5 version [] MissingCompilationDirectory) ≡ Ok directory → IsDirectoryPath sections o directory
+      by (Some v) so = text_read sections v directory (first_path_of version sections h v directory so)
       by None so = none (nat_le version 4) so
 
   directories_first : (encoding : Encoding) (line_encoding : LineEncoding) (line_strings : List (List ℕ)) (directory : List ℕ) (file : SourceFile) → IsDirectoryPath sections (directory_of h 0) directory

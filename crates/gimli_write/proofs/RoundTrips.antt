@@ -1,15 +1,16 @@
 -- A unit that is written and read again: why it is refused, and where it stands.
 use Rattle.std.proofs.Common.{◌≡◌, ◌≢◌, ◌⊎◌, ℕ, Bool, List, ◌++◌, length, drop, refl, ap, ◌∙◌, subst, inl, inr}
-use Rattle.std.specs.Prelude.{Option, Some, Result, IfErr}
+use Rattle.std.specs.Prelude.{Option, Some, None, Result, Ok, Err, IfErr}
 use Rattle.std.proofs.Math.Seq.{drop-append_seam}
 use Rattle.std.proofs.lemmas.Result.{MatchResult-weaker}
+use Rattle.gimli_bytes.specs.Written.{Appends}
 use Rattle.gimli_bytes.specs.declared.error.Error.{Error}
 use Rattle.gimli_bytes.specs.declared.error.Error.TheVariants.{OutOfMemory}
 use Rattle.gimli_line.specs.header.Header.{UnitEntry}
 use Rattle.gimli_write.specs.declared.convert_error.ConvertError.{ConvertError}
 use Rattle.gimli_write.specs.declared.convert_error.ConvertError.TheVariants.{Read, Write, OutOfMemory as NoMemory}
 use Rattle.gimli_write.specs.declared.read_back.RoundTrip.{RoundTrip}
-use Rattle.gimli_write.specs.RoundTrip.{RefusesUnit, IsRefusal, IsCausedRefusal, slice_notation}
+use Rattle.gimli_write.specs.RoundTrip.{RefusesUnit, ToWrite, WasWritten, IsRefusal, IsCausedRefusal, slice_notation}
 
 -- ---- refusals
 
@@ -18,10 +19,10 @@ is_memory OutOfMemory = inl refl
 is_memory e = inr (λ is. absurd cc)
 
 -- a refusal of writing
-pub write_refused : (big : Bool) (cause : Option Error) (unit_entry : UnitEntry) (old new : List ℕ) (e : Error) (r : ConvertError)
-    → (e ≡ OutOfMemory) ⊎ (cause ≡ Some e) → (e ≡ OutOfMemory → r ≡ NoMemory) → (e ≢ OutOfMemory → r ≡ Write e)
-    → IsRefusal big cause unit_entry old new r
-write_refused big cause unit_entry old new e r why named other = elim (is_memory e) [
+pub write_refused : (big : Bool) (wanted : ToWrite) (unit_entry : UnitEntry) (old new : List ℕ) (e : Error) (r : ConvertError)
+    → (e ≡ OutOfMemory) ⊎ (wanted.cause ≡ Some e) → (e ≡ OutOfMemory → r ≡ NoMemory) → (e ≢ OutOfMemory → r ≡ Write e)
+    → IsRefusal big wanted unit_entry old new r
+write_refused big wanted unit_entry old new e r why named other = elim (is_memory e) [
   | inl memory ↦ rw (named memory) tt
   | inr not_memory ↦ rw (other not_memory) (elim why [ inl memory ↦ absurd (not_memory memory) | inr is ↦ is ])
 ]
@@ -39,17 +40,27 @@ unwritten_refused cause e r why named other = elim (is_memory e) [
 pub memory_refused : (cause : Option Error) (r : Result RoundTrip ConvertError) → IfErr r (λ e. e ≡ NoMemory) → IfErr r (IsCausedRefusal cause)
 memory_refused cause r is = MatchResult-weaker r is (λ _ u. u) (λ e memory. rw memory tt)
 
+-- what was appended is the unit that was wanted
+unit_written : (wanted : ToWrite) (old new : List ℕ) → wanted.cause ≡ None → Appends wanted.bytes old new → (unit : List ℕ) × WasWritten wanted old new unit
+unit_written wanted old new none there = by wanted.bytes refl there
+  where
+    by : (r : Result (List ℕ) Error) → wanted.bytes ≡ r → Appends r old new → (unit : List ℕ) × WasWritten wanted old new unit
+    by (Ok unit) is appended = (unit, record { no_cause = none; bytes = is; appended = appended })
+    by (Err e) is appended = absurd appended
+
 -- a refusal of reading the unit that was appended
-unit_refused : (big : Bool) (cause : Option Error) (unit_entry : UnitEntry) (old new bytes : List ℕ) (e : ConvertError) → new ≡ old ++ bytes
-    → RefusesUnit (slice_notation big) unit_entry bytes e → IsRefusal big cause unit_entry old new e
-unit_refused big cause unit_entry old new bytes NoMemory there r = tt
-unit_refused big cause unit_entry old new bytes (Read fault) there r = (bytes, there, r)
-unit_refused big cause unit_entry old new bytes e there r = absurd r.2
+unit_refused : (big : Bool) (wanted : ToWrite) (unit_entry : UnitEntry) (old new unit : List ℕ) (e : ConvertError) → WasWritten wanted old new unit
+    → RefusesUnit (slice_notation big) unit_entry unit e → IsRefusal big wanted unit_entry old new e
+unit_refused big wanted unit_entry old new unit NoMemory written r = tt
+unit_refused big wanted unit_entry old new unit (Read fault) written r = (unit, written, r)
+unit_refused big wanted unit_entry old new unit e written r = absurd r.2
 
 -- the same by the bytes after the offset
-pub unit_not_answered : (big other : Bool) (cause : Option Error) (unit_entry : UnitEntry) (old new bytes : List ℕ) (n : ℕ) (r : Result RoundTrip ConvertError)
-    → other ≡ big → new ≡ old ++ bytes → n ≡ length old → IfErr r (RefusesUnit (slice_notation other) unit_entry (drop n new)) → IfErr r (IsRefusal big cause unit_entry old new)
-unit_not_answered big other cause unit_entry old new bytes n r order there offset is =
-    let behind = ap (λ (xs : List ℕ). drop n xs) there ∙ ap (λ (i : ℕ). drop i (old ++ bytes)) offset ∙ drop-append_seam old bytes in
-    let refused = subst (λ (x : Bool). IfErr r (RefusesUnit (slice_notation x) unit_entry bytes)) order (subst (λ (xs : List ℕ). IfErr r (RefusesUnit (slice_notation other) unit_entry xs)) behind is) in
-    MatchResult-weaker r refused (λ _ u. u) (λ e f. unit_refused big cause unit_entry old new bytes e there f)
+pub unit_not_answered : (big other : Bool) (wanted : ToWrite) (unit_entry : UnitEntry) (old new : List ℕ) (n : ℕ) (r : Result RoundTrip ConvertError)
+    → other ≡ big → wanted.cause ≡ None → Appends wanted.bytes old new → n ≡ length old → IfErr r (RefusesUnit (slice_notation other) unit_entry (drop n new))
+    → IfErr r (IsRefusal big wanted unit_entry old new)
+unit_not_answered big other wanted unit_entry old new n r order none there offset is =
+    let written = unit_written wanted old new none there in
+    let behind = ap (λ (xs : List ℕ). drop n xs) written.1.appended ∙ ap (λ (i : ℕ). drop i (old ++ written.0)) offset ∙ drop-append_seam old written.0 in
+    let refused = subst (λ (x : Bool). IfErr r (RefusesUnit (slice_notation x) unit_entry written.0)) order (subst (λ (xs : List ℕ). IfErr r (RefusesUnit (slice_notation other) unit_entry xs)) behind is) in
+    MatchResult-weaker r refused (λ _ u. u) (λ e f. unit_refused big wanted unit_entry old new written.0 e written.1 f)

@@ -1,5 +1,5 @@
 -- What is answered of a unit that was written and read again.
-use Rattle.std.specs.Prelude.{◌≡◌, ℕ, ◌^◌, List, [], ◌++◌, map, slice_get, Option, Some, None, option_map, Bool, All}
+use Rattle.std.specs.Prelude.{◌≡◌, ℕ, ◌^◌, List, [], ◌++◌, map, slice_get, Option, Some, None, option_map, Result, Ok, Bool, All}
 use Rattle.gimli_core.specs.Notation.{Notation}
 use Rattle.gimli_core.specs.declared.common.Encoding.{Encoding}
 use Rattle.gimli_line.specs.header.Header.{Header, UnitEntry}
@@ -17,6 +17,8 @@ use Rattle.gimli_build.specs.Texts.{Sections, IsText, IsOptionalText, OneByOne}
 use Rattle.gimli_write.specs.TextReading.{HasText, HasFileTexts}
 use Rattle.gimli_build.specs.ReadsBack.{IsUnit, directories_from_zero, ReadsBack, IsReadWell}
 use Rattle.gimli_build.specs.Built.{Built}
+use Rattle.gimli_build.specs.Version5Tables.{strings_behind, line_strings_behind}
+use Rattle.gimli_build.specs.Unit.{unit_bytes}
 use Rattle.gimli_build.specs.Cause.{first_cause}
 use Rattle.gimli_build.specs.Items.{AddressesFit}
 use Rattle.gimli_build.specs.SameRow.{RowsMatch}
@@ -108,6 +110,11 @@ abbrev pub AnswersProgram : Bool → Built → List (List ℕ) → List (List �
 AnswersProgram big p strings line_strings unit answer =
     AnswersUnit (slice_notation big) (unit_entry_of p strings line_strings) (sections_of strings line_strings) unit (answers answer)
 
+-- what was appended is a unit and nothing else, and what is read of it is answered, where it is read as a program's unit is
+abbrev pub AnswersAppended : Bool → Built → List (List ℕ) → List (List ℕ) → List ℕ → List ℕ → RoundTrip → Type 0
+AnswersAppended big p strings line_strings old new answer =
+    (unit : List ℕ) × (new ≡ old ++ unit) × AnswersProgram big p strings line_strings unit answer
+
 -- the bytes are the unit of a program, which is read back however it is read well
 abbrev pub IsUnitOf : Bool → Built → List (List ℕ) → List (List ℕ) → List ℕ → Type 0
 IsUnitOf big p strings line_strings unit = (notation : Notation) (unit_entry : UnitEntry) (sections : Sections)
@@ -162,28 +169,39 @@ IsRunRefusal notation h e = ⊥
 abbrev pub RefusesUnit : Notation → UnitEntry → List ℕ → ConvertError → Type 0
 RefusesUnit notation unit_entry unit e = (h : Header) × IsUnit notation unit_entry unit h × IsRunRefusal notation h e
 
--- why a program isn't written or not read again: the cause why it can't be written, if there is one; the first fault of
--- the unit that was appended; or want of memory
-abbrev pub IsRefusal : Bool → Option Error → UnitEntry → List ℕ → List ℕ → ConvertError → Type 0
-IsRefusal big cause unit_entry old new OutOfMemory = Unit {0}
-IsRefusal big cause unit_entry old new (Write e) = cause ≡ Some e
-IsRefusal big cause unit_entry old new (Read fault) =
-    (bytes : List ℕ) × (new ≡ old ++ bytes) × RefusesUnit (slice_notation big) unit_entry bytes (Read fault)
-IsRefusal big cause unit_entry old new e = ⊥
+-- what is to be written of a program, and the cause why it can't be, if there is one
+pub record ToWrite : Type 0 where
+  pub cause : Option Error
+  pub bytes : Result (List ℕ) Error
 
--- both tables of strings, as texts
-pub record TableTexts : Type 0 where
-  pub strings : List (List ℕ)
-  pub line_strings : List (List ℕ)
+-- no cause forbids it, and its bytes, which are this unit, were appended
+pub record WasWritten (wanted : ToWrite) (old new unit : List ℕ) : Type 0 where
+  pub no_cause : wanted.cause ≡ None
+  pub bytes : wanted.bytes ≡ Ok unit
+  pub appended : new ≡ old ++ unit
 
-abbrev pub tables : List (List ℕ) → List (List ℕ) → TableTexts
-tables strings line_strings = record { strings = strings; line_strings = line_strings }
+-- why a program isn't written or not read again: the cause why it can't be written, if there is one; where there is none,
+-- the first fault of its unit, which was appended; or want of memory
+abbrev pub IsRefusal : Bool → ToWrite → UnitEntry → List ℕ → List ℕ → ConvertError → Type 0
+IsRefusal big wanted unit_entry old new OutOfMemory = Unit {0}
+IsRefusal big wanted unit_entry old new (Write e) = wanted.cause ≡ Some e
+IsRefusal big wanted unit_entry old new (Read fault) =
+    (unit : List ℕ) × WasWritten wanted old new unit × RefusesUnit (slice_notation big) unit_entry unit (Read fault)
+IsRefusal big wanted unit_entry old new e = ⊥
 
--- why a program isn't written in this order and encoding, or not read again, where these were the tables before and after
-abbrev pub IsRoundTripRefusal : Bool → Encoding → Built → TableTexts → TableTexts → List ℕ → List ℕ → ConvertError → Type 0
-IsRoundTripRefusal big encoding p before after old new =
-    IsRefusal big (first_cause big encoding p before.strings before.line_strings)
-    (unit_entry_of p after.strings after.line_strings) old new
+-- what is to be written of a program in this order and for a unit of this encoding, with these tables
+abbrev pub to_write : Bool → Encoding → Built → List (List ℕ) → List (List ℕ) → ToWrite
+to_write big encoding p strings line_strings = record {
+  cause = first_cause big encoding p strings line_strings;
+  bytes = unit_bytes big encoding p strings line_strings;
+}
+
+-- why a program isn't written in this order and for a unit of this encoding, with these tables, or not read again beside
+-- what is then in them
+abbrev pub IsRoundTripRefusal : Bool → Encoding → Built → List (List ℕ) → List (List ℕ) → List ℕ → List ℕ → ConvertError → Type 0
+IsRoundTripRefusal big encoding p strings line_strings old new =
+    IsRefusal big (to_write big encoding p strings line_strings)
+    (unit_entry_of p (strings_behind p strings) (line_strings_behind p line_strings)) old new
 
 -- why a program isn't written: the cause why it can't be, if there is one, or want of memory
 abbrev pub IsCausedRefusal : Option Error → ConvertError → Type 0

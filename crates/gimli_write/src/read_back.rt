@@ -1,6 +1,6 @@
 //! A unit that is written, and read again.
 
-ghost use Rattle.std.specs.Prelude.{◌≡◌, ◌⊎◌, ℕ, ◌<◌, ◌≤◌, ◌^◌, false, List, [], ◌++◌, length, map, drop, option_map, IsTrue, IfOk, IfErr, OnOk, All, Some, None};
+ghost use Rattle.std.specs.Prelude.{◌≡◌, ◌⊎◌, ℕ, ◌<◌, ◌≤◌, ◌^◌, false, List, [], ◌++◌, length, map, drop, option_map, IsTrue, IfOk, IfErr, OnOk, All, Some, None, Err};
 ghost use Rattle.gimli_core.specs.Numbers.{is_address_size};
 ghost use Rattle.gimli_core.specs.Values.{value_seen};
 ghost use Rattle.gimli_bytes.specs.Written.{Begins, Appends};
@@ -9,7 +9,7 @@ ghost use Rattle.gimli_line.specs.header.File.{file_seen};
 ghost use Rattle.gimli_line.specs.run.Events.{Events, row};
 ghost use Rattle.gimli_build.specs.LineText.{IsWithin, bytes_in};
 ghost use Rattle.gimli_build.specs.Conditions.{CanWrite};
-ghost use Rattle.gimli_build.specs.Unit.{unit_bytes};
+ghost use Rattle.gimli_build.specs.Unit.{is_incompatible, unit_bytes};
 ghost use Rattle.gimli_bytes.specs.Texts.{byte_count};
 ghost use Rattle.gimli_build.specs.Version5Tables.{strings_behind, line_strings_behind};
 ghost use Rattle.gimli_build.specs.Cause.{first_cause};
@@ -21,7 +21,7 @@ use crate::convert_error::{ConvertError, ConvertResult, from_read, from_write};
 use crate::text::{TextSections, text};
 use gimli_build::LineProgram;
 use gimli_bytes::{
-    DebugLine, DebugLineStr, DebugStr, EndianVec, LineStringTable, StringTable, Writer,
+    DebugLine, DebugLineStr, DebugStr, EndianVec, Error, LineStringTable, StringTable, Writer,
 };
 use gimli_core::{
     AttributeValue, DebugLineOffset, Encoding, EndianSlice, Endianity, Reader, ReaderOffset,
@@ -60,7 +60,7 @@ pub struct RoundTripFile {
     pub source: Option<Vec<u8>>,
 }
 
-ghost use Rattle.gimli_write.specs.RoundTrip.{answers, file_answer, IsFileAnswer, AreAnswers, HasTexts, slice_notation, unit_entry_of, sections_of, IsRunRefusal, RefusesUnit, tables, IsRoundTripRefusal, IsCausedRefusal, built_file, HasFittingAddresses, AreBuiltRows, IsUnitOf, AnswersProgram, unit_entry_with, BeginsUnit, CanRead};
+ghost use Rattle.gimli_write.specs.RoundTrip.{answers, file_answer, IsFileAnswer, AreAnswers, HasTexts, slice_notation, unit_entry_of, sections_of, IsRunRefusal, RefusesUnit, IsRoundTripRefusal, IsCausedRefusal, built_file, HasFittingAddresses, AreBuiltRows, IsUnitOf, AnswersProgram, AnswersAppended, unit_entry_with, BeginsUnit, CanRead};
 
 /// The working directory of a program.
 fn working_directory<'a>(
@@ -361,8 +361,9 @@ fn read_unit<E: Endianity>(
 /// and, where each address fits the address size, none is set below the one reached in its sequence, and none is set
 /// that stands for nothing, the built rows and ends one by one.
 ///
-/// Refused by `Write` as `write` is, by `Read` for the first fault of the unit's program, which no program with such
-/// addresses has, or by `OutOfMemory`. The old bytes stay a beginning of the section then.
+/// Refused by `Write` as `write` is: where the encoding can't have the program's, nothing is appended. Where nothing
+/// forbids to write it, the unit is appended, and refused by `Read` for the first fault of its program, which no program
+/// with such addresses has. Refused by `OutOfMemory` too. The old bytes stay a beginning of the section then.
 pub fn round_trip<E: Endianity>(
     program: &LineProgram,
     w: &mut DebugLine<EndianVec<E>>,
@@ -376,8 +377,8 @@ pub fn round_trip<E: Endianity>(
     ensures offset { IfOk result (λ answer. answer.offset.0 ≡ length w.old.0.bytes) }
     ensures unit { OnOk result (Appends (unit_bytes (E.big w.old.0.endian) encoding program.now
         strings.old line_strings.old) w.old.0.bytes w.new.0.bytes) }
-    ensures answers { IfOk result (λ answer. (unit : List ℕ) × (w.new.0.bytes ≡ w.old.0.bytes ++ unit)
-        × AnswersProgram (E.big w.old.0.endian) program.now strings.new line_strings.new unit answer) }
+    ensures answers { IfOk result (AnswersAppended (E.big w.old.0.endian) program.now
+        strings.new line_strings.new w.old.0.bytes w.new.0.bytes) }
     ensures directories { IfOk result (λ answer. map (λ text. text.items) answer.directories.items
         ≡ map (bytes_in strings.new line_strings.new) program.now.directories) }
     ensures files { IfOk result (λ answer. map file_answer answer.files.items
@@ -385,13 +386,18 @@ pub fn round_trip<E: Endianity>(
     ensures built { IfOk result (λ answer. AreBuiltRows program.now answer.rows.items) }
     ensures no_cause { OnOk result (first_cause (E.big w.old.0.endian) encoding program.now
         strings.old line_strings.old ≡ None) }
+    ensures incompatible { IsTrue (is_incompatible encoding program.now.encoding)
+        → result ≡ Err (ConvertError.Write Error.IncompatibleLineProgramEncoding) }
+    ensures nothing_appended { IsTrue (is_incompatible encoding program.now.encoding) → w.new ≡ w.old }
     ensures never_read { HasFittingAddresses program.now → IfErr result (IsCausedRefusal
         (first_cause (E.big w.old.0.endian) encoding program.now strings.old line_strings.old)) }
     ensures refusal { IfErr result (IsRoundTripRefusal (E.big w.old.0.endian) encoding program.now
-        (tables strings.old line_strings.old) (tables strings.new line_strings.new) w.old.0.bytes w.new.0.bytes) }
+        strings.old line_strings.old w.old.0.bytes w.new.0.bytes) }
     ensures strings { OnOk result (strings.new ≡ strings_behind program.now strings.old) }
-    ensures line_strings { OnOk result (line_strings.new ≡ line_strings_behind program.now line_strings.old) }
-    ensures strings_kept { (strings.new ≡ strings.old) ⊎ (strings.new ≡ strings_behind program.now strings.old) }
+    ensures line_strings { OnOk result
+        (line_strings.new ≡ line_strings_behind program.now line_strings.old) }
+    ensures strings_kept { (strings.new ≡ strings.old)
+        ⊎ (strings.new ≡ strings_behind program.now strings.old) }
     ensures line_strings_kept { (line_strings.new ≡ line_strings.old)
         ⊎ (line_strings.new ≡ line_strings_behind program.now line_strings.old) }
 {

@@ -3,7 +3,10 @@ use Rattle.std.specs.Prelude.{◌≡◌, ◌⊎◌, ℕ, true, List, Option, Som
 use Rattle.std.specs.declared.vec.Vec.{Vec}
 use Rattle.std.specs.declared.alloc.Global.{Global}
 use Rattle.gimli_bytes.specs.declared.address.Address.{Address}
-use Rattle.gimli_build.specs.Built.{Built}
+use Rattle.gimli_build.specs.Built.{Built, previous_place}
+use Rattle.gimli_build.specs.Conditions.{CanBuild}
+use Rattle.gimli_build.specs.declared.built.row.LineRow.{LineRow}
+use Rattle.gimli_build.specs.declared.built.items.BuiltItem.TheVariants.{Row}
 use Rattle.gimli_build.specs.Texts.{Sections}
 use Rattle.gimli_write.specs.declared.convert_error.ConvertError.{ConvertError}
 use Rattle.gimli_write.specs.declared.convert_error.ConvertError.TheVariants.{OutOfMemory, UnsupportedLineInstruction}
@@ -95,6 +98,10 @@ abbrev pub AddsFiles : Built → Built → Type 0
 AddsFiles old new = new ≡ record old { files = new.files }
 
 -- ---- calls of the builder
+
+-- this row can be built after those of the program
+abbrev pub CanBuildRow : Built → LineRow → Type 0
+CanBuildRow p row = CanBuild p.line_encoding (previous_place p.items) (Row row)
 
 -- a call is refused: memory is missing, or what the builder asks doesn't hold
 abbrev pub IsBuildRefusal : Type 0 → ConvertError → Type 0

@@ -3,6 +3,7 @@ use Rattle.std.specs.Prelude.{ℕ, ◌||◌, List, [], ◌∷◌, Bool, false, O
 use Rattle.std.specs.Option.{option_map_or}
 use Rattle.gimli_core.specs.declared.common.Encoding.{Encoding}
 use Rattle.gimli_core.specs.declared.common.LineEncoding.{LineEncoding}
+use Rattle.gimli_core.specs.Values.{Value}
 use Rattle.gimli_line.specs.header.File.{File}
 use Rattle.gimli_line.specs.header.Header.{Header, directory_of, file_of, has_content}
 use Rattle.gimli_build.specs.LineText.{LineText, made_text, made_table}
@@ -11,18 +12,24 @@ use Rattle.gimli_build.specs.FirstTables.{first_directories, first_files}
 use Rattle.gimli_build.specs.Texts.{Sections}
 use Rattle.gimli_write.specs.declared.convert_error.ConvertError.{ConvertError}
 use Rattle.gimli_write.specs.declared.convert_error.ConvertError.TheVariants.{MissingCompilationDirectory, MissingCompilationName, InvalidDirectoryIndex, InvalidLineBase}
-use Rattle.gimli_write.specs.convert.Texts.{◌>>=◌, without_zero, source_text}
+use Rattle.gimli_write.specs.convert.Texts.{◌>>=◌, without_zero, source_text, source_path}
 use Rattle.gimli_write.specs.convert.Lists.{Lists, directory_added, file_added, all_added}
 
 -- what a program of version 5 asks, and one up to version 4 can do without
 abbrev pub needed_from_5 : {A : Type 0} → ℕ → A → ConvertError → Result A ConvertError
 needed_from_5 version empty missing = if nat_le version 4 then Ok empty else Err missing
 
+-- the path of directory 0 or of file 0, for a program of this version: up to version 4 of the source it stands in none of
+-- its tables, so it may be empty there
+abbrev pub first_path : ℕ → Sections → Header → Value → Result (List ℕ) ConvertError
+first_path version sections h v =
+    if nat_le h.parameters.encoding.version 4 then source_text sections v else source_path version sections v
+
 -- ---- the working directory, which is directory 0
 
 abbrev pub working_directory : ℕ → Sections → Header → Result (List ℕ) ConvertError
 working_directory version sections h =
-    option_map_or (source_text sections) (directory_of h 0) (needed_from_5 version [] MissingCompilationDirectory)
+    option_map_or (first_path version sections h) (directory_of h 0) (needed_from_5 version [] MissingCompilationDirectory)
 
 -- ---- the source file, which is file 0, or has the name that is handed in
 
@@ -31,15 +38,15 @@ pub record SourceFile : Type 0 where
   pub directory : Option (List ℕ)
   pub path : List ℕ
 
-abbrev pub file_directory : Sections → Header → ℕ → Result (Option (List ℕ)) ConvertError
-file_directory sections h index =
+abbrev pub file_directory : ℕ → Sections → Header → ℕ → Result (Option (List ℕ)) ConvertError
+file_directory version sections h index =
     if nat_eq index 0 then Ok None
-    else (ok_or (directory_of h index) InvalidDirectoryIndex >>= λ v. source_text sections v >>= λ text. Ok (Some text))
+    else (ok_or (directory_of h index) InvalidDirectoryIndex >>= λ v. source_path version sections v >>= λ path. Ok (Some path))
 
-abbrev pub own_source_file : Sections → Header → File → Result SourceFile ConvertError
-own_source_file sections h f =
-    file_directory sections h f.directory_index >>= λ directory.
-    source_text sections f.path_name >>= λ path.
+abbrev pub own_source_file : ℕ → Sections → Header → File → Result SourceFile ConvertError
+own_source_file version sections h f =
+    file_directory version sections h f.directory_index >>= λ directory.
+    first_path version sections h f.path_name >>= λ path.
     Ok (record { directory = directory; path = path })
 
 abbrev pub named_source_file : List ℕ → Result SourceFile ConvertError
@@ -52,7 +59,7 @@ name_for source_version name = if nat_le source_version 4 then name else None
 abbrev pub source_file : ℕ → Sections → Header → Option (List ℕ) → Result SourceFile ConvertError
 source_file version sections h name =
     option_map_or named_source_file (name_for h.parameters.encoding.version name)
-    (option_map_or (own_source_file sections h) (file_of h 0)
+    (option_map_or (own_source_file version sections h) (file_of h 0)
     (needed_from_5 version (record { directory = None; path = [] }) MissingCompilationName))
 
 -- ---- the encoding of lines

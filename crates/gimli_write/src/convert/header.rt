@@ -12,21 +12,43 @@ ghost use Rattle.gimli_build.specs.Conditions.{Accepts};
 ghost use Rattle.gimli_build.specs.LineText.{line_text, HasNoZero};
 ghost use Rattle.gimli_write.specs.convert.Texts.{◌>>=◌ as ◌>>>◌, IsRefusedBy};
 ghost use Rattle.gimli_write.specs.convert.Lists.{lists_with, directory_added, file_added, all_added};
-ghost use Rattle.gimli_write.specs.convert.Preparation.{working_directory, file_directory, own_source_file, named_source_file, source_file, is_out_of_range, line_encoding_of, first_texts, started_program, started_lists, first_ids, has_before_5, handed, prepared};
+ghost use Rattle.gimli_write.specs.convert.Preparation.{first_path, working_directory, file_directory, own_source_file, named_source_file, source_file, is_out_of_range, line_encoding_of, first_texts, started_program, started_lists, first_ids, has_before_5, handed, prepared};
 
 use crate::convert::lists::{Lists, made, optional_made};
-use crate::convert::texts::{source_text, without_zero};
+use crate::convert::texts::{source_path, source_text, without_zero};
 use crate::convert_error::{ConvertError, ConvertResult, from_write};
 use crate::text::{TextSections, copied};
 use gimli_build::{DirectoryId, FileId, LineProgram};
 use gimli_bytes::LineStringTable;
-use gimli_core::{Encoding, LineEncoding, Reader, ReaderOffset};
+use gimli_core::{AttributeValue, Encoding, LineEncoding, Reader, ReaderOffset};
 use gimli_line::{FileEntry, LineProgramHeader};
 use std::alloc::Global;
 use std::marker::Model;
 
-/// The working directory of the program, which is the source's directory 0. Where there is none it is empty up to
-/// version 4, and from version 5 on this is refused as `MissingCompilationDirectory`.
+/// The path of the source's directory 0 or file 0, for a program of this version. Up to version 4 of the source it stands
+/// in none of its tables and is refused as `source_text` is; from version 5 on as `source_path` is.
+fn first_path<R: Reader>(
+    alloc: Global,
+    version: u16,
+    header: &LineProgramHeader<R>,
+    value: AttributeValue<R>,
+    sections: &TextSections<R>,
+) -> ConvertResult<Vec<u8>>
+    ensures ok { IfOk result (λ path. first_path version sections.now header.now.meaning
+        (value_seen R.bytes R.Offset.number value) ≡ Ok path.items) }
+    ensures err { IfErr result (IsRefusedBy (first_path version sections.now header.now.meaning
+        (value_seen R.bytes R.Offset.number value))) }
+    ensures no_zero { IfOk result (λ path. All (λ b. b ≢ 0) path.items) }
+{
+    if header.version() >= 5 {
+        source_path(alloc, version, value, sections)
+    } else {
+        source_text(alloc, value, sections)
+    }
+}
+
+/// The working directory of the program, which is the source's directory 0, refused as `first_path` is. Where there is
+/// none it is empty up to version 4, and from version 5 on this is refused as `MissingCompilationDirectory`.
 fn working_directory<R: Reader>(
     alloc: Global,
     version: u16,
@@ -38,7 +60,7 @@ fn working_directory<R: Reader>(
     ensures no_zero { IfOk result (λ text. All (λ b. b ≢ 0) text.items) }
 {
     match header.directory(0) {
-        Some(directory) => source_text(alloc, directory, sections),
+        Some(directory) => first_path(alloc, version, header, directory, sections),
         None if version <= 4 => Ok(Vec::new(alloc)),
         None => Err(ConvertError::MissingCompilationDirectory),
     }
@@ -64,43 +86,45 @@ impl Model for SourceFile {
 }
 
 /// The directory of a source file, which the working directory is at index 0. Refused as `InvalidDirectoryIndex` where
-/// the source has no directory of its index.
+/// the source has no directory of its index, and as `source_path` is.
 fn file_directory<R: Reader>(
     alloc: Global,
+    version: u16,
     header: &LineProgramHeader<R>,
     index: u64,
     sections: &TextSections<R>,
 ) -> ConvertResult<Option<Vec<u8>>>
-    ensures ok { IfOk result (λ text. file_directory sections.now header.now.meaning index
+    ensures ok { IfOk result (λ text. file_directory version sections.now header.now.meaning index
         ≡ Ok (option_map (λ text. text.items) text)) }
-    ensures err { IfErr result (IsRefusedBy (file_directory sections.now header.now.meaning index)) }
+    ensures err { IfErr result (IsRefusedBy (file_directory version sections.now header.now.meaning index)) }
     ensures no_zero { IfOk result (λ text. IfSome text (λ text. All (λ b. b ≢ 0) text.items)) }
 {
     if index == 0 {
         return Ok(None);
     }
     match header.directory(index) {
-        Some(directory) => Ok(Some(source_text(alloc, directory, sections)?)),
+        Some(directory) => Ok(Some(source_path(alloc, version, directory, sections)?)),
         None => Err(ConvertError::InvalidDirectoryIndex),
     }
 }
 
-/// The source file, of a file of the source.
+/// The source file, of the source's file 0. Refused as its directory and its path are.
 fn own_source_file<R: Reader>(
     alloc: Global,
+    version: u16,
     header: &LineProgramHeader<R>,
     file: &FileEntry<R>,
     sections: &TextSections<R>,
 ) -> ConvertResult<SourceFile>
-    ensures ok { IfOk result (λ found. own_source_file sections.now header.now.meaning
+    ensures ok { IfOk result (λ found. own_source_file version sections.now header.now.meaning
         (file_seen R.bytes R.Offset.number file.now) ≡ Ok found) }
-    ensures err { IfErr result (IsRefusedBy (own_source_file sections.now header.now.meaning
+    ensures err { IfErr result (IsRefusedBy (own_source_file version sections.now header.now.meaning
         (file_seen R.bytes R.Offset.number file.now))) }
     ensures directory_no_zero { IfOk result (λ found. IfSome found.directory (λ text. All (λ b. b ≢ 0) text)) }
     ensures path_no_zero { IfOk result (λ found. All (λ b. b ≢ 0) found.path) }
 {
-    let directory = file_directory(alloc, header, file.directory_index(), sections)?;
-    let path = source_text(alloc, file.path_name(), sections)?;
+    let directory = file_directory(alloc, version, header, file.directory_index(), sections)?;
+    let path = first_path(alloc, version, header, file.path_name(), sections)?;
     Ok(SourceFile { directory, path })
 }
 
@@ -141,7 +165,7 @@ fn source_file<R: Reader>(
         }
     }
     match header.file(0) {
-        Some(file) => own_source_file(alloc, header, file, sections),
+        Some(file) => own_source_file(alloc, version, header, file, sections),
         None if version <= 4 => Ok(SourceFile {
             directory: None,
             path: Vec::new(alloc),

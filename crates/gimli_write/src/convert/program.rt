@@ -5,11 +5,10 @@ ghost use Rattle.gimli_core.specs.Numbers.{is_address_size};
 ghost use Rattle.gimli_bytes.specs.Texts.{KeepsTexts};
 ghost use Rattle.gimli_build.specs.Calls.{after_begin, after_address, after_row, after_end};
 ghost use Rattle.gimli_build.specs.Advance.{CanEncode};
-ghost use Rattle.gimli_build.specs.Built.{previous_place};
-ghost use Rattle.gimli_build.specs.Conditions.{CanBuild, CanEndSequence};
+ghost use Rattle.gimli_build.specs.Conditions.{CanEndSequence};
 ghost use Rattle.gimli_write.specs.convert.Sources.{source_of};
 ghost use Rattle.gimli_write.specs.convert.Mapped.{IsFaithfulIfItCan};
-ghost use Rattle.gimli_write.specs.convert.ConversionState.{still_to_read, IsPrepared, IsHeaderRefusal, ReadsWhole, GivesNext, IsReadRefusal, AddsFiles, IsBuildRefusal, with_program, ConvertsTo, IsConvertRefusal, RestConvertsTo, IsRestRefusal};
+ghost use Rattle.gimli_write.specs.convert.ConversionState.{still_to_read, IsPrepared, IsHeaderRefusal, ReadsWhole, GivesNext, IsReadRefusal, AddsFiles, CanBuildRow, IsBuildRefusal, with_program, ConvertsTo, IsConvertRefusal, RestConvertsTo, IsRestRefusal};
 ghost use Rattle.gimli_write.specs.convert.Sequences.{GathersNext, IsGatherRefusal};
 
 use crate::convert::conversion::Conversion;
@@ -20,7 +19,7 @@ use crate::convert::offer::ConvertLineRow;
 use crate::convert::sequence::ConvertLineSequence;
 use crate::convert_error::{ConvertError, ConvertResult};
 use crate::text::TextSections;
-use gimli_build::{BuiltItem, FileId, LineProgram, LineRow};
+use gimli_build::{FileId, LineProgram, LineRow};
 use gimli_bytes::{Address, LineStringTable, StringTable};
 use gimli_core::{Encoding, LineEncoding, Reader};
 use gimli_line::IncompleteLineProgram;
@@ -71,9 +70,15 @@ impl<R: Reader> Model for ConvertLineHeader<R> {
 impl<R: Reader> ConvertLineHeader<R> {
     /// The first half of `ConvertLineProgram::new`: all of it that can be refused. The directories and files of the
     /// source are added to the program that is built, by the encodings that are handed, else by the source's own.
-    /// Requires encodings that a program may have, where they are handed. Refused, in this order: for the working
-    /// directory, the source file, the encoding of lines, the directories and the files; or by `OutOfMemory`. The table
-    /// keeps its texts, also then.
+    /// Requires encodings that a program may have, where they are handed. The table keeps its texts, also where it is
+    /// refused.
+    ///
+    /// Refused by the first of these that is, or by `OutOfMemory`: the working directory, as `MissingCompilationDirectory`
+    /// where a program from version 5 on would have none; the source file, as `MissingCompilationName` there, and as
+    /// `InvalidDirectoryIndex` in a directory that isn't there; the encoding of lines, as `InvalidLineBase`; the
+    /// directories; the files, as `InvalidDirectoryIndex` too. A text is refused as `Read` where it isn't there, as
+    /// `UnsupportedLineStringForm` in a supplementary file, and as `InvalidAttributeValue` for a zero byte, or where it is
+    /// an empty path of the source's tables and the program is of version 4 or less.
     pub fn new(
         debug_str: R,
         debug_line_str: R,
@@ -144,8 +149,8 @@ impl<'a, 'b, R: Reader> ConvertLineProgram<'a, 'b, R, Conversion<R>> {
     /// A conversion of a source, over the sections that hold its texts. Its directories and files are added to the
     /// program that is built, by the encodings that are handed, else by the source's own. The name is that of the source
     /// file, where the source is of version 4 or less; else file 0 is it. Requires encodings that a program may have, where
-    /// they are handed. Refused, in this order: for the working directory, the source file, the encoding of lines, the
-    /// directories and the files; or by `OutOfMemory`. The tables keep their texts.
+    /// they are handed. Refused as `ConvertLineHeader::new` is. Where it isn't refused, the tables keep their texts; where it
+    /// is, only the clauses of `ConvertLineHeader::new` say so.
     pub fn new(
         debug_str: R,
         debug_line_str: R,
@@ -164,11 +169,13 @@ impl<'a, 'b, R: Reader> ConvertLineProgram<'a, 'b, R, Conversion<R>> {
             from_program from_comp_name encoding line_encoding) line_strings.old) }
         ensures reads { IfOk result (λ convert. ReadsWhole (source_of R.bytes debug_str debug_line_str
             from_program from_comp_name encoding line_encoding) convert.conversion convert.line_strings.now) }
-        ensures stays { IfOk result (λ convert. KeepsTexts line_strings.old convert.line_strings.now) }
+        ensures stays { IfOk result
+            (λ convert. KeepsTexts line_strings.old convert.line_strings.now) }
         ensures strings { IfOk result (λ convert. convert.strings.now ≡ strings.old) }
         ensures same_line_strings { IfOk result (λ convert. convert.line_strings.ghost_name
             ≡ line_strings.entry.ghost_name) }
-        ensures same_strings { IfOk result (λ convert. convert.strings.ghost_name ≡ strings.entry.ghost_name) }
+        ensures same_strings { IfOk result (λ convert. convert.strings.ghost_name
+            ≡ strings.entry.ghost_name) }
     {
         let header = ConvertLineHeader::new(
             debug_str,
@@ -185,14 +192,16 @@ impl<'a, 'b, R: Reader> ConvertLineProgram<'a, 'b, R, Conversion<R>> {
     /// Begins a sequence in the program that is built. Refused as `UnsupportedLineInstruction` where one has begun, or
     /// by `OutOfMemory`; then nothing changes.
     pub fn begin_sequence(&mut self, address: Option<Address>) -> ConvertResult<()>
-        ensures ok { OnOk result (self.new.conversion
-            ≡ with_program (after_begin address self.old.conversion.lists.program) self.old.conversion) }
+        ensures ok { OnOk result (self.new.conversion ≡ with_program
+            (after_begin address self.old.conversion.lists.program) self.old.conversion) }
         ensures outside { OnOk result (self.old.conversion.lists.program.in_sequence ≡ false) }
-        ensures err { IfErr result (IsBuildRefusal (self.old.conversion.lists.program.in_sequence ≡ false)) }
+        ensures err { IfErr result
+            (IsBuildRefusal (self.old.conversion.lists.program.in_sequence ≡ false)) }
         ensures kept { OnErr result (self.new.conversion ≡ self.old.conversion) }
         ensures line_strings { self.new.line_strings.now ≡ self.old.line_strings.now }
         ensures strings { self.new.strings.now ≡ self.old.strings.now }
-        ensures same_line_strings { self.new.line_strings.ghost_name ≡ self.old.line_strings.ghost_name }
+        ensures same_line_strings { self.new.line_strings.ghost_name
+            ≡ self.old.line_strings.ghost_name }
         ensures same_strings { self.new.strings.ghost_name ≡ self.old.strings.ghost_name }
     {
         self.conversion.begin_sequence(address)
@@ -201,13 +210,14 @@ impl<'a, 'b, R: Reader> ConvertLineProgram<'a, 'b, R, Conversion<R>> {
     /// Sets the address in the program that is built, where a sequence begins if none has. Refused by `OutOfMemory`
     /// alone; then nothing changes.
     pub fn set_address(&mut self, address: Address) -> ConvertResult<()>
-        ensures ok { OnOk result (self.new.conversion
-            ≡ with_program (after_address address self.old.conversion.lists.program) self.old.conversion) }
+        ensures ok { OnOk result (self.new.conversion ≡ with_program
+            (after_address address self.old.conversion.lists.program) self.old.conversion) }
         ensures memory { IfErr result (λ e. e ≡ ConvertError.OutOfMemory) }
         ensures kept { OnErr result (self.new.conversion ≡ self.old.conversion) }
         ensures line_strings { self.new.line_strings.now ≡ self.old.line_strings.now }
         ensures strings { self.new.strings.now ≡ self.old.strings.now }
-        ensures same_line_strings { self.new.line_strings.ghost_name ≡ self.old.line_strings.ghost_name }
+        ensures same_line_strings { self.new.line_strings.ghost_name
+            ≡ self.old.line_strings.ghost_name }
         ensures same_strings { self.new.strings.ghost_name ≡ self.old.strings.ghost_name }
     {
         self.conversion.set_address(address)
@@ -217,16 +227,16 @@ impl<'a, 'b, R: Reader> ConvertLineProgram<'a, 'b, R, Conversion<R>> {
     /// `UnsupportedLineInstruction` where it can't be generated after the row before it, or by `OutOfMemory`; then
     /// nothing changes, nor does the current row.
     pub fn generate_row(&mut self, row: LineRow) -> ConvertResult<()>
-        ensures ok { OnOk result (self.new.conversion
-            ≡ with_program (after_row row self.old.conversion.lists.program) self.old.conversion) }
-        ensures can { OnOk result (CanBuild self.old.conversion.lists.program.line_encoding
-            (previous_place self.old.conversion.lists.program.items) (BuiltItem.Row row)) }
-        ensures err { IfErr result (IsBuildRefusal (CanBuild self.old.conversion.lists.program.line_encoding
-            (previous_place self.old.conversion.lists.program.items) (BuiltItem.Row row))) }
+        ensures ok { OnOk result (self.new.conversion ≡ with_program
+            (after_row row self.old.conversion.lists.program) self.old.conversion) }
+        ensures can { OnOk result (CanBuildRow self.old.conversion.lists.program row) }
+        ensures err { IfErr result
+            (IsBuildRefusal (CanBuildRow self.old.conversion.lists.program row)) }
         ensures kept { OnErr result (self.new.conversion ≡ self.old.conversion) }
         ensures line_strings { self.new.line_strings.now ≡ self.old.line_strings.now }
         ensures strings { self.new.strings.now ≡ self.old.strings.now }
-        ensures same_line_strings { self.new.line_strings.ghost_name ≡ self.old.line_strings.ghost_name }
+        ensures same_line_strings { self.new.line_strings.ghost_name
+            ≡ self.old.line_strings.ghost_name }
         ensures same_strings { self.new.strings.ghost_name ≡ self.old.strings.ghost_name }
     {
         self.conversion.generate_row(row)
@@ -235,14 +245,17 @@ impl<'a, 'b, R: Reader> ConvertLineProgram<'a, 'b, R, Conversion<R>> {
     /// Ends a sequence of the program that is built, so many bytes after the address that was last set. Refused as
     /// `UnsupportedLineInstruction` where it can't end there, or by `OutOfMemory`; then nothing changes.
     pub fn end_sequence(&mut self, address_offset: u64) -> ConvertResult<()>
-        ensures ok { OnOk result (self.new.conversion
-            ≡ with_program (after_end address_offset self.old.conversion.lists.program) self.old.conversion) }
-        ensures can { OnOk result (CanEndSequence self.old.conversion.lists.program address_offset) }
-        ensures err { IfErr result (IsBuildRefusal (CanEndSequence self.old.conversion.lists.program address_offset)) }
+        ensures ok { OnOk result (self.new.conversion ≡ with_program
+            (after_end address_offset self.old.conversion.lists.program) self.old.conversion) }
+        ensures can { OnOk result
+            (CanEndSequence self.old.conversion.lists.program address_offset) }
+        ensures err { IfErr result
+            (IsBuildRefusal (CanEndSequence self.old.conversion.lists.program address_offset)) }
         ensures kept { OnErr result (self.new.conversion ≡ self.old.conversion) }
         ensures line_strings { self.new.line_strings.now ≡ self.old.line_strings.now }
         ensures strings { self.new.strings.now ≡ self.old.strings.now }
-        ensures same_line_strings { self.new.line_strings.ghost_name ≡ self.old.line_strings.ghost_name }
+        ensures same_line_strings { self.new.line_strings.ghost_name
+            ≡ self.old.line_strings.ghost_name }
         ensures same_strings { self.new.strings.ghost_name ≡ self.old.strings.ghost_name }
     {
         self.conversion.end_sequence(address_offset)
@@ -314,7 +327,7 @@ impl<'a, 'b, R: Reader> ConvertLineProgram<'a, 'b, R, Conversion<R>> {
     /// is read. The map gives for each address of the source the one that is set in its place. Refused by the first of
     /// these: an address that has no other, as `InvalidAddress`; what can't be built, as `UnsupportedLineInstruction`; a
     /// refusal of reading; a sequence that is left open, as `MissingLineEndSequence`; or by `OutOfMemory`. The tables keep
-    /// their texts.
+    /// their texts. Requires a map that may always be called.
     pub fn convert<F: Fn(u64) -> Option<Address>>(
         self,
         convert_address: F,
@@ -337,8 +350,9 @@ impl<'a, 'b, R: Reader> ConvertLineProgram<'a, 'b, R, Conversion<R>> {
     }
 }
 
-/// A conversion that is begun and done in one call: `ConvertLineProgram::new`, and then its `convert`. Refused as these
-/// are. The tables keep their texts. Where each address is mapped to itself, addresses are at least as wide as the
+/// A conversion that is begun and done in one call: `ConvertLineProgram::new`, and then its `convert`. Requires encodings
+/// that a program may have, where they are handed, and a map that may always be called. Refused as these are; the tables
+/// keep their texts, also then. Where each address is mapped to itself, addresses are at least as wide as the
 /// source's, and no sequence that gave a row ends hidden, the program says what its source says, and so do the rows that
 /// are read back of it.
 pub fn convert_program<R: Reader, F: Fn(u64) -> Option<Address>>(
