@@ -11,6 +11,10 @@ set -eu
 here=$(cd "$(dirname "$0")" && pwd)
 crate=$(dirname "$here")
 top=$(cd "$crate/../.." && pwd)
+# Each number of the header is that of the constant of the same name: a law ties those of status.rt, the others stand in row.rt
+# and in file.rt.
+diff <(sed -nE 's/^ +GIMLI_([A-Z0-9_]+) = ([0-9]+).*/\1 \2/p' "$crate/include/gimli_line.h") \
+    <(cd "$crate/src" && sed -nE 's/^pub const ([A-Z0-9_]+): u[0-9]+ = ([0-9]+);/\1 \2/p' status.rt row.rt file.rt)
 for tool in cc objcopy addr2line; do
     command -v $tool >/dev/null || { echo "gimli_c: not tried, since $tool is missing"; exit 0; }
 done

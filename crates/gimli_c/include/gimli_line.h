@@ -68,7 +68,7 @@ enum gimli_status {
     GIMLI_ROW_OUT_OF_ORDER = 27,                       /* a row can't follow the one before it, or its line or op_index is too large */
     GIMLI_UNKNOWN_FLAG = 28,                           /* a row has a flag that isn't known */
     GIMLI_NEED_VERSION_4 = 29,                         /* several operations in an instruction, before version 4 */
-    GIMLI_UNIT_TOO_LONG = 30,                          /* a length or an address that doesn't fit its word */
+    GIMLI_UNIT_TOO_LONG = 30,                          /* a length, or the first address of a sequence, doesn't fit its word */
     GIMLI_NO_ROOM = 31                                 /* the unit is longer than the room for it */
 };
 
@@ -221,11 +221,18 @@ typedef struct gimli_file_name {
  * gimli_row have: up to version 4 from 1 on, in version 5 from 0 on. A directory or a file that comes twice is there once, and
  * in version 5 the directory of the first file comes after the first; so indices in the unit may be others.
  * `details` is the sum of GIMLI_HAS_TIMESTAMP, GIMLI_HAS_SIZE and GIMLI_HAS_MD5, for what version 5 has of files; up to
- * version 4 it is always the first two. Sources of files aren't written.
+ * version 4 it is always the first two. Sources of files aren't written, and other bits of `details` are ignored.
  *
  * Rows are as gimli_line_rows gives them. A sequence begins with the first row, and after each with GIMLI_END_SEQUENCE; of such
  * a row address and op_index count. In a sequence addresses don't go down, and are a whole number of shortest instructions
- * after the first. op_index is below maximum_operations_per_instruction, and the line of a row that isn't an end is below 2^63. */
+ * after the first. op_index is below maximum_operations_per_instruction, and doesn't go down from one row to the next at the same
+ * address. 64 bits hold the number of operations from one row to the next. The line of a row that isn't an end is below 2^63.
+ * Where one of these doesn't hold the answer is GIMLI_ROW_OUT_OF_ORDER.
+ *
+ * Only the first address of a sequence is tested against the size of addresses (GIMLI_UNIT_TOO_LONG). A later one that passes the
+ * greatest address of that size is written, and is the fault GIMLI_ADDRESS_OVERFLOW where the unit is read. A sequence that
+ * begins at one of the two greatest addresses is written too; they say that the code isn't there, so its rows are left out where
+ * the unit is read. */
 uint32_t gimli_line_write(const gimli_encoding *encoding, bool big, uint64_t details, const uint8_t *texts, size_t text_length,
                           const gimli_name *directories, size_t directory_count, const gimli_file_name *files,
                           size_t file_count, const gimli_row *rows, size_t row_count, uint8_t *unit, size_t room,

@@ -71,7 +71,7 @@ pub unit_fits : (p : Place) (h : Header) → HasUnit p h → length p.section < 
 unit_fits p h unit fits =
     omega (
       arith,
-      unit_within (notation_at p) (unit_entry_at p) (drop p.offset p.section) h unit,
+      unit_within (notation_at p) (unit_entry_at p) (drop p.offset p.section) h unit.1,
       length-drop p.offset p.section,
       field_some h.parameters.encoding.format,
       fits,

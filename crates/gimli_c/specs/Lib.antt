@@ -1,3 +1,4 @@
+pub mod Numbers
 pub mod Status
 pub mod Place
 pub mod Run

@@ -1,10 +1,11 @@
 -- Where a unit stands: a section, how its numbers are read, and an offset.
-use Rattle.std.specs.Prelude.{◌≡◌, ◌^◌, ◌⊎◌, ℕ, Bool, false, List, None, drop}
+use Rattle.std.specs.Prelude.{◌≡◌, ◌^◌, ◌⊎◌, ℕ, Bool, true, false, List, None, drop}
 use Rattle.gimli_core.specs.Notation.{Notation, noted}
 use Rattle.gimli_core.specs.Numbers.{is_address_size}
 use Rattle.gimli_core.specs.declared.error.Error.{Error}
 use Rattle.gimli_line.specs.header.Header.{Header, UnitEntry}
 use Rattle.gimli_line.specs.header.HeaderGrammar.{SpellsUnit, HasHeaderFault}
+use Rattle.gimli_c.specs.declared.status.TheConstants.{UNSUPPORTED_ADDRESS_SIZE}
 use Rattle.gimli_c.specs.Status.{error_status}
 
 -- a section of bytes, whether the most significant byte of a number comes first, the size of addresses up to version 4,
@@ -27,12 +28,19 @@ notation_at p = noted p.big (2 ^ 64)
 abbrev pub unit_entry_at : Place → UnitEntry
 unit_entry_at p = record { address_size = p.address_size; directory = None; name = None }
 
--- the bytes from the offset on begin with a unit of this header
+-- addresses can have the size that was handed in, whatever the version of the unit is, and the bytes from the offset on begin
+-- with a unit of this header
 abbrev pub HasUnit : Place → Header → Type 0
-HasUnit p h = SpellsUnit (notation_at p) (unit_entry_at p) (drop p.offset p.section) h
+HasUnit p h =
+    (is_address_size p.address_size ≡ true) × SpellsUnit (notation_at p) (unit_entry_at p) (drop p.offset p.section) h
 
--- they begin with no unit, and this is the number of the refusal; or no address has the size that was handed in
+-- addresses can have that size, and the bytes begin with no unit; this is the number of the refusal
+abbrev pub HasBadHeader : Place → ℕ → Type 0
+HasBadHeader p status =
+    (is_address_size p.address_size ≡ true)
+    × (e : Error) × HasHeaderFault (notation_at p) (unit_entry_at p) (drop p.offset p.section) e × (status ≡ error_status e)
+
+-- no unit can be read at the place, and this is the number of the refusal; the size that was handed in comes first
 abbrev pub HasNoUnit : Place → ℕ → Type 0
 HasNoUnit p status =
-    ((is_address_size p.address_size ≡ false) × (status ≡ 6))
-    ⊎ ((e : Error) × HasHeaderFault (notation_at p) (unit_entry_at p) (drop p.offset p.section) e × (status ≡ error_status e))
+    ((is_address_size p.address_size ≡ false) × (status ≡ UNSUPPORTED_ADDRESS_SIZE)) ⊎ HasBadHeader p status

@@ -1,12 +1,13 @@
 //! The directories of a unit.
 
-ghost use Rattle.std.specs.Prelude.{◌≡◌, ◌≢◌};
+ghost use Rattle.std.specs.Prelude.{◌≡◌, ◌≢◌, false};
+ghost use Rattle.gimli_core.specs.Numbers.{is_address_size};
 ghost use Rattle.gimli_c.specs.FileSeen.{GivesDirectory, GivesNoDirectory};
 ghost use Rattle.gimli_c.specs.Place.{place, HasNoUnit};
 
 use crate::file::{GimliText, copy_bytes, text_here};
 use crate::place::program_at;
-use crate::status::{NOT_FOUND, OK, OUT_OF_MEMORY};
+use crate::status::{NOT_FOUND, OK, OUT_OF_MEMORY, UNSUPPORTED_ADDRESS_SIZE};
 use std::alloc::Global;
 
 /// Reads the directory of an index, as files have it: up to version 4 from 1 on, in version 5 from 0 on. Its bytes go into
@@ -24,11 +25,13 @@ pub extern "C" fn gimli_line_directory(
     directory: &mut GimliText,
     bytes: &mut [u8],
 ) -> u32
-    ensures found { result ≡ OK → GivesDirectory (place section.now big address_size offset) index directory.new
-        bytes.old bytes.new }
-    ensures none { result ≡ NOT_FOUND → GivesNoDirectory (place section.now big address_size offset) index }
+    ensures found { result ≡ OK → GivesDirectory (place section.now big address_size offset)
+        index directory.new bytes.old bytes.new }
+    ensures none { result ≡ NOT_FOUND →
+        GivesNoDirectory (place section.now big address_size offset) index }
     ensures refused { result ≢ OK → result ≢ NOT_FOUND → result ≢ OUT_OF_MEMORY →
         HasNoUnit (place section.now big address_size offset) result }
+    ensures size { is_address_size address_size ≡ false → result ≡ UNSUPPORTED_ADDRESS_SIZE }
     ensures kept { result ≢ OK → (directory.new ≡ directory.old) × (bytes.new ≡ bytes.old) }
 {
     let program = match program_at(alloc, section, big, address_size, offset) {

@@ -1,6 +1,7 @@
 //! The files of a unit.
 
-ghost use Rattle.std.specs.Prelude.{◌≡◌, ◌≢◌, option_map};
+ghost use Rattle.std.specs.Prelude.{◌≡◌, ◌≢◌, false, option_map};
+ghost use Rattle.gimli_core.specs.Numbers.{is_address_size};
 ghost use Rattle.gimli_core.specs.Values.{value_seen};
 ghost use Rattle.gimli_line.specs.header.File.{file_seen};
 ghost use Rattle.gimli_c.specs.FileSeen.{details_of, file_seen_by_c, optional_text_seen, text_here, GivesFile, GivesNoFile};
@@ -10,7 +11,7 @@ ghost use Rattle.gimli_c.specs.Written.{written};
 use crate::place::program_at;
 use crate::row::flag;
 use crate::run::run_on;
-use crate::status::{NOT_FOUND, OK, OUT_OF_MEMORY, error_status};
+use crate::status::{NOT_FOUND, OK, OUT_OF_MEMORY, UNSUPPORTED_ADDRESS_SIZE, error_status};
 use gimli_core::{AttributeValue, Reader, ReaderOffset};
 use gimli_line::{FileEntry, LineProgramHeader};
 use std::alloc::Global;
@@ -87,12 +88,15 @@ pub extern "C" fn gimli_line_file(
     path: &mut [u8],
     directory: &mut [u8],
 ) -> u32
-    ensures found { result ≡ OK → GivesFile (place section.now big address_size offset) index file.new
-        path.old path.new directory.old directory.new }
-    ensures none { result ≡ NOT_FOUND → GivesNoFile (place section.now big address_size offset) index }
+    ensures found { result ≡ OK → GivesFile (place section.now big address_size offset)
+        index file.new path.old path.new directory.old directory.new }
+    ensures none { result ≡ NOT_FOUND →
+        GivesNoFile (place section.now big address_size offset) index }
     ensures refused { result ≢ OK → result ≢ NOT_FOUND → result ≢ OUT_OF_MEMORY →
         HasNoUnit (place section.now big address_size offset) result }
-    ensures kept { result ≢ OK → (file.new ≡ file.old) × (path.new ≡ path.old) × (directory.new ≡ directory.old) }
+    ensures size { is_address_size address_size ≡ false → result ≡ UNSUPPORTED_ADDRESS_SIZE }
+    ensures kept { result ≢ OK →
+        (file.new ≡ file.old) × (path.new ≡ path.old) × (directory.new ≡ directory.old) }
 {
     let program = match program_at(alloc, section, big, address_size, offset) {
         Ok(program) => program,
@@ -121,7 +125,8 @@ pub extern "C" fn gimli_line_file(
 impl GimliFile {
     /// What is said of a file of a header.
     fn new<R: Reader>(header: &LineProgramHeader<R>, file: &FileEntry<R>) -> Self
-        ensures { result ≡ file_seen_by_c header.now.meaning (file_seen R.bytes R.Offset.number file.now) }
+        ensures { result
+            ≡ file_seen_by_c header.now.meaning (file_seen R.bytes R.Offset.number file.now) }
     {
         GimliFile {
             path: GimliText::new(Some(file.path_name())),
@@ -139,7 +144,8 @@ impl GimliFile {
 impl GimliText {
     /// Where the text of a value stands.
     pub(crate) fn new<R: Reader>(value: Option<AttributeValue<R>>) -> Self
-        ensures { result ≡ optional_text_seen (option_map (value_seen R.bytes R.Offset.number) value) }
+        ensures { result
+            ≡ optional_text_seen (option_map (value_seen R.bytes R.Offset.number) value) }
     {
         let (kind, place, size) = match value {
             Some(AttributeValue::String(text)) => (TEXT_HERE, 0, text.len().into_u64()),
@@ -173,7 +179,8 @@ fn details<R: Reader>(header: &LineProgramHeader<R>) -> u64
 
 /// The text of a value, where it stands in the section itself.
 pub(crate) fn text_here<R: Reader>(value: Option<AttributeValue<R>>) -> Option<R>
-    ensures { option_map R.bytes result ≡ text_here (option_map (value_seen R.bytes R.Offset.number) value) }
+    ensures { option_map R.bytes result
+        ≡ text_here (option_map (value_seen R.bytes R.Offset.number) value) }
 {
     match value {
         Some(AttributeValue::String(text)) => Some(text),

@@ -9,6 +9,7 @@ mod encoding;
 mod file;
 mod find;
 mod items;
+pub mod laws;
 mod place;
 mod row;
 mod rows;
@@ -21,9 +22,12 @@ mod write;
 
 pub use directory::gimli_line_directory;
 pub use encoding::GimliEncoding;
-pub use file::{GimliFile, GimliText, gimli_line_file};
+pub use file::{
+    GimliFile, GimliText, HAS_MD5, HAS_SIZE, HAS_SOURCE, HAS_TIMESTAMP, TEXT_DEBUG_LINE_STR,
+    TEXT_DEBUG_STR, TEXT_DEBUG_STR_SUP, TEXT_HERE, TEXT_INDEX, TEXT_NONE, gimli_line_file,
+};
 pub use find::gimli_line_find;
-pub use row::GimliRow;
+pub use row::{BASIC_BLOCK, END_SEQUENCE, EPILOGUE_BEGIN, GimliRow, IS_STMT, PROLOGUE_END};
 pub use rows::gimli_line_rows;
 pub use tables::GimliFileName;
 pub use text::GimliName;

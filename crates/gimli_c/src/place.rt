@@ -1,10 +1,11 @@
 //! The unit at an offset of a section.
 
 ghost use Rattle.gimli_core.specs.Order.{is_big};
-ghost use Rattle.std.specs.Prelude.{◌≡◌, ◌≢◌, IfErr, IfOk};
+ghost use Rattle.gimli_core.specs.Numbers.{is_address_size};
+ghost use Rattle.std.specs.Prelude.{◌≡◌, ◌≢◌, Err, IfErr, IfOk, false};
 ghost use Rattle.gimli_c.specs.Place.{place, notation_at, HasUnit, HasNoUnit};
 
-use crate::status::{UNSUPPORTED_ADDRESS_SIZE, error_status};
+use crate::status::{OUT_OF_MEMORY, UNSUPPORTED_ADDRESS_SIZE, error_status};
 use gimli_core::{DebugLineOffset, EndianSlice, RunTimeEndian};
 use gimli_line::{DebugLine, IncompleteLineProgram};
 use std::alloc::Global;
@@ -17,13 +18,15 @@ pub(crate) fn program_at<'s>(
     address_size: u8,
     offset: usize,
 ) -> Result<IncompleteLineProgram<EndianSlice<'s, RunTimeEndian>>, u32>
-    ensures unit { IfOk result (λ program. HasUnit (place section.now big address_size offset) program.meaning) }
+    ensures unit { IfOk result (λ program.
+        HasUnit (place section.now big address_size offset) program.meaning) }
     ensures notation { IfOk result (λ program.
         program.notation ≡ notation_at (place section.now big address_size offset)) }
-    ensures refused { IfErr result (λ status. status ≢ 17 →
+    ensures refused { IfErr result (λ status. status ≢ OUT_OF_MEMORY →
         HasNoUnit (place section.now big address_size offset) status) }
+    ensures size { is_address_size address_size ≡ false → result ≡ Err UNSUPPORTED_ADDRESS_SIZE }
 {
-    if !matches!(address_size, 1 | 2 | 4 | 8) {
+    if !is_address_size(address_size) {
         return Err(UNSUPPORTED_ADDRESS_SIZE);
     }
     let section = DebugLine::new(section, order(big));
@@ -31,6 +34,13 @@ pub(crate) fn program_at<'s>(
         Ok(program) => Ok(program),
         Err(e) => Err(error_status(e)),
     }
+}
+
+/// Whether an address can have this size in bytes.
+pub(crate) fn is_address_size(size: u8) -> bool
+    ensures { result ≡ is_address_size size }
+{
+    matches!(size, 1 | 2 | 4 | 8)
 }
 
 /// An order of bytes.

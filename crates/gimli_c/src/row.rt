@@ -2,6 +2,7 @@
 
 ghost use Rattle.std.specs.Prelude.{◌≡◌, ◌≤◌};
 ghost use Rattle.std.specs.Int.NonZero.{non_zero_u64_get};
+ghost use Rattle.gimli_c.specs.Handed.{has_flag};
 ghost use Rattle.gimli_c.specs.Seen.{flag, flags_of, row_seen};
 
 use gimli_line::{ColumnType, LineRow};
@@ -38,6 +39,12 @@ pub const END_SEQUENCE: u64 = 4;
 pub const PROLOGUE_END: u64 = 8;
 /// The epilogue of a function begins here.
 pub const EPILOGUE_BEGIN: u64 = 16;
+/// The sum of all flags.
+pub(crate) const ALL_FLAGS: u64 = IS_STMT
+    + BASIC_BLOCK
+    + END_SEQUENCE
+    + PROLOGUE_END
+    + EPILOGUE_BEGIN;
 
 impl GimliRow {
     /// The numbers of a row.
@@ -94,4 +101,12 @@ pub(crate) fn flag(holds: bool, bit: u64) -> u64
     ensures at_most { result ≤ bit }
 {
     if holds { bit } else { 0 }
+}
+
+/// Whether a flag is one of these. Requires a bit that isn't 0.
+pub(crate) fn has_flag(flags: u64, bit: u64) -> bool
+    requires { 1 ≤ bit }
+    ensures { result ≡ has_flag bit flags }
+{
+    flags / bit % 2 == 1
 }

@@ -66,7 +66,7 @@ pub const ROW_OUT_OF_ORDER: u32 = 27;
 pub const UNKNOWN_FLAG: u32 = 28;
 /// An instruction has several operations, before version 4.
 pub const NEED_VERSION_4: u32 = 29;
-/// A length that offsets of this size can't say, or an address that is too wide.
+/// A length that offsets of this size can't say, or the first address of a sequence is wider than addresses are.
 pub const UNIT_TOO_LONG: u32 = 30;
 /// The unit is longer than the room for it.
 pub const NO_ROOM: u32 = 31;

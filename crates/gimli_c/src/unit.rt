@@ -1,13 +1,14 @@
 //! The unit at an offset.
 
-ghost use Rattle.std.specs.Prelude.{◌≡◌, ◌≢◌, ◌≤◌, ◌<◌, ◌+◌, ◌^◌, IfErr, IfOk};
+ghost use Rattle.std.specs.Prelude.{◌≡◌, ◌≢◌, ◌≤◌, ◌<◌, ◌+◌, ◌^◌, false, IfErr, IfOk};
+ghost use Rattle.gimli_core.specs.Numbers.{is_address_size};
 ghost use Rattle.gimli_c.specs.Place.{place, HasNoUnit};
 ghost use Rattle.section_units.specs.Units.{offset_after};
 ghost use Rattle.gimli_c.specs.Unit.{GivesUnit, IsReadUnit};
 
 use crate::place::program_at;
 use crate::run::{copy_rows, fault_status, rows_fit, run_on};
-use crate::status::{OK, OUT_OF_MEMORY, error_status};
+use crate::status::{OK, OUT_OF_MEMORY, UNSUPPORTED_ADDRESS_SIZE, error_status};
 use gimli_core::{Error, Reader, ReaderOffset, Result};
 use gimli_line::IncompleteLineProgram;
 use section_units::length_field;
@@ -53,6 +54,7 @@ pub extern "C" fn gimli_line_unit(
     ensures ok { result ≡ OK → GivesUnit (place section.now big address_size offset) unit.new }
     ensures refused { result ≢ OK → result ≢ OUT_OF_MEMORY →
         HasNoUnit (place section.now big address_size offset) result }
+    ensures size { is_address_size address_size ≡ false → result ≡ UNSUPPORTED_ADDRESS_SIZE }
     ensures kept { result ≢ OK → unit.new ≡ unit.old }
 {
     let program = match program_at(alloc, section, big, address_size, offset) {
@@ -68,9 +70,11 @@ pub extern "C" fn gimli_line_unit(
     }
 }
 
-/// What is said of the unit of a program, which stands at an offset. Refused by `OutOfMemory` alone.
+/// What is said of the unit of a program, which stands at an offset. Requires that 64 bits hold the offset of what follows
+/// it. Refused by `OutOfMemory` alone.
 fn read_unit<R: Reader>(program: IncompleteLineProgram<R>, offset: usize) -> Result<GimliUnit>
-    requires { offset_after offset program.meaning.parameters.encoding.format program.meaning.unit_length < 2 ^ 64 }
+    requires { offset_after offset program.meaning.parameters.encoding.format
+        program.meaning.unit_length < 2 ^ 64 }
     ensures ok { IfOk result (λ unit. IsReadUnit offset program.meaning program.notation unit) }
     ensures err { IfErr result (λ e. e ≡ Error.OutOfMemory) }
 {

@@ -1,0 +1,38 @@
+-- The number of each constant of `status`.
+use Rattle.std.specs.Prelude.{◌≡◌}
+use Rattle.gimli_c.specs.declared.status.TheConstants.{OK, UNEXPECTED_EOF, BAD_UNSIGNED_LEB128, BAD_SIGNED_LEB128, UNKNOWN_RESERVED_LENGTH, UNKNOWN_VERSION, UNSUPPORTED_ADDRESS_SIZE, UNSUPPORTED_SEGMENT_SIZE, MINIMUM_INSTRUCTION_LENGTH_ZERO, MAXIMUM_OPERATIONS_PER_INSTRUCTION_ZERO, LINE_RANGE_ZERO, OPCODE_BASE_ZERO, MISSING_FILE_ENTRY_FORMAT_PATH, UNKNOWN_FORM, ADDRESS_OVERFLOW, UNSUPPORTED_OFFSET, EXPECTED_STRING_ATTRIBUTE_VALUE, OUT_OF_MEMORY, NOT_FOUND, UNSUPPORTED_OFFSET_SIZE, UNSUPPORTED_LINE_ENCODING, TEXT_OUT_OF_BOUNDS, ZERO_IN_TEXT, EMPTY_TEXT, NO_SOURCE_FILE, NO_SUCH_DIRECTORY, NO_SUCH_FILE, ROW_OUT_OF_ORDER, UNKNOWN_FLAG, NEED_VERSION_4, UNIT_TOO_LONG, NO_ROOM}
+
+-- the constants are these numbers, which the enum `gimli_status` of include/gimli_line.h has under the same names
+pub record AreNumbered : Type 0 where
+  pub ok : OK ≡ 0
+  pub unexpected_eof : UNEXPECTED_EOF ≡ 1
+  pub bad_unsigned_leb128 : BAD_UNSIGNED_LEB128 ≡ 2
+  pub bad_signed_leb128 : BAD_SIGNED_LEB128 ≡ 3
+  pub unknown_reserved_length : UNKNOWN_RESERVED_LENGTH ≡ 4
+  pub unknown_version : UNKNOWN_VERSION ≡ 5
+  pub unsupported_address_size : UNSUPPORTED_ADDRESS_SIZE ≡ 6
+  pub unsupported_segment_size : UNSUPPORTED_SEGMENT_SIZE ≡ 7
+  pub minimum_instruction_length_zero : MINIMUM_INSTRUCTION_LENGTH_ZERO ≡ 8
+  pub maximum_operations_per_instruction_zero : MAXIMUM_OPERATIONS_PER_INSTRUCTION_ZERO ≡ 9
+  pub line_range_zero : LINE_RANGE_ZERO ≡ 10
+  pub opcode_base_zero : OPCODE_BASE_ZERO ≡ 11
+  pub missing_file_entry_format_path : MISSING_FILE_ENTRY_FORMAT_PATH ≡ 12
+  pub unknown_form : UNKNOWN_FORM ≡ 13
+  pub address_overflow : ADDRESS_OVERFLOW ≡ 14
+  pub unsupported_offset : UNSUPPORTED_OFFSET ≡ 15
+  pub expected_string_attribute_value : EXPECTED_STRING_ATTRIBUTE_VALUE ≡ 16
+  pub out_of_memory : OUT_OF_MEMORY ≡ 17
+  pub not_found : NOT_FOUND ≡ 18
+  pub unsupported_offset_size : UNSUPPORTED_OFFSET_SIZE ≡ 19
+  pub unsupported_line_encoding : UNSUPPORTED_LINE_ENCODING ≡ 20
+  pub text_out_of_bounds : TEXT_OUT_OF_BOUNDS ≡ 21
+  pub zero_in_text : ZERO_IN_TEXT ≡ 22
+  pub empty_text : EMPTY_TEXT ≡ 23
+  pub no_source_file : NO_SOURCE_FILE ≡ 24
+  pub no_such_directory : NO_SUCH_DIRECTORY ≡ 25
+  pub no_such_file : NO_SUCH_FILE ≡ 26
+  pub row_out_of_order : ROW_OUT_OF_ORDER ≡ 27
+  pub unknown_flag : UNKNOWN_FLAG ≡ 28
+  pub need_version_4 : NEED_VERSION_4 ≡ 29
+  pub unit_too_long : UNIT_TOO_LONG ≡ 30
+  pub no_room : NO_ROOM ≡ 31
