@@ -40,6 +40,7 @@ impl fmt::Write for Digest {
 /// The digest of what a value prints.
 pub(crate) fn digest_of<D: Display + Drop>(value: D) -> u64 {
     let mut digest = Digest::new();
+    // A digest takes every text.
     let _ = write!(digest, "{value}");
     digest.0
 }

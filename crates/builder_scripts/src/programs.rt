@@ -174,6 +174,7 @@ pub(crate) fn begin_program(
         source_file,
         info,
     )?;
+    // The id of the working directory, since its clause says that the program has one.
     let _working = program.default_directory();
     Ok(program)
 }

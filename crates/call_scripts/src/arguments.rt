@@ -1,6 +1,6 @@
 //! The words of a line.
 
-use crate::outcome::Stop;
+use crate::stop::Stop;
 use gimli_bytes::Address;
 use gimli_core::{DwEhPe, Format, RunTimeEndian, SectionId};
 use row_text::{parse_bytes, parse_number, parse_signed, parse_text};

@@ -1,7 +1,8 @@
 //! Scripts of writer calls over a section in one vector.
 
-use crate::outcome::{BytesAfter, Stop, print_line};
+use crate::outcome::{BytesAfter, print_line};
 use crate::sections::{Section, run_over};
+use crate::stop::Stop;
 use gimli_bytes::EndianVec;
 use gimli_core::RunTimeEndian;
 use row_text::Attempts;

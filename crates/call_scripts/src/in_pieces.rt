@@ -1,7 +1,8 @@
 //! Scripts of writer calls over a section in pieces.
 
-use crate::outcome::{BytesAfter, Stop, Told, print_line};
+use crate::outcome::{BytesAfter, Told, print_line};
 use crate::sections::{Section, run_over};
+use crate::stop::Stop;
 use gimli_bytes::{PieceVec, Writer};
 use gimli_core::RunTimeEndian;
 use row_text::Attempts;

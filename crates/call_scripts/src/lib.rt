@@ -40,6 +40,7 @@ mod outcome;
 mod reader_calls;
 mod readers;
 mod sections;
+mod stop;
 mod tables;
 mod writers;
 

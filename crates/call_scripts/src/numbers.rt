@@ -2,7 +2,7 @@
 
 use crate::answer::{Answer, Slice, of_u8, of_u64};
 use crate::arguments::Arguments;
-use crate::outcome::Stop;
+use crate::stop::Stop;
 use gimli_core::{
     AttributeValue, DebugLineStrOffset, DebugStrOffset, DebugStrOffsetsIndex, EndianSlice,
     ReaderAddress, ReaderOffset, RunTimeEndian,

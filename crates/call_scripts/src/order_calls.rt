@@ -2,7 +2,7 @@
 
 use crate::answer::{Answer, of_bool, of_u16, of_u32, of_u64};
 use crate::arguments::Arguments;
-use crate::outcome::Stop;
+use crate::stop::Stop;
 use gimli_core::{Endianity, RunTimeEndian};
 
 /// What a call answers that reads bytes, where they are enough.

@@ -1,28 +1,12 @@
 //! How a line of a script ends, and what is printed of it.
 
 use crate::arguments::Arguments;
+use crate::stop::Stop;
 use row_text::BytesLine;
 use std::alloc::AllocError;
 use std::fmt;
 use std::fmt::{Debug, Display};
 use std::io::Write;
-
-/// Why a line has no answer but a refusal.
-#[derive(Clone, Copy)]
-pub enum Stop {
-    /// It is no call.
-    Bad,
-    /// The conditions of its call aren't met.
-    Condition,
-    /// Memory was refused to the script itself.
-    Memory,
-}
-
-impl From<AllocError> for Stop {
-    fn from(_error: AllocError) -> Stop {
-        Stop::Memory
-    }
-}
 
 /// What makes the calls of a script.
 pub trait Script {

@@ -5,7 +5,7 @@ use crate::answer::{
     of_usize, word_of,
 };
 use crate::arguments::Arguments;
-use crate::outcome::Stop;
+use crate::stop::Stop;
 use gimli_core::{Endianity, Reader};
 
 /// What a call answers over a reader. `base` is the reader that it was at first.

@@ -2,7 +2,8 @@
 
 use crate::answer::{Answer, Slice};
 use crate::arguments::{Arguments, is_bytes, order_of};
-use crate::outcome::{BytesAfter, Script, Stop, print_line, run};
+use crate::outcome::{BytesAfter, Script, print_line, run};
+use crate::stop::Stop;
 use crate::{numbers, order_calls, reader_calls};
 use gimli_core::{EndianSlice, Reader, RunTimeEndian};
 use row_text::Attempts;

@@ -2,7 +2,8 @@
 
 use crate::answer::word_of;
 use crate::arguments::{Arguments, order_of};
-use crate::outcome::{ByName, BytesAfter, Script, Stop, Told, print_line, run};
+use crate::outcome::{ByName, BytesAfter, Script, Told, print_line, run};
+use crate::stop::Stop;
 use crate::tables::{self, Kind, Tables, is_made_again};
 use crate::writers;
 use gimli_bytes::{DebugLine, DebugLineStr, DebugStr, Writer};

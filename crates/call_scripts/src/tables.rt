@@ -3,7 +3,8 @@
 ghost use Rattle.std.specs.Prelude.{◌≢◌, All};
 
 use crate::arguments::Arguments;
-use crate::outcome::{ByName, Stop, Told};
+use crate::outcome::{ByName, Told};
+use crate::stop::Stop;
 use gimli_bytes::{
     DebugLineStr, DebugStr, Error, LineStringId, LineStringTable, Result, StringId, StringTable,
     Writer,

@@ -1,7 +1,7 @@
 //! Calls of writers.
 
 use crate::arguments::Arguments;
-use crate::outcome::Stop;
+use crate::stop::Stop;
 use gimli_bytes::{InitialLengthOffset, Result, Writer};
 use std::alloc::Global;
 

@@ -4,15 +4,19 @@ use crate::check::{check, check_equal};
 use crate::instructions::executed_by_unit;
 use crate::units::{HEADER_OF_TWO_FILES, Slice, UNIT_OF_VERSION_4, program, slice, unit};
 use gimli_core::{
-    AttributeValue, DW_FORM_string, DW_FORM_udata, DW_LNCT_MD5, DW_LNCT_path, DebugLineStrOffset,
-    DebugStrOffset, DwLne, DwLns, EndianSlice, Error, Reader, Result, RunTimeEndian,
+    AttributeValue, DW_FORM_string, DW_FORM_udata, DW_LNCT_MD5, DW_LNCT_path, DebugLineOffset,
+    DebugLineStrOffset, DebugStrOffset, DwForm, DwLne, DwLns, EndianSlice, Error, Reader,
+    ReaderOffsetId, Result, RunTimeEndian, SectionId,
 };
 use gimli_line::LineInstruction::{
     AdvanceLine, AdvancePc, ConstAddPc, EndSequence, FixedAddPc, NegateStatement, SetAddress,
     SetBasicBlock, SetColumn, SetDiscriminator, SetEpilogueBegin, SetFile, SetIsa, SetPrologueEnd,
     Special, UnknownExtended, UnknownStandard0, UnknownStandard1, UnknownStandardN,
 };
-use gimli_line::{ColumnType, FileEntryFormat, LineInstruction, LineRow};
+use gimli_line::{
+    ColumnType, CompleteLineProgram, DebugLine, FileEntryFormat, IncompleteLineProgram,
+    LineInstruction, LineRow,
+};
 use std::alloc::Global;
 use std::num::NonZeroU64;
 use std::process::Abort;
@@ -58,6 +62,45 @@ fn columns_in_order(rt: HostRuntime) {
         check_ascending(&rt, &columns);
         check_distinct(&rt, "column", &columns);
     }
+}
+
+/// Refusals, each two of which differ in their kind or in what they hold.
+const ERRORS: [Error; 22] = [
+    Error::UnexpectedEof(ReaderOffsetId(0)),
+    Error::UnexpectedEof(ReaderOffsetId(1)),
+    Error::BadUnsignedLeb128,
+    Error::BadSignedLeb128,
+    Error::UnknownReservedLength,
+    Error::UnknownVersion(1),
+    Error::UnknownVersion(6),
+    Error::UnsupportedAddressSize(3),
+    Error::UnsupportedAddressSize(5),
+    Error::UnsupportedSegmentSize(3),
+    Error::UnsupportedSegmentSize(5),
+    Error::MinimumInstructionLengthZero,
+    Error::MaximumOperationsPerInstructionZero,
+    Error::LineRangeZero,
+    Error::OpcodeBaseZero,
+    Error::MissingFileEntryFormatPath,
+    Error::UnknownForm(DwForm(1)),
+    Error::UnknownForm(DwForm(2)),
+    Error::AddressOverflow,
+    Error::UnsupportedOffset,
+    Error::ExpectedStringAttributeValue,
+    Error::OutOfMemory,
+];
+
+const SECTIONS: [SectionId; 4] = [
+    SectionId::DebugInfo,
+    SectionId::DebugLine,
+    SectionId::DebugStr,
+    SectionId::DebugLineStr,
+];
+
+#[test]
+fn equal_errors_and_sections(rt: HostRuntime) {
+    check_distinct(&rt, "error", &ERRORS);
+    check_distinct(&rt, "section", &SECTIONS);
 }
 
 // ---- what is read
@@ -146,6 +189,12 @@ fn equal_values_and_readers(rt: HostRuntime) {
             EndianSlice::new(b"", RunTimeEndian::Little),
         ],
     );
+    let elsewhere = [b'a'];
+    check_equal(
+        &rt,
+        EndianSlice::new(&elsewhere, RunTimeEndian::Big),
+        EndianSlice::new(b"a", RunTimeEndian::Big),
+    );
 }
 
 #[test]
@@ -173,6 +222,105 @@ fn steps_of_equal_entries(rt: &impl Abort, alloc: Global) -> Result<()> {
 fn equal_entries(rt: HostRuntime) {
     check_equal(&rt, steps_of_equal_entries(&rt, rt.alloc()), Ok(()));
 }
+
+// ---- programs
+
+/// A unit of version 2 with the file `a.c`, and no program; then the same of version 3, with opcode base 12 and a byte
+/// more behind its tables, and in the 64-bit format.
+const VERSION_2: &[u8] =
+    b"\x20\0\0\0\x02\0\x1a\0\0\0\x01\x01\xfb\x0e\x0d\0\x01\x01\x01\x01\0\0\0\x01\0\0\x01\0a.c\0\0\0\0\0";
+
+const VERSION_3: &[u8] =
+    b"\x20\0\0\0\x03\0\x1a\0\0\0\x01\x01\xfb\x0e\x0d\0\x01\x01\x01\x01\0\0\0\x01\0\0\x01\0a.c\0\0\0\0\0";
+
+const OPCODE_BASE_12: &[u8] =
+    b"\x20\0\0\0\x02\0\x1a\0\0\0\x01\x01\xfb\x0e\x0c\0\x01\x01\x01\x01\0\0\0\x01\0\0\0a.c\0\0\0\0\0\0";
+
+const OF_64_BITS: &[u8] =
+    b"\xff\xff\xff\xff\x24\0\0\0\0\0\0\0\x02\0\x1a\0\0\0\0\0\0\0\x01\x01\xfb\x0e\x0d\0\x01\x01\x01\x01\0\0\0\x01\0\0\x01\0a.c\0\0\0\0\0";
+
+/// The first unit twice.
+const TWICE: &[u8] =
+    b"\x20\0\0\0\x02\0\x1a\0\0\0\x01\x01\xfb\x0e\x0d\0\x01\x01\x01\x01\0\0\0\x01\0\0\x01\0a.c\0\0\0\0\0\
+      \x20\0\0\0\x02\0\x1a\0\0\0\x01\x01\xfb\x0e\x0d\0\x01\x01\x01\x01\0\0\0\x01\0\0\x01\0a.c\0\0\0\0\0";
+
+/// A section, the offset of a unit, the size of an address, a directory and a name.
+type Place = (&'static [u8], usize, u8, &'static [u8], &'static [u8]);
+
+/// Places of programs, each two of which differ: in their version, opcode base, format, offset, address size, directory
+/// or name.
+const PLACES: [Place; 8] = [
+    (VERSION_2, 0, 4, b"/w", b"a"),
+    (VERSION_3, 0, 4, b"/w", b"a"),
+    (OPCODE_BASE_12, 0, 4, b"/w", b"a"),
+    (OF_64_BITS, 0, 4, b"/w", b"a"),
+    (TWICE, 36, 4, b"/w", b"a"),
+    (VERSION_2, 0, 8, b"/w", b"a"),
+    (VERSION_2, 0, 4, b"/x", b"a"),
+    (VERSION_2, 0, 4, b"/w", b"b"),
+];
+
+/// The program of a place, where addresses have 8 or else 4 bytes.
+fn program_at(
+    alloc: Global,
+    (section, offset, size, directory, name): Place,
+) -> Result<IncompleteLineProgram<Slice<'static>>> {
+    let section = DebugLine::from(slice(section));
+    let offset = DebugLineOffset(offset);
+    let directory = Some(slice(directory));
+    let name = Some(slice(name));
+    match size {
+        8 => section.program(alloc, offset, 8, directory, name),
+        _ => section.program(alloc, offset, 4, directory, name),
+    }
+}
+
+/// The program of each place.
+fn programs(alloc: Global) -> Result<Vec<IncompleteLineProgram<Slice<'static>>>> {
+    let mut programs = Vec::new(alloc);
+    for place in PLACES {
+        let pushed = programs.push(program_at(alloc, place)?);
+        pushed.map_err(|_| Error::OutOfMemory)?;
+    }
+    Ok(programs)
+}
+
+/// The complete program of each place.
+fn complete_programs(alloc: Global) -> Result<Vec<CompleteLineProgram<Slice<'static>>>> {
+    let mut programs = Vec::new(alloc);
+    for place in PLACES {
+        let (program, _) = program_at(alloc, place)?.sequences()?;
+        let pushed = programs.push(program);
+        pushed.map_err(|_| Error::OutOfMemory)?;
+    }
+    Ok(programs)
+}
+
+fn steps_of_equal_programs(rt: &impl Abort, alloc: Global) -> Result<()> {
+    let found = programs(alloc)?;
+    check_distinct(rt, "program", &found);
+    check(rt, programs(alloc)? == found);
+    Ok(())
+}
+
+fn steps_of_equal_complete_programs(rt: &impl Abort, alloc: Global) -> Result<()> {
+    let found = complete_programs(alloc)?;
+    check_distinct(rt, "complete program", &found);
+    check(rt, complete_programs(alloc)? == found);
+    Ok(())
+}
+
+#[test]
+fn equal_programs(rt: HostRuntime) {
+    check_equal(&rt, steps_of_equal_programs(&rt, rt.alloc()), Ok(()));
+    check_equal(
+        &rt,
+        steps_of_equal_complete_programs(&rt, rt.alloc()),
+        Ok(()),
+    );
+}
+
+// ---- rows
 
 /// Programs, each of which changes one register alone; the last hides what follows it.
 const CHANGES: [&[u8]; 13] = [

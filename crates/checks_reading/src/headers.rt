@@ -1,7 +1,7 @@
 //! Headers over a reader whose offsets have 32 bits, look-ups at the top of an index's range, sections over sections,
 //! and copies.
 
-use crate::check::{check, check_equal};
+use crate::check::{check, check_equal, check_equal_at};
 use crate::narrow::NarrowReader;
 use crate::units::{
     DEMO_UNIT, Slice, UNIT_OF_VERSION_4, UNIT_OF_VERSION_5, changed, is_directory, is_text,
@@ -325,12 +325,11 @@ fn sections_over_readers_and_vectors(rt: HostRuntime) {
 
 // ---- equal and copied headers
 
-/// Two units have equal headers, and so are their programs.
-fn have_equal_headers<R: Reader + PartialEq>(alloc: Global, one: R, other: R) -> Result<bool> {
+/// Whether the headers of two units are equal, and whether their programs are.
+fn equalities<R: Reader + PartialEq>(alloc: Global, one: R, other: R) -> Result<[bool; 2]> {
     let one = program(alloc, one, 4)?;
     let other = program(alloc, other, 4)?;
-    let equal = *one.header() == *other.header();
-    Ok(equal && one == other)
+    Ok([*one.header() == *other.header(), one == other])
 }
 
 /// A copy of the header is equal to it.
@@ -350,11 +349,12 @@ fn has_equal_copies<R: Reader + PartialEq>(alloc: Global, unit: R) -> Result<boo
 /// compared and copied with it.
 fn steps_of_equal_and_copied_headers(rt: &impl Abort, alloc: Global) -> Result<()> {
     let one = slice(UNIT_OF_VERSION_5);
-    check(
+    check_equal(
         rt,
-        have_equal_headers(alloc, one, slice(UNIT_OF_VERSION_5))?,
+        equalities(alloc, one, slice(UNIT_OF_VERSION_5))?,
+        [true; 2],
     );
-    check(rt, !have_equal_headers(alloc, one, slice(DEMO_UNIT))?);
+    check_equal(rt, equalities(alloc, one, slice(DEMO_UNIT))?, [false; 2]);
     check(rt, has_equal_copies(alloc, one)?);
     check(rt, has_equal_copies(alloc, slice(DEMO_UNIT))?);
     Ok(())
@@ -370,12 +370,15 @@ fn equal_and_copied_headers(rt: HostRuntime) {
 }
 
 /// Places of the version 5 unit whose bytes the header keeps, each with another byte that leaves a header: address
-/// size, program, flag, line base, an operand count, a directory's name, a file's name, its directory, and a format.
-const OTHERS: [(usize, u8); 9] = [
+/// size, minimum instruction length, maximum operations, default_is_stmt, line base, line range, an operand count, a
+/// directory's name, a file's name, its directory, and the form of that.
+const OTHERS: [(usize, u8); 11] = [
     (6, 4),
     (12, 2),
+    (13, 2),
     (14, 0),
     (15, 0xfc),
+    (16, 13),
     (19, 2),
     (35, b'x'),
     (43, b'b'),
@@ -386,8 +389,8 @@ const OTHERS: [(usize, u8); 9] = [
 fn steps_of_headers_that_differ_in_one_part(rt: &impl Abort, alloc: Global) -> Result<()> {
     for (place, byte) in OTHERS {
         let other = changed(alloc, UNIT_OF_VERSION_5, &[(place, byte)])?;
-        let equal = have_equal_headers(alloc, slice(UNIT_OF_VERSION_5), slice(&other))?;
-        assert!(rt; !equal, "at {place}");
+        let equal = equalities(alloc, slice(UNIT_OF_VERSION_5), slice(&other))?;
+        check_equal_at(rt, equal, [false; 2], place);
     }
     Ok(())
 }

@@ -43,6 +43,7 @@ fn refuses<R: Reader>(program: &IncompleteLineProgram<R>, error: Error) -> bool 
 /// asked; nor does it in a copy.
 fn ends_behind_first<R: Reader>(program: &IncompleteLineProgram<R>) -> bool {
     let mut instructions = program.header().instructions();
+    // Whether the first one is refused makes no difference to what follows it.
     let _ = instructions.next_instruction(program.header());
     let mut copy = instructions.clone();
     matches!(copy.next_instruction(program.header()), Ok(None))

@@ -66,6 +66,7 @@ impl Refusal {
         ensures usage { self ≡ Refusal.Usage → result ≡ 2 }
         ensures refused { self ≢ Refusal.Usage → result ≡ 1 }
     {
+        // Where standard error takes nothing, the status still tells.
         let _ = err.write_all(self.text().as_bytes());
         match self {
             Refusal::Usage => 2,

@@ -27,7 +27,7 @@
 //! 0000000000001000 0 1 1 0 0 0 s
 //! ```
 //!
-//! The commands are `write`, `read` and `bytes`, which take a script, `header`, `instructions`, `convert`,
+//! The commands are `write`, `read`, `bytes` and `pieces`, which take a script, `header`, `instructions`, `convert`,
 //! `convert_sequences`, and those of `linetool`. A line `:= NAME BYTES` defines a part, for which `@NAME` then stands; `unit(..)` puts a unit length
 //! before its bytes, and `N*HH` is N times a byte. Blanks at the end of a line, and blank lines at the end of the
 //! output, don't count.
@@ -77,6 +77,7 @@ fn tell_error(rt: &HostRuntime, error: &io::Error) -> u8 {
 
 /// Tells something on standard error, and answers a status.
 fn tell(rt: &HostRuntime, text: impl fmt::Display + Drop, status: u8) -> u8 {
+    // Where standard error takes nothing, the status still tells.
     let _ = writeln!(rt.stderr(), "vectors: {text}");
     status
 }
