@@ -11,7 +11,7 @@ use Rattle.gimli_bytes.specs.Number.{uleb}
 use Rattle.gimli_bytes.proofs.ShortestUleb.{uleb_shortest}
 use Rattle.gimli_line.specs.header.File.{File as ReadFile}
 use Rattle.gimli_line.specs.header.HeaderGrammar.{Entry, entry_production, digest, file_of_entry}
-use Rattle.gimli_build.specs.Version5Tables.{when}
+use Rattle.gimli_build.specs.Due.{when}
 use Rattle.gimli_build.proofs.FormatForms.{read_format, formats_of, nested}
 
 -- ---- what is read

@@ -11,7 +11,8 @@ use Rattle.gimli_bytes.proofs.ShortestUleb.{uleb_shortest}
 use Rattle.gimli_line.specs.header.HeaderGrammar.{format_production, is_content, SpellsFormats}
 use Rattle.gimli_line.specs.declared.header.file_entry.FileEntryFormat.{FileEntryFormat}
 use Rattle.gimli_build.specs.LineText.{LineText, Inline, InStrings, InLineStrings}
-use Rattle.gimli_build.specs.Version5Tables.{text_form, first_form, path_texts, sources, formats_bytes, when, directory_formats, file_formats}
+use Rattle.gimli_build.specs.Due.{when}
+use Rattle.gimli_build.specs.Version5Tables.{text_form, first_form, path_texts, sources, formats_bytes, directory_formats, file_formats}
 use Rattle.gimli_build.specs.Built.{Built}
 
 -- a content type and a form as they are read

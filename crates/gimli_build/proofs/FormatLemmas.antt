@@ -4,7 +4,8 @@ use Rattle.std.specs.Prelude.{flat_map}
 use Rattle.std.proofs.lemmas.List.{append-nil}
 use Rattle.std.proofs.lemmas.List.Concat.{flat_map-append}
 use Rattle.gimli_bytes.specs.Number.{uleb}
-use Rattle.gimli_build.specs.Version5Tables.{when, formats_bytes}
+use Rattle.gimli_build.specs.Due.{when}
+use Rattle.gimli_build.specs.Version5Tables.{formats_bytes}
 
 -- a content type and a form
 abbrev pub one_format : ℕ × ℕ → List ℕ

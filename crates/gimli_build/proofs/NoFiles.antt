@@ -31,7 +31,8 @@ use Rattle.gimli_build.specs.declared.built.items.BuiltItem.TheVariants.{SetAddr
 use Rattle.gimli_build.specs.Advance.{operations}
 use Rattle.gimli_build.specs.Built.{address_value}
 use Rattle.gimli_build.specs.FileNumber.{file_number}
-use Rattle.gimli_build.specs.Encode.{when, differ, marks, changes, is_special_advance, line_opcode, line_part, still_opcode, constant_advance, row_maker, operation_part, row_instructions, end_instructions}
+use Rattle.gimli_build.specs.Due.{when}
+use Rattle.gimli_build.specs.Encode.{differ, marks, changes, is_special_advance, line_opcode, line_part, still_opcode, constant_advance, row_maker, operation_part, row_instructions, end_instructions}
 use Rattle.gimli_build.specs.Items.{next_previous, item_instructions, items_instructions}
 use Rattle.gimli_build.specs.NoFiles.{DefinesNoFile}
 

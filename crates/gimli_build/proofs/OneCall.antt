@@ -22,8 +22,8 @@ pub answered : {W E X Y : Type 0} {writer : Ghosts W E} {old new : W} {x : X} {y
 answered so = record { keeps = so.keeps; ordered = so.ordered; ok = so.ok; err = λ keeps_bytes fails_for_memory_alone. tt }
 
 -- where bytes are wanted, a refusal is for memory, whatever they are
-pub none_written : {W E X Y : Type 0} {writer : Ghosts W E} {old new : W} {e : Error} {xs : List ℕ} (ys : List ℕ) → Writes {X = X} writer old new (Err e) (Ok xs) → Writes {X = Y} writer old new (Err e) (Ok ys)
-none_written {e = e} {xs = xs} ys refused = record {
+pub refused_alike : {W E X Y : Type 0} {writer : Ghosts W E} {old new : W} {e : Error} {xs : List ℕ} (ys : List ℕ) → Writes {X = X} writer old new (Err e) (Ok xs) → Writes {X = Y} writer old new (Err e) (Ok ys)
+refused_alike {e = e} {xs = xs} ys refused = record {
   keeps = refused.keeps;
   ordered = refused.ordered;
   ok = λ keeps_bytes. tt;

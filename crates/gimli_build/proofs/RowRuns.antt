@@ -20,7 +20,8 @@ use Rattle.gimli_line.specs.run.Events.{row}
 use Rattle.gimli_line.specs.run.Machine.{run, initial, reset_row, pointer_of, at_pointer}
 use Rattle.gimli_build.specs.declared.built.row.LineRow.{LineRow}
 use Rattle.gimli_build.specs.Advance.{CanEncode, IsPlace, CanFollow, operations}
-use Rattle.gimli_build.specs.Encode.{when, marks, changes, differ, line_part, line_opcode, is_special_advance, operation_part, row_instructions, row_maker, still_opcode, constant_advance, end_instructions}
+use Rattle.gimli_build.specs.Due.{when}
+use Rattle.gimli_build.specs.Encode.{marks, changes, differ, line_part, line_opcode, is_special_advance, operation_part, row_instructions, row_maker, still_opcode, constant_advance, end_instructions}
 use Rattle.gimli_build.specs.FileNumber.{file_number}
 use Rattle.gimli_build.specs.Rows.{initial_row}
 use Rattle.gimli_build.specs.SameRow.{built_rules, read_row, behind_row, read_end}

@@ -14,7 +14,8 @@ use Rattle.gimli_line.specs.run.OperationPointer.{operation_advance}
 use Rattle.gimli_build.specs.declared.built.row.LineRow.{LineRow}
 use Rattle.gimli_build.specs.FileNumber.{file_number}
 use Rattle.gimli_build.specs.Advance.{CanEncode, operations}
-use Rattle.gimli_build.specs.Encode.{when, marks, changes, differ, line_part, line_opcode, is_special_advance, still_opcode, row_maker, constant_advance, operation_part, row_instructions}
+use Rattle.gimli_build.specs.Due.{when}
+use Rattle.gimli_build.specs.Encode.{marks, changes, differ, line_part, line_opcode, is_special_advance, still_opcode, row_maker, constant_advance, operation_part, row_instructions}
 use Rattle.gimli_build.specs.InstructionBytes.{instruction_bytes, instructions_bytes}
 use Rattle.gimli_build.specs.SameRow.{built_rules}
 use Rattle.gimli_build.specs.Sizes.{HasSpecial, OnlyMoves}
@@ -66,7 +67,7 @@ row_short version e previous built =
 not_due : (m n : ℕ) (i : Ins) → m ≡ n → when (not (nat_eq m n)) i ≡ []
 not_due m n i same = let t : nat_eq m n ≡ true = grind (arith, nat_tests) in rw t refl
 
-not_turned : (a b : Bool) → a ≡ b → when (differ a b) NegateStatement ≡ []
+not_turned : (a b : Bool) → a ≡ b → when {A = Ins} (differ a b) NegateStatement ≡ []
 not_turned true b h = rw (← h) refl
 not_turned false b h = rw (← h) refl
 
@@ -105,11 +106,12 @@ parts_of encoding e d n can has =
     let line : e.line_base +ℤ pos (z % g) ≡ d = some_same (e.line_base +ℤ pos (z % g)) d has.line in
     let count : z / g ≡ n = some_same (z / g) n has.operations in
     let whole : n * g + z % g ≡ z = ap (λ (x : ℕ). x * g + z % g) (sym count) ∙ div-add-mod' z g in
+    let least : 13 ≤ has.opcode = has.least in
     record {
       above = z % g;
       within = mod-lt z some;
       line = line;
-      fits = omega (arith, whole, has.least, has.greatest);
+      fits = omega (arith, whole, least, has.greatest);
     }
 
 -- what is due for the line

@@ -28,7 +28,8 @@ use Rattle.gimli_line.specs.declared.run.instruction.LineInstruction.TheVariants
 use Rattle.gimli_build.specs.declared.built.row.LineRow.{LineRow}
 use Rattle.gimli_build.specs.FileNumber.{file_number}
 use Rattle.gimli_build.specs.Advance.{CanEncode, CanFollow, operations}
-use Rattle.gimli_build.specs.Encode.{when, marks, changes, differ, line_part, line_opcode, is_special_advance, still_opcode, row_maker, constant_advance, operation_part, row_instructions, end_instructions}
+use Rattle.gimli_build.specs.Due.{when}
+use Rattle.gimli_build.specs.Encode.{marks, changes, differ, line_part, line_opcode, is_special_advance, still_opcode, row_maker, constant_advance, operation_part, row_instructions, end_instructions}
 use Rattle.gimli_build.specs.InstructionBytes.{instruction_bytes, instructions_bytes, set_address_bytes, IsWritten, FitsInstructions}
 
 module _ (notation : Notation) (h : Header) (base : h.parameters.opcode_base ≡ 13) (wide : 11 < notation.limit) where

@@ -13,7 +13,7 @@ use Rattle.gimli_build.specs.LineText.{LineText, Inline, InStrings, InLineString
 use Rattle.gimli_build.specs.Tables.{File}
 use Rattle.gimli_build.specs.Built.{Built}
 use Rattle.gimli_build.specs.Version5Tables.{text_form, first_form, path_texts, sources, empty_text, strings_behind, line_strings_behind, directory_formats, file_formats, formats_bytes, detail_bytes}
-use Rattle.gimli_build.specs.Unit.{is_incompatible, program_bytes}
+use Rattle.gimli_build.specs.Unit.{is_incompatible, opcode_bytes, program_bytes}
 use Rattle.gimli_build.specs.declared.built.items.BuiltItem.{BuiltItem}
 use Rattle.gimli_build.specs.declared.built.items.BuiltItem.TheVariants.{SetAddress}
 
@@ -92,7 +92,7 @@ tables_size p strings line_strings =
 -- how many bytes the header length counts: the numbers of the line encoding, the opcode base and twelve operand counts,
 -- and the tables
 abbrev pub header_length : Built → List (List ℕ) → List (List ℕ) → ℕ
-header_length p strings line_strings = (if nat_le 4 p.encoding.version then 5 else 4) + 13 + tables_size p strings line_strings
+header_length p strings line_strings = (if nat_le 4 p.encoding.version then 5 else 4) + length opcode_bytes + tables_size p strings line_strings
 
 -- how many bytes are there, where nothing is refused
 abbrev pub size_of : Result (List ℕ) Error → ℕ

@@ -1,16 +1,16 @@
--- The instructions that a built row or end is written as, from the row before it (DWARF 5, section 6.2.5). The
--- opcode base is 13.
+-- The instructions that a built row or end is written as, from the row before it (DWARF 5, section 6.2.5).
 use Rattle.std.specs.Prelude.{ℕ, ◌+◌, ◌-◌, ◌*◌, ◌/◌, Bool, true, false, not, ◌&&◌, nat_eq, nat_le, if◌then◌else◌, List, [], ◌∷◌, ◌++◌, ℤ, pos, ◌+ℤ◌, ◌-ℤ◌, unsigned_abs, int_le, int_lt}
 use Rattle.gimli_core.specs.declared.common.LineEncoding.{LineEncoding}
 use Rattle.gimli_line.specs.declared.run.instruction.LineInstruction.TheVariants.{Special, Copy, AdvancePc, AdvanceLine, SetFile, SetColumn, NegateStatement, SetBasicBlock, ConstAddPc, SetPrologueEnd, SetEpilogueBegin, SetIsa, EndSequence, SetDiscriminator}
 use Rattle.gimli_line.specs.run.Instruction.{Ins}
 use Rattle.gimli_build.specs.declared.built.row.LineRow.{LineRow}
+use Rattle.gimli_build.specs.Due.{when}
 use Rattle.gimli_build.specs.FileNumber.{file_number}
 use Rattle.gimli_build.specs.Advance.{operations}
 
--- an instruction where it is due
-abbrev pub when : Bool → Ins → List Ins
-when due i = if due then i ∷ [] else []
+-- the opcode base of each program that is built: the first special opcode, after the twelve standard ones
+abbrev pub built_opcode_base : ℕ
+built_opcode_base = 13
 
 -- ---- registers that are said outright
 
@@ -38,7 +38,7 @@ changes version previous row =
 
 -- the special opcode that advances nothing
 abbrev pub still_opcode : LineEncoding → ℕ
-still_opcode e = 13 + unsigned_abs e.line_base
+still_opcode e = built_opcode_base + unsigned_abs e.line_base
 
 -- special opcodes have this line advance
 abbrev pub is_special_advance : LineEncoding → ℤ → Bool
@@ -46,7 +46,7 @@ is_special_advance e d = int_le e.line_base d && int_lt d (e.line_base +ℤ pos 
 
 -- the special opcode that is due for a line advance: that advance, where special opcodes have it, and no operation
 abbrev pub line_opcode : LineEncoding → ℤ → ℕ
-line_opcode e d = if is_special_advance e d then 13 + unsigned_abs (d -ℤ e.line_base) else still_opcode e
+line_opcode e d = if is_special_advance e d then built_opcode_base + unsigned_abs (d -ℤ e.line_base) else still_opcode e
 
 -- what comes before it
 abbrev pub line_part : LineEncoding → ℤ → List Ins

@@ -9,6 +9,7 @@ use Rattle.gimli_line.specs.declared.run.instruction.LineInstruction.TheVariants
 use Rattle.gimli_line.specs.run.Instruction.{Ins}
 use Rattle.gimli_build.specs.declared.built.row.LineRow.{LineRow}
 use Rattle.gimli_build.specs.FileNumber.{file_number}
+use Rattle.gimli_build.specs.Encode.{built_opcode_base}
 
 -- an instruction of a row or an end; no other is written but set addresses
 abbrev pub instruction_bytes : Ins → List ℕ
@@ -38,7 +39,7 @@ set_address_bytes big address size = seen (λ operand. 0 ∷ uleb (size + 1) ++ 
 
 -- an instruction that rows and ends are written with, whose operand 64 bits hold
 abbrev pub IsWritten : Ins → Type 0
-IsWritten (Special o) = (13 ≤ o) × (o ≤ 255)
+IsWritten (Special o) = (built_opcode_base ≤ o) × (o ≤ 255)
 IsWritten Copy = Unit {0}
 IsWritten (AdvancePc n) = n < 2 ^ 64
 IsWritten (AdvanceLine z) = FitsSigned w64 z

@@ -1,3 +1,4 @@
+pub mod Due
 pub mod FileNumber
 pub mod Rows
 pub mod Advance

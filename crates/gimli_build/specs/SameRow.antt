@@ -6,13 +6,14 @@ use Rattle.gimli_line.specs.declared.run.row.LineRow.{LineRow as ReadRow}
 use Rattle.gimli_line.specs.header.Parameters.{Parameters}
 use Rattle.gimli_build.specs.declared.built.row.LineRow.{LineRow}
 use Rattle.gimli_build.specs.FileNumber.{file_number}
+use Rattle.gimli_build.specs.Encode.{built_opcode_base}
 use Rattle.gimli_build.specs.Built.{base_of}
 use Rattle.gimli_build.specs.declared.built.items.BuiltItem.{BuiltItem}
 use Rattle.gimli_build.specs.declared.built.items.BuiltItem.TheVariants.{SetAddress, Row, End}
 
 -- what the instructions of a built program are executed by
 abbrev pub built_rules : Encoding → LineEncoding → Parameters
-built_rules encoding e = record { encoding = encoding; line_encoding = e; opcode_base = 13 }
+built_rules encoding e = record { encoding = encoding; line_encoding = e; opcode_base = built_opcode_base }
 
 -- a row, where the address `base` was set before it
 abbrev pub read_row : ℕ → ℕ → LineRow → ReadRow

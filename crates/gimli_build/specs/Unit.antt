@@ -14,6 +14,7 @@ use Rattle.gimli_build.specs.Joined.{joined, behind_length}
 use Rattle.gimli_build.specs.Version4Tables.{directories_bytes, files_bytes}
 use Rattle.gimli_build.specs.Version5Tables.{strings_behind, line_strings_behind, directory_table_bytes, file_table_bytes}
 use Rattle.gimli_build.specs.Rows.{initial_row}
+use Rattle.gimli_build.specs.Encode.{built_opcode_base}
 use Rattle.gimli_build.specs.Items.{items_bytes}
 use Rattle.gimli_build.specs.Built.{Built}
 
@@ -51,7 +52,7 @@ operand_counts = 0 ∷ 1 ∷ 1 ∷ 1 ∷ 1 ∷ 0 ∷ 0 ∷ 0 ∷ 1 ∷ 0 ∷ 0 �
 
 -- the opcode base, and those
 abbrev pub opcode_bytes : List ℕ
-opcode_bytes = 13 ∷ operand_counts
+opcode_bytes = built_opcode_base ∷ operand_counts
 
 -- ---- the unit
 

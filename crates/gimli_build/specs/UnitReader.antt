@@ -10,16 +10,18 @@ use Rattle.gimli_line.specs.run.InstructionGrammar.{SpellsInstruction}
 use Rattle.gimli_build.specs.declared.built.row.LineRow.{LineRow}
 use Rattle.gimli_build.specs.declared.built.items.BuiltItem.{BuiltItem}
 use Rattle.gimli_build.specs.Advance.{CanEncode}
+use Rattle.gimli_build.specs.Encode.{built_opcode_base}
 use Rattle.gimli_build.specs.Conditions.{AreBuilt}
 use Rattle.gimli_build.specs.InstructionBytes.{set_address_bytes, FitsInstructions}
 use Rattle.gimli_build.specs.Items.{items_bytes, AreFit}
 use Rattle.gimli_build.specs.Runs.{Run, Follows, place_of}
 
--- a reader at a unit: the header has the opcode base 13, and the reader's offsets hold the length of the longest instruction
+-- a reader at a unit: the header has the opcode base of what is built, and the reader's offsets hold the length of the
+-- longest instruction
 pub record UnitReader : Type 0 where
   pub notation : Notation
   pub header : Header
-  pub opcode_base : header.parameters.opcode_base ≡ 13
+  pub opcode_base : header.parameters.opcode_base ≡ built_opcode_base
   pub longest : 11 < notation.limit
 
 -- the bytes are a spelling of the instruction there

@@ -1,4 +1,4 @@
--- The tables of a unit of version 5 as they are written (DWARF 5, section 6.2.4, parts 14 to 19).
+-- The tables of a unit of version 5 as they are written (DWARF 5, section 6.2.4, parts 13 to 20).
 use Rattle.std.specs.Prelude.{ℕ, ◌++◌, List, [], ◌∷◌, length, map, Bool, ◌&&◌, nat_eq, nat_le, if◌then◌else◌, Some, None, unwrap_or, Result, Ok, Err}
 use Rattle.std.specs.Option.{is_none}
 use Rattle.std.specs.List.{flat_map, list_any}
@@ -7,6 +7,7 @@ use Rattle.gimli_bytes.specs.Number.{uleb}
 use Rattle.gimli_bytes.specs.Texts.{with_text, place_of_text, offset_of}
 use Rattle.gimli_bytes.specs.declared.error.Error.{Error}
 use Rattle.gimli_bytes.specs.declared.error.Error.TheVariants.{LineStringFormMismatch}
+use Rattle.gimli_build.specs.Due.{when}
 use Rattle.gimli_build.specs.LineText.{LineText, Inline, InStrings, InLineStrings}
 use Rattle.gimli_build.specs.Tables.{File}
 use Rattle.gimli_build.specs.FormatWord.{format_word}
@@ -60,9 +61,6 @@ line_strings_behind p line_strings = if needs_empty p && nat_eq (first_form (sou
 -- a content type and a form
 abbrev pub formats_bytes : List (ℕ × ℕ) → List ℕ
 formats_bytes formats = length formats ∷ flat_map (λ f. uleb f.0 ++ uleb f.1) formats
-
-abbrev pub when : {A : Type 0} → Bool → A → List A
-when due x = if due then x ∷ [] else []
 
 -- a path
 abbrev pub directory_formats : Built → List (ℕ × ℕ)

@@ -6,7 +6,8 @@ ghost use Rattle.gimli_build.specs.Items.{next_previous, item_bytes, items_bytes
 ghost use Rattle.gimli_build.specs.Built.{place_after};
 ghost use Rattle.gimli_build.specs.Rows.{initial_row, at_place};
 ghost use Rattle.gimli_build.specs.Advance.{CanEncode, IsPlace, CanFollow, operations};
-ghost use Rattle.gimli_build.specs.Encode.{when, marks, changes, is_special_advance, line_opcode, line_part, row_maker, operation_part, row_instructions};
+ghost use Rattle.gimli_build.specs.Due.{when};
+ghost use Rattle.gimli_build.specs.Encode.{marks, changes, is_special_advance, line_opcode, line_part, row_maker, operation_part, row_instructions};
 ghost use Rattle.gimli_build.specs.InstructionBytes.{instructions_bytes, FitsInstructions};
 ghost use Rattle.gimli_build.specs.FileNumber.{file_number};
 ghost use Rattle.gimli_build.specs.ReadAs.{read_as};

@@ -3,7 +3,8 @@ use Rattle.std.proofs.Common.{◌≡◌, Bool, true, false, nat_eq, not, refl}
 use Rattle.std.proofs.lemmas.Result.{err_from_is_err_and}
 use Rattle.gimli_line.specs.declared.run.instruction.LineInstruction.TheVariants.{NegateStatement, SetFile, SetColumn, SetIsa}
 use Rattle.gimli_build.specs.FileNumber.{file_number}
-use Rattle.gimli_build.specs.Encode.{when, changes, differ}
+use Rattle.gimli_build.specs.Due.{when}
+use Rattle.gimli_build.specs.Encode.{changes, differ}
 use Rattle.gimli_build.specs.InstructionBytes.{instructions_bytes}
 use Rattle.gimli_build.proofs.InstructionsWritten.{four_parts}
 use Rattle.gimli_build.proofs.Writes.{joins, unwritten}

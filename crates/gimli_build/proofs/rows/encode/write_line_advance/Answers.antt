@@ -9,7 +9,7 @@ use Rattle.gimli_line.specs.declared.run.instruction.LineInstruction.TheVariants
 use Rattle.gimli_build.specs.Advance.{CanEncode}
 use Rattle.gimli_build.specs.Encode.{is_special_advance, line_part}
 use Rattle.gimli_build.specs.InstructionBytes.{instruction_bytes, instructions_bytes}
-use Rattle.gimli_build.proofs.OneCall.{none_called, answered, none_written}
+use Rattle.gimli_build.proofs.OneCall.{none_called, answered, refused_alike}
 use Rattle.gimli_build.proofs.rows.encode.write_line_advance.Goals as goal
 
 same_word : (d : ℤ) → FitsSigned w64 d → to_z w64 (of_z w64 d) ≡ d
@@ -92,7 +92,7 @@ overflow_add-result g c =
 pub returns-in_err-write_instruction-clause-writes : goal.returns-in_err-write_instruction-clause-writes
 returns-in_err-write_instruction-clause-writes g c =
     let p = err_from_is_err_and c.from_residual.result c.from_residual.ensures.1 in
-    rw (p.1, p.2) (none_written (instructions_bytes (line_part c.args.line_encoding.now c.args.advance)) c.in_err-write_instruction.ensures)
+    rw (p.1, p.2) (refused_alike (instructions_bytes (line_part c.args.line_encoding.now c.args.advance)) c.in_err-write_instruction.ensures)
 
 pub returns-clause-writes : goal.returns-clause-writes
 returns-clause-writes g c =

@@ -1,7 +1,8 @@
 use Rattle.std.proofs.Common.{nat_eq, not}
 use Rattle.std.proofs.lemmas.Result.{err_from_is_err_and}
 use Rattle.gimli_line.specs.declared.run.instruction.LineInstruction.TheVariants.{SetDiscriminator, SetBasicBlock, SetPrologueEnd, SetEpilogueBegin}
-use Rattle.gimli_build.specs.Encode.{when, marks}
+use Rattle.gimli_build.specs.Due.{when}
+use Rattle.gimli_build.specs.Encode.{marks}
 use Rattle.gimli_build.specs.InstructionBytes.{instructions_bytes}
 use Rattle.gimli_build.proofs.InstructionsWritten.{four_parts}
 use Rattle.gimli_build.proofs.Writes.{joins, unwritten}

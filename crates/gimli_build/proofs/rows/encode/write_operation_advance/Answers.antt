@@ -3,7 +3,7 @@ use Rattle.std.proofs.lemmas.List.{append-nil}
 use Rattle.std.proofs.lemmas.Result.{err_from_is_err_and}
 use Rattle.gimli_build.specs.Encode.{row_maker, constant_advance, operation_part}
 use Rattle.gimli_build.specs.InstructionBytes.{instruction_bytes, instructions_bytes}
-use Rattle.gimli_build.proofs.OneCall.{none_written}
+use Rattle.gimli_build.proofs.OneCall.{refused_alike}
 use Rattle.gimli_build.proofs.Joins.{past, by_advance}
 use Rattle.gimli_build.proofs.Writes.{joins, unwritten}
 use Rattle.gimli_build.proofs.rows.encode.write_operation_advance.Goals as goal
@@ -22,12 +22,12 @@ returns g c =
 pub returns-in_err-write_instruction : goal.returns-in_err-write_instruction
 returns-in_err-write_instruction g c =
     let p = err_from_is_err_and c.from_residual.result c.from_residual.ensures.1 in
-    rw (p.1, p.2) (none_written (instructions_bytes (operation_part c.args.line_encoding.now c.args.opcode c.args.count)) c.in_err-write_instruction.ensures)
+    rw (p.1, p.2) (refused_alike (instructions_bytes (operation_part c.args.line_encoding.now c.args.opcode c.args.count)) c.in_err-write_instruction.ensures)
 
 pub returns-in_err-write_instruction-2 : goal.returns-in_err-write_instruction-2
 returns-in_err-write_instruction-2 g c =
     let p = err_from_is_err_and c.from_residual-in_err-write_instruction-2.result c.from_residual-in_err-write_instruction-2.ensures.1 in
-    rw (p.1, p.2) (none_written (instructions_bytes (operation_part c.args.line_encoding.now c.args.opcode c.args.count)) c.in_err-write_instruction-2.ensures)
+    rw (p.1, p.2) (refused_alike (instructions_bytes (operation_part c.args.line_encoding.now c.args.opcode c.args.count)) c.in_err-write_instruction-2.ensures)
 
 pub returns-in_err-write_instruction-3 : goal.returns-in_err-write_instruction-3
 returns-in_err-write_instruction-3 g c =

@@ -5,14 +5,14 @@ use Rattle.gimli_line.specs.declared.run.instruction.LineInstruction.TheVariants
 use Rattle.gimli_bytes.specs.Number.{uleb}
 use Rattle.gimli_bytes.specs.declared.error.Error.{Error}
 use Rattle.gimli_build.specs.InstructionBytes.{instruction_bytes}
-use Rattle.gimli_build.proofs.OneCall.{none_written}
+use Rattle.gimli_build.proofs.OneCall.{refused_alike}
 use Rattle.gimli_build.proofs.Writes.{joins, unwritten, writes}
 use Rattle.gimli_build.proofs.rows.instruction.write_discriminator.Goals as goal
 
 pub returns-in_err-write_byte : goal.returns-in_err-write_byte
 returns-in_err-write_byte g c =
     let p = err_from_is_err_and c.from_residual.result c.from_residual.ensures.1 in
-    rw (p.1, p.2) (none_written (instruction_bytes (SetDiscriminator c.args.discriminator)) c.in_err-write_byte.ensures)
+    rw (p.1, p.2) (refused_alike (instruction_bytes (SetDiscriminator c.args.discriminator)) c.in_err-write_byte.ensures)
 
 pub returns-in_err-write_uleb128 : goal.returns-in_err-write_uleb128
 returns-in_err-write_uleb128 g c =

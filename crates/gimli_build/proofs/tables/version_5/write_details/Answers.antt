@@ -3,7 +3,7 @@ use Rattle.std.specs.Prelude.{Result}
 use Rattle.std.proofs.lemmas.Result.{err_from_is_err_and}
 use Rattle.gimli_bytes.specs.Number.{uleb}
 use Rattle.gimli_bytes.specs.declared.error.Error.{Error}
-use Rattle.gimli_build.proofs.OneCall.{none_written}
+use Rattle.gimli_build.proofs.OneCall.{refused_alike}
 use Rattle.gimli_build.proofs.Writes.{joins, unwritten, writes}
 use Rattle.gimli_build.proofs.tables.version_5.write_details.Goals as goal
 
@@ -15,7 +15,7 @@ returns-in_err-write_uleb128-clause-writes g c =
     let p = err_from_is_err_and c.from_residual.result c.from_residual.ensures.1 in
     let put = c.in_err-write_uleb128.ensures in
     let refused = writes g.W.Writer c.args.w.now c.write_uleb128.new.self (let r : Result (Unit {0}) Error = Err c.in_err-write_uleb128.field-0.0 in r) (Ok (uleb c.index.result)) put.keeps put.ordered put.ok put.err in
-    rw (p.1, p.2) (none_written bytes refused)
+    rw (p.1, p.2) (refused_alike bytes refused)
 
 pub returns-in_err-write_number_if-clause-writes : goal.returns-in_err-write_number_if-clause-writes
 returns-in_err-write_number_if-clause-writes g c =

@@ -1,0 +1,5 @@
+-- What stands in a list only where it is due.
+use Rattle.std.specs.Prelude.{Bool, if◌then◌else◌, List, [], ◌∷◌}
+
+abbrev pub when : {A : Type 0} → Bool → A → List A
+when due x = if due then x ∷ [] else []
