@@ -27,14 +27,31 @@ pub(crate) fn print_table(word: &str, bytes: &[u8], text: &mut String) -> Result
 
 /// Prints what is read of a unit.
 pub(crate) fn print_answer(answer: &RoundTrip, text: &mut String) -> Result<(), AllocError> {
+    print_directories(answer, text)?;
+    print_files(answer, text)?;
+    print_rows(answer, text)
+}
+
+/// Prints the directories that are read.
+fn print_directories(answer: &RoundTrip, text: &mut String) -> Result<(), AllocError> {
     for (index, directory) in answer.directories.iter().enumerate() {
         let name = Text(directory.as_slice());
         writeln!(text, "directory {index} {name}")?;
     }
+    Ok(())
+}
+
+/// Prints the files that are read.
+fn print_files(answer: &RoundTrip, text: &mut String) -> Result<(), AllocError> {
     for (index, file) in answer.files.iter().enumerate() {
         let line = FileLine(file);
         writeln!(text, "file {index} {line}")?;
     }
+    Ok(())
+}
+
+/// Prints the rows that are read.
+fn print_rows(answer: &RoundTrip, text: &mut String) -> Result<(), AllocError> {
     for row in answer.rows.as_slice() {
         let line = RowLine(*row);
         writeln!(text, "{line}")?;

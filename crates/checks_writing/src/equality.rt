@@ -1,7 +1,12 @@
-//! Equality and hashes of what is built.
+//! Equality and hashes of what is built and converted, and equality of errors.
 
-use crate::check::check_equal;
-use gimli_write::{Address, FileInfo, LineString, LineStringId, StringId};
+use crate::built::first_row;
+use crate::check::{check, check_equal};
+use gimli_core::{DwEhPe, Error as ReadError};
+use gimli_write::{
+    Address, ConvertError, ConvertLineRow, ConvertLineSequence, ConvertLineSequenceEnd, Error,
+    FileInfo, LineRow, LineString, LineStringId, StringId,
+};
 use std::alloc::{AllocError, Global};
 use std::hash::{DefaultHasher, Hash, Hasher};
 use std::process::Abort;
@@ -154,4 +159,143 @@ fn steps_of_equal_details(rt: &impl Abort, alloc: Global) -> std::result::Result
 #[test]
 fn equal_details(rt: HostRuntime) {
     check_equal(&rt, steps_of_equal_details(&rt, rt.alloc()), Ok(()));
+}
+
+// ---- errors
+
+/// Refusals of writing, each two of which differ in their kind or in what they hold.
+const ERRORS: [Error; 27] = [
+    Error::OffsetOutOfBounds,
+    Error::LengthOutOfBounds,
+    Error::InvalidAttributeValue,
+    Error::ValueTooLarge,
+    Error::UnsupportedWordSize(5),
+    Error::UnsupportedWordSize(6),
+    Error::UnsupportedVersion(5),
+    Error::UnsupportedVersion(6),
+    Error::InitialLengthOverflow,
+    Error::InvalidAddress,
+    Error::InvalidReference,
+    Error::NeedVersion(5),
+    Error::NeedVersion(6),
+    Error::LineStringFormMismatch,
+    Error::InvalidRange,
+    Error::IncompatibleLineProgramEncoding,
+    Error::InvalidFrameCodeOffset(5),
+    Error::InvalidFrameCodeOffset(6),
+    Error::InvalidFrameDataOffset(5),
+    Error::InvalidFrameDataOffset(-5),
+    Error::UnsupportedPointerEncoding(DwEhPe(5)),
+    Error::UnsupportedPointerEncoding(DwEhPe(6)),
+    Error::UnsupportedCfiExpressionReference,
+    Error::UnsupportedExpressionForwardReference,
+    Error::UnexpectedBaseAddress,
+    Error::MissingBaseAddress,
+    Error::OutOfMemory,
+];
+
+/// Refusals of converting, each two of which differ in their kind or in what they hold.
+const CONVERT_ERRORS: [ConvertError; 26] = [
+    ConvertError::Read(ReadError::OutOfMemory),
+    ConvertError::Read(ReadError::LineRangeZero),
+    ConvertError::Write(Error::OutOfMemory),
+    ConvertError::Write(Error::InvalidAddress),
+    ConvertError::UnsupportedAttributeValue,
+    ConvertError::InvalidAttributeValue,
+    ConvertError::InvalidDebugInfoOffset,
+    ConvertError::InvalidAddress,
+    ConvertError::UnsupportedLineInstruction,
+    ConvertError::UnsupportedLineStringForm,
+    ConvertError::MissingLineEndSequence,
+    ConvertError::MissingCompilationName,
+    ConvertError::MissingCompilationDirectory,
+    ConvertError::InvalidFileIndex,
+    ConvertError::InvalidDirectoryIndex,
+    ConvertError::InvalidLineBase,
+    ConvertError::InvalidLineRef,
+    ConvertError::InvalidUnitRef,
+    ConvertError::InvalidDebugInfoRef,
+    ConvertError::InvalidRangeRelativeAddress,
+    ConvertError::UnsupportedCfiInstruction,
+    ConvertError::UnsupportedIndirectAddress,
+    ConvertError::UnsupportedOperation,
+    ConvertError::InvalidBranchTarget,
+    ConvertError::UnsupportedUnitType,
+    ConvertError::OutOfMemory,
+];
+
+#[test]
+fn equal_errors(rt: HostRuntime) {
+    check_distinct(&rt, "error", &ERRORS);
+    check_distinct(&rt, "error of conversion", &CONVERT_ERRORS);
+}
+
+// ---- what a conversion hands out
+
+/// Items, each two of which differ in their kind or in what they hold.
+fn items(row: LineRow) -> [ConvertLineRow; 6] {
+    let other = LineRow { line: 2, ..row };
+    [
+        ConvertLineRow::SetAddress(1),
+        ConvertLineRow::SetAddress(2),
+        ConvertLineRow::Row(row),
+        ConvertLineRow::Row(other),
+        ConvertLineRow::EndSequence(1),
+        ConvertLineRow::EndSequence(2),
+    ]
+}
+
+/// Ends of sequences, each two of which differ in their kind or in what they hold.
+const ENDS: [ConvertLineSequenceEnd; 4] = [
+    ConvertLineSequenceEnd::Length(1),
+    ConvertLineSequenceEnd::Length(2),
+    ConvertLineSequenceEnd::Address(1),
+    ConvertLineSequenceEnd::Address(2),
+];
+
+fn sequence(
+    start: Option<u64>,
+    end: ConvertLineSequenceEnd,
+    rows: Vec<LineRow>,
+) -> ConvertLineSequence {
+    ConvertLineSequence { start, end, rows }
+}
+
+/// Sequences, each of which differs from the first in one part.
+fn sequences(
+    alloc: Global,
+    row: LineRow,
+) -> std::result::Result<[ConvertLineSequence; 6], AllocError> {
+    let length = ConvertLineSequenceEnd::Length(1);
+    let address = ConvertLineSequenceEnd::Address(1);
+    Ok([
+        sequence(None, length, Vec::new(alloc)),
+        sequence(Some(0), length, Vec::new(alloc)),
+        sequence(Some(1), length, Vec::new(alloc)),
+        sequence(None, address, Vec::new(alloc)),
+        sequence(None, length, Vec::from_slice(alloc, &[row])?),
+        sequence(None, length, Vec::from_slice(alloc, &[row, row])?),
+    ])
+}
+
+fn steps_of_equal_items_and_sequences(
+    rt: &impl Abort,
+    alloc: Global,
+) -> std::result::Result<(), AllocError> {
+    let row = first_row(alloc);
+    check_distinct(rt, "item", &items(row));
+    check_distinct(rt, "end", &ENDS);
+    let found = sequences(alloc, row)?;
+    check_distinct(rt, "sequence", &found);
+    check(rt, sequences(alloc, row)? == found);
+    Ok(())
+}
+
+#[test]
+fn equal_items_and_sequences(rt: HostRuntime) {
+    check_equal(
+        &rt,
+        steps_of_equal_items_and_sequences(&rt, rt.alloc()),
+        Ok(()),
+    );
 }
