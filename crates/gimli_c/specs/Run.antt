@@ -1,5 +1,5 @@
 -- What the run of a unit's program gives, up to its first fault.
-use Rattle.std.specs.Prelude.{◌≡◌, ℕ, List, [], ◌∷◌, length, map, drop, Option, Some, None}
+use Rattle.std.specs.Prelude.{◌≡◌, ◌⊎◌, ℕ, List, [], ◌∷◌, length, map, drop, Option, Some, None}
 use Rattle.gimli_core.specs.declared.error.Error.{Error}
 use Rattle.gimli_line.specs.declared.run.row.LineRow.{LineRow}
 use Rattle.gimli_line.specs.header.Header.{Header}
@@ -49,3 +49,7 @@ pub record GivesNone (p : Place) (old new : List GimliRow) (count status : ℕ) 
   pub none : HasNoUnit p status
   pub kept : new ≡ old
   pub count_is : count ≡ 0
+
+-- the rows of the unit at the place, or none, where no unit stands there
+abbrev pub GivesRowsOrNone : Place → ℕ → List GimliRow → List GimliRow → ℕ → ℕ → Type 0
+GivesRowsOrNone p skip old new count status = GivesRows p skip old new count status ⊎ GivesNone p old new count status

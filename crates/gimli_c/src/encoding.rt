@@ -6,6 +6,7 @@ ghost use Rattle.gimli_c.specs.Causes.{HasEncodingFault};
 ghost use Rattle.gimli_c.specs.Handed.{IsRefusal, encoding_of, line_encoding_of};
 ghost use Rattle.gimli_c.specs.Refused.{encoding_fault, HasBadLines};
 
+use crate::place::is_address_size;
 use crate::status::{
     UNKNOWN_VERSION, UNSUPPORTED_ADDRESS_SIZE, UNSUPPORTED_LINE_ENCODING, UNSUPPORTED_OFFSET_SIZE,
 };
@@ -49,7 +50,7 @@ pub(crate) fn encodings(given: &GimliEncoding) -> Result<(Encoding, LineEncoding
     if given.version < 2 || given.version > 5 {
         return Err(UNKNOWN_VERSION);
     }
-    if !matches!(given.address_size, 1 | 2 | 4 | 8) {
+    if !is_address_size(given.address_size) {
         return Err(UNSUPPORTED_ADDRESS_SIZE);
     }
     let format = match given.offset_size {

@@ -7,12 +7,15 @@ ghost use Rattle.gimli_build.specs.Built.{previous_place};
 ghost use Rattle.gimli_c.specs.Causes.{CanStand, HasNone, HasRowFault, HasRowsFault, LacksFile, place_behind};
 ghost use Rattle.gimli_c.specs.Handed.{IsRefusal, AddsItems, base_behind, base_of, ends, id_of_file, items_handed, items_of_row, items_of_start, row_handed, row_of_file};
 
-use crate::row::GimliRow;
+use crate::row::{
+    ALL_FLAGS, BASIC_BLOCK, END_SEQUENCE, EPILOGUE_BEGIN, GimliRow, IS_STMT, PROLOGUE_END, has_flag,
+};
 use crate::status::{NO_SUCH_FILE, OUT_OF_MEMORY, ROW_OUT_OF_ORDER, UNKNOWN_FLAG};
 use gimli_build::{FileId, LineProgram, LineRow};
 use gimli_bytes::Address;
 
-/// Adds rows in order. The address of each sequence is that of its first row.
+/// Adds rows in order. The address of each sequence is that of its first row. Requires a program that can be written, and
+/// leaves one.
 pub(crate) fn add_rows(
     program: &mut LineProgram,
     ids: &[FileId],
@@ -37,7 +40,8 @@ pub(crate) fn add_rows(
     Ok(())
 }
 
-/// Adds a row or an end, and answers the address of the sequence that the next row belongs to.
+/// Adds a row or an end, and answers the address of the sequence that the next row belongs to. Requires a program that can
+/// be written.
 fn add_row(
     program: &mut LineProgram,
     ids: &[FileId],
@@ -63,7 +67,7 @@ fn add_row(
     if row.address < start {
         return Err(ROW_OUT_OF_ORDER);
     }
-    if row.flags / 4 % 2 == 1 {
+    if has_flag(row.flags, END_SEQUENCE) {
         add_end(program, start, row)?;
         Ok(None)
     } else {
@@ -72,7 +76,8 @@ fn add_row(
     }
 }
 
-/// The address of the sequence: where it begins, that of its first row, which is set.
+/// The address of the sequence: where it begins, that of its first row, which is set. Requires a program that can be
+/// written.
 fn begin(program: &mut LineProgram, base: Option<u64>, address: u64) -> Result<u64, u32>
     requires { CanWrite program.old [] [] }
     ensures can { CanWrite program.new [] [] }
@@ -92,7 +97,7 @@ fn begin(program: &mut LineProgram, base: Option<u64>, address: u64) -> Result<u
     }
 }
 
-/// Ends a sequence that begins at an address.
+/// Ends a sequence that begins at an address. Requires a program that can be written, and a row that isn't below it.
 fn add_end(program: &mut LineProgram, start: u64, row: &GimliRow) -> Result<(), u32>
     requires can { CanWrite program.old [] [] }
     requires above { start ≤ row.now.address }
@@ -117,7 +122,8 @@ fn add_end(program: &mut LineProgram, start: u64, row: &GimliRow) -> Result<(), 
     }
 }
 
-/// Adds a row to a sequence that begins at an address.
+/// Adds a row to a sequence that begins at an address. Requires a program that can be written, and a row that isn't below
+/// it.
 fn add_line(
     program: &mut LineProgram,
     ids: &[FileId],
@@ -139,7 +145,7 @@ fn add_line(
         HasRowFault program.old.line_encoding program.old.encoding.version (length ids.now)
         start (previous_place program.old.items) row.now s) }
 {
-    if row.flags >= 32 {
+    if row.flags > ALL_FLAGS {
         return Err(UNKNOWN_FLAG);
     }
     let file = match file_id(program.version(), ids, row.file) {
@@ -156,7 +162,7 @@ fn add_line(
     }
 }
 
-/// A row of a sequence that begins at an address.
+/// A row of a sequence that begins at an address. Requires one that isn't below it.
 fn built_row(file: FileId, start: u64, row: &GimliRow) -> LineRow
     requires { start ≤ row.now.address }
     ensures { result ≡ row_of_file file start row.now }
@@ -168,10 +174,10 @@ fn built_row(file: FileId, start: u64, row: &GimliRow) -> LineRow
         line: row.line,
         column: row.column,
         discriminator: row.discriminator,
-        is_statement: row.flags % 2 == 1,
-        basic_block: row.flags / 2 % 2 == 1,
-        prologue_end: row.flags / 8 % 2 == 1,
-        epilogue_begin: row.flags / 16 % 2 == 1,
+        is_statement: has_flag(row.flags, IS_STMT),
+        basic_block: has_flag(row.flags, BASIC_BLOCK),
+        prologue_end: has_flag(row.flags, PROLOGUE_END),
+        epilogue_begin: has_flag(row.flags, EPILOGUE_BEGIN),
         isa: row.isa,
     }
 }

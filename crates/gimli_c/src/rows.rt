@@ -1,13 +1,14 @@
 //! The rows of a unit.
 
-ghost use Rattle.std.specs.Prelude.{◌≡◌, ◌≢◌, ◌⊎◌};
+ghost use Rattle.std.specs.Prelude.{◌≡◌, ◌≢◌, false};
+ghost use Rattle.gimli_core.specs.Numbers.{is_address_size};
 ghost use Rattle.gimli_c.specs.Place.{place};
-ghost use Rattle.gimli_c.specs.Run.{GivesRows, GivesNone};
+ghost use Rattle.gimli_c.specs.Run.{GivesRowsOrNone};
 
 use crate::place::program_at;
 use crate::row::GimliRow;
 use crate::run::{copy_rows, fault_status, rows_fit};
-use crate::status::{OUT_OF_MEMORY, error_status};
+use crate::status::{OUT_OF_MEMORY, UNSUPPORTED_ADDRESS_SIZE, error_status};
 use std::alloc::Global;
 
 /// Runs the program of the unit at an offset. Its rows from the `skip`-th on, from 0, go into `rows`, as far as there is
@@ -24,9 +25,9 @@ pub extern "C" fn gimli_line_rows(
     rows: &mut [GimliRow],
     count: &mut u64,
 ) -> u32
-    ensures { result ≢ OUT_OF_MEMORY →
-        GivesRows (place section.now big address_size offset) skip rows.old rows.new count.new result
-        ⊎ GivesNone (place section.now big address_size offset) rows.old rows.new count.new result }
+    ensures rows { result ≢ OUT_OF_MEMORY → GivesRowsOrNone
+        (place section.now big address_size offset) skip rows.old rows.new count.new result }
+    ensures size { is_address_size address_size ≡ false → result ≡ UNSUPPORTED_ADDRESS_SIZE }
 {
     *count = 0;
     let program = match program_at(alloc, section, big, address_size, offset) {

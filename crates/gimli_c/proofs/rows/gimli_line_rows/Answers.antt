@@ -4,8 +4,8 @@ use Rattle.gimli_line.specs.run.Sequences.{events_of}
 use Rattle.gimli_c.proofs.Runs.{has_events}
 use Rattle.gimli_c.proofs.rows.gimli_line_rows.Goals as goal
 
-pub returns : goal.returns
-returns c = λ not_memory. inl (record {
+pub returns-clause-rows : goal.returns-clause-rows
+returns-clause-rows c = λ not_memory. inl (record {
   header = c.in-Ok.program.meaning;
   events = events_of (events_left c.rows.result);
   unit = has_events _ _ _ _ c.in-Ok.ensures.unit c.in-Ok.ensures.notation c.rows.ensures.events;
