@@ -1,8 +1,9 @@
 //! Laws of conversions: a converted program can be written; it says what its source says; and so do the rows that are read
-//! back of it.
+//! back of it. And laws of equality.
 
 ghost use Rattle.std.specs.Prelude.{◌≡◌, ℕ, List};
 ghost use Rattle.std.specs.Bool.{Decides};
+ghost use Rattle.gimli_core.specs.Equality.{IsExact};
 ghost use Rattle.gimli_core.specs.declared.common.LineEncoding.{LineEncoding};
 ghost use Rattle.gimli_line.specs.header.File.{File};
 ghost use Rattle.gimli_line.specs.declared.run.row.LineRow.{LineRow as ReadRow};
@@ -10,9 +11,16 @@ ghost use Rattle.gimli_build.specs.Conditions.{CanBuild, CanWrite};
 ghost use Rattle.gimli_build.specs.declared.built.items.BuiltItem.{BuiltItem};
 ghost use Rattle.gimli_write.specs.RoundTrip.{HasFittingAddresses, AreBuiltRows};
 ghost use Rattle.gimli_write.specs.convert.Feeding.{can_build};
+ghost use Rattle.gimli_write.specs.convert.Sequences.{sequence_read};
 ghost use Rattle.gimli_write.specs.convert.Mapped.{IsMapped};
 ghost use Rattle.gimli_write.specs.convert.Preparation.{encoding_of};
 ghost use Rattle.gimli_write.specs.convert.DoneConversions.{DoneConversion, IsToBeFaithful, SourceGives, AreReadAs, UnitReadBack, GivesBack, SourceFilesAre, AreFilesReadBack};
+
+use crate::convert::offer::ConvertLineRow;
+use crate::convert::sequence::{ConvertLineSequence, ConvertLineSequenceEnd};
+use crate::convert_error::ConvertError;
+use gimli_bytes::Error;
+use gimli_core::Error as ReadError;
 
 /// A conversion asks of each row and end what the builder's own calls ask.
 pub fn conversions_ask_what_the_builder_asks()
@@ -55,4 +63,20 @@ pub fn converted_rows_are_read_back()
 pub fn converted_files_are_read_back()
     ensures { (d : DoneConversion) (strings : List (List ℕ)) (files : List File) → SourceFilesAre d files
         → AreFilesReadBack d strings files }
+{}
+
+/// `==` holds of what `read_row` gives, and of the ends of sequences, exactly where both are of one kind and agree in its
+/// parts; and of two sequences exactly where they have the same start or none, the same rows and the same end.
+pub fn equal_rows_and_sequences()
+    ensures row { (a b : ConvertLineRow) → Decides (⟦<ConvertLineRow as PartialEq>⟧.eq a b) (a ≡ b) }
+    ensures end { (a b : ConvertLineSequenceEnd) → Decides (⟦<ConvertLineSequenceEnd as PartialEq>⟧.eq a b) (a ≡ b) }
+    ensures sequence { (a b : ConvertLineSequence)
+        → Decides (⟦<ConvertLineSequence as PartialEq>⟧.eq a b) (sequence_read a ≡ sequence_read b) }
+{}
+
+/// `==` holds of two refusals exactly where they are of one kind and agree in the refusal of reading or writing that they
+/// hold, if this is so of those.
+pub fn equal_refusals()
+    ensures { IsExact ⟦<ReadError as PartialEq>⟧.eq → IsExact ⟦<Error as PartialEq>⟧.eq
+        → IsExact ⟦<ConvertError as PartialEq>⟧.eq }
 {}

@@ -1,0 +1,11 @@
+use Rattle.std.proofs.Common.{ap}
+use denote.Enum.Declared.{values_one}
+use Rattle.gimli_line.proofs.Variants.{or, end, none, one}
+use Rattle.gimli_write.specs.contracts.convert_error.ConvertError.{as_values, enum}
+use Rattle.gimli_write.proofs.conversion_laws.equal_refusals.Goals as goal
+
+pub returns : goal.returns
+returns c reads writes x y =
+    let same = or (one reads) (or (one writes) (or none (or none (or none (or none (or none (or none (or none (or none (or none (or none (or none (or none (or none (or none (or none (or none (or none (or none (or none (or none (or none (or none (end _)))))))))))))))))))))))) in
+    let apart = same (as_values x) (as_values y) in
+    (λ e. values_one enum x y (apart.0 e), λ e. apart.1 (ap as_values e))

@@ -1,0 +1,33 @@
+use Rattle.std.proofs.Common.{◌≡◌, ℕ, refl, ap}
+use Rattle.std.specs.Prelude.{Option, Some, None, nat_eq}
+use Rattle.std.specs.Bool.{Decides}
+use Rattle.std.specs.Cmp.{unsigned_Decides}
+use Rattle.std.specs.Option.{option_eq}
+use Rattle.std.proofs.lemmas.Slice.Eq.{slice_eq-Decides}
+use denote.Enum.Declared.{values_one}
+use Rattle.gimli_line.proofs.Equality.{both, whole}
+use Rattle.gimli_line.proofs.Variants.{or, end, one}
+use Rattle.gimli_build.proofs.Equality.{row-Decides}
+use Rattle.gimli_write.specs.contracts.convert.sequence.ConvertLineSequenceEnd.{as_values, enum}
+use Rattle.gimli_write.specs.contracts.convert.sequence.ConvertLineSequenceEndPartialEq.TheImpl.{ghosts as the_ends}
+use Rattle.gimli_write.specs.declared.convert.sequence.ConvertLineSequence.{ConvertLineSequence}
+use Rattle.gimli_write.specs.declared.convert.sequence.ConvertLineSequenceEnd.{ConvertLineSequenceEnd}
+use Rattle.gimli_write.specs.convert.Sequences.{SequenceRead, sequence_with, sequence_read}
+use Rattle.gimli_write.proofs.conversion_laws.equal_rows_and_sequences.Goals as goal
+
+starts : (x y : Option ℕ) → Decides (option_eq nat_eq x y) (x ≡ y)
+starts (Some a) (Some b) = (λ e. ap Some ((unsigned_Decides a b).0 e), λ e. (unsigned_Decides a b).1 cc)
+starts (Some a) None = (λ e. absurd cc, λ e. absurd cc)
+starts None (Some b) = (λ e. absurd cc, λ e. absurd cc)
+starts None None = (λ _. refl, λ _. refl)
+
+the_end : (x y : ConvertLineSequenceEnd) → Decides (the_ends.eq x y) (x ≡ y)
+the_end x y =
+    let apart = or (one unsigned_Decides) (or (one unsigned_Decides) (end _)) (as_values x) (as_values y) in
+    (λ e. values_one enum x y (apart.0 e), λ e. apart.1 (ap as_values e))
+
+pub returns-clause-sequence : goal.returns-clause-sequence
+returns-clause-sequence c a b =
+    whole (both (starts a.start b.start) (both (the_end a.end b.end) (slice_eq-Decides row-Decides a.rows.items b.rows.items _ refl)))
+    (λ p. let same : sequence_with a.start a.rows.items a.end ≡ sequence_with b.start b.rows.items b.end = rw (p.0, p.1.0, p.1.1) refl in same)
+    (λ e. (ap (λ (s : SequenceRead). s.start) e, (ap (λ (s : SequenceRead). s.end) e, ap (λ (s : SequenceRead). s.rows) e)))
