@@ -1,6 +1,6 @@
 -- A conversion, one read after the other.
-use Rattle.std.proofs.Common.{◌≡◌, ℕ, Bool, true, false, if◌then◌else◌, List, [], ◌∷◌, refl, sym, ap, ◌∙◌, subst, inl, inr}
-use Rattle.std.specs.Prelude.{Option, Result, Ok, Err}
+use Rattle.std.proofs.Common.{◌≡◌, ℕ, Bool, true, false, not, ◌&&◌, if◌then◌else◌, List, [], ◌∷◌, refl, sym, ap, ◌∙◌, subst, inl, inr}
+use Rattle.std.specs.Prelude.{Option, Some, None, Result, Ok, Err, is_err, is_some}
 use Rattle.gimli_core.specs.declared.error.Error.{Error}
 use Rattle.gimli_core.specs.Values.{Value}
 use Rattle.gimli_line.specs.header.File.{File}
@@ -10,12 +10,14 @@ use Rattle.gimli_line.specs.run.InstructionReading.{decoded_at}
 use Rattle.gimli_build.specs.Texts.{Sections}
 use Rattle.gimli_write.specs.declared.convert_error.ConvertError.{ConvertError}
 use Rattle.gimli_write.specs.convert.Texts.{◌>>=◌, IsRefusedBy, source_path}
-use Rattle.gimli_write.specs.convert.Lists.{Converted, Lists, version_of, with_path, directory_added, FileParts, file_parts, with_parts, file_added, all_added}
+use Rattle.gimli_write.specs.convert.Lists.{Converted, Lists, lists_with, version_of, with_path, directory_added, FileParts, file_parts, with_parts, file_added, all_added}
 use Rattle.gimli_write.specs.convert.Preparation.{Handed, prepared, started_lists, first_texts, encoding_of, working_directory, source_file, line_encoding_of}
 use Rattle.gimli_write.specs.convert.Offers.{Reading, stops, defines, offers, file_id, row_in, built_row, row_offered, place_offered, defines_first, after_definitions}
 use Rattle.gimli_write.specs.declared.convert.run.SourceRow.{SourceRow}
 use Rattle.gimli_write.specs.declared.convert.offer.ConvertLineRow.TheVariants.{Row, EndSequence}
 use Rattle.gimli_write.specs.convert.SourceState.{SourceState, reading_from, reading_upon, reading_left}
+use Rattle.gimli_write.specs.convert.LastLists.{lacks_file, behind_row}
+use Rattle.gimli_write.specs.convert.KeptLists.{source_last, last_lists}
 use Rattle.gimli_write.specs.convert.ConversionState.{ConversionState, plain, IsReadRefusal}
 
 -- ---- lists without what is built
@@ -104,6 +106,15 @@ module _ (version : ℕ) (lists : Lists) (r : SourceRow) (rest : Reading) (ends_
   pub row_refused : (e : ConvertError) → Err e ≡ file_id version lists r.row.file → place_offered version lists r rest ≡ stops e
   row_refused e is = by_file ∙ ap (λ (x : Result ℕ ConvertError). row_offered (x >>= λ n. Ok (row_in r n)) lists rest) (sym is)
 
+  -- so a file has its number, or none has
+  pub file_found : (file : ℕ) → Ok file ≡ file_id version lists r.row.file → lacks_file version lists r ≡ false
+  file_found file is =
+      ap (λ (b : Bool). not b && is_err (file_id version lists r.row.file)) ends_not ∙ ap (λ (x : Result ℕ ConvertError). is_err x) (sym is)
+
+  pub file_lacks : (e : ConvertError) → Err e ≡ file_id version lists r.row.file → lacks_file version lists r ≡ true
+  file_lacks e is =
+      ap (λ (b : Bool). not b && is_err (file_id version lists r.row.file)) ends_not ∙ ap (λ (x : Result ℕ ConvertError). is_err x) (sym is)
+
 -- ---- the state of a conversion, by its parts
 
 abbrev pub conversion : Sections → SourceState → Converted → Option ℕ → Option SourceRow → Option ConvertError → ConversionState
@@ -115,3 +126,30 @@ conversion sections source lists address held failed = record {
   held = held;
   failed = failed;
 }
+
+-- ---- a row that is held
+
+module _ (sections : Sections) (source : SourceState) (lists : Converted) (address after : Option ℕ) (held taken : Option SourceRow) (failed : Option ConvertError) (line_strings : List (List ℕ)) (r : SourceRow) (is : held ≡ Some r) where
+  abbrev now : Lists
+  now = lists_with line_strings lists
+
+  abbrev rest : Lists
+  rest = source_last (conversion sections source lists address held failed) line_strings
+
+  abbrev version_here : ℕ
+  version_here = source.header.parameters.encoding.version
+
+  -- it is handed out
+  pub held_last : taken ≡ None → lacks_file version_here now r ≡ false
+      → last_lists (conversion sections source lists after taken failed) line_strings ≡ last_lists (conversion sections source lists address held failed) line_strings
+  held_last none found =
+      ap (λ (o : Option SourceRow). if is_some failed then now else behind_row version_here now o rest) none
+      ∙ sym (ap (λ (o : Option SourceRow). if is_some failed then now else behind_row version_here now o rest) is
+      ∙ ap (λ (b : Bool). if is_some failed then now else (if b then now else rest)) found)
+
+  -- no file has its number
+  pub held_stops : failed ≡ None → lacks_file version_here now r ≡ true → now ≡ last_lists (conversion sections source lists address held failed) line_strings
+  held_stops well lacks =
+      sym (ap (λ (o : Option ConvertError). if is_some o then now else behind_row version_here now held rest) well
+      ∙ ap (λ (o : Option SourceRow). behind_row version_here now o rest) is
+      ∙ ap (λ (b : Bool). if b then now else rest) lacks)

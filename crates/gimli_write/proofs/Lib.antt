@@ -18,6 +18,8 @@ pub mod MappedNames
 pub mod FeedingLemmas
 pub mod MappedEnds
 pub mod Conversions
+mod LastLists
+mod KeptFiles
 pub mod Feedings
 pub mod MappedLaws
 mod WorkedConversions

@@ -34,13 +34,13 @@ use Rattle.gimli_write.specs.convert.SourceState.{SourceState, row_made, base_be
 -- ---- what a program is decoded into, by its front
 
 module _ (notation : Notation) (h : Header) (bytes : List ℕ) where
-  decoded_none : bytes ≡ [] → decoded_at notation h bytes ≡ ([], None)
+  pub decoded_none : bytes ≡ [] → decoded_at notation h bytes ≡ ([], None)
   decoded_none e = sym (one_decoding notation h bytes [] None (record { front = []; rest = bytes; parts = refl; spelled = refl; ended = e }))
 
-  decoded_fault : (e : Error) → bytes ≢ [] → (instruction_production notation h).Fault bytes e → decoded_at notation h bytes ≡ ([], Some e)
+  pub decoded_fault : (e : Error) → bytes ≢ [] → (instruction_production notation h).Fault bytes e → decoded_at notation h bytes ≡ ([], Some e)
   decoded_fault e some f = sym (one_decoding notation h bytes [] (Some e) (record { front = []; rest = bytes; parts = refl; spelled = refl; ended = (some, f) }))
 
-  decoded_some : (i : Ins) (front rest : List ℕ) → bytes ≡ front ++ rest → SpellsInstruction notation h front i
+  pub decoded_some : (i : Ins) (front rest : List ℕ) → bytes ≡ front ++ rest → SpellsInstruction notation h front i
       → decoded_at notation h bytes ≡ (i ∷ (decoded_at notation h rest).0, (decoded_at notation h rest).1)
   decoded_some i front rest parts s =
       let c = is_decoded notation h rest in
@@ -67,7 +67,7 @@ if_true b x y e = ap (λ (c : Bool). if c then x else y) e
 if_false : {A : Type 0} (b : Bool) (x y : A) → b ≡ false → (if b then x else y) ≡ y
 if_false b x y e = ap (λ (c : Bool). if c then x else y) e
 
-no_file : (sections : Sections) (lists : Lists) (i : Ins) → defines_file i ≡ false → defined sections lists i ≡ Ok lists
+pub no_file : (sections : Sections) (lists : Lists) (i : Ins) → defines_file i ≡ false → defined sections lists i ≡ Ok lists
 no_file sections lists (DefineFile f) e = absurd cc
 no_file sections lists i e = refl
 

@@ -5,8 +5,10 @@ pub mod Preparation
 pub mod Sources
 pub mod Offers
 pub mod SourceState
+pub mod LastLists
 pub mod Feeding
 pub mod Mapped
 pub mod ConversionState
+pub mod KeptLists
 pub mod DoneConversions
 pub mod Sequences

@@ -1,10 +1,12 @@
 //! A source that is read, and the program that is built of it.
 
-ghost use Rattle.std.specs.Prelude.{◌≡◌, ℕ, ◌⊎◌, List, None, Some, Ok, IfErr, IfOk, OnErr, OnOk, true, false};
+ghost use Rattle.std.specs.Prelude.{◌≡◌, ◌≢◌, ℕ, ◌⊎◌, List, None, Some, Ok, IfErr, IfOk, OnErr, OnOk, true, false};
 ghost use Rattle.gimli_bytes.specs.Texts.{KeepsTexts};
 ghost use Rattle.gimli_write.specs.convert.Lists.{lists_with};
+ghost use Rattle.gimli_write.specs.convert.KeptLists.{KeepsFiles, source_last, IsAtLast, KeepsLast};
 ghost use Rattle.gimli_write.specs.convert.Offers.{Reading, stops, offers, place_offered};
 ghost use Rattle.gimli_write.specs.convert.SourceState.{started};
+ghost use Rattle.gimli_write.specs.convert.LastLists.{lacks_file, behind_row};
 ghost use Rattle.gimli_write.specs.convert.ConversionState.{unread, lists_of, version_of_source, source_left, still_to_read, HandsOut, TakesRow, IsReadRefusal, AddsFiles};
 
 use crate::convert::lists::Lists;
@@ -91,6 +93,12 @@ impl<R: Reader> Conversion<R> {
         ensures well { OnOk result (self.new.failed ≡ None) }
         ensures given { OnOk result (self.new.address ≡ None) }
         ensures adds { AddsFiles self.old.lists.program self.new.lists.program }
+        ensures keeps { KeepsFiles self.old.lists self.new.lists }
+        ensures last { OnOk result (KeepsLast self.old line_strings.old self.new line_strings.new) }
+        ensures ended { IfOk result (λ row. row ≡ None →
+            IsAtLast self.old line_strings.old self.new line_strings.new) }
+        ensures stopped { IfErr result (λ e. e ≢ ConvertError.OutOfMemory →
+            IsAtLast self.old line_strings.old self.new line_strings.new) }
         ensures stays { KeepsTexts line_strings.old line_strings.new }
     {
         if let Some(e) = self.failed {
@@ -117,6 +125,12 @@ impl<R: Reader> Conversion<R> {
         ensures well { self.new.failed ≡ None }
         ensures given { OnOk result (self.new.address ≡ None) }
         ensures adds { AddsFiles self.old.lists.program self.new.lists.program }
+        ensures keeps { KeepsFiles self.old.lists self.new.lists }
+        ensures last { OnOk result (KeepsLast self.old line_strings.old self.new line_strings.new) }
+        ensures ended { IfOk result (λ row. row ≡ None →
+            IsAtLast self.old line_strings.old self.new line_strings.new) }
+        ensures stopped { IfErr result (λ e. e ≢ ConvertError.OutOfMemory →
+            IsAtLast self.old line_strings.old self.new line_strings.new) }
         ensures stays { KeepsTexts line_strings.old line_strings.new }
     {
         if let Some(address) = self.address.take() {
@@ -145,6 +159,10 @@ impl<R: Reader> Conversion<R> {
             ≡ offers place (lists_of self.now line_strings) rest) }
         ensures err { IfErr result (λ e. (line_strings : List (List ℕ)) (rest : Reading) →
             place_offered (version_of_source self.now) (lists_of self.now line_strings) row.now rest ≡ stops e) }
+        ensures found { OnOk result ((line_strings : List (List ℕ)) →
+            lacks_file (version_of_source self.now) (lists_with line_strings self.now.lists) row.now ≡ false) }
+        ensures lacks { OnErr result ((line_strings : List (List ℕ)) →
+            lacks_file (version_of_source self.now) (lists_with line_strings self.now.lists) row.now ≡ true) }
     {
         if row.row.end_sequence() {
             return Ok(ConvertLineRow::EndSequence(row.address_offset));
@@ -169,6 +187,14 @@ impl<R: Reader> Conversion<R> {
         ensures held { self.new.held ≡ self.old.held }
         ensures failed { self.new.failed ≡ self.old.failed }
         ensures adds { AddsFiles self.old.lists.program self.new.lists.program }
+        ensures keeps { KeepsFiles self.old.lists self.new.lists }
+        ensures last { IfOk result (λ row. behind_row (version_of_source self.new)
+            (lists_with line_strings.new self.new.lists) row (source_last self.new line_strings.new)
+            ≡ source_last self.old line_strings.old) }
+        ensures ended { IfOk result (λ row. row ≡ None →
+            lists_with line_strings.new self.new.lists ≡ source_last self.old line_strings.old) }
+        ensures stopped { IfErr result (λ e. e ≢ ConvertError.OutOfMemory →
+            lists_with line_strings.new self.new.lists ≡ source_last self.old line_strings.old) }
         ensures stays { KeepsTexts line_strings.old line_strings.new }
     {
         'steps: loop {

@@ -9,6 +9,7 @@ ghost use Rattle.gimli_build.specs.LineText.{LineText, line_text, made_text, mad
 ghost use Rattle.gimli_write.specs.convert.Texts.{IsRefusedBy};
 ghost use Rattle.gimli_write.specs.convert.Offers.{file_id};
 ghost use Rattle.gimli_write.specs.convert.ConversionState.{AddsFiles};
+ghost use Rattle.gimli_write.specs.convert.KeptLists.{KeepsFiles};
 ghost use Rattle.gimli_write.specs.convert.Lists.{lists_with, directory_added, file_added, file_parts, with_parts, all_added};
 ghost use Rattle.gimli_write.specs.declared.convert_error.ConvertError.TheVariants.{OutOfMemory};
 
@@ -183,6 +184,7 @@ impl Lists {
             (file_seen R.bytes R.Offset.number file.now) parts.now ≡ lists_with line_strings.new self.new) }
         ensures memory { IfErr result (λ e. e ≡ ConvertError.OutOfMemory) }
         ensures adds { AddsFiles self.old.program self.new.program }
+        ensures keeps { KeepsFiles self.old self.new }
         ensures stays { KeepsTexts line_strings.old line_strings.new }
     {
         let encoding = self.program.encoding();
@@ -200,8 +202,8 @@ impl Lists {
         }
     }
 
-    /// Adds a file after the others. Refused as `file_parts` is; the program and the ids are then as before, unless
-    /// memory is missing. The line strings keep their texts.
+    /// Adds a file after the others. Refused as `file_parts` is; the program, the ids and the line strings are then as
+    /// before, unless memory is missing. The line strings keep their texts.
     pub(crate) fn add_file<R: Reader>(
         &mut self,
         file: &FileEntry<R>,
@@ -213,7 +215,9 @@ impl Lists {
         ensures err { IfErr result (IsRefusedBy (file_added sections.now (lists_with line_strings.old self.old)
             (file_seen R.bytes R.Offset.number file.now))) }
         ensures kept { IfErr result (λ e. e ≢ ConvertError.OutOfMemory → self.new ≡ self.old) }
+        ensures texts { IfErr result (λ e. e ≢ ConvertError.OutOfMemory → line_strings.new ≡ line_strings.old) }
         ensures adds { AddsFiles self.old.program self.new.program }
+        ensures keeps { KeepsFiles self.old self.new }
         ensures stays { KeepsTexts line_strings.old line_strings.new }
     {
         let parts = self.file_parts(*line_strings.allocator(), file, sections)?;

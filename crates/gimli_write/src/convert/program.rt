@@ -1,11 +1,12 @@
 //! The conversion of a line program, as its callers see it.
 
-ghost use Rattle.std.specs.Prelude.{◌≡◌, ℕ, false, Option, Some, None, Err, IfErr, IfOk, IfSome, IsTrue, OnErr, OnOk};
+ghost use Rattle.std.specs.Prelude.{◌≡◌, ◌≢◌, ℕ, false, Option, Some, None, Err, IfErr, IfOk, IfSome, IsTrue, OnErr, OnOk};
 ghost use Rattle.gimli_core.specs.Numbers.{is_address_size};
 ghost use Rattle.gimli_bytes.specs.Texts.{KeepsTexts};
 ghost use Rattle.gimli_build.specs.Calls.{after_begin, after_address, after_row, after_end};
 ghost use Rattle.gimli_build.specs.Advance.{CanEncode};
 ghost use Rattle.gimli_build.specs.Conditions.{CanEndSequence};
+ghost use Rattle.gimli_write.specs.convert.KeptLists.{IsUnread, KeepsFiles, IsAtLast, KeepsLast};
 ghost use Rattle.gimli_write.specs.convert.Sources.{source_of};
 ghost use Rattle.gimli_write.specs.convert.Mapped.{IsFaithfulIfItCan};
 ghost use Rattle.gimli_write.specs.convert.ConversionState.{still_to_read, IsPrepared, IsHeaderRefusal, ReadsWhole, GivesNext, IsReadRefusal, AddsFiles, CanBuildRow, IsBuildRefusal, with_program, ConvertsTo, IsConvertRefusal, RestConvertsTo, IsRestRefusal};
@@ -96,6 +97,8 @@ impl<R: Reader> ConvertLineHeader<R> {
             from_program from_comp_name encoding line_encoding) line_strings.old) }
         ensures reads { IfOk result (λ header. ReadsWhole (source_of R.bytes debug_str debug_line_str
             from_program from_comp_name encoding line_encoding) header line_strings.new) }
+        ensures unread { IfOk result (λ header. IsUnread (source_of R.bytes debug_str debug_line_str
+            from_program from_comp_name encoding line_encoding) header) }
         ensures stays { KeepsTexts line_strings.old line_strings.new }
     {
         let sections = TextSections {
@@ -169,6 +172,8 @@ impl<'a, 'b, R: Reader> ConvertLineProgram<'a, 'b, R, Conversion<R>> {
             from_program from_comp_name encoding line_encoding) line_strings.old) }
         ensures reads { IfOk result (λ convert. ReadsWhole (source_of R.bytes debug_str debug_line_str
             from_program from_comp_name encoding line_encoding) convert.conversion convert.line_strings.now) }
+        ensures unread { IfOk result (λ convert. IsUnread (source_of R.bytes debug_str debug_line_str
+            from_program from_comp_name encoding line_encoding) convert.conversion) }
         ensures stays { IfOk result
             (λ convert. KeepsTexts line_strings.old convert.line_strings.now) }
         ensures strings { IfOk result (λ convert. convert.strings.now ≡ strings.old) }
@@ -297,6 +302,13 @@ impl<'a, 'b, R: Reader> ConvertLineProgram<'a, 'b, R, Conversion<R>> {
         ensures failed { IfErr result (λ e. self.new.conversion.failed ≡ Some e) }
         ensures well { OnOk result (self.new.conversion.failed ≡ None) }
         ensures adds { AddsFiles self.old.conversion.lists.program self.new.conversion.lists.program }
+        ensures keeps { KeepsFiles self.old.conversion.lists self.new.conversion.lists }
+        ensures last { OnOk result (KeepsLast self.old.conversion self.old.line_strings.now
+            self.new.conversion self.new.line_strings.now) }
+        ensures ended { IfOk result (λ row. row ≡ None → IsAtLast self.old.conversion
+            self.old.line_strings.now self.new.conversion self.new.line_strings.now) }
+        ensures stopped { IfErr result (λ e. e ≢ ConvertError.OutOfMemory → IsAtLast self.old.conversion
+            self.old.line_strings.now self.new.conversion self.new.line_strings.now) }
         ensures stays { KeepsTexts self.old.line_strings.now self.new.line_strings.now }
         ensures strings { self.new.strings.now ≡ self.old.strings.now }
         ensures same_line_strings { self.new.line_strings.ghost_name ≡ self.old.line_strings.ghost_name }
@@ -315,6 +327,13 @@ impl<'a, 'b, R: Reader> ConvertLineProgram<'a, 'b, R, Conversion<R>> {
         ensures failed { IfErr result (λ e. self.new.conversion.failed ≡ Some e) }
         ensures well { OnOk result (self.new.conversion.failed ≡ None) }
         ensures adds { AddsFiles self.old.conversion.lists.program self.new.conversion.lists.program }
+        ensures keeps { KeepsFiles self.old.conversion.lists self.new.conversion.lists }
+        ensures last { OnOk result (KeepsLast self.old.conversion self.old.line_strings.now
+            self.new.conversion self.new.line_strings.now) }
+        ensures ended { IfOk result (λ sequence. sequence ≡ None → IsAtLast self.old.conversion
+            self.old.line_strings.now self.new.conversion self.new.line_strings.now) }
+        ensures stopped { IfErr result (λ e. e ≢ ConvertError.OutOfMemory → IsAtLast self.old.conversion
+            self.old.line_strings.now self.new.conversion self.new.line_strings.now) }
         ensures stays { KeepsTexts self.old.line_strings.now self.new.line_strings.now }
         ensures strings { self.new.strings.now ≡ self.old.strings.now }
         ensures same_line_strings { self.new.line_strings.ghost_name ≡ self.old.line_strings.ghost_name }

@@ -139,6 +139,7 @@ impl<R: Reader> SourceRun<R> {
     ghost use Rattle.gimli_build.specs.Texts.{Sections};
     ghost use Rattle.gimli_write.specs.convert.Lists.{Lists};
     ghost use Rattle.gimli_write.specs.convert.Offers.{stops, address_operand, Reads};
+    ghost use Rattle.gimli_write.specs.convert.LastLists.{lists_at_last, step_lists};
     ghost use Rattle.gimli_write.specs.convert.SourceState.{started, state_behind, step_made, reading_left, step_reading, Shortens};
 
     /// The source, from its start on.
@@ -177,6 +178,11 @@ impl<R: Reader> SourceRun<R> {
             ≡ step_reading R.bytes R.Offset.number sections lists step self.new) }
         ensures refusal { IfErr result (λ e. (sections : Sections) (lists : Lists)
             → reading_left sections self.old lists ≡ stops e) }
+        ensures lists { IfOk result (λ step. (sections : Sections) (lists : Lists)
+            → lists_at_last sections self.old lists
+            ≡ step_lists R.bytes R.Offset.number sections lists step self.new) }
+        ensures stopped { IfErr result (λ e. (sections : Sections) (lists : Lists)
+            → lists_at_last sections self.old lists ≡ lists) }
         ensures shorter { IfOk result (λ step. Shortens step self.old self.new) }
         ensures header { self.new.header ≡ self.old.header }
         ensures notation { self.new.unread.notation ≡ self.old.unread.notation }

@@ -1,8 +1,9 @@
 //! The sequences of a source, one by one.
 
-ghost use Rattle.std.specs.Prelude.{◌≡◌, [], None, Some, Ok, Err, option_map, IfErr, IfOk, OnOk};
+ghost use Rattle.std.specs.Prelude.{◌≡◌, ◌≢◌, [], None, Some, Ok, Err, option_map, IfErr, IfOk, OnOk};
 ghost use Rattle.gimli_bytes.specs.Texts.{KeepsTexts};
 ghost use Rattle.gimli_write.specs.convert.Texts.{IsRefusedBy};
+ghost use Rattle.gimli_write.specs.convert.KeptLists.{KeepsFiles, IsAtLast, KeepsLast};
 ghost use Rattle.gimli_write.specs.convert.ConversionState.{still_to_read, AddsFiles};
 ghost use Rattle.gimli_write.specs.convert.Sequences.{gathered, sequence_read};
 
@@ -49,6 +50,12 @@ impl<R: Reader> Conversion<R> {
         ensures failed { IfErr result (λ e. self.new.failed ≡ Some e) }
         ensures well { OnOk result (self.new.failed ≡ None) }
         ensures adds { AddsFiles self.old.lists.program self.new.lists.program }
+        ensures keeps { KeepsFiles self.old.lists self.new.lists }
+        ensures last { OnOk result (KeepsLast self.old line_strings.old self.new line_strings.new) }
+        ensures ended { IfOk result (λ sequence. sequence ≡ None →
+            IsAtLast self.old line_strings.old self.new line_strings.new) }
+        ensures stopped { IfErr result (λ e. e ≢ ConvertError.OutOfMemory →
+            IsAtLast self.old line_strings.old self.new line_strings.new) }
         ensures stays { KeepsTexts line_strings.old line_strings.new }
     {
         if let Some(e) = self.failed {
@@ -73,6 +80,12 @@ impl<R: Reader> Conversion<R> {
         ensures err { IfErr result (IsRefusedBy (gathered None [] (still_to_read self.old line_strings.old))) }
         ensures well { OnOk result (self.new.failed ≡ None) }
         ensures adds { AddsFiles self.old.lists.program self.new.lists.program }
+        ensures keeps { KeepsFiles self.old.lists self.new.lists }
+        ensures last { OnOk result (KeepsLast self.old line_strings.old self.new line_strings.new) }
+        ensures ended { IfOk result (λ sequence. sequence ≡ None →
+            IsAtLast self.old line_strings.old self.new line_strings.new) }
+        ensures stopped { IfErr result (λ e. e ≢ ConvertError.OutOfMemory →
+            IsAtLast self.old line_strings.old self.new line_strings.new) }
         ensures stays { KeepsTexts line_strings.old line_strings.new }
     {
         let mut start = None;

@@ -11,6 +11,7 @@ use Rattle.gimli_write.specs.convert.Sequences.{SequenceRead, sequence_with, gat
 use Rattle.gimli_write.specs.convert.ConversionState.{lists_of, still_to_read}
 use Rattle.gimli_write.proofs.ConvertSteps.{kept_then, refused_same}
 use Rattle.gimli_write.proofs.Feedings.{one_fewer}
+use Rattle.gimli_write.proofs.KeptFiles.{files_then}
 use Rattle.gimli_write.proofs.Gathers.{gathered_first, row_gathered, address_gathered, address_ends, given_back, nothing_gathered, rows_left, gather_refused, added_then}
 use Rattle.gimli_write.proofs.convert.conversion.Conversion.gather.Goals as goal
 
@@ -44,6 +45,8 @@ rows-preserved-in-Continue-branch-4 g c =
           (lists_of c.read_row.new.self c.read_row.new.line_strings) hands c.in_ok-push-in-Some-Row.ensures.items
           ∙ c.rows.invariant.same;
       adds = added_then c.args.self.now.lists.program c.rows.self.lists.program c.read_row.new.self.lists.program c.rows.invariant.adds c.in_ok-row.ensures.adds;
+      keeps = files_then c.args.self.now.lists c.rows.self.lists c.read_row.new.self.lists c.rows.invariant.keeps c.in_ok-row.ensures.keeps;
+      last = c.in_ok-row.ensures.last ∙ c.rows.invariant.last;
       stays = kept_then c.args.line_strings.now c.rows.line_strings c.read_row.new.line_strings c.rows.invariant.stays c.in_ok-row.ensures.stays;
     }
 
@@ -69,6 +72,8 @@ rows-preserved g c =
           (lists_of c.read_row.new.self c.read_row.new.line_strings) hands none
           ∙ c.rows.invariant.same;
       adds = added_then c.args.self.now.lists.program c.rows.self.lists.program c.read_row.new.self.lists.program c.rows.invariant.adds c.in_ok-row.ensures.adds;
+      keeps = files_then c.args.self.now.lists c.rows.self.lists c.read_row.new.self.lists c.rows.invariant.keeps c.in_ok-row.ensures.keeps;
+      last = c.in_ok-row.ensures.last ∙ c.rows.invariant.last;
       stays = kept_then c.args.line_strings.now c.rows.line_strings c.read_row.new.line_strings c.rows.invariant.stays c.in_ok-row.ensures.stays;
     }
 

@@ -1,6 +1,7 @@
 use Rattle.std.proofs.Common.{◌≡◌, []}
 use Rattle.std.specs.Prelude.{None}
 use Rattle.gimli_bytes.specs.Texts.{KeepsTexts}
+use Rattle.gimli_write.specs.convert.KeptLists.{KeepsFiles, KeepsLast}
 use Rattle.gimli_write.specs.convert.ConversionState.{still_to_read, AddsFiles}
 use Rattle.gimli_write.specs.convert.Sequences.{gathered}
 use Rattle.gimli_write.proofs.Feedings.{offer_count}
@@ -10,6 +11,8 @@ abbrev pub invariant-rows : goal.invariant-rows
 invariant-rows g l = record {
   same : gathered l.start l.rows.items (still_to_read l.self l.line_strings) ≡ gathered None [] (still_to_read l.fn.self l.fn.line_strings);
   adds : AddsFiles l.fn.self.lists.program l.self.lists.program;
+  keeps : KeepsFiles l.fn.self.lists l.self.lists;
+  last : KeepsLast l.fn.self l.fn.line_strings l.self l.line_strings;
   stays : KeepsTexts l.fn.line_strings l.line_strings;
 }
 

@@ -1,13 +1,19 @@
-use Rattle.std.proofs.Common.{sym, ap, ◌∙◌}
+use Rattle.std.proofs.Common.{List, ℕ, sym, ap, ◌∙◌}
+use Rattle.std.specs.Prelude.{Result}
 use Rattle.std.proofs.lemmas.Result.{err_from_is_err_and}
 use Rattle.gimli_line.specs.header.File.{file_seen}
 use Rattle.gimli_line.specs.header.Header.{Header}
 use Rattle.gimli_build.specs.Built.{Built}
-use Rattle.gimli_write.specs.convert.Lists.{lists_with}
+use Rattle.gimli_write.specs.declared.convert_error.ConvertError.{ConvertError}
+use Rattle.gimli_write.specs.convert.Lists.{Converted, Lists, lists_with, file_added}
+use Rattle.gimli_write.specs.convert.LastLists.{unless_refused, lists_at_last}
 use Rattle.gimli_write.specs.convert.Offers.{defines, defines_first, after_definitions}
 use Rattle.gimli_write.specs.convert.ConversionState.{plain, source_left}
+use Rattle.gimli_write.specs.convert.KeptLists.{source_last}
 use Rattle.gimli_write.proofs.SourceSteps.{none_left}
 use Rattle.gimli_write.proofs.ConvertSteps.{kept_then}
+use Rattle.gimli_write.proofs.LastLists.{none_last, file_stopped}
+use Rattle.gimli_write.proofs.KeptFiles.{files_then}
 use Rattle.gimli_write.proofs.Conversions.{conversion, file_taken, file_refusal}
 use Rattle.gimli_write.proofs.convert.conversion.Conversion.next_source_row.Goals as goal
 
@@ -26,6 +32,7 @@ steps-preserved g c =
     let before = lists_with c.steps.line_strings a.lists in
     let after = lists_with c.add_file.new.line_strings c.add_file.new.self in
     let read = rw c.in-Defines.is at c.in_ok-step.ensures.reading in
+    let leaves = rw c.in-Defines.is at c.in_ok-step.ensures.lists in
     record {
       left =
           sym (ap after_definitions (read a.sections (plain before) ∙ ap defines (file_taken a.sections c.step.new.self before f after c.in_ok-add_file-in-Defines.ensures.ok)))
@@ -39,6 +46,11 @@ steps-preserved g c =
       adds =
           c.in_ok-add_file-in-Defines.ensures.adds
           ∙ ap (λ (p : Built). let q : Built = record p { files = c.add_file.new.self.program.files } in q) c.steps.invariant.adds;
+      keeps = files_then c.args.self.now.lists a.lists c.add_file.new.self c.steps.invariant.keeps c.in_ok-add_file-in-Defines.ensures.keeps;
+      last =
+          sym (leaves a.sections before
+          ∙ ap (λ (there : Result Lists ConvertError). unless_refused before there (λ next. lists_at_last a.sections c.step.new.self next)) c.in_ok-add_file-in-Defines.ensures.ok)
+          ∙ c.steps.invariant.last;
       stays = kept_then c.args.line_strings.now c.steps.line_strings c.add_file.new.line_strings
           c.steps.invariant.stays c.in_ok-add_file-in-Defines.ensures.stays;
     }
@@ -59,3 +71,31 @@ pub returns-in_err-add_file-in-Defines-clause-stays : goal.returns-in_err-add_fi
 returns-in_err-add_file-in-Defines-clause-stays g c =
     kept_then c.args.line_strings.now c.steps.line_strings c.add_file.new.line_strings
     c.steps.invariant.stays c.in_err-add_file-in-Defines.ensures.stays
+
+pub returns-in-Done-clause-last : goal.returns-in-Done-clause-last
+returns-in-Done-clause-last g c =
+    let a = c.steps.self-inside in
+    let lists = lists_with c.steps.line_strings a.lists in
+    let leaves = rw c.in-Done.is at c.in_ok-step.ensures.lists in
+    let over = rw c.in-Done.is at c.in_ok-step.ensures.shorter in
+    none_last a.sections lists c.step.new.self over ∙ sym (leaves a.sections lists) ∙ c.steps.invariant.last
+
+pub returns-in-Done-clause-ended : goal.returns-in-Done-clause-ended
+returns-in-Done-clause-ended g c = λ none.
+    let a = c.steps.self-inside in
+    let leaves = rw c.in-Done.is at c.in_ok-step.ensures.lists in
+    sym (leaves a.sections (lists_with c.steps.line_strings a.lists)) ∙ c.steps.invariant.last
+
+pub returns-in_err-add_file-in-Defines-clause-stopped : goal.returns-in_err-add_file-in-Defines-clause-stopped
+returns-in_err-add_file-in-Defines-clause-stopped g c =
+    let a = c.steps.self-inside in
+    let f = file_seen g.R.Reader.bytes g.R.Offset.ReaderOffset.number c.in-Defines.file in
+    let before = lists_with c.steps.line_strings a.lists in
+    let leaves = rw c.in-Defines.is at c.in_ok-step.ensures.lists in
+    let p = err_from_is_err_and c.from_residual-in_err-add_file-in-Defines.result c.from_residual-in_err-add_file-in-Defines.ensures.1 in
+    rw (p.1, p.2) (λ other.
+    file_stopped before (lists_with c.add_file.new.line_strings c.add_file.new.self) (source_last c.args.self.now c.args.line_strings.now) (file_added a.sections before f)
+    (λ next. lists_at_last a.sections c.step.new.self next) c.in_err-add_file-in-Defines.field-0.0 c.in_err-add_file-in-Defines.ensures.err other
+    (ap (λ (l : List (List ℕ)). lists_with l c.add_file.new.self) (c.in_err-add_file-in-Defines.ensures.texts other)
+    ∙ ap (λ (x : Converted). lists_with c.steps.line_strings x) (c.in_err-add_file-in-Defines.ensures.kept other))
+    (sym (leaves a.sections before) ∙ c.steps.invariant.last))

@@ -1,4 +1,4 @@
-use Rattle.std.proofs.Common.{◌≡◌, sym, subst}
+use Rattle.std.proofs.Common.{◌≡◌, refl, sym, subst}
 use Rattle.std.specs.Prelude.{option_map}
 use Rattle.gimli_build.specs.Texts.{Sections}
 use Rattle.gimli_write.specs.convert.Lists.{Lists, lists_with}
@@ -22,3 +22,6 @@ returns-clause-reads g c =
     rw c.start-conversion.ensures
     (subst (λ (x : Lists). Reads notation sections h lists h.program (reading_left sections (started h (record { bytes = h.program; notation = notation })) x))
     (sym same) (start_reads notation sections h lists h.program))
+
+pub returns-clause-unread : goal.returns-clause-unread
+returns-clause-unread g c = rw c.start-conversion.ensures refl

@@ -1,0 +1,38 @@
+-- Files that were there keep their ids and their numbers.
+use Rattle.std.proofs.Common.{◌≡◌, ◌++◌, List, [], ◌∷◌, refl, sym, ap, ◌∙◌, arith}
+use Rattle.std.specs.Prelude.{Some}
+use Rattle.std.proofs.lemmas.List.{length-append, get_or_append_left}
+use Rattle.std.proofs.lemmas.Option.{slice_get-get_or}
+use Rattle.gimli_build.specs.Tables.{FileKey, Keeps, keys_of}
+use Rattle.gimli_write.specs.convert.Lists.{Converted}
+use Rattle.gimli_write.specs.convert.KeptLists.{KeepsFiles}
+
+module _ {A : Type 0} where
+  pub keeps_self : (xs : List A) → Keeps xs xs
+  keeps_self xs = record { grows = omega arith; stays = λ i h. refl }
+
+  pub keeps_then : (xs ys zs : List A) → Keeps xs ys → Keeps ys zs → Keeps xs zs
+  keeps_then xs ys zs first second =
+      let a = first.grows in
+      let b = second.grows in
+      record { grows = omega arith; stays = λ i h. second.stays i (omega arith) ∙ first.stays i h }
+
+  -- one more comes last
+  pub keeps_more : (xs : List A) (x : A) → Keeps xs (xs ++ x ∷ [])
+  keeps_more xs x = record {
+    grows = omega (arith, length-append xs (x ∷ []));
+    stays = λ i h.
+        slice_get-get_or (xs ++ x ∷ []) i x (omega (arith, length-append xs (x ∷ [])))
+        ∙ ap Some (get_or_append_left xs (x ∷ []) x i h)
+        ∙ sym (slice_get-get_or xs i x h);
+  }
+
+pub files_self : (c : Converted) → KeepsFiles c c
+files_self c = record { files = keeps_self (keys_of c.program.files); numbers = keeps_self c.file_ids; directories = refl }
+
+pub files_then : (a b c : Converted) → KeepsFiles a b → KeepsFiles b c → KeepsFiles a c
+files_then a b c first second = record {
+  files = keeps_then (keys_of a.program.files) (keys_of b.program.files) (keys_of c.program.files) first.files second.files;
+  numbers = keeps_then a.file_ids b.file_ids c.file_ids first.numbers second.numbers;
+  directories = second.directories ∙ first.directories;
+}

@@ -1,0 +1,38 @@
+-- The files of a conversion after a read: those that were there stay, and at the end, or where a read is refused, all are
+-- there that its source defines before.
+use Rattle.std.specs.Prelude.{◌≡◌, ℕ, if◌then◌else◌, is_some, List}
+use Rattle.gimli_build.specs.Tables.{keys_of, Keeps}
+use Rattle.gimli_write.specs.convert.Lists.{Converted, Lists, lists_with}
+use Rattle.gimli_write.specs.convert.SourceState.{started}
+use Rattle.gimli_write.specs.convert.LastLists.{lists_at_last, behind_row}
+use Rattle.gimli_write.specs.convert.Sources.{Source}
+use Rattle.gimli_write.specs.convert.ConversionState.{ConversionState, unread, version_of_source}
+
+-- a file that was there keeps its id, and its number in the source; the ids of directories stay
+pub record KeepsFiles (old new : Converted) : Type 0 where
+  pub files : Keeps (keys_of old.program.files) (keys_of new.program.files)
+  pub numbers : Keeps old.file_ids new.file_ids
+  pub directories : new.directory_ids ≡ old.directory_ids
+
+-- the lists that what is left of the source leaves
+abbrev pub source_last : ConversionState → List (List ℕ) → Lists
+source_last c line_strings = lists_at_last c.sections c.source (lists_with line_strings c.lists)
+
+-- those that a conversion is left with: all files are added that its source defines before it ends, or before the first
+-- refusal that isn't want of memory. After a refusal they are those that it has
+abbrev pub last_lists : ConversionState → List (List ℕ) → Lists
+last_lists c line_strings =
+    let now = lists_with line_strings c.lists in
+    if is_some c.failed then now else behind_row (version_of_source c) now c.held (source_last c line_strings)
+
+-- a conversion has the lists that it was to be left with
+abbrev pub IsAtLast : ConversionState → List (List ℕ) → ConversionState → List (List ℕ) → Type 0
+IsAtLast old old_strings new new_strings = lists_with new_strings new.lists ≡ last_lists old old_strings
+
+-- it is still to be left with them
+abbrev pub KeepsLast : ConversionState → List (List ℕ) → ConversionState → List (List ℕ) → Type 0
+KeepsLast old old_strings new new_strings = last_lists new new_strings ≡ last_lists old old_strings
+
+-- nothing of the program of a source is read yet
+abbrev pub IsUnread : Source → ConversionState → Type 0
+IsUnread s c = c ≡ unread s.sections (started s.header (record { bytes = s.header.program; notation = s.notation })) c.lists
