@@ -1,5 +1,5 @@
 -- What a look-up in a unit's program answers.
-use Rattle.std.specs.Prelude.{◌≡◌, ℕ, List, map, All}
+use Rattle.std.specs.Prelude.{◌≡◌, ◌⊎◌, ℕ, List, map, All}
 use Rattle.gimli_core.specs.declared.error.Error.{Error}
 use Rattle.gimli_line.specs.declared.run.row.LineRow.{LineRow}
 use Rattle.gimli_line.specs.header.Header.{Header}
@@ -7,7 +7,7 @@ use Rattle.gimli_line.specs.run.Events.{row}
 use Rattle.gimli_line.specs.run.Sequences.{Part, resumed, AreSequences, HasFirstFault}
 use Rattle.gimli_lookup.specs.FirstPair.{HasNoPair, IsFirstPair}
 use Rattle.gimli_c.specs.declared.row.GimliRow.{GimliRow}
-use Rattle.gimli_c.specs.Place.{Place, notation_at, HasUnit}
+use Rattle.gimli_c.specs.Place.{Place, notation_at, HasUnit, HasNoUnit}
 use Rattle.gimli_c.specs.Seen.{row_seen}
 use Rattle.gimli_c.specs.Status.{error_status}
 
@@ -43,3 +43,7 @@ pub record HasFault (p : Place) (status : ℕ) : Type 0 where
   pub fault : Error
   pub first : HasFirstFault (notation_at p) header fault
   pub status_is : status ≡ error_status fault
+
+-- nothing can be looked up at the place, since it has no unit, or the run of its program has a fault; this is the number
+abbrev pub HasNoSequences : Place → ℕ → Type 0
+HasNoSequences p status = HasNoUnit p status ⊎ HasFault p status

@@ -1,12 +1,13 @@
 //! The rows round an address.
 
-ghost use Rattle.std.specs.Prelude.{◌≡◌, ◌≢◌, ◌⊎◌};
-ghost use Rattle.gimli_c.specs.Found.{GivesNoPair, GivesPair, HasFault};
-ghost use Rattle.gimli_c.specs.Place.{place, HasNoUnit};
+ghost use Rattle.std.specs.Prelude.{◌≡◌, ◌≢◌, false};
+ghost use Rattle.gimli_core.specs.Numbers.{is_address_size};
+ghost use Rattle.gimli_c.specs.Found.{GivesNoPair, GivesPair, HasNoSequences};
+ghost use Rattle.gimli_c.specs.Place.{place};
 
 use crate::place::program_at;
 use crate::row::GimliRow;
-use crate::status::{NOT_FOUND, OK, OUT_OF_MEMORY, error_status};
+use crate::status::{NOT_FOUND, OK, OUT_OF_MEMORY, UNSUPPORTED_ADDRESS_SIZE, error_status};
 use gimli_lookup::Lookup;
 use std::alloc::Global;
 
@@ -26,11 +27,13 @@ pub extern "C" fn gimli_line_find(
     first: &mut GimliRow,
     second: &mut GimliRow,
 ) -> u32
-    ensures found { result ≡ OK → GivesPair (place section.now big address_size offset) address first.new second.new }
-    ensures none { result ≡ NOT_FOUND → GivesNoPair (place section.now big address_size offset) address }
+    ensures found { result ≡ OK →
+        GivesPair (place section.now big address_size offset) address first.new second.new }
+    ensures none { result ≡ NOT_FOUND →
+        GivesNoPair (place section.now big address_size offset) address }
     ensures refused { result ≢ OK → result ≢ NOT_FOUND → result ≢ OUT_OF_MEMORY →
-        HasNoUnit (place section.now big address_size offset) result
-        ⊎ HasFault (place section.now big address_size offset) result }
+        HasNoSequences (place section.now big address_size offset) result }
+    ensures size { is_address_size address_size ≡ false → result ≡ UNSUPPORTED_ADDRESS_SIZE }
     ensures kept { result ≢ OK → (first.new ≡ first.old) × (second.new ≡ second.old) }
 {
     let program = match program_at(alloc, section, big, address_size, offset) {

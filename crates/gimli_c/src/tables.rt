@@ -33,7 +33,8 @@ pub struct GimliFileName {
     pub md5: [u8; 16],
 }
 
-/// A program without rows. In version 5 its first directory and its first file are those that are handed over.
+/// A program without rows. In version 5 its first directory and its first file are those that are handed over. Requires
+/// encodings that rows can be written by.
 pub(crate) fn started(
     alloc: Global,
     encoding: Encoding,
@@ -54,7 +55,7 @@ pub(crate) fn started(
 {
     let version = encoding.version;
     if version <= 4 {
-        return made(alloc, encoding, lines, empty(alloc), None, empty(alloc));
+        return new_program(alloc, encoding, lines, empty(alloc), None, empty(alloc));
     }
     let working = match directories.first() {
         Some(name) => text_of(alloc, version, texts, *name)?,
@@ -69,11 +70,11 @@ pub(crate) fn started(
         None => return Err(NO_SUCH_DIRECTORY),
     };
     let path = text_of(alloc, version, texts, file.path)?;
-    made(alloc, encoding, lines, working, Some(own), path)
+    new_program(alloc, encoding, lines, working, Some(own), path)
 }
 
-/// A program without rows. Refused by `OUT_OF_MEMORY` alone.
-fn made(
+/// A program without rows. Requires such encodings, and texts without a zero byte. Refused by `OUT_OF_MEMORY` alone.
+fn new_program(
     alloc: Global,
     encoding: Encoding,
     lines: LineEncoding,
@@ -114,7 +115,8 @@ fn name_at(names: &[GimliName], index: u64) -> Option<GimliName>
     names.get(index).copied()
 }
 
-/// Adds directories in order, and answers the ids of all by their indices.
+/// Adds directories in order, and answers the ids of all by their indices. Requires a program that can be written, and
+/// leaves one.
 pub(crate) fn add_directories(
     alloc: Global,
     program: &mut LineProgram,
@@ -123,7 +125,8 @@ pub(crate) fn add_directories(
 ) -> Result<Vec<DirectoryId>, u32>
     requires { CanWrite program.old [] [] }
     ensures can { OnOk result (CanWrite program.new [] []) }
-    ensures within { IfOk result (λ ids. All (λ id. id < length program.new.directories) ids.items) }
+    ensures within { IfOk result (λ ids.
+        All (λ id. id < length program.new.directories) ids.items) }
     ensures ok { IfOk result (λ ids.
         AddsDirectories program.old program.new (map (text_handed texts.now) names.now) ids.items) }
     ensures well { OnOk result
@@ -147,11 +150,12 @@ pub(crate) fn add_directories(
     Ok(ids)
 }
 
-/// Up to version 4 the id of the directory of the compilation, whose index is 0.
+/// Up to version 4 the id of the directory of the compilation, whose index is 0. Requires a program that can be written.
 fn first_ids(alloc: Global, program: &LineProgram) -> Result<Vec<DirectoryId>, u32>
     requires { CanWrite program.now [] [] }
     ensures ids { IfOk result (λ ids. ids.items ≡ first_ids program.now.encoding.version) }
-    ensures within { IfOk result (λ ids. All (λ id. id < length program.now.directories) ids.items) }
+    ensures within { IfOk result (λ ids.
+        All (λ id. id < length program.now.directories) ids.items) }
     ensures err { IfErr result IsRefusal }
     ensures memory { IfErr result (λ s. s ≡ OUT_OF_MEMORY) }
 {
@@ -164,7 +168,8 @@ fn first_ids(alloc: Global, program: &LineProgram) -> Result<Vec<DirectoryId>, u
     Ok(ids)
 }
 
-/// Adds files in order, and answers their ids. The directories are those of these ids.
+/// Adds files in order, and answers their ids. The directories are those of these ids. Requires a program that can be
+/// written and has these directories, and leaves one.
 pub(crate) fn add_files(
     alloc: Global,
     program: &mut LineProgram,
@@ -193,7 +198,7 @@ pub(crate) fn add_files(
     Ok(file_ids)
 }
 
-/// Adds a file, and answers its id.
+/// Adds a file, and answers its id. Requires what `add_files` does.
 fn add_file(
     alloc: Global,
     program: &mut LineProgram,

@@ -12,10 +12,10 @@ ghost use Rattle.gimli_c.specs.Refused.{encoding_fault, HasBadLines};
 ghost use Rattle.gimli_c.specs.Handing.{GivesUnitOf, IsBuiltOf, NeedsRoom, handed, program_with, write_status};
 
 use crate::encoding::{GimliEncoding, encodings};
-use crate::file::copy_bytes;
+use crate::file::{HAS_MD5, HAS_SIZE, HAS_TIMESTAMP, copy_bytes};
 use crate::items::add_rows;
 use crate::place::order;
-use crate::row::GimliRow;
+use crate::row::{GimliRow, has_flag};
 use crate::status::{
     NEED_VERSION_4, NO_ROOM, OK, OUT_OF_MEMORY, UNIT_TOO_LONG, UNKNOWN_VERSION,
     UNSUPPORTED_LINE_ENCODING,
@@ -31,7 +31,8 @@ use std::alloc::Global;
 /// where there are fewer in `unit`: then `size` says how many it takes, and nothing is written. Where another number than
 /// these is answered, `size` is 0; each but `OUT_OF_MEMORY` has its cause in what is handed over. Texts stand among the bytes
 /// of `texts`. A directory or a file that comes twice is there once; rows have its number then. `details` is the sum of
-/// `HAS_TIMESTAMP`, `HAS_SIZE` and `HAS_MD5`, each where version 5 is to have that detail.
+/// `HAS_TIMESTAMP`, `HAS_SIZE` and `HAS_MD5`, each where version 5 is to have that detail; other bits are ignored. Only the
+/// first address of a sequence is tested against the size of addresses.
 #[unsafe(no_mangle)]
 pub extern "C" fn gimli_line_write(
     alloc: Global,
@@ -45,17 +46,17 @@ pub extern "C" fn gimli_line_write(
     unit: &mut [u8],
     size: &mut u64,
 ) -> u32
-    ensures ok { result ≡ OK → GivesUnitOf
-        (handed encoding.now big details texts.now directories.now files.now rows.now) unit.old unit.new size.new }
-    ensures room { result ≡ NO_ROOM → NeedsRoom
-        (handed encoding.now big details texts.now directories.now files.now rows.now) unit.old size.new }
+    ensures ok { result ≡ OK → GivesUnitOf (handed encoding.now big details texts.now
+        directories.now files.now rows.now) unit.old unit.new size.new }
+    ensures room { result ≡ NO_ROOM → NeedsRoom (handed encoding.now big details texts.now
+        directories.now files.now rows.now) unit.old size.new }
     ensures fault { (s : ℕ) → encoding_fault encoding.now ≡ Some s → result ≡ s }
     ensures bad_lines { HasBadLines encoding.now → result ≡ UNSUPPORTED_LINE_ENCODING }
     ensures number { result ≢ OK → result ≢ NO_ROOM → IsRefusal result }
     ensures cause { result ≢ OK → result ≢ NO_ROOM → result ≢ OUT_OF_MEMORY → HasCause
         (handed encoding.now big details texts.now directories.now files.now rows.now) result }
-    ensures refused { (s : ℕ) → HasCause
-        (handed encoding.now big details texts.now directories.now files.now rows.now) s → IsRefusal result }
+    ensures refused { (s : ℕ) → HasCause (handed encoding.now big details texts.now
+        directories.now files.now rows.now) s → IsRefusal result }
     ensures err { result ≢ OK → unit.new ≡ unit.old }
     ensures none { result ≢ OK → result ≢ NO_ROOM → size.new ≡ 0 }
 {
@@ -110,14 +111,15 @@ fn built(
 fn with_details(mut program: LineProgram, details: u64) -> LineProgram
     ensures { result ≡ program_with details program }
 {
-    program.file_has_timestamp = details % 2 == 1;
-    program.file_has_size = details / 2 % 2 == 1;
-    program.file_has_md5 = details / 4 % 2 == 1;
+    program.file_has_timestamp = has_flag(details, HAS_TIMESTAMP);
+    program.file_has_size = has_flag(details, HAS_SIZE);
+    program.file_has_md5 = has_flag(details, HAS_MD5);
     program.file_has_source = false;
     program
 }
 
-/// The unit of a program whose texts all stand in it. Refused by the first cause that the program has, or by `OutOfMemory`.
+/// The unit of a program whose texts all stand in it. Requires one that can be written, without sources of files. Refused by
+/// the first cause that the program has, or by `OutOfMemory`.
 fn section_of(
     alloc: Global,
     program: &LineProgram,
