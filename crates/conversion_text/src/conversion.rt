@@ -5,13 +5,14 @@ ghost use Rattle.builder_scripts.specs.Within.{AreWithin};
 ghost use Rattle.conversion_text.specs.Taken.{IsTaken};
 
 use crate::item_text::FileIndex;
-use crate::reading::{Ending, Kind, Memory, print_no_start, print_refusal};
+use crate::reading::{Ending, Kind, Memory, print_after_header, print_no_start, print_refusal};
 use crate::request::Target;
 use builder_scripts::{Tables, print_program};
+use gimli_line::IncompleteLineProgram;
 use gimli_write::conversion_laws::converted_programs_can_be_written;
 use gimli_write::{
-    Address, ConvertError, ConvertResult, FileId, LineProgram, LineStringId, StringId,
-    convert_program,
+    Address, ConvertError, ConvertLineHeader, ConvertResult, FileId, LineProgram, LineStringId,
+    LineStringTable, StringId, StringTable, convert_program,
 };
 use row_text::Attempts;
 use std::alloc::{AllocError, Global};
@@ -107,6 +108,32 @@ impl<'i> Conversion<'i> {
             memory: ending.memory.also(has_old_texts(&tables)),
             ..ending
         })
+    }
+
+    /// Prints what is read, up to its end or to the first refusal.
+    fn print_parts(
+        self,
+        kind: Kind,
+        program: IncompleteLineProgram<Slice<'_>>,
+        line_strings: &mut LineStringTable,
+        strings: &mut StringTable,
+        text: &mut String,
+    ) -> Result<Ending, AllocError>
+        requires { IsTaken self.target }
+    {
+        let header = match ConvertLineHeader::new(
+            self.strings,
+            self.line_strings,
+            program,
+            self.name,
+            self.target.encoding,
+            self.target.line_encoding,
+            line_strings,
+        ) {
+            Ok(header) => header,
+            Err(error) => return print_no_start(error, text),
+        };
+        print_after_header(kind, header, line_strings, strings, text)
     }
 
     /// Prints what is built, in tables without a text, by a closure that keeps each address.

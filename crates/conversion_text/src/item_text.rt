@@ -2,7 +2,7 @@
 
 use gimli_write::{ConvertError, ConvertLineRow, FileId, LineRow};
 use std::fmt;
-use unit_text::Refusal;
+use unit_text::{Letters, Refusal};
 
 /// An item: an address, a row, or an end.
 #[derive(Clone, Copy)]
@@ -31,7 +31,13 @@ impl fmt::Display for Row {
         let line = row.line;
         let column = row.column;
         let discriminator = row.discriminator;
-        let flags = Flags(self.0);
+        let flags = [
+            (row.is_statement, 's'),
+            (row.basic_block, 'b'),
+            (row.prologue_end, 'p'),
+            (row.epilogue_begin, 'q'),
+        ];
+        let flags = Letters(&flags);
         let isa = row.isa;
         write!(
             f,
@@ -49,31 +55,6 @@ impl fmt::Display for FileIndex {
         // From version 5 on the numbers of files begin at 0.
         let index = self.0.raw(5);
         write!(f, "{index}")
-    }
-}
-
-/// The flags of a row, a letter for each that holds, or `-` for none.
-#[derive(Clone, Copy)]
-struct Flags(LineRow);
-
-impl fmt::Display for Flags {
-    fn fmt<W: fmt::Write>(&self, f: &mut fmt::Formatter<W>) -> fmt::Result {
-        let row = self.0;
-        let flags = [
-            (row.is_statement, 's'),
-            (row.basic_block, 'b'),
-            (row.prologue_end, 'p'),
-            (row.epilogue_begin, 'q'),
-        ];
-        if !flags.iter().any(|(holds, _)| *holds) {
-            return f.write_char('-');
-        }
-        for (holds, letter) in flags {
-            if holds {
-                f.write_char(letter)?;
-            }
-        }
-        Ok(())
     }
 }
 

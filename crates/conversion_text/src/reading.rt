@@ -1,18 +1,13 @@
 //! What a conversion reads, as it is printed.
 
-ghost use Rattle.conversion_text.specs.Taken.{IsTaken};
-
-use crate::conversion::Conversion;
 use crate::item_text::{Item, Refused, Row};
 use gimli_core::Reader;
-use gimli_line::IncompleteLineProgram;
 use gimli_write::{
     ConvertError, ConvertLineHeader, ConvertLineRow, ConvertLineSequence, ConvertLineSequenceEnd,
     ConvertResult, LineStringTable, StringTable,
 };
 use std::alloc::AllocError;
 use std::fmt::Write;
-use unit_text::Slice;
 
 /// What a conversion is read by.
 #[derive(Clone, Copy, Debug, PartialEq, Eq)]
@@ -156,36 +151,8 @@ pub(crate) fn print_refusal(error: ConvertError, text: &mut String) -> Result<()
     writeln!(text, "{refused}")
 }
 
-impl Conversion<'_> {
-    /// Prints what is read, up to its end or to the first refusal.
-    pub fn print_parts(
-        self,
-        kind: Kind,
-        program: IncompleteLineProgram<Slice<'_>>,
-        line_strings: &mut LineStringTable,
-        strings: &mut StringTable,
-        text: &mut String,
-    ) -> Result<Ending, AllocError>
-        requires { IsTaken self.target }
-    {
-        let header = match ConvertLineHeader::new(
-            self.strings,
-            self.line_strings,
-            program,
-            self.name,
-            self.target.encoding,
-            self.target.line_encoding,
-            line_strings,
-        ) {
-            Ok(header) => header,
-            Err(error) => return print_no_start(error, text),
-        };
-        print_program(kind, header, line_strings, strings, text)
-    }
-}
-
-/// Prints what is read after a header.
-fn print_program<R: Reader>(
+/// Prints what is read after a header, up to its end or to the first refusal.
+pub(crate) fn print_after_header<R: Reader>(
     kind: Kind,
     header: ConvertLineHeader<R>,
     line_strings: &mut LineStringTable,
