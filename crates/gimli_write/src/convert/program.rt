@@ -294,6 +294,8 @@ impl<'a, 'b, R: Reader> ConvertLineProgram<'a, 'b, R, Conversion<R>> {
     /// what it hides, gives nothing. Files that are defined on the way are added to the program that is built. Refused
     /// as `Read` for a fault of the source, as `InvalidFileIndex` for a row of no file, as a file that is defined is, or
     /// by `OutOfMemory` where this read defines one; every later read repeats the refusal. The tables keep their texts.
+    /// So do files their ids and their numbers in the source; after a refusal for another cause than memory, and at the
+    /// end, all files are there that the source defines before.
     pub fn read_row(&mut self) -> ConvertResult<Option<ConvertLineRow>>
         ensures ok { IfOk result (λ row. GivesNext self.old.conversion self.old.line_strings.now
             row self.new.conversion self.new.line_strings.now) }
@@ -319,6 +321,8 @@ impl<'a, 'b, R: Reader> ConvertLineProgram<'a, 'b, R, Conversion<R>> {
     /// Reads up to the end of a sequence, or to an address that is set after a row; the next read gives that address
     /// first. Refused as `read_row` is, as `MissingLineEndSequence` for rows without an end, or by `OutOfMemory`; every
     /// later read repeats the refusal. The tables keep their texts.
+    /// So do files their ids and their numbers in the source; after a refusal for another cause than memory, and at the
+    /// end, all files are there that the source defines before.
     pub fn read_sequence(&mut self) -> ConvertResult<Option<ConvertLineSequence>>
         ensures ok { IfOk result (λ sequence. GathersNext self.old.conversion self.old.line_strings.now
             sequence self.new.conversion self.new.line_strings.now) }
