@@ -226,8 +226,8 @@ typedef struct gimli_file_name {
  * Rows are as gimli_line_rows gives them. A sequence begins with the first row, and after each with GIMLI_END_SEQUENCE; of such
  * a row address and op_index count. In a sequence addresses don't go down, and are a whole number of shortest instructions
  * after the first. op_index is below maximum_operations_per_instruction, and doesn't go down from one row to the next at the same
- * address. 64 bits hold the number of operations from one row to the next. The line of a row that isn't an end is below 2^63.
- * Where one of these doesn't hold the answer is GIMLI_ROW_OUT_OF_ORDER.
+ * address. 64 bits hold the number of operations from the address of one row to the next row. The line of a row that isn't an end
+ * is below 2^63. Where one of these doesn't hold the answer is GIMLI_ROW_OUT_OF_ORDER.
  *
  * Only the first address of a sequence is tested against the size of addresses (GIMLI_UNIT_TOO_LONG). A later one that passes the
  * greatest address of that size is written, and is the fault GIMLI_ADDRESS_OVERFLOW where the unit is read. A sequence that

@@ -59,8 +59,9 @@ pub const NO_SOURCE_FILE: u32 = 24;
 pub const NO_SUCH_DIRECTORY: u32 = 25;
 /// No file has the number that a row has.
 pub const NO_SUCH_FILE: u32 = 26;
-/// A row can't follow the one before: its address is lower, or isn't a whole number of shortest instructions after the first
-/// of its sequence; or its operation or its line isn't one that a row can have.
+/// A row can't follow the one before: its address is lower, or its operation at the same address is; or its address isn't a
+/// whole number of shortest instructions after the first of its sequence; or its operation or its line isn't one that a row
+/// can have.
 pub const ROW_OUT_OF_ORDER: u32 = 27;
 /// A row has a flag that isn't known.
 pub const UNKNOWN_FLAG: u32 = 28;
