@@ -1,5 +1,6 @@
 use Rattle.std.proofs.Common.{◌≡◌, refl, sym, subst}
 use Rattle.std.specs.Prelude.{option_map}
+use Rattle.std.proofs.lemmas.Result.{err_from_is_err_and}
 use Rattle.gimli_build.specs.Texts.{Sections}
 use Rattle.gimli_write.specs.convert.Lists.{Lists, lists_with}
 use Rattle.gimli_write.specs.convert.Preparation.{handed}
@@ -9,6 +10,12 @@ use Rattle.gimli_write.specs.convert.ConversionState.{plain}
 use Rattle.gimli_write.proofs.SourceReadings.{start_reads}
 use Rattle.gimli_write.proofs.Conversions.{prepared_plain}
 use Rattle.gimli_write.proofs.convert.program.ConvertLineHeader.new.Goals as goal
+
+pub returns-in_err-lists-clause-err : goal.returns-in_err-lists-clause-err
+returns-in_err-lists-clause-err g c =
+    let p = err_from_is_err_and c.from_residual.result c.from_residual.ensures.1 in
+    let refused = rw c.header.ensures at c.in_err-lists.ensures.err in
+    rw (p.1, p.2) refused
 
 pub returns-clause-reads : goal.returns-clause-reads
 returns-clause-reads g c =
