@@ -1,6 +1,10 @@
 //! Conversions call by call: reads of either kind, the converter's own builder calls, closures that know no address, and
 //! what stands after a refusal.
 
+ghost use Rattle.std.specs.Prelude.{◌≡◌, IfOk, List, ℕ};
+ghost use Rattle.gimli_write.specs.Conditions.{CanWrite};
+ghost use Rattle.gimli_write.specs.convert.KeptLists.{IsWritable};
+
 use crate::check::{check, check_equal};
 use gimli_core::{
     DebugLineOffset, Encoding, EndianSlice, Format, LittleEndian, Reader, ReaderOffset,
@@ -8,8 +12,8 @@ use gimli_core::{
 use gimli_line::{DebugLine, IncompleteLineProgram};
 use gimli_write::{
     Address, BuiltItem, ConvertError, ConvertLineProgram, ConvertLineRow, ConvertLineSequence,
-    ConvertLineSequenceEnd, ConvertResult, LineProgram, LineRow, LineStringId, LineStringTable,
-    StringId, StringTable,
+    ConvertLineSequenceEnd, ConvertResult, EndianVec, LineProgram, LineRow, LineStringId,
+    LineStringTable, StringId, StringTable,
 };
 use std::alloc::Global;
 use std::process::Abort;
@@ -53,7 +57,11 @@ fn conversion_of<'a, 'b, R: Reader>(
     program: IncompleteLineProgram<R>,
     line_strings: &'a mut LineStringTable,
     strings: &'b mut StringTable,
-) -> ConvertResult<ConvertLineProgram<'a, 'b, R>> {
+) -> ConvertResult<ConvertLineProgram<'a, 'b, R>>
+    ensures writable { IfOk result (λ convert. IsWritable convert.conversion.lists convert.line_strings.now) }
+    ensures same { IfOk result (λ convert. convert.line_strings.ghost_name ≡ line_strings.entry.ghost_name) }
+    ensures same_strings { IfOk result (λ convert. convert.strings.ghost_name ≡ strings.entry.ghost_name) }
+{
     let texts = program.header().raw_program_buf();
     ConvertLineProgram::new(
         texts,
@@ -94,35 +102,110 @@ fn row_built(item: Option<&BuiltItem>) -> Option<(u64, u64)> {
     }
 }
 
+/// The next read gives this.
+fn check_read<R: Reader>(
+    rt: &impl Abort,
+    conversion: &mut ConvertLineProgram<'_, '_, R>,
+    wanted: Option<ConvertLineRow>,
+)
+    requires { IsWritable conversion.old.conversion.lists conversion.old.line_strings.now }
+    ensures writable { IsWritable conversion.new.conversion.lists conversion.new.line_strings.now }
+    ensures same { conversion.new.line_strings.ghost_name ≡ conversion.old.line_strings.ghost_name }
+    ensures same_strings { conversion.new.strings.ghost_name ≡ conversion.old.strings.ghost_name }
+{
+    check_equal(rt, conversion.read_row(), Ok(wanted));
+}
+
+/// The next read gives a row, which is built.
+fn build_row<R: Reader>(
+    rt: &impl Abort,
+    conversion: &mut ConvertLineProgram<'_, '_, R>,
+) -> ConvertResult<()>
+    requires { IsWritable conversion.old.conversion.lists conversion.old.line_strings.now }
+    ensures writable { IsWritable conversion.new.conversion.lists conversion.new.line_strings.now }
+    ensures same { conversion.new.line_strings.ghost_name ≡ conversion.old.line_strings.ghost_name }
+    ensures same_strings { conversion.new.strings.ghost_name ≡ conversion.old.strings.ghost_name }
+{
+    let row = row_of(conversion.read_row()?)?;
+    check_equal(rt, conversion.generate_row(row), Ok(()));
+    Ok(())
+}
+
+/// The next reads give the first address and a row, with which a sequence begins.
+fn build_first<R: Reader>(
+    rt: &impl Abort,
+    conversion: &mut ConvertLineProgram<'_, '_, R>,
+) -> ConvertResult<()>
+    requires { IsWritable conversion.old.conversion.lists conversion.old.line_strings.now }
+    ensures writable { IsWritable conversion.new.conversion.lists conversion.new.line_strings.now }
+    ensures same { conversion.new.line_strings.ghost_name ≡ conversion.old.line_strings.ghost_name }
+    ensures same_strings { conversion.new.strings.ghost_name ≡ conversion.old.strings.ghost_name }
+{
+    check_read(rt, conversion, FIRST);
+    check(rt, !conversion.in_sequence());
+    let begun = conversion.begin_sequence(Some(Address::Constant(16)));
+    check_equal(rt, begun, Ok(()));
+    check(rt, conversion.in_sequence());
+    build_row(rt, conversion)
+}
+
+/// The next reads give the second address, a row and the end, with which the sequence ends.
+fn build_second<R: Reader>(
+    rt: &impl Abort,
+    conversion: &mut ConvertLineProgram<'_, '_, R>,
+) -> ConvertResult<()>
+    requires { IsWritable conversion.old.conversion.lists conversion.old.line_strings.now }
+    ensures writable { IsWritable conversion.new.conversion.lists conversion.new.line_strings.now }
+    ensures same { conversion.new.line_strings.ghost_name ≡ conversion.old.line_strings.ghost_name }
+    ensures same_strings { conversion.new.strings.ghost_name ≡ conversion.old.strings.ghost_name }
+{
+    check_read(rt, conversion, SECOND);
+    check_equal(rt, conversion.set_address(Address::Constant(32)), Ok(()));
+    build_row(rt, conversion)?;
+    check_read(rt, conversion, END);
+    check_equal(rt, conversion.end_sequence(4), Ok(()));
+    check(rt, !conversion.in_sequence());
+    Ok(())
+}
+
 /// Each item is handed to a builder call of the converter's own.
 fn built_by_hand<R: Reader>(
     rt: &impl Abort,
     program: IncompleteLineProgram<R>,
     line_strings: &mut LineStringTable,
     strings: &mut StringTable,
-) -> ConvertResult<LineProgram> {
+) -> ConvertResult<LineProgram>
+    ensures { IfOk result (λ built. CanWrite built strings.new line_strings.new) }
+{
     let mut conversion = conversion_of(program, line_strings, strings)?;
-    check_equal(rt, conversion.read_row(), Ok(FIRST));
-    check(rt, !conversion.in_sequence());
-    check_equal(
-        rt,
-        conversion.begin_sequence(Some(Address::Constant(16))),
-        Ok(()),
-    );
-    check(rt, conversion.in_sequence());
-    let row = row_of(conversion.read_row()?)?;
-    check_equal(rt, conversion.generate_row(row), Ok(()));
-    check_equal(rt, conversion.read_row(), Ok(SECOND));
-    check_equal(rt, conversion.set_address(Address::Constant(32)), Ok(()));
-    let second = row_of(conversion.read_row()?)?;
-    check_equal(rt, conversion.generate_row(second), Ok(()));
-    check_equal(rt, conversion.read_row(), Ok(END));
-    check_equal(rt, conversion.end_sequence(4), Ok(()));
-    check(rt, !conversion.in_sequence());
-    check_equal(rt, conversion.read_row(), Ok(None));
+    build_first(rt, &mut conversion)?;
+    build_second(rt, &mut conversion)?;
+    check_read(rt, &mut conversion, None);
     let (built, files) = conversion.program();
     check_equal(rt, files.len(), 2);
     Ok(built)
+}
+
+/// The unit that is made of both addresses: a sequence, whose second address stands in the middle.
+const BUILT_BY_HAND: &[u8] =
+    b"\x36\0\0\0\x04\0\x1b\0\0\0\x01\x01\x01\xfb\x0e\x0d\0\x01\x01\x01\x01\0\0\0\x01\0\0\x01\0a.c\0\0\0\0\0\
+      \0\x05\x02\x10\0\0\0\x01\0\x05\x02\x20\0\0\0\x01\x02\x04\0\x01\x01";
+
+/// The program is written as this unit.
+fn check_unit(
+    rt: &impl Abort,
+    alloc: Global,
+    program: &LineProgram,
+    line_strings: &mut LineStringTable,
+    strings: &mut StringTable,
+)
+    requires { CanWrite program.now strings.old line_strings.old }
+{
+    let mut section = gimli_write::DebugLine::from(EndianVec::new(alloc, LittleEndian));
+    let encoding = program.encoding();
+    let answer = program.write(&mut section, encoding, line_strings, strings);
+    check_equal(rt, answer, Ok(DebugLineOffset(0)));
+    check_equal(rt, section.0.slice(), BUILT_BY_HAND);
 }
 
 /// The items of a program with two addresses, and a row at each.
@@ -166,6 +249,7 @@ fn steps_of_builder_calls(
     let program = program_of(alloc, slice(TWO_ADDRESSES), None)?;
     let built = built_by_hand(rt, program, line_strings, strings)?;
     check_two_addresses(rt, &built);
+    check_unit(rt, alloc, &built, line_strings, strings);
     Ok(())
 }
 

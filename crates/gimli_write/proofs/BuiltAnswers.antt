@@ -21,11 +21,11 @@ use Rattle.gimli_build.specs.Stored.{stored}
 use Rattle.gimli_build.specs.Items.{AddressesFit}
 use Rattle.gimli_build.specs.SameRow.{RowsMatch}
 use Rattle.gimli_build.specs.Texts.{Sections, IsText, IsOptionalText, OneByOne}
-use Rattle.gimli_build.specs.ReadsBack.{IsUnit, IsDirectory, IsFile, ReadsBack, directories_from_zero}
+use Rattle.gimli_build.specs.ReadsBack.{IsUnit, IsDirectory, IsFile, ReadsBack, ReadsBackAs, directories_from_zero}
 use Rattle.gimli_write.specs.declared.convert_error.ConvertError.{ConvertError}
 use Rattle.gimli_write.specs.declared.convert_error.ConvertError.TheVariants.{Read, OutOfMemory as NoMemory}
 use Rattle.gimli_write.specs.declared.read_back.RoundTrip.{RoundTrip}
-use Rattle.gimli_write.specs.RoundTrip.{FileAnswer, file_answer, built_file, Answers, answers, IsFileAnswer, AreAnswers, AnswersUnit, AnswersProgram, IsUnitOf, IsRunRefusal, RefusesUnit, slice_notation, unit_entry_of, sections_of}
+use Rattle.gimli_write.specs.RoundTrip.{FileAnswer, file_answer, built_file, Answers, answers, IsFileAnswer, AreAnswers, AnswersUnit, AnswersProgram, IsRunRefusal, RefusesUnit, slice_notation, unit_entry_of, sections_of}
 use Rattle.gimli_write.proofs.ReadTexts.{text_there}
 use Rattle.gimli_write.proofs.ReadUnits.{read_back, AreShort}
 
@@ -161,7 +161,7 @@ module _ (notation : Notation) (unit_entry : UnitEntry) (sections : Sections) (p
 
 -- ---- the unit of a program
 
-module _ (big : Bool) (p : Built) (strings line_strings : List (List ℕ)) (section : List ℕ) (n : ℕ) (whole : IsUnitOf big p strings line_strings (drop n section)) (fits : length section < 2 ^ 64) (held : AreShort strings line_strings) where
+module _ (big : Bool) (p : Built) (strings line_strings : List (List ℕ)) (section : List ℕ) (n : ℕ) (whole : ReadsBackAs big p strings line_strings (drop n section)) (fits : length section < 2 ^ 64) (held : AreShort strings line_strings) where
   read_again : ReadsBack (slice_notation big) (unit_entry_of p strings line_strings) (sections_of strings line_strings) p strings line_strings (drop n section)
   read_again = read_back big p strings line_strings section n whole fits held
 

@@ -76,7 +76,7 @@ next_added {A = A} add seen xs i x lists lt is =
 pub kept_self : (texts : List (List ℕ)) → KeepsTexts texts texts
 kept_self texts = record { text = λ i lt. refl; offset = λ i lt. refl }
 
-still_there : (old new : List (List ℕ)) (i : ℕ) → KeepsTexts old new → i < length old → i < length new
+pub still_there : (old new : List (List ℕ)) (i : ℕ) → KeepsTexts old new → i < length old → i < length new
 still_there old new i kept lt = slice_get_within new i (get_or old i []) (kept.text i lt ∙ slice_get-get_or old i [] lt)
 
 pub kept_then : (old between new : List (List ℕ)) → KeepsTexts old between → KeepsTexts between new → KeepsTexts old new

@@ -20,6 +20,7 @@ pub mod MappedEnds
 pub mod Conversions
 mod LastLists
 mod KeptFiles
+mod Writable
 pub mod Feedings
 pub mod MappedLaws
 mod WorkedConversions

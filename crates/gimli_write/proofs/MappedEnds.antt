@@ -1,7 +1,6 @@
 -- What comes of a reading: the lists at its end, and the program that it was begun with.
 use Rattle.std.proofs.Common.{◌≡◌, ℕ, Bool, true, false, not, ◌&&◌, if◌then◌else◌, List, [], ◌∷◌, refl, sym, ap, subst, ◌∙◌}
-use Rattle.std.specs.Prelude.{Option, Some, None, ok_or, IfSome, Result, Ok, Err, All}
-use Rattle.std.proofs.lemmas.List.Elements.{All-weaker}
+use Rattle.std.specs.Prelude.{Option, Some, None, ok_or, Result, Ok, Err, All}
 use Rattle.std.proofs.lemmas.List.{append-nil}
 use Rattle.gimli_core.specs.Notation.{Notation}
 use Rattle.gimli_core.specs.Values.{Value}
@@ -17,7 +16,7 @@ use Rattle.gimli_line.specs.run.OperationPointer.{is_hidden, overflows}
 use Rattle.gimli_build.specs.Calls.{after_address, after_row, after_end}
 use Rattle.gimli_build.specs.Built.{Built, previous_place}
 use Rattle.gimli_build.specs.Conditions.{CanWrite}
-use Rattle.gimli_build.specs.LineText.{LineText, IsWithin, HasNoZero}
+use Rattle.gimli_build.specs.LineText.{LineText, IsWithin}
 use Rattle.gimli_build.specs.Tables.{File as BuiltFile}
 use Rattle.gimli_build.specs.Texts.{Sections}
 use Rattle.gimli_build.specs.declared.built.row.LineRow.{LineRow}
@@ -36,7 +35,7 @@ use Rattle.gimli_write.specs.convert.Feeding.{Conversion, converted, with_tables
 use Rattle.gimli_write.proofs.Feedings.{definition_passed}
 use Rattle.gimli_write.proofs.MappedDirectories.{AreDirectories, directories_prepared, directories_stay}
 use Rattle.gimli_write.proofs.MappedFiles.{AreFiles, files_next, files_defined}
-use Rattle.gimli_write.proofs.MappedLists.{took, same_ok, is_prepared, all_added_keeps, CanKeep, IsReady, lists_at_keeps, file_ready, prepared_ready}
+use Rattle.gimli_write.proofs.MappedLists.{took, same_ok, is_prepared, all_added_keeps, CanKeep, IsReady, lists_at_keeps, file_ready, with_kept_files, prepared_ready}
 use Rattle.gimli_write.proofs.MappedNames.{files_mapped}
 
 -- the lists at the end, which a conversion answers
@@ -178,15 +177,10 @@ module _ (notation : Notation) (sections : Sections) (h : Header) (given : Hande
       subst (λ (t : List (List ℕ)). All (CanKeep strings t c.program.encoding.version) c.program.files) (sym f.line_strings)
       (subst (λ (files : List BuiltFile). All (CanKeep strings f.lists.line_strings c.program.encoding.version) files) (sym f.files)
       (subst (λ (e : Encoding). All (CanKeep strings f.lists.line_strings e.version) f.lists.program.files) (last.encoding_is ∙ sym encoding_kept) last.files)) in
-      record {
-        program = comes.kind.is_none ∙ start.program;
-        directories =
-            subst (λ (t : List (List ℕ)). All (IsWithin strings t) c.program.directories) (sym f.line_strings)
-            (subst (λ (ds : List LineText). All (IsWithin strings f.lists.line_strings) ds) (sym f.directories) last.directories);
-        paths = All-weaker (CanKeep strings c.line_strings c.program.encoding.version) (λ f. IsWithin strings c.line_strings f.0.0) (λ f so. so.path) c.program.files files;
-        sources = All-weaker (CanKeep strings c.line_strings c.program.encoding.version) (λ f. IfSome f.1.source (IsWithin strings c.line_strings)) (λ f so. so.source) c.program.files files;
-        sources_end = λ new has. All-weaker (CanKeep strings c.line_strings c.program.encoding.version) (λ f. IfSome f.1.source HasNoZero) (λ f so. so.source_ends new) c.program.files files;
-      }
+      let directories : All (IsWithin strings c.line_strings) c.program.directories =
+      subst (λ (t : List (List ℕ)). All (IsWithin strings t) c.program.directories) (sym f.line_strings)
+      (subst (λ (ds : List LineText). All (IsWithin strings f.lists.line_strings) ds) (sym f.directories) last.directories) in
+      with_kept_files c.program strings c.line_strings (comes.kind.is_none ∙ start.program) directories files
 
   -- the files
   files_are : AreFiles sections h first h.files

@@ -16,6 +16,8 @@ use Rattle.gimli_line.specs.declared.run.instruction.LineInstruction.TheVariants
 use Rattle.gimli_line.specs.header.File.{File}
 use Rattle.gimli_line.specs.header.Header.{Header}
 use Rattle.gimli_line.specs.run.Instruction.{Ins}
+use Rattle.gimli_build.specs.Built.{Built}
+use Rattle.gimli_build.specs.Conditions.{CanWrite}
 use Rattle.gimli_build.specs.LineText.{LineText, Inline, InStrings, InLineStrings, IsWithin, HasNoZero, made_text, made_table}
 use Rattle.gimli_build.specs.Tables.{FileKey, Details, File as BuiltFile, with_directory, place_of_directory, with_details, with_file, has_file, place_of_file, no_details}
 use Rattle.gimli_build.specs.Texts.{Sections}
@@ -123,6 +125,22 @@ pub record IsReady (strings : List (List ℕ)) (encoding : Encoding) (lists : Li
   pub directories : All (IsWithin strings lists.line_strings) lists.program.directories
   pub files : All (CanKeep strings lists.line_strings (version_of lists)) lists.program.files
 
+-- a program with such directories and files can be written
+pub with_kept_files : (p : Built) (strings line_strings : List (List ℕ)) → p.is_none ≡ false → All (IsWithin strings line_strings) p.directories
+    → All (CanKeep strings line_strings p.encoding.version) p.files → CanWrite p strings line_strings
+with_kept_files p strings line_strings program directories files =
+    let Q = CanKeep strings line_strings p.encoding.version in
+    record {
+      program = program;
+      directories = directories;
+      paths = All-weaker Q (λ f. IsWithin strings line_strings f.0.0) (λ f so. so.path) p.files files;
+      sources = All-weaker Q (λ f. IfSome f.1.source (IsWithin strings line_strings)) (λ f so. so.source) p.files files;
+      sources_end = λ new has. All-weaker Q (λ f. IfSome f.1.source HasNoZero) (λ f so. so.source_ends new) p.files files;
+    }
+
+pub ready_written : (strings : List (List ℕ)) (encoding : Encoding) (lists : Lists) → IsReady strings encoding lists → CanWrite lists.program strings lists.line_strings
+ready_written strings encoding lists so = with_kept_files lists.program strings lists.line_strings so.program so.directories so.files
+
 if_some_longer : (strings old new : List (List ℕ)) (t : Option LineText) → length old ≤ length new → IfSome t (IsWithin strings old) → IfSome t (IsWithin strings new)
 if_some_longer strings old new (Some t) le so = within_longer strings old new t le so
 if_some_longer strings old new None le so = tt
@@ -148,7 +166,7 @@ module _ (Q : BuiltFile → Type 0) (d : Details) (other : (k : FileKey) (e : De
   details_with (f ∷ files) zero all = All-cons Q (f.0, d) files (other f.0 f.1 (All-head Q f files all)) (All-tail Q f files all)
   details_with (f ∷ files) (suc i) all = All-cons Q f (with_details files i d) (All-head Q f files all) (details_with files i (All-tail Q f files all))
 
-  files_with : (files : List BuiltFile) (k : FileKey) → All Q files → Q (k, d) → All Q (with_file files k (Some d))
+  pub files_with : (files : List BuiltFile) (k : FileKey) → All Q files → Q (k, d) → All Q (with_file files k (Some d))
   files_with files k all one = by (has_file files k)
     where
       by : (b : Bool) → All Q (if b then with_details files (place_of_file files k) d else files ++ (k, d) ∷ [])

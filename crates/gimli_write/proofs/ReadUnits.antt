@@ -21,11 +21,11 @@ use Rattle.gimli_build.specs.Tables.{File}
 use Rattle.gimli_build.specs.Cause.{emitted_texts}
 use Rattle.gimli_build.specs.Built.{Built}
 use Rattle.gimli_build.specs.Stored.{stored}
-use Rattle.gimli_build.specs.ReadsBack.{IsDirectory, IsFile, IsOffsetHeld, ReadsBack, IsReadWell, directories_from_zero}
+use Rattle.gimli_build.specs.ReadsBack.{IsDirectory, IsFile, IsOffsetHeld, ReadsBack, IsReadWell, ReadsBackAs, directories_from_zero}
 use Rattle.gimli_write.specs.declared.convert_error.ConvertError.{ConvertError}
 use Rattle.gimli_write.specs.declared.convert_error.ConvertError.TheVariants.{OutOfMemory as NoMemory}
 use Rattle.gimli_write.specs.declared.read_back.RoundTrip.{RoundTrip}
-use Rattle.gimli_write.specs.RoundTrip.{answers, AreAnswers, AnswersProgram, IsUnitOf, BeginsUnit, CanRead, HasTexts, IsRunRefusal, RefusesUnit, slice_notation, unit_entry_with, unit_entry_of, sections_of}
+use Rattle.gimli_write.specs.RoundTrip.{answers, AreAnswers, AnswersProgram, BeginsUnit, CanRead, HasTexts, IsRunRefusal, RefusesUnit, slice_notation, unit_entry_with, unit_entry_of, sections_of}
 use Rattle.gimli_write.proofs.ReadRuns.{is_memory}
 
 -- ---- what a slice is read as
@@ -119,7 +119,7 @@ file_texts_there s p strings line_strings read built is = record {
 abbrev pub AreShort : List (List ℕ) → List (List ℕ) → Type 0
 AreShort strings line_strings = (byte_count strings < 2 ^ 64) × (byte_count line_strings < 2 ^ 64)
 
-module _ (big : Bool) (p : Built) (strings line_strings : List (List ℕ)) (section : List ℕ) (n : ℕ) (whole : IsUnitOf big p strings line_strings (drop n section)) (fits : length section < 2 ^ 64) (held : AreShort strings line_strings) where
+module _ (big : Bool) (p : Built) (strings line_strings : List (List ℕ)) (section : List ℕ) (n : ℕ) (whole : ReadsBackAs big p strings line_strings (drop n section)) (fits : length section < 2 ^ 64) (held : AreShort strings line_strings) where
   read_well : IsReadWell (slice_notation big) (unit_entry_of p strings line_strings) (sections_of strings line_strings) big p strings line_strings (drop n section)
   read_well = record {
     order = refl;
@@ -154,7 +154,7 @@ module _ (big : Bool) (p : Built) (strings line_strings : List (List ℕ)) (sect
 module _ (big other : Bool) (p : Built) (strings line_strings : List (List ℕ)) (section other_section : List ℕ) (n size : ℕ) (directory : List ℕ) (s : Sections)
     (order : other ≡ big) (there : other_section ≡ section) (sized : size ≡ p.encoding.address_size)
     (directed : Some directory ≡ (unit_entry_of p strings line_strings).directory) (written : s ≡ sections_of strings line_strings)
-    (whole : IsUnitOf big p strings line_strings (drop n section)) (fits : length section < 2 ^ 64) (held : AreShort strings line_strings) where
+    (whole : ReadsBackAs big p strings line_strings (drop n section)) (fits : length section < 2 ^ 64) (held : AreShort strings line_strings) where
   back : ReadsBack (slice_notation big) (unit_entry_of p strings line_strings) (sections_of strings line_strings) p strings line_strings (drop n section)
   back = read_back big p strings line_strings section n whole fits held
 

@@ -15,7 +15,7 @@ use Rattle.gimli_build.specs.Tables.{File}
 use Rattle.gimli_build.specs.Stored.{stored}
 use Rattle.gimli_build.specs.Texts.{Sections, IsText, IsOptionalText, OneByOne}
 use Rattle.gimli_write.specs.TextReading.{HasText, HasFileTexts}
-use Rattle.gimli_build.specs.ReadsBack.{IsUnit, directories_from_zero, ReadsBack, IsReadWell}
+use Rattle.gimli_build.specs.ReadsBack.{IsUnit, directories_from_zero}
 use Rattle.gimli_build.specs.Built.{Built}
 use Rattle.gimli_build.specs.Version5Tables.{strings_behind, line_strings_behind}
 use Rattle.gimli_build.specs.Unit.{unit_bytes}
@@ -114,12 +114,6 @@ AnswersProgram big p strings line_strings unit answer =
 abbrev pub AnswersAppended : Bool → Built → List (List ℕ) → List (List ℕ) → List ℕ → List ℕ → RoundTrip → Type 0
 AnswersAppended big p strings line_strings old new answer =
     (unit : List ℕ) × (new ≡ old ++ unit) × AnswersProgram big p strings line_strings unit answer
-
--- the bytes are the unit of a program, which is read back however it is read well
-abbrev pub IsUnitOf : Bool → Built → List (List ℕ) → List (List ℕ) → List ℕ → Type 0
-IsUnitOf big p strings line_strings unit = (notation : Notation) (unit_entry : UnitEntry) (sections : Sections)
-    → IsReadWell notation unit_entry sections big p strings line_strings unit
-    → ReadsBack notation unit_entry sections p strings line_strings unit
 
 -- ---- what was built
 

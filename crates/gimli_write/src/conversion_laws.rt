@@ -36,7 +36,8 @@ pub fn converted_programs_can_be_written()
 
 /// A converted program has the encoding that is handed, else that of its source.
 pub fn converted_programs_keep_their_encoding()
-    ensures { (d : DoneConversion) → d.outcome.program.encoding ≡ encoding_of d.source.header d.source.given }
+    ensures { (d : DoneConversion)
+        → d.outcome.program.encoding ≡ encoding_of d.source.header d.source.given }
 {}
 
 /// Where each address is mapped to itself, addresses are at least as wide as those of the source, and no sequence of the
@@ -45,33 +46,36 @@ pub fn converted_programs_keep_their_encoding()
 pub fn conversions_are_faithful()
     ensures mapped { (d : DoneConversion) (strings : List (List ℕ)) → IsToBeFaithful d
         → IsMapped d.source strings d.outcome }
-    ensures addresses { (d : DoneConversion) → IsToBeFaithful d → HasFittingAddresses d.outcome.program }
+    ensures addresses { (d : DoneConversion) → IsToBeFaithful d
+        → HasFittingAddresses d.outcome.program }
 {}
 
 /// So the rows that are read back of it say what the rows of the source say, one by one: an end has its address, and any
 /// other row all its registers, with the number that its file has now. These are the rows that `round_trip` answers, and
 /// those of a unit that `LineProgram::write` wrote, however it is read well.
 pub fn converted_rows_are_read_back()
-    ensures answered { (d : DoneConversion) (rows back : List ReadRow) → IsToBeFaithful d → SourceGives d rows
-        → AreBuiltRows d.outcome.program back → AreReadAs d rows back }
-    ensures written { (d : DoneConversion) (rows : List ReadRow) → IsToBeFaithful d → SourceGives d rows
-        → (unit : UnitReadBack d.outcome.program) → GivesBack d rows unit }
+    ensures answered { (d : DoneConversion) (rows back : List ReadRow) → IsToBeFaithful d
+        → SourceGives d rows → AreBuiltRows d.outcome.program back → AreReadAs d rows back }
+    ensures written { (d : DoneConversion) (rows : List ReadRow) → IsToBeFaithful d
+        → SourceGives d rows → (unit : UnitReadBack d.outcome.program) → GivesBack d rows unit }
 {}
 
 /// And the files that it answers have the paths of those of the source: each file number of the source has an id, which is
 /// the index of its file.
 pub fn converted_files_are_read_back()
-    ensures { (d : DoneConversion) (strings : List (List ℕ)) (files : List File) → SourceFilesAre d files
-        → AreFilesReadBack d strings files }
+    ensures { (d : DoneConversion) (strings : List (List ℕ)) (files : List File)
+        → SourceFilesAre d files → AreFilesReadBack d strings files }
 {}
 
 /// `==` holds of what `read_row` gives, and of the ends of sequences, exactly where both are of one kind and agree in its
 /// parts; and of two sequences exactly where they have the same start or none, the same rows and the same end.
 pub fn equal_rows_and_sequences()
-    ensures row { (a b : ConvertLineRow) → Decides (⟦<ConvertLineRow as PartialEq>⟧.eq a b) (a ≡ b) }
-    ensures end { (a b : ConvertLineSequenceEnd) → Decides (⟦<ConvertLineSequenceEnd as PartialEq>⟧.eq a b) (a ≡ b) }
-    ensures sequence { (a b : ConvertLineSequence)
-        → Decides (⟦<ConvertLineSequence as PartialEq>⟧.eq a b) (sequence_read a ≡ sequence_read b) }
+    ensures row { (a b : ConvertLineRow)
+        → Decides (⟦<ConvertLineRow as PartialEq>⟧.eq a b) (a ≡ b) }
+    ensures end { (a b : ConvertLineSequenceEnd)
+        → Decides (⟦<ConvertLineSequenceEnd as PartialEq>⟧.eq a b) (a ≡ b) }
+    ensures sequence { (a b : ConvertLineSequence) → Decides
+        (⟦<ConvertLineSequence as PartialEq>⟧.eq a b) (sequence_read a ≡ sequence_read b) }
 {}
 
 /// `==` holds of two refusals exactly where they are of one kind and agree in the refusal of reading or writing that they

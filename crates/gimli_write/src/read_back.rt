@@ -15,7 +15,7 @@ ghost use Rattle.gimli_build.specs.Version5Tables.{strings_behind, line_strings_
 ghost use Rattle.gimli_build.specs.Cause.{first_cause};
 ghost use Rattle.gimli_build.specs.Texts.{Sections, IsText, IsOptionalText, OneByOne};
 ghost use Rattle.gimli_write.specs.TextReading.{HasText, HasOptionalText, HasFileTexts};
-ghost use Rattle.gimli_build.specs.ReadsBack.{directories_from_zero};
+ghost use Rattle.gimli_build.specs.ReadsBack.{ReadsBackAs, directories_from_zero};
 
 use crate::convert_error::{ConvertError, ConvertResult, from_read, from_write};
 use crate::text::{TextSections, text};
@@ -60,7 +60,7 @@ pub struct RoundTripFile {
     pub source: Option<Vec<u8>>,
 }
 
-ghost use Rattle.gimli_write.specs.RoundTrip.{answers, file_answer, IsFileAnswer, AreAnswers, HasTexts, slice_notation, unit_entry_of, sections_of, IsRunRefusal, RefusesUnit, IsRoundTripRefusal, IsCausedRefusal, built_file, HasFittingAddresses, AreBuiltRows, IsUnitOf, AnswersProgram, AnswersAppended, unit_entry_with, BeginsUnit, CanRead};
+ghost use Rattle.gimli_write.specs.RoundTrip.{answers, file_answer, IsFileAnswer, AreAnswers, HasTexts, slice_notation, unit_entry_of, sections_of, IsRunRefusal, RefusesUnit, IsRoundTripRefusal, IsCausedRefusal, built_file, HasFittingAddresses, AreBuiltRows, AnswersProgram, AnswersAppended, unit_entry_with, BeginsUnit, CanRead};
 
 /// The working directory of a program.
 fn working_directory<'a>(
@@ -324,7 +324,7 @@ fn read_unit<E: Endianity>(
 ) -> ConvertResult<RoundTrip>
     requires program { program.now.is_none ≡ false }
     requires within { All (IsWithin strings.now line_strings.now) program.now.directories }
-    requires unit { IsUnitOf (E.big section.now.endian) program.now strings.now line_strings.now
+    requires unit { ReadsBackAs (E.big section.now.endian) program.now strings.now line_strings.now
         (drop offset.0 section.now.bytes) }
     ensures offset { IfOk result (λ answer. answer.offset ≡ offset) }
     ensures ok { IfOk result (AnswersProgram (E.big section.now.endian) program.now strings.now line_strings.now
@@ -388,7 +388,8 @@ pub fn round_trip<E: Endianity>(
         strings.old line_strings.old ≡ None) }
     ensures incompatible { IsTrue (is_incompatible encoding program.now.encoding)
         → result ≡ Err (ConvertError.Write Error.IncompatibleLineProgramEncoding) }
-    ensures nothing_appended { IsTrue (is_incompatible encoding program.now.encoding) → w.new ≡ w.old }
+    ensures nothing_appended { IsTrue (is_incompatible encoding program.now.encoding)
+        → w.new ≡ w.old }
     ensures never_read { HasFittingAddresses program.now → IfErr result (IsCausedRefusal
         (first_cause (E.big w.old.0.endian) encoding program.now strings.old line_strings.old)) }
     ensures refusal { IfErr result (IsRoundTripRefusal (E.big w.old.0.endian) encoding program.now

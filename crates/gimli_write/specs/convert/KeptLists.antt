@@ -1,6 +1,7 @@
 -- The files of a conversion after a read: those that were there stay, and at the end, or where a read is refused, all are
--- there that its source defines before.
+-- there that its source defines before. And the program can be written, whatever was read.
 use Rattle.std.specs.Prelude.{◌≡◌, ℕ, if◌then◌else◌, is_some, List}
+use Rattle.gimli_build.specs.Conditions.{CanWrite}
 use Rattle.gimli_build.specs.Tables.{keys_of, Keeps}
 use Rattle.gimli_write.specs.convert.Lists.{Converted, Lists, lists_with}
 use Rattle.gimli_write.specs.convert.SourceState.{started}
@@ -32,6 +33,14 @@ IsAtLast old old_strings new new_strings = lists_with new_strings new.lists ≡ 
 -- it is still to be left with them
 abbrev pub KeepsLast : ConversionState → List (List ℕ) → ConversionState → List (List ℕ) → Type 0
 KeepsLast old old_strings new new_strings = last_lists new new_strings ≡ last_lists old old_strings
+
+-- the program can be written, whatever the table of strings is, which it names no text of
+pub record IsWritable (c : Converted) (line_strings : List (List ℕ)) : Type 0 where
+  pub can : (strings : List (List ℕ)) → CanWrite c.program strings line_strings
+
+-- a program that could be written still can be
+pub record StaysWritable (old : Converted) (old_strings : List (List ℕ)) (new : Converted) (new_strings : List (List ℕ)) : Type 0 where
+  pub still : (strings : List (List ℕ)) → CanWrite old.program strings old_strings → CanWrite new.program strings new_strings
 
 -- nothing of the program of a source is read yet
 abbrev pub IsUnread : Source → ConversionState → Type 0

@@ -3,7 +3,7 @@
 ghost use Rattle.std.specs.Prelude.{◌≡◌, ◌≢◌, ℕ, ◌⊎◌, List, None, Some, Ok, IfErr, IfOk, OnErr, OnOk, true, false};
 ghost use Rattle.gimli_bytes.specs.Texts.{KeepsTexts};
 ghost use Rattle.gimli_write.specs.convert.Lists.{lists_with};
-ghost use Rattle.gimli_write.specs.convert.KeptLists.{KeepsFiles, source_last, IsAtLast, KeepsLast};
+ghost use Rattle.gimli_write.specs.convert.KeptLists.{KeepsFiles, StaysWritable, source_last, IsAtLast, KeepsLast};
 ghost use Rattle.gimli_write.specs.convert.Offers.{Reading, stops, offers, place_offered};
 ghost use Rattle.gimli_write.specs.convert.SourceState.{started};
 ghost use Rattle.gimli_write.specs.convert.LastLists.{lacks_file, behind_row};
@@ -94,6 +94,7 @@ impl<R: Reader> Conversion<R> {
         ensures given { OnOk result (self.new.address ≡ None) }
         ensures adds { AddsFiles self.old.lists.program self.new.lists.program }
         ensures keeps { KeepsFiles self.old.lists self.new.lists }
+        ensures writable { StaysWritable self.old.lists line_strings.old self.new.lists line_strings.new }
         ensures last { OnOk result (KeepsLast self.old line_strings.old self.new line_strings.new) }
         ensures ended { IfOk result (λ row. row ≡ None →
             IsAtLast self.old line_strings.old self.new line_strings.new) }
@@ -126,6 +127,7 @@ impl<R: Reader> Conversion<R> {
         ensures given { OnOk result (self.new.address ≡ None) }
         ensures adds { AddsFiles self.old.lists.program self.new.lists.program }
         ensures keeps { KeepsFiles self.old.lists self.new.lists }
+        ensures writable { StaysWritable self.old.lists line_strings.old self.new.lists line_strings.new }
         ensures last { OnOk result (KeepsLast self.old line_strings.old self.new line_strings.new) }
         ensures ended { IfOk result (λ row. row ≡ None →
             IsAtLast self.old line_strings.old self.new line_strings.new) }
@@ -188,6 +190,7 @@ impl<R: Reader> Conversion<R> {
         ensures failed { self.new.failed ≡ self.old.failed }
         ensures adds { AddsFiles self.old.lists.program self.new.lists.program }
         ensures keeps { KeepsFiles self.old.lists self.new.lists }
+        ensures writable { StaysWritable self.old.lists line_strings.old self.new.lists line_strings.new }
         ensures last { IfOk result (λ row. behind_row (version_of_source self.new)
             (lists_with line_strings.new self.new.lists) row (source_last self.new line_strings.new)
             ≡ source_last self.old line_strings.old) }

@@ -5,11 +5,11 @@ ghost use Rattle.std.specs.Option.{option_map_or};
 ghost use Rattle.gimli_core.specs.Values.{value_seen};
 ghost use Rattle.gimli_line.specs.header.File.{file_seen};
 ghost use Rattle.gimli_bytes.specs.Texts.{KeepsTexts};
-ghost use Rattle.gimli_build.specs.LineText.{LineText, line_text, made_text, made_table, HasNoZero, IsNotEmpty};
+ghost use Rattle.gimli_build.specs.LineText.{LineText, line_text, made_text, made_table, IsWithin, HasNoZero, IsNotEmpty};
 ghost use Rattle.gimli_write.specs.convert.Texts.{IsRefusedBy};
 ghost use Rattle.gimli_write.specs.convert.Offers.{file_id};
 ghost use Rattle.gimli_write.specs.convert.ConversionState.{AddsFiles};
-ghost use Rattle.gimli_write.specs.convert.KeptLists.{KeepsFiles};
+ghost use Rattle.gimli_write.specs.convert.KeptLists.{KeepsFiles, StaysWritable};
 ghost use Rattle.gimli_write.specs.convert.Lists.{lists_with, directory_added, file_added, file_parts, with_parts, all_added};
 ghost use Rattle.gimli_write.specs.declared.convert_error.ConvertError.TheVariants.{OutOfMemory};
 
@@ -80,6 +80,7 @@ pub(crate) fn made(
     requires { All (λ b. b ≢ 0) text.now }
     ensures ok { IfOk result (λ made. line_text made ≡ made_text encoding.version line_strings.old text.now) }
     ensures table { OnOk result (line_strings.new ≡ made_table encoding.version line_strings.old text.now) }
+    ensures within { IfOk result (λ made. (strings : List (List ℕ)) → IsWithin strings line_strings.new (line_text made)) }
     ensures no_zero { IfOk result (λ made. HasNoZero (line_text made)) }
     ensures not_empty { encoding.version ≤ 4 → text.now ≢ [] → IfOk result (λ made. IsNotEmpty (line_text made)) }
     ensures stays { KeepsTexts line_strings.old line_strings.new }
@@ -102,6 +103,8 @@ pub(crate) fn optional_made(
         ≡ option_map (made_text encoding.version line_strings.old) (option_map (λ text. text.items) text.now)) }
     ensures table { OnOk result (line_strings.new ≡ option_map_or (made_table encoding.version line_strings.old)
         (option_map (λ text. text.items) text.now) line_strings.old) }
+    ensures within { IfOk result (λ made. IfSome made (λ made. (strings : List (List ℕ)) →
+        IsWithin strings line_strings.new (line_text made))) }
     ensures no_zero { IfOk result (λ made. IfSome made (λ made. HasNoZero (line_text made))) }
     ensures stays { KeepsTexts line_strings.old line_strings.new }
     ensures memory { IfErr result (λ e. e ≡ ConvertError.OutOfMemory) }
@@ -185,6 +188,7 @@ impl Lists {
         ensures memory { IfErr result (λ e. e ≡ ConvertError.OutOfMemory) }
         ensures adds { AddsFiles self.old.program self.new.program }
         ensures keeps { KeepsFiles self.old self.new }
+        ensures writable { StaysWritable self.old line_strings.old self.new line_strings.new }
         ensures stays { KeepsTexts line_strings.old line_strings.new }
     {
         let encoding = self.program.encoding();
@@ -218,6 +222,7 @@ impl Lists {
         ensures texts { IfErr result (λ e. e ≢ ConvertError.OutOfMemory → line_strings.new ≡ line_strings.old) }
         ensures adds { AddsFiles self.old.program self.new.program }
         ensures keeps { KeepsFiles self.old self.new }
+        ensures writable { StaysWritable self.old line_strings.old self.new line_strings.new }
         ensures stays { KeepsTexts line_strings.old line_strings.new }
     {
         let parts = self.file_parts(*line_strings.allocator(), file, sections)?;

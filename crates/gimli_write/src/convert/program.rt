@@ -6,7 +6,8 @@ ghost use Rattle.gimli_bytes.specs.Texts.{KeepsTexts};
 ghost use Rattle.gimli_build.specs.Calls.{after_begin, after_address, after_row, after_end};
 ghost use Rattle.gimli_build.specs.Advance.{CanEncode};
 ghost use Rattle.gimli_build.specs.Conditions.{CanEndSequence};
-ghost use Rattle.gimli_write.specs.convert.KeptLists.{IsUnread, KeepsFiles, IsAtLast, KeepsLast};
+ghost use Rattle.gimli_write.specs.declared.convert_error.ConvertError.TheVariants.{OutOfMemory};
+ghost use Rattle.gimli_write.specs.convert.KeptLists.{IsUnread, IsWritable, StaysWritable, KeepsFiles, IsAtLast, KeepsLast};
 ghost use Rattle.gimli_write.specs.convert.Sources.{source_of};
 ghost use Rattle.gimli_write.specs.convert.Mapped.{IsFaithfulIfItCan};
 ghost use Rattle.gimli_write.specs.convert.ConversionState.{still_to_read, IsPrepared, IsHeaderRefusal, ReadsWhole, GivesNext, IsReadRefusal, AddsFiles, CanBuildRow, IsBuildRefusal, with_program, ConvertsTo, IsConvertRefusal, RestConvertsTo, IsRestRefusal};
@@ -71,8 +72,8 @@ impl<R: Reader> Model for ConvertLineHeader<R> {
 impl<R: Reader> ConvertLineHeader<R> {
     /// The first half of `ConvertLineProgram::new`: all of it that can be refused. The directories and files of the
     /// source are added to the program that is built, by the encodings that are handed, else by the source's own.
-    /// Requires encodings that a program may have, where they are handed. The table keeps its texts, also where it is
-    /// refused.
+    /// Requires encodings that a program may have, where they are handed. The program that is begun can be written. The
+    /// table keeps its texts, also where it is refused.
     ///
     /// Refused by the first of these that is, or by `OutOfMemory`: the working directory, as `MissingCompilationDirectory`
     /// where a program from version 5 on would have none; the source file, as `MissingCompilationName` there, and as
@@ -99,6 +100,7 @@ impl<R: Reader> ConvertLineHeader<R> {
             from_program from_comp_name encoding line_encoding) header line_strings.new) }
         ensures unread { IfOk result (λ header. IsUnread (source_of R.bytes debug_str debug_line_str
             from_program from_comp_name encoding line_encoding) header) }
+        ensures writable { IfOk result (λ header. IsWritable header.lists line_strings.new) }
         ensures stays { KeepsTexts line_strings.old line_strings.new }
     {
         let sections = TextSections {
@@ -152,8 +154,8 @@ impl<'a, 'b, R: Reader> ConvertLineProgram<'a, 'b, R, Conversion<R>> {
     /// A conversion of a source, over the sections that hold its texts. Its directories and files are added to the
     /// program that is built, by the encodings that are handed, else by the source's own. The name is that of the source
     /// file, where the source is of version 4 or less; else file 0 is it. Requires encodings that a program may have, where
-    /// they are handed. Refused as `ConvertLineHeader::new` is. Where it isn't refused, the tables keep their texts; where it
-    /// is, only the clauses of `ConvertLineHeader::new` say so.
+    /// they are handed. The program that is begun can be written. Refused as `ConvertLineHeader::new` is. Where it isn't
+    /// refused, the tables keep their texts; where it is, only the clauses of `ConvertLineHeader::new` say so.
     pub fn new(
         debug_str: R,
         debug_line_str: R,
@@ -174,6 +176,8 @@ impl<'a, 'b, R: Reader> ConvertLineProgram<'a, 'b, R, Conversion<R>> {
             from_program from_comp_name encoding line_encoding) convert.conversion convert.line_strings.now) }
         ensures unread { IfOk result (λ convert. IsUnread (source_of R.bytes debug_str debug_line_str
             from_program from_comp_name encoding line_encoding) convert.conversion) }
+        ensures writable { IfOk result
+            (λ convert. IsWritable convert.conversion.lists convert.line_strings.now) }
         ensures stays { IfOk result
             (λ convert. KeepsTexts line_strings.old convert.line_strings.now) }
         ensures strings { IfOk result (λ convert. convert.strings.now ≡ strings.old) }
@@ -295,52 +299,62 @@ impl<'a, 'b, R: Reader> ConvertLineProgram<'a, 'b, R, Conversion<R>> {
     /// as `Read` for a fault of the source, as `InvalidFileIndex` for a row of no file, as a file that is defined is, or
     /// by `OutOfMemory` where this read defines one; every later read repeats the refusal. The tables keep their texts.
     /// So do files their ids and their numbers in the source; after a refusal for another cause than memory, and at the
-    /// end, all files are there that the source defines before.
+    /// end, all files are there that the source defines before. A program that could be written still can be.
     pub fn read_row(&mut self) -> ConvertResult<Option<ConvertLineRow>>
         ensures ok { IfOk result (λ row. GivesNext self.old.conversion self.old.line_strings.now
             row self.new.conversion self.new.line_strings.now) }
-        ensures err { IfErr result (IsReadRefusal (still_to_read self.old.conversion self.old.line_strings.now)) }
-        ensures repeats { (e : ConvertError) → self.old.conversion.failed ≡ Some e → result ≡ Err e }
+        ensures err { IfErr result
+            (IsReadRefusal (still_to_read self.old.conversion self.old.line_strings.now)) }
+        ensures repeats { (e : ConvertError)
+            → self.old.conversion.failed ≡ Some e → result ≡ Err e }
         ensures failed { IfErr result (λ e. self.new.conversion.failed ≡ Some e) }
         ensures well { OnOk result (self.new.conversion.failed ≡ None) }
         ensures adds { AddsFiles self.old.conversion.lists.program self.new.conversion.lists.program }
         ensures keeps { KeepsFiles self.old.conversion.lists self.new.conversion.lists }
+        ensures writable { StaysWritable self.old.conversion.lists self.old.line_strings.now
+            self.new.conversion.lists self.new.line_strings.now }
         ensures last { OnOk result (KeepsLast self.old.conversion self.old.line_strings.now
             self.new.conversion self.new.line_strings.now) }
         ensures ended { IfOk result (λ row. row ≡ None → IsAtLast self.old.conversion
             self.old.line_strings.now self.new.conversion self.new.line_strings.now) }
-        ensures stopped { IfErr result (λ e. e ≢ ConvertError.OutOfMemory → IsAtLast self.old.conversion
+        ensures stopped { IfErr result (λ e. e ≢ OutOfMemory → IsAtLast self.old.conversion
             self.old.line_strings.now self.new.conversion self.new.line_strings.now) }
         ensures stays { KeepsTexts self.old.line_strings.now self.new.line_strings.now }
         ensures strings { self.new.strings.now ≡ self.old.strings.now }
-        ensures same_line_strings { self.new.line_strings.ghost_name ≡ self.old.line_strings.ghost_name }
+        ensures same_line_strings { self.new.line_strings.ghost_name
+            ≡ self.old.line_strings.ghost_name }
         ensures same_strings { self.new.strings.ghost_name ≡ self.old.strings.ghost_name }
     {
         self.conversion.read_row(self.line_strings)
     }
+
     /// Reads up to the end of a sequence, or to an address that is set after a row; the next read gives that address
     /// first. Refused as `read_row` is, as `MissingLineEndSequence` for rows without an end, or by `OutOfMemory`; every
     /// later read repeats the refusal. The tables keep their texts.
     /// So do files their ids and their numbers in the source; after a refusal for another cause than memory, and at the
-    /// end, all files are there that the source defines before.
+    /// end, all files are there that the source defines before. A program that could be written still can be.
     pub fn read_sequence(&mut self) -> ConvertResult<Option<ConvertLineSequence>>
-        ensures ok { IfOk result (λ sequence. GathersNext self.old.conversion self.old.line_strings.now
-            sequence self.new.conversion self.new.line_strings.now) }
+        ensures ok { IfOk result (λ sequence. GathersNext self.old.conversion
+            self.old.line_strings.now sequence self.new.conversion self.new.line_strings.now) }
         ensures err { IfErr result (IsGatherRefusal self.old.conversion self.old.line_strings.now) }
-        ensures repeats { (e : ConvertError) → self.old.conversion.failed ≡ Some e → result ≡ Err e }
+        ensures repeats { (e : ConvertError)
+            → self.old.conversion.failed ≡ Some e → result ≡ Err e }
         ensures failed { IfErr result (λ e. self.new.conversion.failed ≡ Some e) }
         ensures well { OnOk result (self.new.conversion.failed ≡ None) }
         ensures adds { AddsFiles self.old.conversion.lists.program self.new.conversion.lists.program }
         ensures keeps { KeepsFiles self.old.conversion.lists self.new.conversion.lists }
+        ensures writable { StaysWritable self.old.conversion.lists self.old.line_strings.now
+            self.new.conversion.lists self.new.line_strings.now }
         ensures last { OnOk result (KeepsLast self.old.conversion self.old.line_strings.now
             self.new.conversion self.new.line_strings.now) }
         ensures ended { IfOk result (λ sequence. sequence ≡ None → IsAtLast self.old.conversion
             self.old.line_strings.now self.new.conversion self.new.line_strings.now) }
-        ensures stopped { IfErr result (λ e. e ≢ ConvertError.OutOfMemory → IsAtLast self.old.conversion
+        ensures stopped { IfErr result (λ e. e ≢ OutOfMemory → IsAtLast self.old.conversion
             self.old.line_strings.now self.new.conversion self.new.line_strings.now) }
         ensures stays { KeepsTexts self.old.line_strings.now self.new.line_strings.now }
         ensures strings { self.new.strings.now ≡ self.old.strings.now }
-        ensures same_line_strings { self.new.line_strings.ghost_name ≡ self.old.line_strings.ghost_name }
+        ensures same_line_strings { self.new.line_strings.ghost_name
+            ≡ self.old.line_strings.ghost_name }
         ensures same_strings { self.new.strings.ghost_name ≡ self.old.strings.ghost_name }
     {
         self.conversion.read_sequence(self.line_strings)
@@ -394,8 +408,8 @@ pub fn convert_program<R: Reader, F: Fn(u64) -> Option<Address>>(
     requires callable { F.IsAlwaysCallable convert_address }
     ensures ok { IfOk result (λ answer. ConvertsTo (F.post convert_address) (source_of R.bytes debug_str debug_line_str
         from_program from_comp_name encoding line_encoding) line_strings.old answer line_strings.new) }
-    ensures err { IfErr result (IsConvertRefusal (F.post convert_address) (source_of R.bytes debug_str debug_line_str
-        from_program from_comp_name encoding line_encoding) line_strings.old) }
+    ensures err { IfErr result (IsConvertRefusal (F.post convert_address) (source_of R.bytes
+        debug_str debug_line_str from_program from_comp_name encoding line_encoding) line_strings.old) }
     ensures faithful { IfOk result (λ answer. IsFaithfulIfItCan (F.post convert_address) (source_of R.bytes debug_str
         debug_line_str from_program from_comp_name encoding line_encoding) strings.new answer line_strings.new) }
     ensures stays { KeepsTexts line_strings.old line_strings.new }

@@ -3,7 +3,7 @@
 ghost use Rattle.std.specs.Prelude.{◌≡◌, ◌≢◌, [], None, Some, Ok, Err, option_map, IfErr, IfOk, OnOk};
 ghost use Rattle.gimli_bytes.specs.Texts.{KeepsTexts};
 ghost use Rattle.gimli_write.specs.convert.Texts.{IsRefusedBy};
-ghost use Rattle.gimli_write.specs.convert.KeptLists.{KeepsFiles, IsAtLast, KeepsLast};
+ghost use Rattle.gimli_write.specs.convert.KeptLists.{KeepsFiles, StaysWritable, IsAtLast, KeepsLast};
 ghost use Rattle.gimli_write.specs.convert.ConversionState.{still_to_read, AddsFiles};
 ghost use Rattle.gimli_write.specs.convert.Sequences.{gathered, sequence_read};
 
@@ -51,6 +51,7 @@ impl<R: Reader> Conversion<R> {
         ensures well { OnOk result (self.new.failed ≡ None) }
         ensures adds { AddsFiles self.old.lists.program self.new.lists.program }
         ensures keeps { KeepsFiles self.old.lists self.new.lists }
+        ensures writable { StaysWritable self.old.lists line_strings.old self.new.lists line_strings.new }
         ensures last { OnOk result (KeepsLast self.old line_strings.old self.new line_strings.new) }
         ensures ended { IfOk result (λ sequence. sequence ≡ None →
             IsAtLast self.old line_strings.old self.new line_strings.new) }
@@ -81,6 +82,7 @@ impl<R: Reader> Conversion<R> {
         ensures well { OnOk result (self.new.failed ≡ None) }
         ensures adds { AddsFiles self.old.lists.program self.new.lists.program }
         ensures keeps { KeepsFiles self.old.lists self.new.lists }
+        ensures writable { StaysWritable self.old.lists line_strings.old self.new.lists line_strings.new }
         ensures last { OnOk result (KeepsLast self.old line_strings.old self.new line_strings.new) }
         ensures ended { IfOk result (λ sequence. sequence ≡ None →
             IsAtLast self.old line_strings.old self.new line_strings.new) }

@@ -12,6 +12,7 @@ use Rattle.gimli_write.specs.convert.ConversionState.{lists_of, still_to_read}
 use Rattle.gimli_write.proofs.ConvertSteps.{kept_then, refused_same}
 use Rattle.gimli_write.proofs.Feedings.{one_fewer}
 use Rattle.gimli_write.proofs.KeptFiles.{files_then}
+use Rattle.gimli_write.proofs.Writable.{writable_then}
 use Rattle.gimli_write.proofs.Gathers.{gathered_first, row_gathered, address_gathered, address_ends, given_back, nothing_gathered, rows_left, gather_refused, added_then}
 use Rattle.gimli_write.proofs.convert.conversion.Conversion.gather.Goals as goal
 
@@ -46,6 +47,8 @@ rows-preserved-in-Continue-branch-4 g c =
           ∙ c.rows.invariant.same;
       adds = added_then c.args.self.now.lists.program c.rows.self.lists.program c.read_row.new.self.lists.program c.rows.invariant.adds c.in_ok-row.ensures.adds;
       keeps = files_then c.args.self.now.lists c.rows.self.lists c.read_row.new.self.lists c.rows.invariant.keeps c.in_ok-row.ensures.keeps;
+      writable = writable_then c.args.self.now.lists c.rows.self.lists c.read_row.new.self.lists c.args.line_strings.now c.rows.line_strings c.read_row.new.line_strings
+          c.rows.invariant.writable c.in_ok-row.ensures.writable;
       last = c.in_ok-row.ensures.last ∙ c.rows.invariant.last;
       stays = kept_then c.args.line_strings.now c.rows.line_strings c.read_row.new.line_strings c.rows.invariant.stays c.in_ok-row.ensures.stays;
     }
@@ -73,6 +76,8 @@ rows-preserved g c =
           ∙ c.rows.invariant.same;
       adds = added_then c.args.self.now.lists.program c.rows.self.lists.program c.read_row.new.self.lists.program c.rows.invariant.adds c.in_ok-row.ensures.adds;
       keeps = files_then c.args.self.now.lists c.rows.self.lists c.read_row.new.self.lists c.rows.invariant.keeps c.in_ok-row.ensures.keeps;
+      writable = writable_then c.args.self.now.lists c.rows.self.lists c.read_row.new.self.lists c.args.line_strings.now c.rows.line_strings c.read_row.new.line_strings
+          c.rows.invariant.writable c.in_ok-row.ensures.writable;
       last = c.in_ok-row.ensures.last ∙ c.rows.invariant.last;
       stays = kept_then c.args.line_strings.now c.rows.line_strings c.read_row.new.line_strings c.rows.invariant.stays c.in_ok-row.ensures.stays;
     }
@@ -127,3 +132,34 @@ returns-in-None-2-clause-err g c =
 pub returns-in-None-2-clause-stays : goal.returns-in-None-2-clause-stays
 returns-in-None-2-clause-stays g c =
     kept_then c.args.line_strings.now c.rows.line_strings c.read_row.new.line_strings c.rows.invariant.stays c.in_ok-row.ensures.stays
+
+pub returns-in_err-row-clause-writable : goal.returns-in_err-row-clause-writable
+returns-in_err-row-clause-writable g c =
+    writable_then c.args.self.now.lists c.rows.self.lists c.read_row.new.self.lists c.args.line_strings.now c.rows.line_strings c.read_row.new.line_strings
+    c.rows.invariant.writable c.in_err-row.ensures.writable
+
+pub returns-in_err-push-in-Some-Row-clause-writable : goal.returns-in_err-push-in-Some-Row-clause-writable
+returns-in_err-push-in-Some-Row-clause-writable g c =
+    writable_then c.args.self.now.lists c.rows.self.lists c.read_row.new.self.lists c.args.line_strings.now c.rows.line_strings c.read_row.new.line_strings
+    c.rows.invariant.writable c.in_ok-row.ensures.writable
+
+pub returns-in-Some-EndSequence-clause-writable : goal.returns-in-Some-EndSequence-clause-writable
+returns-in-Some-EndSequence-clause-writable g c =
+    writable_then c.args.self.now.lists c.rows.self.lists c.read_row.new.self.lists c.args.line_strings.now c.rows.line_strings c.read_row.new.line_strings
+    c.rows.invariant.writable c.in_ok-row.ensures.writable
+
+pub returns-in-None-clause-writable : goal.returns-in-None-clause-writable
+returns-in-None-clause-writable g c =
+    writable_then c.args.self.now.lists c.rows.self.lists c.read_row.new.self.lists c.args.line_strings.now c.rows.line_strings c.read_row.new.line_strings
+    c.rows.invariant.writable c.in_ok-row.ensures.writable
+
+pub returns-in-None-2-clause-writable : goal.returns-in-None-2-clause-writable
+returns-in-None-2-clause-writable g c =
+    writable_then c.args.self.now.lists c.rows.self.lists c.read_row.new.self.lists c.args.line_strings.now c.rows.line_strings c.read_row.new.line_strings
+    c.rows.invariant.writable c.in_ok-row.ensures.writable
+
+pub returns-in-Some-SetAddress-2-clause-writable : goal.returns-in-Some-SetAddress-2-clause-writable
+returns-in-Some-SetAddress-2-clause-writable g c =
+    rw c.give_back.ensures
+    (writable_then c.args.self.now.lists c.rows.self.lists c.read_row.new.self.lists c.args.line_strings.now c.rows.line_strings c.read_row.new.line_strings
+    c.rows.invariant.writable c.in_ok-row.ensures.writable)

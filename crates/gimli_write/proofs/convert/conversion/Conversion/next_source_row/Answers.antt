@@ -14,6 +14,7 @@ use Rattle.gimli_write.proofs.SourceSteps.{none_left}
 use Rattle.gimli_write.proofs.ConvertSteps.{kept_then}
 use Rattle.gimli_write.proofs.LastLists.{none_last, file_stopped}
 use Rattle.gimli_write.proofs.KeptFiles.{files_then}
+use Rattle.gimli_write.proofs.Writable.{writable_then}
 use Rattle.gimli_write.proofs.Conversions.{conversion, file_taken, file_refusal}
 use Rattle.gimli_write.proofs.convert.conversion.Conversion.next_source_row.Goals as goal
 
@@ -47,6 +48,8 @@ steps-preserved g c =
           c.in_ok-add_file-in-Defines.ensures.adds
           ∙ ap (λ (p : Built). let q : Built = record p { files = c.add_file.new.self.program.files } in q) c.steps.invariant.adds;
       keeps = files_then c.args.self.now.lists a.lists c.add_file.new.self c.steps.invariant.keeps c.in_ok-add_file-in-Defines.ensures.keeps;
+      writable = writable_then c.args.self.now.lists a.lists c.add_file.new.self c.args.line_strings.now c.steps.line_strings c.add_file.new.line_strings
+          c.steps.invariant.writable c.in_ok-add_file-in-Defines.ensures.writable;
       last =
           sym (leaves a.sections before
           ∙ ap (λ (there : Result Lists ConvertError). unless_refused before there (λ next. lists_at_last a.sections c.step.new.self next)) c.in_ok-add_file-in-Defines.ensures.ok)
@@ -99,3 +102,8 @@ returns-in_err-add_file-in-Defines-clause-stopped g c =
     (ap (λ (l : List (List ℕ)). lists_with l c.add_file.new.self) (c.in_err-add_file-in-Defines.ensures.texts other)
     ∙ ap (λ (x : Converted). lists_with c.steps.line_strings x) (c.in_err-add_file-in-Defines.ensures.kept other))
     (sym (leaves a.sections before) ∙ c.steps.invariant.last))
+
+pub returns-in_err-add_file-in-Defines-clause-writable : goal.returns-in_err-add_file-in-Defines-clause-writable
+returns-in_err-add_file-in-Defines-clause-writable g c =
+    writable_then c.args.self.now.lists c.steps.self-inside.lists c.add_file.new.self c.args.line_strings.now c.steps.line_strings c.add_file.new.line_strings
+    c.steps.invariant.writable c.in_err-add_file-in-Defines.ensures.writable

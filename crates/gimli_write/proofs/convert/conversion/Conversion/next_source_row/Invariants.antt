@@ -1,6 +1,6 @@
 use Rattle.std.proofs.Common.{◌≡◌, true, length}
 use Rattle.gimli_bytes.specs.Texts.{KeepsTexts}
-use Rattle.gimli_write.specs.convert.KeptLists.{KeepsFiles, source_last}
+use Rattle.gimli_write.specs.convert.KeptLists.{KeepsFiles, StaysWritable, source_last}
 use Rattle.gimli_write.specs.convert.Offers.{defines_first, after_definitions}
 use Rattle.gimli_write.specs.convert.ConversionState.{version_of_source, source_left, AddsFiles}
 use Rattle.gimli_write.proofs.Conversions.{conversion}
@@ -20,6 +20,7 @@ invariant-steps g l =
       failed : a.failed ≡ l.fn.self.failed;
       adds : AddsFiles l.fn.self.lists.program a.lists.program;
       keeps : KeepsFiles l.fn.self.lists a.lists;
+      writable : StaysWritable l.fn.self.lists l.fn.line_strings a.lists l.line_strings;
       last : source_last now l.line_strings ≡ source_last l.fn.self l.fn.line_strings;
       stays : KeepsTexts l.fn.line_strings l.line_strings;
     }

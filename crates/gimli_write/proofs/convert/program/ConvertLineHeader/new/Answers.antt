@@ -3,12 +3,13 @@ use Rattle.std.specs.Prelude.{option_map}
 use Rattle.std.proofs.lemmas.Result.{err_from_is_err_and}
 use Rattle.gimli_build.specs.Texts.{Sections}
 use Rattle.gimli_write.specs.convert.Lists.{Lists, lists_with}
-use Rattle.gimli_write.specs.convert.Preparation.{handed}
+use Rattle.gimli_write.specs.convert.Preparation.{handed, encoding_of}
 use Rattle.gimli_write.specs.convert.Offers.{Reads}
 use Rattle.gimli_write.specs.convert.SourceState.{started, reading_left}
 use Rattle.gimli_write.specs.convert.ConversionState.{plain}
 use Rattle.gimli_write.proofs.SourceReadings.{start_reads}
 use Rattle.gimli_write.proofs.Conversions.{prepared_plain}
+use Rattle.gimli_write.proofs.MappedLists.{prepared_ready, ready_written}
 use Rattle.gimli_write.proofs.convert.program.ConvertLineHeader.new.Goals as goal
 
 pub returns-in_err-lists-clause-err : goal.returns-in_err-lists-clause-err
@@ -32,3 +33,14 @@ returns-clause-reads g c =
 
 pub returns-clause-unread : goal.returns-clause-unread
 returns-clause-unread g c = rw c.start-conversion.ensures refl
+
+pub returns-clause-writable : goal.returns-clause-writable
+returns-clause-writable g c =
+    let sections : Sections = record { strings = g.R.Reader.bytes c.args.debug_str; line_strings = g.R.Reader.bytes c.args.debug_line_str } in
+    let h = c.args.from_program.meaning in
+    let lists = lists_with c.prepare.new.line_strings c.in_ok-lists.lists in
+    let given = handed c.args.encoding c.args.line_encoding (option_map g.R.Reader.bytes c.args.from_comp_name) in
+    let is = rw c.header.ensures at c.in_ok-lists.ensures.ok in
+    rw c.start-conversion.ensures (record {
+      can = λ strings. ready_written strings (encoding_of h given) lists (prepared_ready strings sections h given c.args.line_strings.now lists is);
+    })
