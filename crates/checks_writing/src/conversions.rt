@@ -1,7 +1,7 @@
 //! Conversions call by call: reads of either kind, the converter's own builder calls, closures that know no address, and
 //! what stands after a refusal.
 
-ghost use Rattle.std.specs.Prelude.{◌≡◌, IfOk, List, ℕ};
+ghost use Rattle.std.specs.Prelude.{◌≡◌, IfOk, OnOk};
 ghost use Rattle.gimli_write.specs.Conditions.{CanWrite};
 ghost use Rattle.gimli_write.specs.convert.KeptLists.{IsWritable};
 
@@ -117,18 +117,15 @@ fn check_read<R: Reader>(
 }
 
 /// The next read gives a row, which is built.
-fn build_row<R: Reader>(
-    rt: &impl Abort,
-    conversion: &mut ConvertLineProgram<'_, '_, R>,
-) -> ConvertResult<()>
+fn build_row<R: Reader>(conversion: &mut ConvertLineProgram<'_, '_, R>) -> ConvertResult<()>
     requires { IsWritable conversion.old.conversion.lists conversion.old.line_strings.now }
-    ensures writable { IsWritable conversion.new.conversion.lists conversion.new.line_strings.now }
+    ensures writable { OnOk result
+        (IsWritable conversion.new.conversion.lists conversion.new.line_strings.now) }
     ensures same { conversion.new.line_strings.ghost_name ≡ conversion.old.line_strings.ghost_name }
     ensures same_strings { conversion.new.strings.ghost_name ≡ conversion.old.strings.ghost_name }
 {
     let row = row_of(conversion.read_row()?)?;
-    check_equal(rt, conversion.generate_row(row), Ok(()));
-    Ok(())
+    conversion.generate_row(row)
 }
 
 /// The next reads give the first address and a row, with which a sequence begins.
@@ -137,16 +134,16 @@ fn build_first<R: Reader>(
     conversion: &mut ConvertLineProgram<'_, '_, R>,
 ) -> ConvertResult<()>
     requires { IsWritable conversion.old.conversion.lists conversion.old.line_strings.now }
-    ensures writable { IsWritable conversion.new.conversion.lists conversion.new.line_strings.now }
+    ensures writable { OnOk result
+        (IsWritable conversion.new.conversion.lists conversion.new.line_strings.now) }
     ensures same { conversion.new.line_strings.ghost_name ≡ conversion.old.line_strings.ghost_name }
     ensures same_strings { conversion.new.strings.ghost_name ≡ conversion.old.strings.ghost_name }
 {
     check_read(rt, conversion, FIRST);
     check(rt, !conversion.in_sequence());
-    let begun = conversion.begin_sequence(Some(Address::Constant(16)));
-    check_equal(rt, begun, Ok(()));
+    conversion.begin_sequence(Some(Address::Constant(16)))?;
     check(rt, conversion.in_sequence());
-    build_row(rt, conversion)
+    build_row(conversion)
 }
 
 /// The next reads give the second address, a row and the end, with which the sequence ends.
@@ -155,20 +152,48 @@ fn build_second<R: Reader>(
     conversion: &mut ConvertLineProgram<'_, '_, R>,
 ) -> ConvertResult<()>
     requires { IsWritable conversion.old.conversion.lists conversion.old.line_strings.now }
-    ensures writable { IsWritable conversion.new.conversion.lists conversion.new.line_strings.now }
+    ensures writable { OnOk result
+        (IsWritable conversion.new.conversion.lists conversion.new.line_strings.now) }
     ensures same { conversion.new.line_strings.ghost_name ≡ conversion.old.line_strings.ghost_name }
     ensures same_strings { conversion.new.strings.ghost_name ≡ conversion.old.strings.ghost_name }
 {
     check_read(rt, conversion, SECOND);
-    check_equal(rt, conversion.set_address(Address::Constant(32)), Ok(()));
-    build_row(rt, conversion)?;
+    conversion.set_address(Address::Constant(32))?;
+    build_row(conversion)?;
     check_read(rt, conversion, END);
-    check_equal(rt, conversion.end_sequence(4), Ok(()));
+    conversion.end_sequence(4)?;
     check(rt, !conversion.in_sequence());
     Ok(())
 }
 
-/// Each item is handed to a builder call of the converter's own.
+/// Each item is handed to a builder call of the converter's own, and then nothing is left.
+fn build_all<R: Reader>(
+    rt: &impl Abort,
+    conversion: &mut ConvertLineProgram<'_, '_, R>,
+) -> ConvertResult<()>
+    requires { IsWritable conversion.old.conversion.lists conversion.old.line_strings.now }
+    ensures writable { OnOk result
+        (IsWritable conversion.new.conversion.lists conversion.new.line_strings.now) }
+    ensures same { conversion.new.line_strings.ghost_name ≡ conversion.old.line_strings.ghost_name }
+    ensures same_strings { conversion.new.strings.ghost_name ≡ conversion.old.strings.ghost_name }
+{
+    build_first(rt, conversion)?;
+    build_second(rt, conversion)?;
+    check_read(rt, conversion, None);
+    Ok(())
+}
+
+/// The program that a conversion of a source with one file has built.
+fn finished<R: Reader>(rt: &impl Abort, conversion: ConvertLineProgram<'_, '_, R>) -> LineProgram
+    requires { IsWritable conversion.conversion.lists conversion.line_strings.now }
+    ensures { CanWrite result conversion.exit.1.0.now conversion.exit.0.now }
+{
+    let (built, files) = conversion.program();
+    check_equal(rt, files.len(), 2);
+    built
+}
+
+/// The program that is built so.
 fn built_by_hand<R: Reader>(
     rt: &impl Abort,
     program: IncompleteLineProgram<R>,
@@ -178,12 +203,8 @@ fn built_by_hand<R: Reader>(
     ensures { IfOk result (λ built. CanWrite built strings.new line_strings.new) }
 {
     let mut conversion = conversion_of(program, line_strings, strings)?;
-    build_first(rt, &mut conversion)?;
-    build_second(rt, &mut conversion)?;
-    check_read(rt, &mut conversion, None);
-    let (built, files) = conversion.program();
-    check_equal(rt, files.len(), 2);
-    Ok(built)
+    build_all(rt, &mut conversion)?;
+    Ok(finished(rt, conversion))
 }
 
 /// The unit that is made of both addresses: a sequence, whose second address stands in the middle.
