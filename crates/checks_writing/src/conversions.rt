@@ -282,6 +282,62 @@ fn builder_calls(rt: HostRuntime) {
     check_equal(&rt, steps, Ok(()));
 }
 
+/// What `convert` makes of what is left of a source with one file.
+fn converted<R: Reader>(
+    rt: &impl Abort,
+    conversion: ConvertLineProgram<'_, '_, R>,
+) -> ConvertResult<LineProgram> {
+    let (built, files) = conversion.convert(|address| Some(Address::Constant(address)))?;
+    check_equal(rt, files.len(), 2);
+    Ok(built)
+}
+
+/// The program of a source that is converted whole.
+fn converted_whole<R: Reader>(
+    rt: &impl Abort,
+    program: IncompleteLineProgram<R>,
+    line_strings: &mut LineStringTable,
+    strings: &mut StringTable,
+) -> ConvertResult<LineProgram> {
+    let conversion = conversion_of(program, line_strings, strings)?;
+    converted(rt, conversion)
+}
+
+/// The program of a source of which the first row is built by hand, and the rest converted.
+fn converted_after_a_row<R: Reader>(
+    rt: &impl Abort,
+    program: IncompleteLineProgram<R>,
+    line_strings: &mut LineStringTable,
+    strings: &mut StringTable,
+) -> ConvertResult<LineProgram> {
+    let mut conversion = conversion_of(program, line_strings, strings)?;
+    build_first(rt, &mut conversion)?;
+    converted(rt, conversion)
+}
+
+fn steps_of_convert(
+    rt: &impl Abort,
+    alloc: Global,
+    line_strings: &mut LineStringTable,
+    strings: &mut StringTable,
+) -> ConvertResult<()> {
+    let program = program_of(alloc, slice(TWO_ADDRESSES), None)?;
+    let whole = converted_whole(rt, program, line_strings, strings)?;
+    check_two_addresses(rt, &whole);
+    let program = program_of(alloc, slice(TWO_ADDRESSES), None)?;
+    let rest = converted_after_a_row(rt, program, line_strings, strings)?;
+    check_two_addresses(rt, &rest);
+    Ok(())
+}
+
+#[test]
+fn convert_from_the_start_and_after_a_row(rt: HostRuntime) {
+    let mut line_strings = LineStringTable::default(rt.alloc());
+    let mut strings = StringTable::default(rt.alloc());
+    let steps = steps_of_convert(&rt, rt.alloc(), &mut line_strings, &mut strings);
+    check_equal(&rt, steps, Ok(()));
+}
+
 /// A second begin, a row of operation 1, a row of line 2^63, and a row and an end at a lower offset: each is refused after
 /// a row of line 7 at offset 4.
 fn refused_by_hand<R: Reader>(
