@@ -7,3 +7,4 @@ pub mod UnsignedLeb
 pub mod SignedLaws
 pub mod ProductionLaws
 pub mod Written
+pub mod OffsetClones

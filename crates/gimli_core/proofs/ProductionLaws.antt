@@ -1,6 +1,7 @@
 -- Reading the single productions of a format: bytes, numbers, texts, lengths.
 use Rattle.std.proofs.Common.{◌≡◌, ◌≢◌, ℕ, suc, ◌+◌, ◌<◌, ◌≤◌, Bool, true, false, if◌then◌else◌, List, [], ◌∷◌, ◌++◌, length, take, drop, Ok, Err, refl, sym, ap, subst, ◌∙◌, arith, append_assoc, inl, inr, ◌⊎◌}
 use Rattle.std.specs.Prelude.{nat_eq, nat_lt}
+use Rattle.std.specs.Int.{w8, cast_signed}
 use Rattle.std.specs.List.{AllByRecursion, position_or_len}
 use Rattle.std.proofs.lemmas.Bool.{cases_lt, le-ltb, lt-ltb, ne_eqb, le-leb, lt-leb}
 use Rattle.std.proofs.lemmas.Bool.Decides.{eqb_tells}
@@ -8,11 +9,11 @@ use Rattle.std.proofs.lemmas.List.{append-nil, take_at, drop_at, take-append-dro
 use Rattle.gimli_core.specs.declared.common.Format.{Format}
 use Rattle.gimli_core.specs.declared.common.Format.TheVariants.{Dwarf32, Dwarf64}
 use Rattle.gimli_core.specs.declared.error.Error.{Error}
-use Rattle.gimli_core.specs.declared.error.Error.TheVariants.{UnknownReservedLength, UnsupportedOffset}
+use Rattle.gimli_core.specs.declared.error.Error.TheVariants.{UnknownReservedLength, UnsupportedAddressSize, UnsupportedOffset}
 use Rattle.gimli_core.specs.Notation.{Notation}
-use Rattle.gimli_core.specs.Numbers.{SpellsNumber, SpellsInitialLength, value_of}
-use Rattle.gimli_core.specs.Reading.{Read, ◌>>=◌, seen, eof, byte_at, number_at, split_at, text_at, word_at, initial_length_at, offset_of, check_at, below_at}
-use Rattle.gimli_core.specs.Production.{Production, check, byte, number, some_bytes, text, below_limit, fits_offset, offset_word, initial_length, unit_length, IsWanting, Reads}
+use Rattle.gimli_core.specs.Numbers.{SpellsNumber, SpellsInitialLength, value_of, is_address_size}
+use Rattle.gimli_core.specs.Reading.{Read, ◌>>=◌, seen, eof, byte_at, signed_byte_at, number_at, split_at, text_at, word_at, initial_length_at, address_size_at, offset_of, check_at, below_at}
+use Rattle.gimli_core.specs.Production.{Production, check, byte, signed_byte, number, some_bytes, text, address_size, below_limit, fits_offset, offset_word, initial_length, unit_length, IsWanting, Reads}
 use Rattle.gimli_core.proofs.Productions.{ok_parts, bind_ok, bind_fault, bind_refused, reads_both, reads_done, reads_check, reads_same}
 use Rattle.gimli_core.proofs.Padded.{split_ok}
 
@@ -60,6 +61,9 @@ reads_byte = record {
     byte_refused : (bytes : List ℕ) (e : Error) → IsWanting 1 bytes e → (byte_at bytes).0 ≡ Err e
     byte_refused [] e f = rw f.1 refl
     byte_refused (c ∷ bytes) e f = absurd (omega (arith, f.0))
+
+pub reads_signed_byte : Reads signed_byte signed_byte_at
+reads_signed_byte = reads_both byte _ byte_at _ reads_byte (λ b. reads_done (cast_signed w8 b))
 
 -- ---- numbers
 
@@ -184,6 +188,19 @@ bind_done (Err e, rest) = refl
 bind_assoc : {A B C : Type 0} (r : Read A) (f : A → List ℕ → Read B) (g : B → List ℕ → Read C) → ((r >>= f) >>= g) ≡ (r >>= λ x rest. f x rest >>= g)
 bind_assoc (Ok x, rest) f g = refl
 bind_assoc (Err e, rest) f g = refl
+
+-- ---- sizes of addresses
+
+tested_size : (allowed : Bool) (n : ℕ) (d : Error) (rest : List ℕ) → (check_at allowed d rest >>= λ fits left. (let r : Read ℕ = (Ok n, left) in r)) ≡ (if allowed then Ok n else Err d, rest)
+tested_size true n d rest = refl
+tested_size false n d rest = refl
+
+pub reads_address_size : Reads address_size address_size_at
+unfolding address_size_at
+reads_address_size =
+    reads_same address_size _ address_size_at
+    (λ bytes. bind_same (byte_at bytes) _ _ (λ n rest. tested_size (is_address_size n) n (UnsupportedAddressSize n) rest))
+    (reads_both byte _ byte_at _ reads_byte (λ n. reads_both (check (is_address_size n) (UnsupportedAddressSize n)) _ (check_at (is_address_size n) (UnsupportedAddressSize n)) _ (reads_check (is_address_size n) (UnsupportedAddressSize n)) (λ fits. reads_done n)))
 
 -- ---- offsets, words and lengths
 

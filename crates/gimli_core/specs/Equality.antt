@@ -1,5 +1,6 @@
--- What an equality says.
+-- What an equality says, and a clone.
 use Rattle.std.specs.Prelude.{◌≡◌, Bool, Decides}
+use Rattle.std.specs.declared.clone.Clone as clone
 
 -- it holds exactly where the two are the same, which is where they agree in all their parts
 abbrev pub IsExact : {A : Type 0} → (A → A → Bool) → Type 0
@@ -13,6 +14,20 @@ ComparesBy {A} view eq = (x y : A) → Decides (eq x y) (view x ≡ view y)
 abbrev pub both : {A B C : Type 0} → (A → B) → (A → C) → A → B × C
 both first second x = (first x, second x)
 
--- a clone is never refused, and it is the value itself
+-- ---- clones
+
+-- each clone is the value that it was made of
+abbrev pub IsSameClone : {A : Type 0} → (A → A → Type 0) → Type 0
+IsSameClone {A} is_clone = (x y : A) → is_clone x y → y ≡ x
+
+-- no clone is refused
+abbrev pub AreAlwaysCloned : {A : Type 0} → (A → Type 0) → Type 0
+AreAlwaysCloned {A} is_infallible = (x : A) → is_infallible x
+
+-- both: a clone is never refused, and it is the value itself
 abbrev pub GivesSame : {A : Type 0} → (A → A → Type 0) → (A → Type 0) → Type 0
 GivesSame {A} is_clone is_infallible = (x : A) → is_infallible x × ((y : A) → is_clone x y → y ≡ x)
+
+-- the same, of the clones of a type
+abbrev pub ClonesGiveSame : {A : Type 0} → clone.Ghosts A → Type 0
+ClonesGiveSame clones = GivesSame clones.is_clone clones.is_infallible

@@ -1,14 +1,15 @@
 -- Productions of a format. A production says what spells a value, and which refusal it is where nothing does. Productions are put
 -- together by concatenation: after the bytes of one come those of the next.
 use Rattle.std.specs.Prelude.{◌≡◌, ◌≢◌, ◌⊎◌, ℕ, zero, suc, ◌+◌, ◌<◌, ◌≤◌, List, [], ◌∷◌, ◌++◌, length, Bool, true, false, IsTrue, IsFalse, Ok, Err, ℤ, nat_lt}
+use Rattle.std.specs.Int.{w8, cast_signed}
 use Rattle.std.specs.List.{AllByRecursion}
-use Rattle.gimli_core.specs.Numbers.{SpellsNumber, SpellsUleb128, SpellsSleb128, SpellsInitialLength, word_size}
+use Rattle.gimli_core.specs.Numbers.{SpellsNumber, SpellsUleb128, SpellsSleb128, SpellsInitialLength, word_size, is_address_size}
 use Rattle.gimli_core.specs.Notation.{Notation}
 use Rattle.gimli_core.specs.Reading.{Read, eof}
 use Rattle.gimli_core.specs.declared.common.Format.{Format}
 use Rattle.gimli_core.specs.declared.common.Format.TheVariants.{Dwarf32, Dwarf64}
 use Rattle.gimli_core.specs.declared.error.Error.{Error}
-use Rattle.gimli_core.specs.declared.error.Error.TheVariants.{BadUnsignedLeb128, BadSignedLeb128, UnknownReservedLength, UnsupportedOffset}
+use Rattle.gimli_core.specs.declared.error.Error.TheVariants.{BadUnsignedLeb128, BadSignedLeb128, UnknownReservedLength, UnsupportedAddressSize, UnsupportedOffset}
 
 pub record Production (A : Type 0) : Type 1 where
   -- the bytes are a spelling of x
@@ -99,6 +100,12 @@ number big size = record { Spells = SpellsNumber big size; Fault = IsWanting siz
 abbrev pub byte : Production ℕ
 byte = record { Spells = λ bytes b. bytes ≡ b ∷ []; Fault = IsWanting 1 }
 
+-- a byte, as a signed number
+abbrev pub signed_byte : Production ℤ
+signed_byte = do
+  b ← byte
+  done (cast_signed w8 b)
+
 -- each byte has the high bit set
 abbrev pub AllHigh : List ℕ → Type 0
 AllHigh bytes = AllByRecursion (λ b. 128 ≤ b) bytes
@@ -122,6 +129,13 @@ abbrev pub signed : Production ℤ
 signed = record { Spells = SpellsSleb128; Fault = IsLebFault 10 (λ b. (b ≢ 0) × (b ≢ 127)) BadSignedLeb128 }
 
 -- ---- words, lengths and offsets
+
+-- the size of an address
+abbrev pub address_size : Production ℕ
+address_size = do
+  size ← byte
+  allowed ← check (is_address_size size) (UnsupportedAddressSize size)
+  done size
 
 -- a word of the format
 abbrev pub word : Bool → Format → Production ℕ

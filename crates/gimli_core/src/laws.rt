@@ -3,12 +3,12 @@
 
 ghost use Rattle.std.specs.Prelude.{ℕ, Bool, ◌<◌, ◌^◌};
 ghost use Rattle.gimli_core.specs.Numbers.{SpellsNumber, number_bytes};
-ghost use Rattle.gimli_core.specs.Equality.{IsExact, ComparesBy, GivesSame, both};
+ghost use Rattle.gimli_core.specs.Equality.{IsExact, ComparesBy, ClonesGiveSame, GivesSame, both};
 ghost use Rattle.gimli_core.specs.Notation.{Notation};
 ghost use Rattle.gimli_core.specs.Values.{value_by};
 ghost use Rattle.gimli_core.specs.declared.common.Format.{Format};
-ghost use Rattle.gimli_core.specs.Production.{Reads, byte, some_bytes, number, text, unsigned, unsigned_16, signed, offset_word, unit_length};
-ghost use Rattle.gimli_core.specs.Reading.{split_at, byte_at, number_at, text_at, unsigned_at, unsigned_16_at, signed_at, word_at, initial_length_at};
+ghost use Rattle.gimli_core.specs.Production.{Reads, byte, signed_byte, some_bytes, number, text, unsigned, unsigned_16, signed, address_size, offset_word, unit_length};
+ghost use Rattle.gimli_core.specs.Reading.{split_at, byte_at, signed_byte_at, number_at, text_at, unsigned_at, unsigned_16_at, signed_at, address_size_at, word_at, initial_length_at};
 
 use crate::attribute_value::AttributeValue;
 use crate::common::{
@@ -19,6 +19,7 @@ use crate::constants::{DwEhPe, DwForm, DwLnct, DwLne, DwLns};
 use crate::endian_slice::EndianSlice;
 use crate::endianity::{BigEndian, Endianity, LittleEndian, RunTimeEndian};
 use crate::error::{Error, ReaderOffsetId};
+use crate::offset::ReaderOffset;
 use crate::reader::Reader;
 
 /// `read_uleb128` takes a spelling of its number, and each that is there, whatever follows.
@@ -55,6 +56,16 @@ pub fn bytes()
 /// `read_u8` takes a byte, and each that is there, whatever follows.
 pub fn single_bytes()
     ensures { Reads byte byte_at }
+{}
+
+/// `read_i8` takes a byte as a signed number, and each that is there, whatever follows.
+pub fn signed_bytes()
+    ensures { Reads signed_byte signed_byte_at }
+{}
+
+/// `read_address_size` takes the size of an address, and each that is there, whatever follows.
+pub fn address_sizes()
+    ensures { Reads address_size address_size_at }
 {}
 
 /// `read_length` and `read_offset` take a word of the format that an offset holds, and each that is there,
@@ -109,6 +120,16 @@ pub fn equal_offsets_are_same<T: PartialEq>()
     ensures indices { IsExact T.eq → IsExact ⟦<DebugStrOffsetsIndex<T> as PartialEq>⟧.eq }
 {}
 
+/// `==` of lengths that are a `usize` holds exactly where they are the same number.
+pub fn equal_lengths_are_same()
+    ensures { ComparesBy ⟦<usize as ReaderOffset>⟧.number ⟦<usize as PartialEq>⟧.eq }
+{}
+
+/// Each length that is a `usize` is below the limit of these.
+pub fn lengths_are_below_limit(length: usize)
+    ensures { ⟦<usize as ReaderOffset>⟧.number length < ⟦<usize as ReaderOffset>⟧.limit }
+{}
+
 /// `==` of errors holds exactly where they are of one kind and hold the same.
 pub fn equal_errors_are_same()
     ensures { IsExact ⟦<Error as PartialEq>⟧.eq }
@@ -143,38 +164,45 @@ pub fn equal_slices_are_same<'i, E: Endianity>()
 
 /// `clone` of errors, sections, formats, encodings and orders of bytes is never refused, and gives the same.
 pub fn clones_are_same()
-    ensures errors { GivesSame ⟦<Error as Clone>⟧.is_clone ⟦<Error as Clone>⟧.is_infallible }
-    ensures sections { GivesSame ⟦<SectionId as Clone>⟧.is_clone
-        ⟦<SectionId as Clone>⟧.is_infallible }
-    ensures formats { GivesSame ⟦<Format as Clone>⟧.is_clone ⟦<Format as Clone>⟧.is_infallible }
-    ensures encodings { GivesSame ⟦<Encoding as Clone>⟧.is_clone
-        ⟦<Encoding as Clone>⟧.is_infallible }
-    ensures encodings_of_rows { GivesSame ⟦<LineEncoding as Clone>⟧.is_clone
-        ⟦<LineEncoding as Clone>⟧.is_infallible }
-    ensures little { GivesSame ⟦<LittleEndian as Clone>⟧.is_clone
-        ⟦<LittleEndian as Clone>⟧.is_infallible }
-    ensures big { GivesSame ⟦<BigEndian as Clone>⟧.is_clone ⟦<BigEndian as Clone>⟧.is_infallible }
-    ensures run_time { GivesSame ⟦<RunTimeEndian as Clone>⟧.is_clone
-        ⟦<RunTimeEndian as Clone>⟧.is_infallible }
+    ensures errors { ClonesGiveSame ⟦<Error as Clone>⟧ }
+    ensures sections { ClonesGiveSame ⟦<SectionId as Clone>⟧ }
+    ensures formats { ClonesGiveSame ⟦<Format as Clone>⟧ }
+    ensures encodings { ClonesGiveSame ⟦<Encoding as Clone>⟧ }
+    ensures encodings_of_rows { ClonesGiveSame ⟦<LineEncoding as Clone>⟧ }
+    ensures little { ClonesGiveSame ⟦<LittleEndian as Clone>⟧ }
+    ensures big { ClonesGiveSame ⟦<BigEndian as Clone>⟧ }
+    ensures run_time { ClonesGiveSame ⟦<RunTimeEndian as Clone>⟧ }
 {}
 
 /// The same of numbers that have a type of their own.
 pub fn clones_of_numbers_are_same()
-    ensures standard_opcodes { GivesSame ⟦<DwLns as Clone>⟧.is_clone
-        ⟦<DwLns as Clone>⟧.is_infallible }
-    ensures extended_opcodes { GivesSame ⟦<DwLne as Clone>⟧.is_clone
-        ⟦<DwLne as Clone>⟧.is_infallible }
-    ensures content_types { GivesSame ⟦<DwLnct as Clone>⟧.is_clone
-        ⟦<DwLnct as Clone>⟧.is_infallible }
-    ensures forms { GivesSame ⟦<DwForm as Clone>⟧.is_clone ⟦<DwForm as Clone>⟧.is_infallible }
-    ensures pointer_encodings { GivesSame ⟦<DwEhPe as Clone>⟧.is_clone
-        ⟦<DwEhPe as Clone>⟧.is_infallible }
-    ensures places_of_refusals { GivesSame ⟦<ReaderOffsetId as Clone>⟧.is_clone
-        ⟦<ReaderOffsetId as Clone>⟧.is_infallible }
+    ensures standard_opcodes { ClonesGiveSame ⟦<DwLns as Clone>⟧ }
+    ensures extended_opcodes { ClonesGiveSame ⟦<DwLne as Clone>⟧ }
+    ensures content_types { ClonesGiveSame ⟦<DwLnct as Clone>⟧ }
+    ensures forms { ClonesGiveSame ⟦<DwForm as Clone>⟧ }
+    ensures pointer_encodings { ClonesGiveSame ⟦<DwEhPe as Clone>⟧ }
+    ensures places_of_refusals { ClonesGiveSame ⟦<ReaderOffsetId as Clone>⟧ }
 {}
 
 /// The same of readers over slices, if it is so of orders.
 pub fn clones_of_slices_are_same<'i, E: Endianity>()
-    ensures { GivesSame E.is_clone E.is_infallible → GivesSame
-        ⟦<EndianSlice<'i, E> as Clone>⟧.is_clone ⟦<EndianSlice<'i, E> as Clone>⟧.is_infallible }
+    ensures { GivesSame E.is_clone E.is_infallible → ClonesGiveSame ⟦<EndianSlice<'i, E> as Clone>⟧ }
+{}
+
+/// The same of offsets into a section, and of indices, if it is so of the type of offsets.
+pub fn clones_of_offsets_are_same<T: Clone>()
+    ensures line_programs { GivesSame T.is_clone T.is_infallible
+        → ClonesGiveSame ⟦<DebugLineOffset<T> as Clone>⟧ }
+    ensures strings { GivesSame T.is_clone T.is_infallible
+        → ClonesGiveSame ⟦<DebugStrOffset<T> as Clone>⟧ }
+    ensures line_strings { GivesSame T.is_clone T.is_infallible
+        → ClonesGiveSame ⟦<DebugLineStrOffset<T> as Clone>⟧ }
+    ensures indices { GivesSame T.is_clone T.is_infallible
+        → ClonesGiveSame ⟦<DebugStrOffsetsIndex<T> as Clone>⟧ }
+{}
+
+/// The same of values, if it is so of readers and of offsets.
+pub fn clones_of_values_are_same<R: Reader>()
+    ensures { GivesSame R.is_clone R.is_infallible → GivesSame R.Offset.is_clone
+        R.Offset.is_infallible → ClonesGiveSame ⟦<AttributeValue<R> as Clone>⟧ }
 {}

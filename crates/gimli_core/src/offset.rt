@@ -1,6 +1,7 @@
 //! Types of offsets, and addresses of a given size.
 
-ghost use Rattle.std.specs.Prelude.{◌≡◌, ℕ, ◌+◌, ◌-◌, ◌*◌, ◌^◌, IsTrue};
+ghost use Rattle.std.specs.Prelude.{◌≡◌, ℕ, ◌+◌, ◌-◌, ◌*◌, ◌≤◌, ◌^◌, IsTrue};
+ghost use Rattle.std.proofs.Common.{rules};
 ghost use Rattle.gimli_core.specs.Numbers.{is_address_size};
 ghost use Rattle.gimli_core.specs.Reading.{seen, offset_of, sized_sum};
 
@@ -33,12 +34,17 @@ pub trait ReaderOffset: Copy + Eq + Ord {
     /// The number that it stands for.
     fn into_u64(self) -> u64
         ensures { result ≡ number self };
+
+    /// Each number of 32 bits is below the limit.
+    ghost is_wide: { 2 ^ 32 ≤ limit };
 }
 
 impl ReaderOffset for usize {
     ghost number = { λ n. n };
 
     ghost limit = { 2 ^ 64 };
+
+    ghost is_wide = { Prim.search rules };
 
     fn from_u8(offset: u8) -> usize {
         usize::from(offset)
