@@ -4,4 +4,3 @@ pub mod Section
 pub mod Pieces
 pub mod Texts
 pub mod TextsInside
-pub mod Clones

@@ -59,7 +59,7 @@ impl<E: Endianity> EndianVec<E> {
         std::mem::replace(&mut self.vec, Vec::new(alloc))
     }
 
-    /// Appends bytes. It stands apart, so that what appends one byte stays small.
+    /// Appends bytes. It stands apart, so that what appends one byte or two stays small.
     #[inline(never)]
     fn append(&mut self, bytes: &[u8]) -> Result<()>
         ensures ok { OnOk result

@@ -1,11 +1,10 @@
-//! Laws of what is written, and of equality.
+//! Laws of what is written, of equality and of clones.
 
 ghost use Rattle.std.specs.Prelude.{◌≡◌, ◌≢◌, ℕ, ◌+◌, ◌<◌, ◌≤◌, ◌^◌, ℤ, List, ◌∷◌, ◌++◌, length, drop, Some, All, slice_get, FitsSigned};
 ghost use Rattle.std.specs.Bool.{Decides};
 ghost use Rattle.std.specs.Int.{w64};
-ghost use Rattle.gimli_core.specs.Equality.{IsExact};
+ghost use Rattle.gimli_core.specs.Equality.{ClonesGiveSame, IsExact, IsSameClone};
 ghost use Rattle.gimli_core.specs.Numbers.{SpellsUleb128, SpellsSleb128, IsShortest};
-ghost use Rattle.gimli_bytes.specs.Clones.{IsSameClone};
 ghost use Rattle.gimli_bytes.specs.Number.{uleb, sleb};
 ghost use Rattle.gimli_bytes.specs.declared.address.Address.{Address};
 ghost use Rattle.gimli_bytes.specs.declared.str.StringId.{StringId};
@@ -16,6 +15,7 @@ use crate::address::Address;
 use crate::endian_vec::EndianVec;
 use crate::error::Error;
 use crate::str::{LineStringId, StringId};
+use crate::writer::InitialLengthOffset;
 use gimli_core::Endianity;
 
 /// `==` holds of two addresses, and of two ids, exactly where all their parts agree.
@@ -34,6 +34,19 @@ pub fn equal_errors_are_same()
 /// A clone of a section is equal to it.
 pub fn clones_are_same<E: Endianity>()
     ensures { IsSameClone ⟦<EndianVec<E> as Clone>⟧.is_clone }
+{}
+
+/// `clone` of addresses, of ids and of the places of lengths is never refused, and gives the same.
+pub fn clones_of_addresses_and_ids()
+    ensures address { ClonesGiveSame ⟦<Address as Clone>⟧ }
+    ensures string { ClonesGiveSame ⟦<StringId as Clone>⟧ }
+    ensures line_string { ClonesGiveSame ⟦<LineStringId as Clone>⟧ }
+    ensures length { ClonesGiveSame ⟦<InitialLengthOffset as Clone>⟧ }
+{}
+
+/// The same of errors.
+pub fn clones_of_errors_are_same()
+    ensures { ClonesGiveSame ⟦<Error as Clone>⟧ }
 {}
 
 /// What `write_uleb128` appends is a spelling of the number, and no other is shorter.
