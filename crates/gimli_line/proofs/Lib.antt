@@ -8,6 +8,7 @@ pub mod HeaderLaws
 pub mod InstructionLaws
 pub mod InstructionRefusals
 pub mod Bounds
+pub mod RowBounds
 pub mod Programs
 pub mod Headers
 pub mod HeaderParts

@@ -1,4 +1,3 @@
-pub mod Clones
 pub mod header
 pub mod run
 pub mod UnitAt

@@ -3,7 +3,7 @@
 
 ghost use Rattle.std.specs.Prelude.{◌≡◌, ◌≢◌, ◌≤◌, ◌⊎◌, ◌+◌, ℕ, Bool, List, [], Option, Some, length, nat_eq, option_map};
 ghost use Rattle.std.specs.Ordering.{nat_cmp};
-ghost use Rattle.gimli_core.specs.Equality.{ComparesBy, IsExact, both};
+ghost use Rattle.gimli_core.specs.Equality.{AreAlwaysCloned, ClonesGiveSame, ComparesBy, IsExact, IsSameClone, both};
 ghost use Rattle.gimli_core.specs.Notation.{Notation};
 ghost use Rattle.gimli_core.specs.Values.{value_by};
 ghost use Rattle.gimli_core.specs.declared.common.Format.{Format};
@@ -12,20 +12,20 @@ ghost use Rattle.gimli_line.specs.header.File.{file_by};
 ghost use Rattle.gimli_line.specs.header.Header.{Header, UnitEntry};
 ghost use Rattle.gimli_line.specs.header.HeaderParts.{ComparesParts, ComparesSeen, entry_count, parts_of};
 ghost use Rattle.gimli_line.specs.header.HeaderGrammar.{SpellsUnit, HasHeaderFault, HasUnit, HasNoUnit, HaveCountedEntries};
-ghost use Rattle.gimli_line.specs.run.Events.{events_behind, row_at, GivesRow};
+ghost use Rattle.gimli_line.specs.run.Events.{Event, Events, events_behind, row_at, GivesRow};
 ghost use Rattle.gimli_line.specs.run.Instruction.{Ins, ins_by};
-ghost use Rattle.gimli_line.specs.run.EventsWithFiles.{events_with_files_behind, machine_events, registers_after, registers_at};
+ghost use Rattle.gimli_line.specs.run.EventsWithFiles.{EventsWithFiles, events_with_files_behind, machine_events, registers_after, registers_at};
 ghost use Rattle.gimli_line.specs.run.InstructionGrammar.{Decodes, AreDecodedOnce, instruction_production, IsInstructionRefusal};
 ghost use Rattle.gimli_line.specs.run.InstructionReading.{decoded_at};
 ghost use Rattle.gimli_line.specs.run.OperationPointer.{OperationPointer, IsPointerList, pointers, is_hidden, overflows};
-ghost use Rattle.gimli_line.specs.run.Rows.{started};
+ghost use Rattle.gimli_line.specs.run.RunState.{RunState};
+ghost use Rattle.gimli_line.specs.run.Rows.{events_left, started};
 ghost use Rattle.gimli_line.specs.run.Started.{GivesEvents, GivesFiles};
 ghost use Rattle.gimli_line.specs.run.Unread.{Unread};
 ghost use Rattle.gimli_line.specs.run.Machine.{run, initial, is_refused};
 ghost use Rattle.gimli_line.specs.run.NonDecreasing.{AreOneSequence, NeverBelow};
 ghost use Rattle.gimli_line.specs.header.Parameters.{Parameters};
 ghost use Rattle.gimli_line.specs.run.Row.{column_number};
-ghost use Rattle.gimli_line.specs.Clones.{AreAlwaysCloned, IsSameClone};
 ghost use Rattle.gimli_line.specs.declared.header.file_entry.FileEntryFormat.{FileEntryFormat};
 ghost use Rattle.gimli_line.specs.declared.run.row.ColumnType.{ColumnType as Column};
 
@@ -279,6 +279,29 @@ pub fn clones_are_given<R: Reader>()
         → AreAlwaysCloned ⟦<LineInstructions<R> as Clone>⟧.is_infallible }
     ensures sequences { AreAlwaysCloned R.is_infallible
         → AreAlwaysCloned ⟦<LineSequence<R> as Clone>⟧.is_infallible }
+{}
+
+/// `clone` of rows, of columns and of the formats of tables is never refused, and gives the same.
+pub fn clones_of_rows_are_same()
+    ensures rows { ClonesGiveSame ⟦<LineRow as Clone>⟧ }
+    ensures columns { ClonesGiveSame ⟦<ColumnType as Clone>⟧ }
+    ensures formats { ClonesGiveSame ⟦<FileEntryFormat as Clone>⟧ }
+{}
+
+/// A run gives no more rows and refusals together than its program has bytes. Rows on their way give no more than
+/// there are bytes left.
+pub fn rows_are_bounded()
+    ensures events { (notation : Notation) (h : Header) (bytes : List ℕ) (events : List Event)
+        → Events notation h bytes events → length events ≤ length bytes }
+    ensures files { (n : Notation) (appends : Bool) (h : Header) (bytes : List ℕ) (events : _)
+        → EventsWithFiles n appends h bytes events → length events ≤ length bytes }
+    ensures left { (rows : RunState) → length (events_left rows) ≤ length rows.unread.bytes }
+{}
+
+/// What a section is by default holds what its contents are by default.
+pub fn default_sections_are_default<R: Default>()
+    ensures { (section : _) → ⟦<DebugLine<R> as Default>⟧.is_default section
+        → R.is_default section }
 {}
 
 /// The instructions and the end that are taken of a program one by one are those that it is decoded into.

@@ -265,7 +265,7 @@ impl<R: Reader> Model for LineInstructions<R> {
 impl<R: Reader> LineInstructions<R> {
     ghost use Rattle.std.specs.Prelude.{◌≡◌, [], ◌++◌, List, ℕ, IfOk, IfErr, option_map};
     ghost use Rattle.gimli_line.specs.run.Instruction.{ins_seen, InsHasOrder};
-    ghost use Rattle.std.specs.Prelude.{Ok};
+    ghost use Rattle.std.specs.Prelude.{Ok, None};
     ghost use Rattle.gimli_line.specs.run.NextInstruction.{TakesNext, EndsByFault};
     ghost use Rattle.gimli_line.specs.run.Machine.{IsAllowed};
     ghost use Rattle.gimli_line.specs.run.Unread.{unread, in_front};
@@ -313,6 +313,7 @@ impl<R: Reader> LineInstructions<R> {
         ensures next { IfOk result (λ next. TakesNext header.now.meaning self.old self.new
             (option_map (ins_seen R.bytes R.Offset.number) next)) }
         ensures refusal { IfErr result (EndsByFault header.now.meaning self.old self.new) }
+        ensures ended { self.old.bytes ≡ [] → result ≡ Ok None }
         ensures allowed { IfOk result (λ next. IfSome next
             (λ i. IsAllowed header.now.meaning.parameters (ins_seen R.bytes R.Offset.number i))) }
         ensures notation { self.new.notation ≡ self.old.notation }

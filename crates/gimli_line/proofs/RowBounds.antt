@@ -1,0 +1,115 @@
+-- A run gives no more rows and refusals than its program has bytes.
+use Rattle.std.proofs.Common.{◌≡◌, ℕ, zero, suc, ◌+◌, ◌≤◌, Bool, true, false, not, ◌&&◌, if◌then◌else◌, List, [], ◌∷◌, length, Option, Ok, Err, ap, arith}
+use Rattle.std.proofs.lemmas.List.{length-append, length-map}
+use Rattle.gimli_core.specs.Notation.{Notation}
+use Rattle.gimli_core.specs.Reading.{Read}
+use Rattle.gimli_core.specs.declared.error.Error.{Error}
+use Rattle.gimli_core.specs.declared.error.Error.TheVariants.{AddressOverflow}
+use Rattle.gimli_line.specs.declared.run.row.LineRow.{LineRow}
+use Rattle.gimli_line.specs.header.File.{File}
+use Rattle.gimli_line.specs.header.Header.{Header}
+use Rattle.gimli_line.specs.header.Parameters.{Parameters}
+use Rattle.gimli_line.specs.run.Instruction.{Ins, makes_row, files_behind}
+use Rattle.gimli_line.specs.run.InstructionGrammar.{Decodes}
+use Rattle.gimli_line.specs.run.InstructionReading.{ins_at, decoded_at, decoded_behind, decoded_upto}
+use Rattle.gimli_line.specs.run.OperationPointer.{is_hidden, overflows}
+use Rattle.gimli_line.specs.run.Machine.{is_refused, stepped}
+use Rattle.gimli_line.specs.run.Events.{Event, Events, row, fault, row_at, events_at, events_behind, end_events}
+use Rattle.gimli_line.specs.run.EventsWithFiles.{EventWithFiles, EventsWithFiles, with_files, files_at, events_with_files_behind, step_events, next_registers, events_with_files_from}
+use Rattle.gimli_line.specs.run.Progress.{ready}
+use Rattle.gimli_line.specs.run.RunState.{RunState}
+use Rattle.gimli_line.specs.run.Rows.{events_left}
+use Rattle.gimli_line.proofs.InstructionLaws.{one_decoding}
+
+-- ---- no more events than instructions, and one more at a refused end
+
+one_at_most : (overflow made : Bool) (r : LineRow) → length (if overflow then fault AddressOverflow ∷ [] else (if made then row r ∷ [] else [])) ≤ 1
+one_at_most true made r = omega arith
+one_at_most false true r = omega arith
+one_at_most false false r = omega arith
+
+length_with_files : (files : List File) (events : List Event) → length (with_files files events) ≡ length events
+length_with_files files events = length-map events (λ e. record { event = e; files = files })
+
+few_behind : (parameters : Parameters) (past list : List Ins) → length (events_behind parameters past list) ≤ length list
+few_behind parameters past [] = omega arith
+few_behind parameters past (i ∷ list) =
+    omega (
+      arith,
+      length-append (events_at parameters past i) (events_behind parameters (i ∷ past) list),
+      one_at_most (overflows parameters past i) (makes_row i && not (is_hidden parameters past)) (row_at parameters past i),
+      few_behind parameters (i ∷ past) list,
+    )
+
+few_with_files : (appends : Bool) (h : Header) (past list : List Ins) (end : Option Error)
+    → length (events_with_files_behind appends h past list end) ≤ length list + length (end_events end)
+few_with_files appends h past [] end = omega (arith, length_with_files (files_at appends h.files past) (end_events end))
+few_with_files appends h past (i ∷ list) end =
+    let files = files_at appends h.files past in
+    let here = events_at h.parameters past i in
+    omega (
+      arith,
+      length-append (with_files files here) (events_with_files_behind appends h (i ∷ past) list end),
+      length_with_files files here,
+      one_at_most (overflows h.parameters past i) (makes_row i && not (is_hidden h.parameters past)) (row_at h.parameters past i),
+      few_with_files appends h (i ∷ past) list end,
+    )
+
+few_from : (appends : Bool) (parameters : Parameters) (r : LineRow) (files : List File) (list : List Ins) (end : Option Error)
+    → length (events_with_files_from appends parameters r files list end) ≤ length list + length (end_events end)
+few_from appends parameters r files [] end = omega (arith, length_with_files files (end_events end))
+few_from appends parameters r files (i ∷ list) end =
+    let here = step_events parameters i r in
+    let later = events_with_files_from appends parameters (next_registers parameters i r) (files_behind appends i files) list end in
+    omega (
+      arith,
+      length-append (with_files files here) later,
+      length_with_files files here,
+      one_at_most (is_refused parameters i r) (makes_row i && not r.hidden) (stepped parameters i r),
+      few_from appends parameters (next_registers parameters i r) (files_behind appends i files) list end,
+    )
+
+-- ---- no more instructions than bytes; where the end is refused, a byte is left for it
+
+module _ (notation : Notation) (h : Header) where
+  upto_bounded : (more : ℕ) (bytes : List ℕ) → length (decoded_upto notation h more bytes).0 + length (end_events (decoded_upto notation h more bytes).1) ≤ more
+  unfolding decoded_upto
+  upto_bounded zero bytes = omega arith
+  upto_bounded (suc more) [] = omega arith
+  upto_bounded (suc more) (b ∷ bytes) = behind (λ rest. upto_bounded more rest) (ins_at notation h (b ∷ bytes))
+    where
+      behind : ((rest : List ℕ) → length (decoded_upto notation h more rest).0 + length (end_events (decoded_upto notation h more rest).1) ≤ more) → (r : Read Ins)
+          → length (decoded_behind notation h (decoded_upto notation h more) r).0 + length (end_events (decoded_behind notation h (decoded_upto notation h more) r).1) ≤ suc more
+      behind bound (Ok i, rest) = omega (arith, bound rest)
+      behind bound (Err e, rest) = omega arith
+
+  taken_bounded : (bytes : List ℕ) → length (decoded_at notation h bytes).0 + length (end_events (decoded_at notation h bytes).1) ≤ length bytes
+  taken_bounded bytes = upto_bounded (length bytes) bytes
+
+  decoded_bounded : (bytes : List ℕ) (list : List Ins) (end : Option Error) → Decodes notation h bytes list end → length list + length (end_events end) ≤ length bytes
+  decoded_bounded bytes list end c =
+      let same : length list + length (end_events end) ≡ length (decoded_at notation h bytes).0 + length (end_events (decoded_at notation h bytes).1) =
+      ap (λ (p : List Ins × Option Error). length p.0 + length (end_events p.1)) (one_decoding notation h bytes list end c) in
+      omega (arith, same, taken_bounded bytes)
+
+  -- ---- no more events than bytes
+
+  pub events_bounded : (bytes : List ℕ) (events : List Event) → Events notation h bytes events → length events ≤ length bytes
+  events_bounded bytes events given =
+      omega (
+        arith,
+        ap length given.given,
+        length-append (events_behind h.parameters [] given.list) (end_events given.end),
+        few_behind h.parameters [] given.list,
+        decoded_bounded bytes given.list given.end given.decoding,
+      )
+
+  pub with_files_bounded : (appends : Bool) (bytes : List ℕ) (events : List EventWithFiles) → EventsWithFiles notation appends h bytes events → length events ≤ length bytes
+  with_files_bounded appends bytes events given =
+      omega (arith, ap length given.given, few_with_files appends h [] given.list given.end, decoded_bounded bytes given.list given.end given.decoding)
+
+pub left_bounded : (rows : RunState) → length (events_left rows) ≤ length rows.unread.bytes
+left_bounded rows =
+    let a = ready rows in
+    let taken = decoded_at a.unread.notation a.fixed a.unread.bytes in
+    omega (arith, few_from a.appends a.fixed.parameters a.row a.files taken.0 taken.1, taken_bounded a.unread.notation a.fixed a.unread.bytes)
