@@ -1,19 +1,15 @@
 -- Runs: rows that are counted and copied.
-use Rattle.std.proofs.Common.{◌≡◌, ℕ, ◌+◌, ◌-◌, ◌<◌, ◌≤◌, ◌^◌, Bool, true, false, not, ◌&&◌, if◌then◌else◌, List, [], ◌∷◌, ◌++◌, length, map, drop, set, refl, sym, ap, subst, ◌∙◌, append_assoc, arith}
-use Rattle.std.specs.Prelude.{Option, Some, None, ltb}
+use Rattle.std.proofs.Common.{◌≡◌, ℕ, ◌+◌, ◌-◌, ◌<◌, ◌≤◌, ◌^◌, Bool, true, false, List, [], ◌∷◌, ◌++◌, length, map, drop, set, refl, sym, ap, subst, ◌∙◌, append_assoc, arith}
+use Rattle.std.specs.Prelude.{Option, ltb}
 use Rattle.std.proofs.lemmas.List.{map-append, length-append, length-map, append-nil, drop-append-le, drop_all, length-drop}
 use Rattle.std.proofs.lemmas.Bool.{ltb-true, ltb-false}
 use Rattle.gimli_core.specs.declared.error.Error.{Error}
-use Rattle.gimli_core.specs.declared.error.Error.TheVariants.{AddressOverflow}
 use Rattle.gimli_core.specs.Notation.{Notation}
 use Rattle.gimli_line.specs.declared.run.row.LineRow.{LineRow}
 use Rattle.gimli_line.specs.header.File.{File}
 use Rattle.gimli_line.specs.header.Header.{Header}
-use Rattle.gimli_line.specs.header.Parameters.{Parameters}
-use Rattle.gimli_line.specs.run.Instruction.{Ins, makes_row}
-use Rattle.gimli_line.specs.run.InstructionGrammar.{Decodes}
-use Rattle.gimli_line.specs.run.OperationPointer.{is_hidden, overflows}
-use Rattle.gimli_line.specs.run.Events.{Event, row, fault, row_at, events_at, events_behind, end_events, Events}
+use Rattle.gimli_line.specs.run.Instruction.{Ins}
+use Rattle.gimli_line.specs.run.Events.{Event, row, fault, events_at, events_behind, end_events, Events}
 use Rattle.gimli_line.specs.run.EventsWithFiles.{EventWithFiles, EventsWithFiles, with_files, files_at, events_with_files_behind}
 use Rattle.gimli_line.specs.run.Sequences.{events_of}
 use Rattle.gimli_line.specs.run.InstructionReading.{decoded_at, decoded_upto}
@@ -132,26 +128,14 @@ without_files notation a h bytes events given = record {
   given = ap events_of given.given ∙ events_of_behind a h [] given.list given.end;
 }
 
--- a program has no more rows than instructions
-few_rows : (parameters : Parameters) (past list : List Ins) (end : Option Error) → length (rows_of (events_behind parameters past list ++ end_events end)) ≤ length list
-few_rows parameters past [] None = omega arith
-few_rows parameters past [] (Some e) = omega arith
-few_rows parameters past (i ∷ list) end =
-    let more = few_rows parameters (i ∷ past) list end in
-    at_test (overflows parameters past i) (makes_row i && not (is_hidden parameters past)) more
+-- rows are among the events
+pub few_rows : (events : List EventWithFiles) → length (rows_of (events_of events)) ≤ length events
+few_rows [] = omega arith
+few_rows (t ∷ events) = by t.event (few_rows events)
   where
-    at_test : (b c : Bool) → length (rows_of (events_behind parameters (i ∷ past) list ++ end_events end)) ≤ length list
-        → length (rows_of (((if b then fault AddressOverflow ∷ [] else (if c then row (row_at parameters past i) ∷ [] else [])) ++ events_behind parameters (i ∷ past) list) ++ end_events end)) ≤ length (i ∷ list)
-    at_test true c more = omega arith
-    at_test false true more = omega (arith, more)
-    at_test false false more = omega (arith, more)
-
-pub rows_fit : (notation : Notation) (a : Bool) (h : Header) (bytes : List ℕ) (events : List EventWithFiles) (n : ℕ) → EventsWithFiles notation a h bytes events
-    → ((list : List Ins) (end : Option Error) → Decodes notation h bytes list end → length list ≤ length bytes) → length bytes < n
-    → length (rows_of (events_of events)) < n
-rows_fit notation a h bytes events n given bounded fits =
-    let w = without_files notation a h bytes events given in
-    omega (arith, ap (λ (es : List Event). length (rows_of es)) w.given, few_rows h.parameters [] w.list w.end, bounded w.list w.end w.decoding, fits)
+    by : (e : Event) → length (rows_of (events_of events)) ≤ length events → length (rows_of (e ∷ events_of events)) ≤ length (t ∷ events)
+    by (row r) few = omega (arith, few)
+    by (fault e) few = omega arith
 
 -- what the unit at a place gives, whatever the name of its notation
 pub has_events : (p : Place) (notation : Notation) (h : Header) (events : List EventWithFiles) → HasUnit p h → notation ≡ notation_at p

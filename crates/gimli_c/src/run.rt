@@ -95,13 +95,13 @@ fn put_row(room: &mut [GimliRow], skip: u64, number: u64, row: &LineRow)
     }
 }
 
-/// A program has fewer rows than a `u64` counts, since each takes a byte at least.
+/// A program has fewer rows than a `u64` counts, since it has no fewer bytes.
 pub(crate) fn rows_fit<R: Reader>(program: &IncompleteLineProgram<R>)
     ensures { (events : List EventWithFiles)
         → EventsWithFiles program.now.notation true program.now.meaning program.now.meaning.program events
         → length (rows_of (events_of events)) < 2 ^ 64 }
 {
-    laws::instructions_are_bounded();
+    laws::rows_are_bounded();
     let _bytes = program.header().raw_program_buf().len().into_u64();
 }
 

@@ -1,21 +1,15 @@
--- Rows that are kept: they are what the sequences give, and no more than the program has instructions.
-use Rattle.std.proofs.Common.{◌≡◌, ℕ, ◌+◌, ◌<◌, ◌≤◌, ◌^◌, Bool, true, false, not, ◌&&◌, if◌then◌else◌, List, [], ◌∷◌, length, map, refl, sym, ap, ◌∙◌, arith}
-use Rattle.std.specs.Prelude.{Option, None, sum_by, flat_map}
+-- Rows that are kept: they are what the sequences give, and no more than the program gives.
+use Rattle.std.proofs.Common.{◌≡◌, ℕ, ◌+◌, ◌<◌, ◌≤◌, ◌^◌, Bool, true, false, if◌then◌else◌, List, [], ◌∷◌, length, map, refl, sym, ap, ◌∙◌, arith}
+use Rattle.std.specs.Prelude.{None, sum_by, flat_map}
 use Rattle.std.specs.List.{list_any, fold}
-use Rattle.std.proofs.lemmas.List.{length-append, length-map, append-nil}
+use Rattle.std.proofs.lemmas.List.{length-map}
 use Rattle.std.proofs.lemmas.List.Concat.{length-flat_map}
 use Rattle.std.proofs.lemmas.List.Folds.{flat_map-map}
 use Rattle.std.proofs.lemmas.Simd.{map-map}
 use Rattle.gimli_core.specs.Notation.{Notation}
-use Rattle.gimli_core.specs.declared.error.Error.{Error}
-use Rattle.gimli_core.specs.declared.error.Error.TheVariants.{AddressOverflow}
 use Rattle.gimli_line.specs.declared.run.row.LineRow.{LineRow}
 use Rattle.gimli_line.specs.header.Header.{Header}
-use Rattle.gimli_line.specs.header.Parameters.{Parameters}
-use Rattle.gimli_line.specs.run.Instruction.{Ins, makes_row}
-use Rattle.gimli_line.specs.run.InstructionGrammar.{Decodes}
-use Rattle.gimli_line.specs.run.OperationPointer.{is_hidden, overflows}
-use Rattle.gimli_line.specs.run.Events.{Event, row, fault, row_at, events_at, events_behind, ends_sequence, through_last_end, program_events}
+use Rattle.gimli_line.specs.run.Events.{Event, row, Events, ends_sequence, through_last_end, program_events}
 use Rattle.gimli_line.specs.run.Sequences.{Part, resumed, AreSequences}
 use Rattle.gimli_lookup.specs.Kept.{AreRowsThroughLastEnd}
 
@@ -40,24 +34,6 @@ are_joined notation h c parts rows are same = record {
   joined = joined_same c rows parts same ∙ are.joined;
 }
 
-at_most_one : (parameters : Parameters) (past : List Ins) (i : Ins) → length (events_at parameters past i) ≤ 1
-at_most_one parameters past i = at_test (overflows parameters past i) (makes_row i && not (is_hidden parameters past))
-  where
-    at_test : (b c : Bool) → length (if b then fault AddressOverflow ∷ [] else (if c then row (row_at parameters past i) ∷ [] else [])) ≤ 1
-    at_test true c = omega arith
-    at_test false true = omega arith
-    at_test false false = omega arith
-
-few_events : (parameters : Parameters) (past list : List Ins) → length (events_behind parameters past list) ≤ length list
-few_events parameters past [] = omega arith
-few_events parameters past (i ∷ list) =
-    omega (
-      arith,
-      length-append (events_at parameters past i) (events_behind parameters (i ∷ past) list),
-      at_most_one parameters past i,
-      few_events parameters (i ∷ past) list,
-    )
-
 few_through : (events : List Event) → length (through_last_end events) ≤ length events
 few_through [] = omega arith
 few_through (e ∷ events) = at_test (list_any ends_sequence (e ∷ events)) (few_through events)
@@ -75,11 +51,9 @@ sum_same {X} f g xs same = from_start xs 0 0 refl
 
 pub rows_fit : (notation : Notation) (h c : Header) (parts : List Part) (rows : List (List LineRow)) → AreSequences notation h c parts
     → map (map row) rows ≡ map (resumed c) parts
-    → ((list : List Ins) (end : Option Error) → Decodes notation h h.program list end → length list < 2 ^ 64) → sum_by length rows < 2 ^ 64
+    → ((events : List Event) → Events notation h h.program events → length events < 2 ^ 64) → sum_by length rows < 2 ^ 64
 rows_fit notation h c parts rows are same fits =
-    let events = events_behind h.parameters [] are.list in
+    let whole = are_joined notation h c parts rows are same in
     let count : length (flat_map (map row) rows) ≡ sum_by length rows =
     length-flat_map (map row) rows ∙ sum_same (λ (r : List LineRow). length (map row r)) length rows (λ r. length-map r row) in
-    let whole : length (flat_map (map row) rows) ≡ length (through_last_end events) =
-    ap length (joined_same c rows parts same ∙ are.joined ∙ ap through_last_end (append-nil events)) in
-    omega (arith, count, whole, few_through events, few_events h.parameters [] are.list, fits are.list None are.decoding)
+    omega (arith, count, ap length whole.joined, few_through whole.events, fits whole.events whole.given)

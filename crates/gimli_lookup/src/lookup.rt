@@ -1,10 +1,7 @@
 //! The rows of a program, kept so that those that cover an address are found.
 
-ghost use Rattle.std.specs.Prelude.{◌≡◌, ◌≢◌, ◌≤◌, ◌<◌, ◌^◌, List, Option, length, map, sum_by, All, Any, IfErr, IfOk, MatchOption};
-ghost use Rattle.gimli_core.specs.declared.error.Error.{Error};
-ghost use Rattle.gimli_line.specs.run.Events.{row};
-ghost use Rattle.gimli_line.specs.run.Instruction.{Ins};
-ghost use Rattle.gimli_line.specs.run.InstructionGrammar.{Decodes};
+ghost use Rattle.std.specs.Prelude.{◌≡◌, ◌≢◌, ◌≤◌, ◌<◌, ◌^◌, List, length, map, sum_by, All, Any, IfErr, IfOk, MatchOption};
+ghost use Rattle.gimli_line.specs.run.Events.{Event, Events, row};
 ghost use Rattle.gimli_line.specs.run.Sequences.{part_of, resumed, AreSequences, HasFirstFault};
 ghost use Rattle.gimli_lookup.specs.FirstPair.{HasNoPair, IsFirstPair};
 ghost use Rattle.gimli_lookup.specs.Kept.{AreRowsThroughLastEnd};
@@ -19,13 +16,13 @@ use gimli_line::{
 use std::alloc::Global;
 use std::marker::Model;
 
-/// A program has fewer instructions than a `u64` counts, since it has no more than bytes.
-fn instructions_fit<R: Reader>(program: &IncompleteLineProgram<R>)
-    ensures { (list : List Ins) (end : Option Error)
-        → Decodes program.now.notation program.now.meaning program.now.meaning.program list end
-        → length list < 2 ^ 64 }
+/// A program gives fewer rows and refusals than a `u64` counts, since it has no fewer bytes.
+fn events_fit<R: Reader>(program: &IncompleteLineProgram<R>)
+    ensures { (events : List Event)
+        → Events program.now.notation program.now.meaning program.now.meaning.program events
+        → length events < 2 ^ 64 }
 {
-    laws::instructions_are_bounded();
+    laws::rows_are_bounded();
     let _bytes = program.header().raw_program_buf().len().into_u64();
 }
 
@@ -76,14 +73,16 @@ impl<R: Reader> Lookup<R> {
     pub fn new(program: IncompleteLineProgram<R>) -> Result<Lookup<R>>
         ensures sequences { IfOk result (λ lookup.
             AreSequences program.notation program.meaning lookup.header lookup.parts) }
-        ensures each { IfOk result (λ lookup. map (map row) lookup.rows ≡ map (resumed lookup.header) lookup.parts) }
+        ensures each { IfOk result (λ lookup.
+            map (map row) lookup.rows ≡ map (resumed lookup.header) lookup.parts) }
         ensures joined { IfOk result (λ lookup.
             AreRowsThroughLastEnd program.notation program.meaning lookup.rows) }
         ensures notation { IfOk result (λ lookup. lookup.notation ≡ program.notation) }
         ensures offset { IfOk result (λ lookup. lookup.offset ≡ R.Offset.number program.offset.0) }
-        ensures err { IfErr result (λ e. e ≢ Error.OutOfMemory → HasFirstFault program.notation program.meaning e) }
+        ensures err { IfErr result (λ e. e ≢ Error.OutOfMemory
+            → HasFirstFault program.notation program.meaning e) }
     {
-        instructions_fit(&program);
+        events_fit(&program);
         let (program, sequences, rows) = program.sequences_with_rows()?;
         let rows = keep_each(*sequences.allocator(), rows)?;
         Ok(Lookup {

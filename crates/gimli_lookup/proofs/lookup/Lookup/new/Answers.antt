@@ -15,7 +15,7 @@ invariant_of-result g c =
     let parts = map part_of c.in_ok-program.sequences.items in
     let same = same_rows (λ (rows : Vec LineRow Global). rows.items) c.in_ok-program.rows.items c.in_ok-rows.rows.items (map (resumed c.in_ok-program.program.meaning) parts)
     c.in_ok-rows.ensures.ok c.in_ok-program.ensures.each in
-    rows_fit c.args.program.notation c.args.program.meaning c.in_ok-program.program.meaning parts c.in_ok-rows.rows.items c.in_ok-program.ensures.ok same c.instructions_fit.ensures
+    rows_fit c.args.program.notation c.args.program.meaning c.in_ok-program.program.meaning parts c.in_ok-rows.rows.items c.in_ok-program.ensures.ok same c.events_fit.ensures
 
 pub returns-clause-each : goal.returns-clause-each
 returns-clause-each g c =
