@@ -1,8 +1,9 @@
 //! Laws of what is written: the instructions of rows and ends, run by the machine of the reading half, give what was
-//! built; their bytes spell them; they are few; and they define no file. And laws of equality.
+//! built; their bytes spell them; they are few; and they define no file. And laws of equality and of clones.
 
 ghost use Rattle.std.specs.Prelude.{◌≡◌, ℕ, Bool, false, All, ◌≤◌, List, [], ◌∷◌, length, map, IfOk};
 ghost use Rattle.std.specs.Bool.{Decides};
+ghost use Rattle.gimli_core.specs.Equality.{ClonesGiveSame};
 ghost use Rattle.gimli_core.specs.Notation.{Notation};
 ghost use Rattle.gimli_core.specs.declared.error.Error.{Error};
 ghost use Rattle.gimli_core.specs.declared.error.Error.TheVariants.{AddressOverflow};
@@ -39,8 +40,9 @@ use crate::built::items::BuiltItem;
 use crate::built::line_string::LineString;
 use crate::built::row::LineRow;
 pub use gimli_bytes::laws::{
-    equal_addresses_and_ids, sleb_is_shortest, table_bytes_length, text_at_offset,
-    uleb_is_shortest, with_text_are_texts,
+    clones_are_same, clones_of_addresses_and_ids, clones_of_errors_are_same,
+    equal_addresses_and_ids, equal_errors_are_same, sleb_is_shortest, table_bytes_length,
+    text_at_offset, uleb_is_shortest, with_text_are_texts,
 };
 use std::hash::Hash;
 
@@ -163,16 +165,12 @@ pub fn equal_rows_and_items()
     ensures item { (a b : BuiltItem) → Decides (⟦<BuiltItem as PartialEq>⟧.eq a b) (a ≡ b) }
 {}
 
-/// A clone of an id, a row or an item is the same, and is never refused.
+/// `clone` of an id, a row or an item is never refused, and gives the same.
 pub fn clones_are_the_same()
-    ensures directory { (i j : ℕ) → ⟦<DirectoryId as Clone>⟧.is_clone i j → j ≡ i }
-    ensures directory_cloned { (i : ℕ) → ⟦<DirectoryId as Clone>⟧.is_infallible i }
-    ensures file { (i j : ℕ) → ⟦<FileId as Clone>⟧.is_clone i j → j ≡ i }
-    ensures file_cloned { (i : ℕ) → ⟦<FileId as Clone>⟧.is_infallible i }
-    ensures row { (a b : LineRow) → ⟦<LineRow as Clone>⟧.is_clone a b → b ≡ a }
-    ensures row_cloned { (a : LineRow) → ⟦<LineRow as Clone>⟧.is_infallible a }
-    ensures item { (a b : BuiltItem) → ⟦<BuiltItem as Clone>⟧.is_clone a b → b ≡ a }
-    ensures item_cloned { (a : BuiltItem) → ⟦<BuiltItem as Clone>⟧.is_infallible a }
+    ensures directory { ClonesGiveSame ⟦<DirectoryId as Clone>⟧ }
+    ensures file { ClonesGiveSame ⟦<FileId as Clone>⟧ }
+    ensures row { ClonesGiveSame ⟦<LineRow as Clone>⟧ }
+    ensures item { ClonesGiveSame ⟦<BuiltItem as Clone>⟧ }
 {}
 
 /// The same text hashes alike, wherever it lies in memory.
