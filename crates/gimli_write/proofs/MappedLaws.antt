@@ -26,14 +26,14 @@ use Rattle.gimli_write.specs.declared.convert_error.ConvertError.{ConvertError}
 use Rattle.gimli_write.specs.convert.ConversionState.{IsConverted}
 use Rattle.gimli_write.specs.convert.Feeding.{Conversion, converted}
 use Rattle.gimli_write.specs.convert.Lists.{Lists}
-use Rattle.gimli_write.specs.convert.Mapped.{CanBeFaithful, IsMapped, IsReadAs, AreRowsMapped, HasPaths, AreFilesMapped, AreFilesReadAs}
+use Rattle.gimli_write.specs.convert.Mapped.{CanBeFaithful, IsMapped, IsReadAs, AreRowsMapped, HasPaths, AreFilesMapped, AreFilesReadAs, HasConstantAddresses}
 use Rattle.gimli_write.specs.convert.Offers.{Reading, Reads}
 use Rattle.gimli_write.specs.convert.Preparation.{encoding_of, prepared}
 use Rattle.gimli_write.specs.convert.Sources.{Source}
 use Rattle.gimli_write.specs.convert.DoneConversions.{UnitReadBack, UnitGives}
 use Rattle.gimli_write.proofs.ConvertSteps.{kept_self}
 use Rattle.gimli_write.proofs.MappedEnds.{can_write, encoding_kept, files_same}
-use Rattle.gimli_write.proofs.MappedPrograms.{rows_mapped, addresses_fit, rows_again}
+use Rattle.gimli_write.proofs.MappedPrograms.{rows_mapped, addresses_fit, constants_set, rows_again}
 
 -- the parts of a conversion that was done
 record WasConverted (convert_address : ℕ → Option Address) (s : Source) (line_strings : List (List ℕ)) (c : Conversion) : Type 0 where
@@ -120,6 +120,11 @@ module _ (convert_address : ℕ → Option Address) (s : Source) (line_strings :
     conversion_fits =
         let w = was_converted convert_address s line_strings c so in
         addresses_fit s.notation s.sections s.header s.given line_strings w.first s.header.program w.reading convert_address c w.ready w.reads can.itself can.wide can.ends_seen w.is
+
+    pub conversion_constant : HasConstantAddresses c.program
+    conversion_constant =
+        let w = was_converted convert_address s line_strings c so in
+        constants_set s.notation s.sections s.header s.given line_strings w.first s.header.program w.reading convert_address c w.ready w.reads can.itself can.wide can.ends_seen w.is
 
     pub conversion_back : (rows back : List ReadRow) → Events s.notation s.header s.header.program (map row rows)
         → (AddressesFit c.program.encoding.address_size 0 (0, 0) c.program.items → RowsMatch c.program.encoding.version [] c.program.items back)

@@ -1,5 +1,5 @@
 -- The lists of a conversion, from the header of its source to the end of the program.
-use Rattle.std.proofs.Common.{◌≡◌, ℕ, zero, suc, ◌≤◌, Bool, true, false, if◌then◌else◌, List, [], ◌∷◌, ◌++◌, length, refl, subst, arith, length-append}
+use Rattle.std.proofs.Common.{◌≡◌, ℕ, zero, suc, ◌<◌, ◌≤◌, Bool, true, false, if◌then◌else◌, List, [], ◌∷◌, ◌++◌, length, refl, subst, arith, length-append}
 use Rattle.std.specs.Prelude.{nat_le, Option, Some, None, option_map, IfSome, Result, Ok, Err, All}
 use Rattle.std.specs.List.{list_any}
 use Rattle.std.specs.Option.{option_map_or}
@@ -83,11 +83,20 @@ module _ (P : Lists → Type 0) where
 
 -- ---- texts are there
 
--- a text that was there is there in a longer table
+-- a text that was there is there in a table that has each place of the old one
+module _ (strings old new : List (List ℕ)) (places : (i : ℕ) → i < length old → i < length new) where
+  pub within_where : (t : LineText) → IsWithin strings old t → IsWithin strings new t
+  within_where (Inline bytes) so = tt
+  within_where (InStrings i) so = so
+  within_where (InLineStrings i) so = places i so
+
+  pub if_some_where : (t : Option LineText) → IfSome t (IsWithin strings old) → IfSome t (IsWithin strings new)
+  if_some_where (Some t) so = within_where t so
+  if_some_where None so = tt
+
+-- so it is in a longer one
 pub within_longer : (strings old new : List (List ℕ)) (t : LineText) → length old ≤ length new → IsWithin strings old t → IsWithin strings new t
-within_longer strings old new (Inline bytes) le so = tt
-within_longer strings old new (InStrings i) le so = so
-within_longer strings old new (InLineStrings i) le so = omega (arith, so)
+within_longer strings old new t le so = within_where strings old new (λ i lt. omega (arith, lt, le)) t so
 
 pub table_longer : (version : ℕ) (line_strings : List (List ℕ)) (text : List ℕ) → length line_strings ≤ length (made_table version line_strings text)
 table_longer version line_strings text = by (nat_le version 4) (list_any (bytes_eq text) line_strings)
@@ -142,8 +151,7 @@ pub ready_written : (strings : List (List ℕ)) (encoding : Encoding) (lists : L
 ready_written strings encoding lists so = with_kept_files lists.program strings lists.line_strings so.program so.directories so.files
 
 if_some_longer : (strings old new : List (List ℕ)) (t : Option LineText) → length old ≤ length new → IfSome t (IsWithin strings old) → IfSome t (IsWithin strings new)
-if_some_longer strings old new (Some t) le so = within_longer strings old new t le so
-if_some_longer strings old new None le so = tt
+if_some_longer strings old new t le so = if_some_where strings old new (λ i lt. omega (arith, lt, le)) t so
 
 kept_longer : (strings old new : List (List ℕ)) (version : ℕ) (f : BuiltFile) → length old ≤ length new → CanKeep strings old version f → CanKeep strings new version f
 kept_longer strings old new version f le so = record {

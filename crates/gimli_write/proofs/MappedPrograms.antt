@@ -1,6 +1,7 @@
 -- A conversion of a whole program.
 use Rattle.std.proofs.Common.{◌≡◌, ℕ, ◌≤◌, List, [], ◌∷◌, ◌++◌, sym, ap, subst, ◌∙◌, arith}
 use Rattle.std.specs.Prelude.{Option, Ok}
+use Rattle.std.specs.List.{AllByRecursion}
 use Rattle.std.proofs.lemmas.Bool.{true≢false}
 use Rattle.std.proofs.Math.Pow.{pow_mono}
 use Rattle.gimli_core.specs.Notation.{Notation}
@@ -24,7 +25,7 @@ use Rattle.gimli_write.specs.convert.Lists.{Lists}
 use Rattle.gimli_write.specs.convert.Preparation.{Handed, encoding_of, prepared}
 use Rattle.gimli_write.specs.convert.Offers.{Reading, Reads}
 use Rattle.gimli_write.specs.convert.Feeding.{Conversion, converted}
-use Rattle.gimli_write.specs.convert.Mapped.{MapsToItself, SeesEnds, SeesEndsBehind, RowsMapped, AreRowsMapped, IsReadAs}
+use Rattle.gimli_write.specs.convert.Mapped.{MapsToItself, SeesEnds, SeesEndsBehind, RowsMapped, AreRowsMapped, IsReadAs, SetsConstant, HasConstantAddresses}
 use Rattle.gimli_write.proofs.MappedAddresses.{follows_start}
 use Rattle.gimli_write.proofs.MappedEnds.{encoding_kept}
 use Rattle.gimli_write.proofs.MappedLists.{IsReady, prepared_ready}
@@ -77,6 +78,9 @@ module _ (notation : Notation) (sections : Sections) (h : Header) (given : Hande
   addresses_fit =
       subst (λ (e : Encoding). AddressesFit e.address_size 0 (0, 0) c.program.items) (sym (encoding_kept notation sections h given line_strings first bytes reading convert_address c ready reads is))
       (subst (λ (items : List BuiltItem). AddressesFit (encoding_of h given).address_size 0 (0, 0) items) (sym all_items) whole.fit)
+
+  pub constants_set : HasConstantAddresses c.program
+  constants_set = subst (λ (items : List BuiltItem). AllByRecursion SetsConstant items) (sym all_items) whole.constants
 
 -- ---- what is read back of it
 

@@ -1,6 +1,7 @@
 -- The rows and ends that a conversion builds are those of its source.
 use Rattle.std.proofs.Common.{◌≡◌, ℕ, zero, suc, ◌+◌, ◌-◌, ◌^◌, ◌*◌, ◌<◌, ◌≤◌, Bool, true, false, not, ◌&&◌, if◌then◌else◌, List, [], ◌∷◌, ◌++◌, map, slice_get, refl, sym, ap, subst, ◌∙◌, arith, append_assoc}
 use Rattle.std.specs.Prelude.{nat_eq, nat_le, Option, Some, None, ok_or, Result, Ok, Err}
+use Rattle.std.specs.List.{AllByRecursion}
 use Rattle.std.proofs.lemmas.Bool.{true≢false, and_from, le-leb, eq-eqb}
 use Rattle.std.proofs.lemmas.List.{append-nil}
 use Rattle.gimli_core.specs.declared.error.Error.{Error}
@@ -27,7 +28,7 @@ use Rattle.gimli_write.specs.convert.Texts.{◌>>=◌}
 use Rattle.gimli_write.specs.convert.Lists.{Lists, FileParts, file_parts, with_parts, version_of}
 use Rattle.gimli_write.specs.convert.Offers.{Reading, stops, offers, base_at, pending, source_row, file_id, row_in, built_row, address_offered, row_offered, place_offered, offered, reading_at, end_reading, upon, defined, lists_at, with_definition, reading_behind}
 use Rattle.gimli_write.specs.convert.Feeding.{Conversion, converted, with_tables, can_build}
-use Rattle.gimli_write.specs.convert.Mapped.{MapsToItself, gave_row, SeesEndsBehind, IsFileId, RowsMapped}
+use Rattle.gimli_write.specs.convert.Mapped.{MapsToItself, gave_row, SeesEndsBehind, IsFileId, RowsMapped, SetsConstant}
 use Rattle.gimli_write.proofs.Feedings.{definition_passed}
 use Rattle.gimli_write.proofs.MappedAddresses.{address_within, base_below, base_below_row, pending_is_base, Follows, follows_end, follows_row, follows_quiet}
 
@@ -84,6 +85,7 @@ pub record Rest (sections : Sections) (parameters : Parameters) (first : Lists) 
   pub built : c.program.items ≡ p.items ++ items
   pub mapped : RowsMapped parameters.encoding.version c.file_ids base items rows
   pub fit : AddressesFit size base place items
+  pub constants : AllByRecursion SetsConstant items
   pub lists : Lists
   pub there : lists_at sections first past ≡ Ok lists
   pub stay : (n id : ℕ) → slice_get lists.file_ids n ≡ Some id → slice_get c.file_ids n ≡ Some id
@@ -109,6 +111,7 @@ module _ (sections : Sections) (parameters : Parameters) (first : Lists) (conver
             built = sym (append-nil p.items);
             mapped = refl;
             fit = tt;
+            constants = tt;
             lists = lists;
             there = there;
             stay = λ n id at. at;
@@ -134,6 +137,7 @@ module _ (sections : Sections) (parameters : Parameters) (first : Lists) (conver
       built = r.built;
       mapped = r.mapped;
       fit = r.fit;
+      constants = r.constants;
       lists = lists;
       there = at;
       stay = λ n id is. r.stay n id (stays r.lists r.there n id is);
@@ -141,17 +145,18 @@ module _ (sections : Sections) (parameters : Parameters) (first : Lists) (conver
 
     -- a place gives a row, and an item is built of it
     taken : (base later : ℕ) (place behind_it : ℕ × ℕ) (p next : Built) (read : ReadRow) (built : BuiltItem) → events_at parameters past i ≡ row read ∷ []
-        → next.items ≡ p.items ++ built ∷ []
+        → next.items ≡ p.items ++ built ∷ [] → SetsConstant built
         → ((items : List BuiltItem) (rows : List ReadRow) → RowsMapped parameters.encoding.version c.file_ids later items rows → RowsMapped parameters.encoding.version c.file_ids base (built ∷ items) (read ∷ rows))
         → ((items : List BuiltItem) → AddressesFit size later behind_it items → AddressesFit size base place (built ∷ items))
         → Rest sections parameters first size c (i ∷ past) list end later behind_it next → Rest sections parameters first size c past (i ∷ list) end base place p
-    taken base later place behind_it p next read built one pushed mapped fit r = record {
+    taken base later place behind_it p next read built one pushed constant mapped fit r = record {
       rows = read ∷ r.rows;
       events = ap (λ (here : List Event). (here ++ events_behind parameters (i ∷ past) list) ++ end_events end) one ∙ ap (λ (events : List Event). row read ∷ events) r.events;
       items = built ∷ r.items;
       built = r.built ∙ ap (λ (l : List BuiltItem). l ++ r.items) pushed ∙ append_assoc p.items (built ∷ []) r.items;
       mapped = mapped r.items r.rows r.mapped;
       fit = fit r.items r.fit;
+      constants = (constant, r.constants);
       lists = lists;
       there = at;
       stay = λ n id is. r.stay n id (stays r.lists r.there n id is);
@@ -167,6 +172,7 @@ module _ (sections : Sections) (parameters : Parameters) (first : Lists) (conver
       built = r.built ∙ append_assoc p.items (item.SetAddress (Constant a) ∷ []) r.items;
       mapped = r.mapped;
       fit = (ahead, omega (arith, wide), r.fit);
+      constants = ((a, refl), r.constants);
       lists = r.lists;
       there = r.there;
       stay = r.stay;
@@ -195,7 +201,7 @@ module _ (sections : Sections) (parameters : Parameters) (first : Lists) (conver
         let address : (row_at parameters past i).address ≡ (pointer_at parameters past).address = rw closes refl in
         let below : base_at past ≤ (pointer_at parameters past).address = base_below parameters past seen in
         let within : (pointer_at parameters past).address < address_limit parameters = address_within parameters past in
-        taken base 0 place (0, 0) p next (row_at parameters past i) built one refl
+        taken base 0 place (0, 0) p next (row_at parameters past i) built one refl tt
         (λ items rows mapped. (record { address = omega arith; ends = closes }, mapped))
         (λ items fit. (omega (arith, wide), fit))
         (follow 0 (0, 0) next (follows_end parameters past i closes)
@@ -220,7 +226,7 @@ module _ (sections : Sections) (parameters : Parameters) (first : Lists) (conver
         (was_built (can_build q.line_encoding (previous_place q.items) built) next (reading_behind sections parameters first (i ∷ past) list end) is) in
         let number : IsFileId parameters.encoding.version lists.file_ids (row_at parameters past i).file file = file_id-is parameters.encoding.version lists (row_at parameters past i).file file known in
         let later : slice_get c.file_ids (row_at parameters past i).file ≡ Some file = rest.stay (row_at parameters past i).file file (stays rest.lists rest.there (row_at parameters past i).file file number.there) in
-        taken base (base_at past) place (r.address_offset, r.op_index) p next (row_at parameters past i) built one refl
+        taken base (base_at past) place (r.address_offset, r.op_index) p next (row_at parameters past i) built one refl tt
         (λ items rows mapped. (
           record { file = record { from_one = number.from_one; there = later }; others = row_parts (row_at parameters past i) (base + ((row_at parameters past i).address - base_at past)) refl sum inner },
           subst (λ (b : ℕ). RowsMapped parameters.encoding.version c.file_ids b items rows) (sym same) mapped,

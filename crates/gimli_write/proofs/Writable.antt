@@ -1,5 +1,5 @@
 -- A program can be written still, with longer tables and with more files.
-use Rattle.std.proofs.Common.{◌≡◌, ℕ, List}
+use Rattle.std.proofs.Common.{◌≡◌, ℕ, ◌≤◌, true, false, List, sym, subst}
 use Rattle.std.specs.Prelude.{Option, Some, None, IfSome, All, option_map}
 use Rattle.std.proofs.lemmas.List.Elements.{All-weaker}
 use Rattle.gimli_bytes.specs.Texts.{KeepsTexts}
@@ -9,32 +9,29 @@ use Rattle.gimli_build.specs.Conditions.{CanWrite}
 use Rattle.gimli_build.specs.LineText.{LineText, Inline, InStrings, InLineStrings, IsWithin, HasNoZero}
 use Rattle.gimli_build.specs.Tables.{Details, File as BuiltFile}
 use Rattle.gimli_write.specs.convert.Lists.{Converted}
+use Rattle.gimli_write.specs.convert.Feeding.{without_items}
 use Rattle.gimli_write.specs.convert.KeptLists.{StaysWritable}
-use Rattle.gimli_write.proofs.ConvertSteps.{still_there}
-use Rattle.gimli_write.proofs.MappedLists.{files_with}
+use Rattle.gimli_write.proofs.ConvertSteps.{kept_then, still_there}
+use Rattle.gimli_write.proofs.MappedLists.{within_where, if_some_where, files_with}
 
+-- with more texts behind the others
 module _ (strings old new : List (List ℕ)) (kept : KeepsTexts old new) where
-  pub within_kept : (t : LineText) → IsWithin strings old t → IsWithin strings new t
-  within_kept (Inline bytes) so = tt
-  within_kept (InStrings i) so = so
-  within_kept (InLineStrings i) so = still_there old new i kept so
+  within_kept : (t : LineText) → IsWithin strings old t → IsWithin strings new t
+  within_kept = within_where strings old new (λ i lt. still_there old new i kept lt)
 
-  source_kept : (t : Option LineText) → IfSome t (IsWithin strings old) → IfSome t (IsWithin strings new)
-  source_kept (Some t) so = within_kept t so
-  source_kept None so = tt
-
-  -- with more texts behind the others
   pub written_later : (p : Built) → CanWrite p strings old → CanWrite p strings new
   written_later p can = record {
     program = can.program;
     directories = All-weaker (IsWithin strings old) (IsWithin strings new) within_kept p.directories can.directories;
     paths = All-weaker (λ (f : BuiltFile). IsWithin strings old f.0.0) (λ (f : BuiltFile). IsWithin strings new f.0.0) (λ f so. within_kept f.0.0 so) p.files can.paths;
-    sources = All-weaker (λ (f : BuiltFile). IfSome f.1.source (IsWithin strings old)) (λ (f : BuiltFile). IfSome f.1.source (IsWithin strings new)) (λ f so. source_kept f.1.source so) p.files can.sources;
+    sources =
+        All-weaker (λ (f : BuiltFile). IfSome f.1.source (IsWithin strings old)) (λ (f : BuiltFile). IfSome f.1.source (IsWithin strings new))
+        (λ f so. if_some_where strings old new (λ i lt. still_there old new i kept lt) f.1.source so) p.files can.sources;
     sources_end = can.sources_end;
   }
 
 -- with a file whose texts are there
-pub written_with_file : (p : Built) (strings line_strings : List (List ℕ)) (path : LineText) (directory : ℕ) (d : Details) → IsWithin strings line_strings path
+written_with_file : (p : Built) (strings line_strings : List (List ℕ)) (path : LineText) (directory : ℕ) (d : Details) → IsWithin strings line_strings path
     → IfSome d.source (IsWithin strings line_strings) → IfSome d.source HasNoZero → CanWrite p strings line_strings → CanWrite (after_file (path, directory) (Some d) p) strings line_strings
 written_with_file p strings line_strings path directory d within source ends can = record {
   program = can.program;
@@ -46,14 +43,61 @@ written_with_file p strings line_strings path directory d within source ends can
 
 -- what is so of a source that was made is so of its text
 module _ {A : Type 0} (text : A → LineText) where
-  pub source_so : (P : LineText → Type 0) (made : Option A) → IfSome made (λ a. P (text a)) → IfSome (option_map text made) P
+  source_so : (P : LineText → Type 0) (made : Option A) → IfSome made (λ a. P (text a)) → IfSome (option_map text made) P
   source_so P (Some a) so = so
   source_so P None so = tt
 
-  pub source_within : (strings line_strings : List (List ℕ)) (made : Option A) → IfSome made (λ a. (strings : List (List ℕ)) → IsWithin strings line_strings (text a))
+  source_within : (strings line_strings : List (List ℕ)) (made : Option A) → IfSome made (λ a. (strings : List (List ℕ)) → IsWithin strings line_strings (text a))
       → IfSome (option_map text made) (IsWithin strings line_strings)
   source_within strings line_strings (Some a) so = so strings
   source_within strings line_strings None so = tt
 
-pub writable_then : (a b c : Converted) (first second third : List (List ℕ)) → StaysWritable a first b second → StaysWritable b second c third → StaysWritable a first c third
-writable_then a b c first second third before after = record { still = λ strings can. after.still strings (before.still strings can) }
+  -- with a file whose path was made, and then its source
+  pub written_with_parts : (p : Built) (strings old between new : List (List ℕ)) (path : A) (source : Option A) (directory : ℕ) (timestamp size : ℕ) (md5 : List ℕ)
+      → KeepsTexts old between → KeepsTexts between new
+      → ((strings : List (List ℕ)) → IsWithin strings between (text path)) → IfSome source (λ a. (strings : List (List ℕ)) → IsWithin strings new (text a)) → IfSome source (λ a. HasNoZero (text a))
+      → CanWrite p strings old → CanWrite (after_file (text path, directory) (Some (record { timestamp = timestamp; size = size; md5 = md5; source = option_map text source })) p) strings new
+  written_with_parts p strings old between new path source directory timestamp size md5 first second within source_there ends can =
+      written_with_file p strings new (text path) directory _
+      (within_kept strings between new second (text path) (within strings))
+      (source_within strings new source source_there)
+      (source_so HasNoZero source ends)
+      (written_later strings old new (kept_then old between new first second) p can)
+
+pub writable_then : {a b c : Converted} {first second third : List (List ℕ)} → StaysWritable a first b second → StaysWritable b second c third → StaysWritable a first c third
+writable_then before after = record { still = λ strings can. after.still strings (before.still strings can) }
+
+-- ---- with more items
+
+-- what of a program has to be so that it can be written: nothing that is built in it
+record WrittenTables (p : Built) (strings line_strings : List (List ℕ)) : Type 0 where
+  program : p.is_none ≡ false
+  directories : All (IsWithin strings line_strings) p.directories
+  paths : All (λ (f : BuiltFile). IsWithin strings line_strings f.0.0) p.files
+  sources : All (λ (f : BuiltFile). IfSome f.1.source (IsWithin strings line_strings)) p.files
+  sources_end : 5 ≤ p.encoding.version → p.file_has_source ≡ true → All (λ (f : BuiltFile). IfSome f.1.source HasNoZero) p.files
+
+tables_written : (p : Built) (strings line_strings : List (List ℕ)) → CanWrite p strings line_strings → WrittenTables (without_items p) strings line_strings
+tables_written p strings line_strings can = record {
+  program = can.program;
+  directories = can.directories;
+  paths = can.paths;
+  sources = can.sources;
+  sources_end = can.sources_end;
+}
+
+written_tables : (p : Built) (strings line_strings : List (List ℕ)) → WrittenTables (without_items p) strings line_strings → CanWrite p strings line_strings
+written_tables p strings line_strings has = record {
+  program = has.program;
+  directories = has.directories;
+  paths = has.paths;
+  sources = has.sources;
+  sources_end = has.sources_end;
+}
+
+pub writable_with_items : (old new : Converted) (line_strings : List (List ℕ)) → without_items new.program ≡ without_items old.program → StaysWritable old line_strings new line_strings
+writable_with_items old new line_strings same = record {
+  still = λ strings can.
+      written_tables new.program strings line_strings
+      (subst (λ (p : Built). WrittenTables p strings line_strings) (sym same) (tables_written old.program strings line_strings can));
+}

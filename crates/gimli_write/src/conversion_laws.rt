@@ -1,9 +1,9 @@
 //! Laws of conversions: a converted program can be written; it says what its source says; and so do the rows that are read
-//! back of it. And laws of equality.
+//! back of it. And laws of equality and of clones.
 
 ghost use Rattle.std.specs.Prelude.{◌≡◌, ℕ, List};
 ghost use Rattle.std.specs.Bool.{Decides};
-ghost use Rattle.gimli_core.specs.Equality.{IsExact};
+ghost use Rattle.gimli_core.specs.Equality.{ClonesGiveSame, IsExact};
 ghost use Rattle.gimli_core.specs.declared.common.LineEncoding.{LineEncoding};
 ghost use Rattle.gimli_line.specs.header.File.{File};
 ghost use Rattle.gimli_line.specs.declared.run.row.LineRow.{LineRow as ReadRow};
@@ -12,7 +12,7 @@ ghost use Rattle.gimli_build.specs.declared.built.items.BuiltItem.{BuiltItem};
 ghost use Rattle.gimli_write.specs.RoundTrip.{HasFittingAddresses, AreBuiltRows};
 ghost use Rattle.gimli_write.specs.convert.Feeding.{can_build};
 ghost use Rattle.gimli_write.specs.convert.Sequences.{sequence_read};
-ghost use Rattle.gimli_write.specs.convert.Mapped.{IsMapped};
+ghost use Rattle.gimli_write.specs.convert.Mapped.{IsMapped, HasConstantAddresses};
 ghost use Rattle.gimli_write.specs.convert.Preparation.{encoding_of};
 ghost use Rattle.gimli_write.specs.convert.DoneConversions.{DoneConversion, IsToBeFaithful, SourceGives, AreReadAs, UnitReadBack, GivesBack, SourceFilesAre, AreFilesReadBack};
 
@@ -41,13 +41,15 @@ pub fn converted_programs_keep_their_encoding()
 {}
 
 /// Where each address is mapped to itself, addresses are at least as wide as those of the source, and no sequence of the
-/// source that gave a row ends hidden, a converted program says what its source says. No address in it hides a row, and
-/// all of them fit its address size.
+/// source that gave a row ends hidden, a converted program says what its source says. No address in it hides a row, all
+/// of them fit its address size, and each that is set is a number, not a symbol.
 pub fn conversions_are_faithful()
     ensures mapped { (d : DoneConversion) (strings : List (List ℕ)) → IsToBeFaithful d
         → IsMapped d.source strings d.outcome }
     ensures addresses { (d : DoneConversion) → IsToBeFaithful d
         → HasFittingAddresses d.outcome.program }
+    ensures constants { (d : DoneConversion) → IsToBeFaithful d
+        → HasConstantAddresses d.outcome.program }
 {}
 
 /// So the rows that are read back of it say what the rows of the source say, one by one: an end has its address, and any
@@ -83,4 +85,11 @@ pub fn equal_rows_and_sequences()
 pub fn equal_refusals()
     ensures { IsExact ⟦<ReadError as PartialEq>⟧.eq → IsExact ⟦<Error as PartialEq>⟧.eq
         → IsExact ⟦<ConvertError as PartialEq>⟧.eq }
+{}
+
+/// `clone` of what `read_row` gives, of the end of a sequence and of a refusal is never refused, and gives the same.
+pub fn clones_are_same()
+    ensures row { ClonesGiveSame ⟦<ConvertLineRow as Clone>⟧ }
+    ensures end { ClonesGiveSame ⟦<ConvertLineSequenceEnd as Clone>⟧ }
+    ensures refusal { ClonesGiveSame ⟦<ConvertError as Clone>⟧ }
 {}

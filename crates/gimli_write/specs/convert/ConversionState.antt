@@ -103,9 +103,9 @@ AddsFiles old new = new ≡ record old { files = new.files }
 abbrev pub CanBuildRow : Built → LineRow → Type 0
 CanBuildRow p row = CanBuild p.line_encoding (previous_place p.items) (Row row)
 
--- a call is refused: memory is missing, or what the builder asks doesn't hold
+-- a call is refused: what the builder asks doesn't hold, or, where it does, memory is missing
 abbrev pub IsBuildRefusal : Type 0 → ConvertError → Type 0
-IsBuildRefusal asked e = (e ≡ OutOfMemory) ⊎ ((e ≡ UnsupportedLineInstruction) × ¬ asked)
+IsBuildRefusal asked e = ((e ≡ OutOfMemory) × asked) ⊎ ((e ≡ UnsupportedLineInstruction) × ¬ asked)
 
 -- the same conversion with another program
 abbrev pub with_program : Built → ConversionState → ConversionState

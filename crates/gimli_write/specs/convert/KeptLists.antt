@@ -1,5 +1,6 @@
--- The files of a conversion after a read: those that were there stay, and at the end, or where a read is refused, all are
--- there that its source defines before. And the program can be written, whatever was read.
+-- The files of a conversion after a read: those that were there stay, and at the end, or where a read is refused for
+-- another cause than want of memory, all are there that its source defines before. And the program can be written,
+-- whatever was read.
 use Rattle.std.specs.Prelude.{◌≡◌, ℕ, if◌then◌else◌, is_some, List}
 use Rattle.gimli_build.specs.Conditions.{CanWrite}
 use Rattle.gimli_build.specs.Tables.{keys_of, Keeps}

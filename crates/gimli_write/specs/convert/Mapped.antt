@@ -168,12 +168,22 @@ pub record AreFilesReadAs (sections : Sections) (h : Header) (files : List File)
 
 -- ---- what a caller knows
 
--- a converted program can be written; it says what its source says, in addresses that fit and hide nothing; and rows that
--- are read back as it was built say what the rows of the source say
+-- an address that is set is a number, and no symbol's
+abbrev pub SetsConstant : BuiltItem → Type 0
+SetsConstant (SetAddress a) = (n : ℕ) × (a ≡ Constant n)
+SetsConstant item = Unit {0}
+
+-- each address that a program sets is
+abbrev pub HasConstantAddresses : Built → Type 0
+HasConstantAddresses p = AllByRecursion SetsConstant p.items
+
+-- a converted program can be written; it says what its source says, in addresses that are numbers, fit and hide nothing;
+-- and rows that are read back as it was built say what the rows of the source say
 pub record IsFaithful (s : Source) (strings : List (List ℕ)) (c : Conversion) : Type 0 where
   pub can_write : CanWrite c.program strings c.line_strings
   pub mapped : IsMapped s strings c
   pub addresses : HasFittingAddresses c.program
+  pub constants : HasConstantAddresses c.program
   pub read_back : (rows back : List ReadRow) → Events s.notation s.header s.header.program (map row rows)
       → RowsMatch c.program.encoding.version [] c.program.items back
       → OneByOne (IsReadAs s.header.parameters.encoding.version c.program.encoding.version c.file_ids) rows back

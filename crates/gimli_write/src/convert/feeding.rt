@@ -1,8 +1,10 @@
 //! What is read of a source, handed to the builder.
 
-ghost use Rattle.std.specs.Prelude.{◌≡◌, ℕ, Ok, Option, IfErr, IfOk, OnOk};
+ghost use Rattle.std.specs.Prelude.{◌≡◌, ℕ, List, Ok, Option, IfErr, IfOk, OnOk};
 ghost use Rattle.gimli_bytes.specs.Texts.{KeepsTexts};
 ghost use Rattle.gimli_bytes.specs.declared.address.Address.{Address};
+ghost use Rattle.gimli_build.specs.Conditions.{CanWrite};
+ghost use Rattle.gimli_write.specs.convert.KeptLists.{IsWritable, StaysWritable};
 ghost use Rattle.gimli_write.specs.convert.Texts.{IsRefusedBy};
 ghost use Rattle.gimli_write.specs.convert.Feeding.{fed, without_items};
 ghost use Rattle.gimli_write.specs.convert.ConversionState.{with_program, rest_converted, AnswersAs, RestConvertsTo, IsRestRefusal};
@@ -55,6 +57,7 @@ impl<R: Reader> Conversion<R> {
               line_strings = line_strings.new;
             })) }
         ensures err { IfErr result (IsRestRefusal (F.post convert_address.now) self.old line_strings.old) }
+        ensures writable { OnOk result (StaysWritable self.old.lists line_strings.old self.new.lists line_strings.new) }
         ensures stays { KeepsTexts line_strings.old line_strings.new }
     {
         'rows: loop {
@@ -69,7 +72,8 @@ impl<R: Reader> Conversion<R> {
 
 /// Reads and builds all that is still to be read. Refused by the first of these: an address that has no other, as
 /// `InvalidAddress`; what can't be built, as `UnsupportedLineInstruction`; a refusal of reading; a sequence that is left
-/// open, as `MissingLineEndSequence`; or by `OutOfMemory`. The line strings keep their texts.
+/// open, as `MissingLineEndSequence`; or by `OutOfMemory`. The line strings keep their texts, and what could be written
+/// still can be.
 pub(crate) fn convert_all<R: Reader, F: Fn(u64) -> Option<Address>>(
     mut conversion: Conversion<R>,
     line_strings: &mut LineStringTable,
@@ -79,6 +83,8 @@ pub(crate) fn convert_all<R: Reader, F: Fn(u64) -> Option<Address>>(
     ensures ok { IfOk result (λ answer. RestConvertsTo (F.post convert_address)
         conversion line_strings.old answer line_strings.new) }
     ensures err { IfErr result (IsRestRefusal (F.post convert_address) conversion line_strings.old) }
+    ensures writable { IsWritable conversion.lists line_strings.old → IfOk result (λ answer.
+        (strings : List (List ℕ)) → CanWrite answer.0 strings line_strings.new) }
     ensures stays { KeepsTexts line_strings.old line_strings.new }
 {
     conversion.feed_all(line_strings, &convert_address)?;

@@ -1,11 +1,11 @@
 //! The conversion of a line program, as its callers see it.
 
-ghost use Rattle.std.specs.Prelude.{◌≡◌, ◌≢◌, ℕ, false, Option, Some, None, Err, IfErr, IfOk, IfSome, IsTrue, OnErr, OnOk};
+ghost use Rattle.std.specs.Prelude.{◌≡◌, ◌≢◌, ℕ, false, List, Option, Some, None, Err, IfErr, IfOk, IfSome, IsTrue, OnErr, OnOk};
 ghost use Rattle.gimli_core.specs.Numbers.{is_address_size};
 ghost use Rattle.gimli_bytes.specs.Texts.{KeepsTexts};
 ghost use Rattle.gimli_build.specs.Calls.{after_begin, after_address, after_row, after_end};
 ghost use Rattle.gimli_build.specs.Advance.{CanEncode};
-ghost use Rattle.gimli_build.specs.Conditions.{CanEndSequence};
+ghost use Rattle.gimli_build.specs.Conditions.{CanEndSequence, CanWrite};
 ghost use Rattle.gimli_write.specs.declared.convert_error.ConvertError.TheVariants.{OutOfMemory};
 ghost use Rattle.gimli_write.specs.convert.KeptLists.{IsUnread, IsWritable, StaysWritable, KeepsFiles, IsAtLast, KeepsLast};
 ghost use Rattle.gimli_write.specs.convert.Sources.{source_of};
@@ -364,7 +364,7 @@ impl<'a, 'b, R: Reader> ConvertLineProgram<'a, 'b, R, Conversion<R>> {
     /// is read. The map gives for each address of the source the one that is set in its place. Refused by the first of
     /// these: an address that has no other, as `InvalidAddress`; what can't be built, as `UnsupportedLineInstruction`; a
     /// refusal of reading; a sequence that is left open, as `MissingLineEndSequence`; or by `OutOfMemory`. The tables keep
-    /// their texts. Requires a map that may always be called.
+    /// their texts. Where the program could be written before, the answer can be. Requires a map that may always be called.
     pub fn convert<F: Fn(u64) -> Option<Address>>(
         self,
         convert_address: F,
@@ -374,6 +374,8 @@ impl<'a, 'b, R: Reader> ConvertLineProgram<'a, 'b, R, Conversion<R>> {
             self.entry.conversion self.entry.line_strings.now answer self.exit.0.now) }
         ensures err { IfErr result (IsRestRefusal (F.post convert_address)
             self.entry.conversion self.entry.line_strings.now) }
+        ensures writable { IsWritable self.entry.conversion.lists self.entry.line_strings.now → IfOk result
+            (λ answer. (strings : List (List ℕ)) → CanWrite answer.0 strings self.exit.0.now) }
         ensures stays { KeepsTexts self.entry.line_strings.now self.exit.0.now }
         ensures strings { self.exit.1.0.now ≡ self.entry.strings.now }
     {

@@ -9,3 +9,7 @@ returns-in_err-feed_all-clause-err g c =
 pub returns-clause-ok : goal.returns-clause-ok
 returns-clause-ok g c = λ m says.
     rw (c.into_program.ensures.program, c.into_program.ensures.files) (c.in_ok-feed_all.ensures.ok m says)
+
+pub returns-clause-writable : goal.returns-clause-writable
+returns-clause-writable g c = λ can strings.
+    rw c.into_program.ensures.program (c.in_ok-feed_all.ensures.writable.still strings (can.can strings))

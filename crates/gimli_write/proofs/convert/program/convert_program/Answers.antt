@@ -4,7 +4,7 @@ use Rattle.gimli_write.specs.convert.Sources.{Source, source_of}
 use Rattle.gimli_write.specs.convert.ConversionState.{still_to_read}
 use Rattle.gimli_write.proofs.ConvertSteps.{kept_then}
 use Rattle.gimli_write.proofs.Feedings.{all_converted, header_refused, rows_refused}
-use Rattle.gimli_write.proofs.MappedLaws.{conversion_mapped, conversion_fits, conversion_written, conversion_back}
+use Rattle.gimli_write.proofs.MappedLaws.{conversion_mapped, conversion_fits, conversion_constant, conversion_written, conversion_back}
 use Rattle.gimli_write.proofs.convert.program.convert_program.Goals as goal
 
 pub returns-in_err-header-clause-err : goal.returns-in_err-header-clause-err
@@ -48,6 +48,7 @@ returns-clause-faithful g c =
       can_write = conversion_written m source before _ made c.args.strings.now;
       mapped = conversion_mapped m source before _ made can c.args.strings.now;
       addresses = conversion_fits m source before _ made can;
+      constants = conversion_constant m source before _ made can;
       read_back = λ rows back events built. conversion_back m source before _ made can rows back events (λ fits. built);
     })
     (returns-clause-ok g c)

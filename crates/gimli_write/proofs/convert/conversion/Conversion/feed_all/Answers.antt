@@ -5,6 +5,7 @@ use Rattle.gimli_write.specs.convert.Feeding.{converted}
 use Rattle.gimli_write.specs.convert.ConversionState.{still_to_read}
 use Rattle.gimli_write.proofs.ConvertSteps.{kept_then, refused_same}
 use Rattle.gimli_write.proofs.Feedings.{fed_next, fed_fewer, feed_refused, read_refused, left_open, converted_all}
+use Rattle.gimli_write.proofs.Writable.{writable_then, writable_with_items}
 use Rattle.gimli_write.proofs.convert.conversion.Conversion.feed_all.Goals as goal
 
 pub returns-in_err-row-clause-err : goal.returns-in_err-row-clause-err
@@ -36,6 +37,10 @@ rows-preserved g c =
           (c.in_ok-feed-in-Some.ensures.ok m says) c.in_ok-feed-in-Some.ensures.kept c.in_ok-feed-in-Some.ensures.items
           ∙ c.rows.invariant.same m says;
       stays = kept_then c.args.line_strings.now c.rows.line_strings c.read_row.new.line_strings c.rows.invariant.stays c.in_ok-row.ensures.stays;
+      writable =
+          writable_then
+          (writable_then c.rows.invariant.writable c.in_ok-row.ensures.writable)
+          (writable_with_items c.read_row.new.self.lists c.feed.new.self.lists c.read_row.new.line_strings c.in_ok-feed-in-Some.ensures.items);
     }
 
 pub returns-in_err-feed-in-Some-clause-err : goal.returns-in_err-feed-in-Some-clause-err
@@ -73,3 +78,6 @@ returns-in-None-2-clause-ok g c = λ m says.
 pub returns-in-None-2-clause-stays : goal.returns-in-None-2-clause-stays
 returns-in-None-2-clause-stays g c =
     kept_then c.args.line_strings.now c.rows.line_strings c.read_row.new.line_strings c.rows.invariant.stays c.in_ok-row.ensures.stays
+
+pub returns-in-None-2-clause-writable : goal.returns-in-None-2-clause-writable
+returns-in-None-2-clause-writable g c = writable_then c.rows.invariant.writable c.in_ok-row.ensures.writable

@@ -4,6 +4,7 @@ use Rattle.gimli_bytes.specs.Texts.{KeepsTexts}
 use Rattle.gimli_bytes.specs.declared.address.Address.{Address}
 use Rattle.gimli_write.specs.convert.Feeding.{converted}
 use Rattle.gimli_write.specs.convert.ConversionState.{still_to_read}
+use Rattle.gimli_write.specs.convert.KeptLists.{StaysWritable}
 use Rattle.gimli_write.proofs.Feedings.{offer_count}
 use Rattle.gimli_write.proofs.convert.conversion.Conversion.feed_all.Given as goal
 
@@ -13,6 +14,7 @@ invariant-rows g l = record {
       → converted m (still_to_read l.self l.line_strings) l.self.lists.program
       ≡ converted m (still_to_read l.fn.self l.fn.line_strings) l.fn.self.lists.program;
   stays : KeepsTexts l.fn.line_strings l.line_strings;
+  writable : StaysWritable l.fn.self.lists l.fn.line_strings l.self.lists l.line_strings;
 }
 
 abbrev pub decreases-rows : goal.decreases-rows

@@ -47,8 +47,7 @@ rows-preserved-in-Continue-branch-4 g c =
           ∙ c.rows.invariant.same;
       adds = added_then c.args.self.now.lists.program c.rows.self.lists.program c.read_row.new.self.lists.program c.rows.invariant.adds c.in_ok-row.ensures.adds;
       keeps = files_then c.args.self.now.lists c.rows.self.lists c.read_row.new.self.lists c.rows.invariant.keeps c.in_ok-row.ensures.keeps;
-      writable = writable_then c.args.self.now.lists c.rows.self.lists c.read_row.new.self.lists c.args.line_strings.now c.rows.line_strings c.read_row.new.line_strings
-          c.rows.invariant.writable c.in_ok-row.ensures.writable;
+      writable = writable_then c.rows.invariant.writable c.in_ok-row.ensures.writable;
       last = c.in_ok-row.ensures.last ∙ c.rows.invariant.last;
       stays = kept_then c.args.line_strings.now c.rows.line_strings c.read_row.new.line_strings c.rows.invariant.stays c.in_ok-row.ensures.stays;
     }
@@ -76,8 +75,7 @@ rows-preserved g c =
           ∙ c.rows.invariant.same;
       adds = added_then c.args.self.now.lists.program c.rows.self.lists.program c.read_row.new.self.lists.program c.rows.invariant.adds c.in_ok-row.ensures.adds;
       keeps = files_then c.args.self.now.lists c.rows.self.lists c.read_row.new.self.lists c.rows.invariant.keeps c.in_ok-row.ensures.keeps;
-      writable = writable_then c.args.self.now.lists c.rows.self.lists c.read_row.new.self.lists c.args.line_strings.now c.rows.line_strings c.read_row.new.line_strings
-          c.rows.invariant.writable c.in_ok-row.ensures.writable;
+      writable = writable_then c.rows.invariant.writable c.in_ok-row.ensures.writable;
       last = c.in_ok-row.ensures.last ∙ c.rows.invariant.last;
       stays = kept_then c.args.line_strings.now c.rows.line_strings c.read_row.new.line_strings c.rows.invariant.stays c.in_ok-row.ensures.stays;
     }
@@ -134,32 +132,20 @@ returns-in-None-2-clause-stays g c =
     kept_then c.args.line_strings.now c.rows.line_strings c.read_row.new.line_strings c.rows.invariant.stays c.in_ok-row.ensures.stays
 
 pub returns-in_err-row-clause-writable : goal.returns-in_err-row-clause-writable
-returns-in_err-row-clause-writable g c =
-    writable_then c.args.self.now.lists c.rows.self.lists c.read_row.new.self.lists c.args.line_strings.now c.rows.line_strings c.read_row.new.line_strings
-    c.rows.invariant.writable c.in_err-row.ensures.writable
+returns-in_err-row-clause-writable g c = writable_then c.rows.invariant.writable c.in_err-row.ensures.writable
 
 pub returns-in_err-push-in-Some-Row-clause-writable : goal.returns-in_err-push-in-Some-Row-clause-writable
-returns-in_err-push-in-Some-Row-clause-writable g c =
-    writable_then c.args.self.now.lists c.rows.self.lists c.read_row.new.self.lists c.args.line_strings.now c.rows.line_strings c.read_row.new.line_strings
-    c.rows.invariant.writable c.in_ok-row.ensures.writable
+returns-in_err-push-in-Some-Row-clause-writable g c = writable_then c.rows.invariant.writable c.in_ok-row.ensures.writable
 
 pub returns-in-Some-EndSequence-clause-writable : goal.returns-in-Some-EndSequence-clause-writable
-returns-in-Some-EndSequence-clause-writable g c =
-    writable_then c.args.self.now.lists c.rows.self.lists c.read_row.new.self.lists c.args.line_strings.now c.rows.line_strings c.read_row.new.line_strings
-    c.rows.invariant.writable c.in_ok-row.ensures.writable
+returns-in-Some-EndSequence-clause-writable g c = writable_then c.rows.invariant.writable c.in_ok-row.ensures.writable
 
 pub returns-in-None-clause-writable : goal.returns-in-None-clause-writable
-returns-in-None-clause-writable g c =
-    writable_then c.args.self.now.lists c.rows.self.lists c.read_row.new.self.lists c.args.line_strings.now c.rows.line_strings c.read_row.new.line_strings
-    c.rows.invariant.writable c.in_ok-row.ensures.writable
+returns-in-None-clause-writable g c = writable_then c.rows.invariant.writable c.in_ok-row.ensures.writable
 
 pub returns-in-None-2-clause-writable : goal.returns-in-None-2-clause-writable
-returns-in-None-2-clause-writable g c =
-    writable_then c.args.self.now.lists c.rows.self.lists c.read_row.new.self.lists c.args.line_strings.now c.rows.line_strings c.read_row.new.line_strings
-    c.rows.invariant.writable c.in_ok-row.ensures.writable
+returns-in-None-2-clause-writable g c = writable_then c.rows.invariant.writable c.in_ok-row.ensures.writable
 
 pub returns-in-Some-SetAddress-2-clause-writable : goal.returns-in-Some-SetAddress-2-clause-writable
 returns-in-Some-SetAddress-2-clause-writable g c =
-    rw c.give_back.ensures
-    (writable_then c.args.self.now.lists c.rows.self.lists c.read_row.new.self.lists c.args.line_strings.now c.rows.line_strings c.read_row.new.line_strings
-    c.rows.invariant.writable c.in_ok-row.ensures.writable)
+    rw c.give_back.ensures (writable_then c.rows.invariant.writable c.in_ok-row.ensures.writable)

@@ -48,8 +48,7 @@ steps-preserved g c =
           c.in_ok-add_file-in-Defines.ensures.adds
           ∙ ap (λ (p : Built). let q : Built = record p { files = c.add_file.new.self.program.files } in q) c.steps.invariant.adds;
       keeps = files_then c.args.self.now.lists a.lists c.add_file.new.self c.steps.invariant.keeps c.in_ok-add_file-in-Defines.ensures.keeps;
-      writable = writable_then c.args.self.now.lists a.lists c.add_file.new.self c.args.line_strings.now c.steps.line_strings c.add_file.new.line_strings
-          c.steps.invariant.writable c.in_ok-add_file-in-Defines.ensures.writable;
+      writable = writable_then c.steps.invariant.writable c.in_ok-add_file-in-Defines.ensures.writable;
       last =
           sym (leaves a.sections before
           ∙ ap (λ (there : Result Lists ConvertError). unless_refused before there (λ next. lists_at_last a.sections c.step.new.self next)) c.in_ok-add_file-in-Defines.ensures.ok)
@@ -104,6 +103,4 @@ returns-in_err-add_file-in-Defines-clause-stopped g c =
     (sym (leaves a.sections before) ∙ c.steps.invariant.last))
 
 pub returns-in_err-add_file-in-Defines-clause-writable : goal.returns-in_err-add_file-in-Defines-clause-writable
-returns-in_err-add_file-in-Defines-clause-writable g c =
-    writable_then c.args.self.now.lists c.steps.self-inside.lists c.add_file.new.self c.args.line_strings.now c.steps.line_strings c.add_file.new.line_strings
-    c.steps.invariant.writable c.in_err-add_file-in-Defines.ensures.writable
+returns-in_err-add_file-in-Defines-clause-writable g c = writable_then c.steps.invariant.writable c.in_err-add_file-in-Defines.ensures.writable

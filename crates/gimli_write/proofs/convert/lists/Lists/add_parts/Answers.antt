@@ -1,11 +1,11 @@
 use Rattle.std.proofs.Common.{refl}
 use Rattle.std.specs.Prelude.{option_map}
 use Rattle.gimli_line.specs.header.File.{file_seen}
-use Rattle.gimli_build.specs.LineText.{line_text, HasNoZero}
+use Rattle.gimli_build.specs.LineText.{line_text}
 use Rattle.gimli_write.specs.convert.Lists.{Lists, FileParts}
 use Rattle.gimli_write.proofs.ConvertSteps.{parts_are_added, kept_then}
 use Rattle.gimli_write.proofs.KeptFiles.{keeps_more}
-use Rattle.gimli_write.proofs.Writable.{within_kept, written_later, written_with_file, source_so, source_within}
+use Rattle.gimli_write.proofs.Writable.{written_later, written_with_parts}
 use Rattle.gimli_write.proofs.convert.lists.Lists.add_parts.Goals as goal
 
 pub returns-in_err-push-in-Ok-clause-stays : goal.returns-in_err-push-in-Ok-clause-stays
@@ -63,28 +63,16 @@ returns-in-Err-clause-writable g c =
 
 pub returns-in_err-push-in-Ok-clause-writable : goal.returns-in_err-push-in-Ok-clause-writable
 returns-in_err-push-in-Ok-clause-writable g c =
-    let before = c.made.new.line_strings in
-    let after = c.optional_made.new.line_strings in
-    let kept = kept_then c.args.line_strings.now before after c.in_ok-path.ensures.stays c.in_ok-source.ensures.stays in
     record {
-      still = λ strings. rw (c.in-Ok.ensures.ok, ← c.self.view_is) (λ can.
-          written_with_file c.self.inside.program strings after (line_text c.in_ok-path.path) c.parts.inside.directory _
-          (within_kept strings before after c.in_ok-source.ensures.stays (line_text c.in_ok-path.path) (c.in_ok-path.ensures.within strings))
-          (source_within line_text strings after c.in_ok-source.source c.in_ok-source.ensures.within)
-          (source_so line_text HasNoZero c.in_ok-source.source c.in_ok-source.ensures.no_zero)
-          (written_later strings c.args.line_strings.now after kept c.self.inside.program can));
+      still = λ strings. rw (c.in-Ok.ensures.ok, ← c.self.view_is)
+          (written_with_parts line_text c.self.inside.program strings c.args.line_strings.now c.made.new.line_strings c.optional_made.new.line_strings c.in_ok-path.path c.in_ok-source.source c.parts.inside.directory _ _ _
+          c.in_ok-path.ensures.stays c.in_ok-source.ensures.stays c.in_ok-path.ensures.within c.in_ok-source.ensures.within c.in_ok-source.ensures.no_zero);
     }
 
 pub returns-in_ok-push-in-Ok-clause-writable : goal.returns-in_ok-push-in-Ok-clause-writable
 returns-in_ok-push-in-Ok-clause-writable g c =
-    let before = c.made.new.line_strings in
-    let after = c.optional_made.new.line_strings in
-    let kept = kept_then c.args.line_strings.now before after c.in_ok-path.ensures.stays c.in_ok-source.ensures.stays in
     record {
-      still = λ strings. rw (c.in-Ok.ensures.ok, ← c.self.view_is) (λ can.
-          written_with_file c.self.inside.program strings after (line_text c.in_ok-path.path) c.parts.inside.directory _
-          (within_kept strings before after c.in_ok-source.ensures.stays (line_text c.in_ok-path.path) (c.in_ok-path.ensures.within strings))
-          (source_within line_text strings after c.in_ok-source.source c.in_ok-source.ensures.within)
-          (source_so line_text HasNoZero c.in_ok-source.source c.in_ok-source.ensures.no_zero)
-          (written_later strings c.args.line_strings.now after kept c.self.inside.program can));
+      still = λ strings. rw (c.in-Ok.ensures.ok, ← c.self.view_is)
+          (written_with_parts line_text c.self.inside.program strings c.args.line_strings.now c.made.new.line_strings c.optional_made.new.line_strings c.in_ok-path.path c.in_ok-source.source c.parts.inside.directory _ _ _
+          c.in_ok-path.ensures.stays c.in_ok-source.ensures.stays c.in_ok-path.ensures.within c.in_ok-source.ensures.within c.in_ok-source.ensures.no_zero);
     }
