@@ -212,6 +212,14 @@ fn is_in_directory<R: Reader>(header: &LineProgramHeader<R>, file: u64, text: &[
     }
 }
 
+/// A file of the header is in no directory of it.
+fn has_no_directory<R: Reader>(header: &LineProgramHeader<R>, file: u64) -> bool {
+    match header.file(file) {
+        Some(file) => file.directory(header).is_none(),
+        None => false,
+    }
+}
+
 /// The directories of two files, of which the first is in the directory that is handed in.
 fn check_directories<R: Reader>(
     rt: &impl Abort,
@@ -223,13 +231,18 @@ fn check_directories<R: Reader>(
     check(rt, is_in_directory(named.header(), 1, b"/w"));
     check(rt, is_in_directory(named.header(), 2, b"/inc"));
     let unnamed = program(alloc, unit, 4)?;
-    check(rt, !is_in_directory(unnamed.header(), 1, b"/w"));
+    check(rt, has_no_directory(unnamed.header(), 1));
     check(rt, is_in_directory(unnamed.header(), 2, b"/inc"));
     Ok(())
 }
 
 fn steps_of_directories_of_files(rt: &impl Abort, alloc: Global) -> Result<()> {
     check_directories(rt, alloc, slice(UNIT_OF_VERSION_4), slice(b"/w"))?;
+    let near = program(alloc, slice(UNIT_OF_VERSION_5), 4)?;
+    check(rt, is_in_directory(near.header(), 0, b"/w"));
+    let bytes = changed(alloc, UNIT_OF_VERSION_5, &[(47, 127)])?;
+    let far = program(alloc, slice(&bytes), 4)?;
+    check(rt, has_no_directory(far.header(), 0));
     Ok(())
 }
 
@@ -321,6 +334,22 @@ fn sections_over_readers_and_vectors(rt: HostRuntime) {
         steps_of_sections_over_readers_and_vectors(&rt, rt.alloc()),
         Ok(()),
     );
+}
+
+/// The refusal of the unit at the front of a section.
+fn first_refusal<R: Reader>(alloc: Global, section: &DebugLine<R>) -> Option<Error> {
+    let offset = DebugLineOffset(R::Offset::from_u8(0));
+    section.program(alloc, offset, 4, None, None).err()
+}
+
+/// A section over slices has no bytes by default, and no unit stands there.
+#[test]
+fn default_sections(rt: HostRuntime) {
+    let section = DebugLine::<&[u8]>::default();
+    check_equal(&rt, section.reader().len(), 0);
+    let lent = section.borrow(|bytes| EndianSlice::new(bytes, LittleEndian));
+    let refused = Some(UnexpectedEof(ReaderOffsetId(0)));
+    check_equal(&rt, first_refusal(rt.alloc(), &lent), refused);
 }
 
 // ---- equal and copied headers

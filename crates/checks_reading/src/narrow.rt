@@ -2,6 +2,7 @@
 //! that a reader may leave out.
 
 ghost use Rattle.std.specs.Prelude.{◌≡◌, ◌<◌, ◌^◌, length, nat_eq, position};
+ghost use Rattle.std.proofs.Common.{rules};
 ghost use Rattle.gimli_core.specs.Order.{is_big};
 ghost use Rattle.gimli_core.specs.Reading.{eof};
 
@@ -16,6 +17,8 @@ impl ReaderOffset for Narrow {
     ghost number = { λ n. n.0 };
 
     ghost limit = { 2 ^ 32 };
+
+    ghost is_wide = { Prim.search rules };
 
     fn from_u8(offset: u8) -> Narrow {
         Narrow(u32::from(offset))

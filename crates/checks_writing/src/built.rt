@@ -1,6 +1,6 @@
 //! The demo unit's program, built, and its section; and a row.
 
-ghost use Rattle.std.specs.Prelude.{◌≡◌, [], OnOk, IfOk};
+ghost use Rattle.std.specs.Prelude.{◌≡◌, ◌≤◌, [], OnOk, IfOk};
 ghost use Rattle.gimli_write.specs.Conditions.{CanWrite};
 
 use gimli_core::{DebugLineOffset, Encoding, Format, LineEncoding};
@@ -15,15 +15,15 @@ pub const DEMO_UNIT: &[u8] =
     b"\x2f\0\0\0\x04\0\x1b\0\0\0\x01\x01\x01\xfb\x0e\x0d\0\x01\x01\x01\x01\0\0\0\x01\0\0\x01\0a.c\0\0\0\0\0\
       \0\x05\x02\0\x10\0\0\x01\x4c\x02\x04\0\x01\x01";
 
-/// A program of version 4 without a file and without rows, whose working directory is `/w`.
-fn empty_program(alloc: Global) -> Result<LineProgram>
+/// A program of this version without rows, whose working directory is `/w` and whose source file is `a.c`.
+pub fn begun(alloc: Global, version: u16) -> Result<LineProgram>
     ensures can { IfOk result (λ program. CanWrite program [] []) }
-    ensures files { IfOk result (λ program. program.files ≡ []) }
+    ensures files { version ≤ 4 → IfOk result (λ program. program.files ≡ []) }
 {
     let encoding = Encoding {
         address_size: 4,
         format: Format::Dwarf32,
-        version: 4,
+        version,
     };
     let lines = LineEncoding::default();
     if !LineProgram::accepts(encoding, lines) {
@@ -82,7 +82,7 @@ fn put_end(program: &mut LineProgram, offset: u64) -> Result<()>
 pub fn demo_at(alloc: Global, address: Address) -> Result<LineProgram>
     ensures { IfOk result (λ program. CanWrite program [] []) }
 {
-    let mut program = empty_program(alloc)?;
+    let mut program = begun(alloc, 4)?;
     put_demo(&mut program, alloc, address)?;
     Ok(program)
 }

@@ -286,7 +286,10 @@ fn builder_calls(rt: HostRuntime) {
 fn converted<R: Reader>(
     rt: &impl Abort,
     conversion: ConvertLineProgram<'_, '_, R>,
-) -> ConvertResult<LineProgram> {
+) -> ConvertResult<LineProgram>
+    requires { IsWritable conversion.conversion.lists conversion.line_strings.now }
+    ensures { IfOk result (λ built. CanWrite built conversion.exit.1.0.now conversion.exit.0.now) }
+{
     let (built, files) = conversion.convert(|address| Some(Address::Constant(address)))?;
     check_equal(rt, files.len(), 2);
     Ok(built)
@@ -298,7 +301,9 @@ fn converted_whole<R: Reader>(
     program: IncompleteLineProgram<R>,
     line_strings: &mut LineStringTable,
     strings: &mut StringTable,
-) -> ConvertResult<LineProgram> {
+) -> ConvertResult<LineProgram>
+    ensures { IfOk result (λ built. CanWrite built strings.new line_strings.new) }
+{
     let conversion = conversion_of(program, line_strings, strings)?;
     converted(rt, conversion)
 }
@@ -309,7 +314,9 @@ fn converted_after_a_row<R: Reader>(
     program: IncompleteLineProgram<R>,
     line_strings: &mut LineStringTable,
     strings: &mut StringTable,
-) -> ConvertResult<LineProgram> {
+) -> ConvertResult<LineProgram>
+    ensures { IfOk result (λ built. CanWrite built strings.new line_strings.new) }
+{
     let mut conversion = conversion_of(program, line_strings, strings)?;
     build_first(rt, &mut conversion)?;
     converted(rt, conversion)
@@ -324,9 +331,11 @@ fn steps_of_convert(
     let program = program_of(alloc, slice(TWO_ADDRESSES), None)?;
     let whole = converted_whole(rt, program, line_strings, strings)?;
     check_two_addresses(rt, &whole);
+    check_unit(rt, alloc, &whole, line_strings, strings);
     let program = program_of(alloc, slice(TWO_ADDRESSES), None)?;
     let rest = converted_after_a_row(rt, program, line_strings, strings)?;
     check_two_addresses(rt, &rest);
+    check_unit(rt, alloc, &rest, line_strings, strings);
     Ok(())
 }
 
@@ -517,7 +526,11 @@ fn steps_of_missing_end_is_repeated(
     strings: &mut StringTable,
 ) -> ConvertResult<()> {
     let program = program_of(alloc, slice(OPEN), None)?;
-    check_open(rt, program, line_strings, strings)
+    check_open(rt, program, line_strings, strings)?;
+    let program = program_of(alloc, slice(OPEN), None)?;
+    let refused = refusal_of(program, line_strings, strings, below_17);
+    check_equal(rt, refused, Some(ConvertError::MissingLineEndSequence));
+    Ok(())
 }
 
 #[test]

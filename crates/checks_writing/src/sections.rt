@@ -3,7 +3,7 @@
 ghost use Rattle.std.specs.Prelude.{[]};
 ghost use Rattle.gimli_write.specs.Conditions.{CanWrite};
 
-use crate::built::{DEMO_UNIT, demo, demo_at, write};
+use crate::built::{DEMO_UNIT, begun, demo, demo_at, write};
 use crate::check::{check, check_equal};
 use gimli_core::{
     BigEndian, DebugLineOffset, DebugLineStrOffset, DebugStrOffset, Encoding, LittleEndian,
@@ -136,17 +136,18 @@ fn check_refused(rt: &impl Abort, alloc: Global) -> Result<()> {
     Ok(())
 }
 
-/// Of a unit of another address size nothing is appended.
-fn check_incompatible(rt: &impl Abort, alloc: Global, program: &LineProgram) -> Result<()>
+/// Nothing is appended of a program that a unit of this encoding can't have.
+fn check_incompatible(
+    rt: &impl Abort,
+    alloc: Global,
+    program: &LineProgram,
+    encoding: Encoding,
+) -> Result<()>
     requires { CanWrite program.now [] [] }
 {
     let mut strings = StringTable::default(alloc);
     let mut line_strings = LineStringTable::default(alloc);
     let mut section = section_of_three(alloc)?;
-    let encoding = Encoding {
-        address_size: 8,
-        ..program.encoding()
-    };
     let answer = program.write(&mut section, encoding, &mut line_strings, &mut strings);
     check_equal(rt, answer, Err(Error::IncompatibleLineProgramEncoding));
     check_equal(rt, section.0.slice(), b"\xaa\xbb\xcc".as_slice());
@@ -169,7 +170,14 @@ fn check_written(rt: &impl Abort, alloc: Global, program: &LineProgram) -> Resul
 fn steps_of_units_behind_other_bytes(rt: &impl Abort, alloc: Global) -> Result<()> {
     let program = demo(alloc)?;
     check_equal(rt, check_written(rt, alloc, &program), Ok(()));
-    check_equal(rt, check_incompatible(rt, alloc, &program), Ok(()));
+    let wider = Encoding {
+        address_size: 8,
+        ..program.encoding()
+    };
+    check_equal(rt, check_incompatible(rt, alloc, &program, wider), Ok(()));
+    let newer = begun(alloc, 5)?;
+    let encoding = program.encoding();
+    check_equal(rt, check_incompatible(rt, alloc, &newer, encoding), Ok(()));
     check_equal(rt, check_refused(rt, alloc), Ok(()));
     Ok(())
 }
