@@ -10,7 +10,7 @@ use crate::reader::Reader;
 use std::borrow::CowSlice;
 
 /// A reader over bytes that were lent. It copies none, and takes no memory.
-#[derive(Clone, Copy, Debug, PartialEq, Eq)]
+#[derive(Clone, Copy, Debug, Default, PartialEq, Eq)]
 pub struct EndianSlice<'i, E: Endianity> {
     slice: &'i [u8],
     endian: E,

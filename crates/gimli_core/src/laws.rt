@@ -1,7 +1,7 @@
 //! Laws of the formats: the functions that the contracts of a reader's calls name read the productions of the grammar,
 //! in both directions, with their refusals.
 
-ghost use Rattle.std.specs.Prelude.{ℕ, Bool, ◌<◌, ◌^◌};
+ghost use Rattle.std.specs.Prelude.{ℕ, Bool, [], ◌≡◌, ◌<◌, ◌^◌};
 ghost use Rattle.gimli_core.specs.Numbers.{SpellsNumber, number_bytes};
 ghost use Rattle.gimli_core.specs.Equality.{IsExact, ComparesBy, ClonesGiveSame, GivesSame, both};
 ghost use Rattle.gimli_core.specs.Notation.{Notation};
@@ -160,6 +160,15 @@ pub fn equal_orders_are_same()
 pub fn equal_slices_are_same<'i, E: Endianity>()
     ensures { ComparesBy E.big E.eq → ComparesBy (both ⟦<EndianSlice<'i, E> as Reader>⟧.bytes
         ⟦<EndianSlice<'i, E> as Reader>⟧.big) ⟦<EndianSlice<'i, E> as PartialEq>⟧.eq }
+{}
+
+/// A reader over a slice has no byte left by default, and the order of bytes that its type of orders has by default.
+pub fn default_slices_are_empty<'i, E: Endianity + Default>()
+    ensures bytes { (reader : _) → ⟦<EndianSlice<'i, E> as Default>⟧.is_default reader
+        → ⟦<EndianSlice<'i, E> as Reader>⟧.bytes reader ≡ [] }
+    ensures order { (reader : _) (big : Bool) → ((endian : E) → E.is_default endian → E.big endian ≡ big)
+        → ⟦<EndianSlice<'i, E> as Default>⟧.is_default reader
+        → ⟦<EndianSlice<'i, E> as Reader>⟧.big reader ≡ big }
 {}
 
 /// `clone` of errors, sections, formats, encodings and orders of bytes is never refused, and gives the same.

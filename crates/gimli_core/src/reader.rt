@@ -54,7 +54,7 @@ pub trait Reader: Copy {
         requires { (front : List ℕ) × (bytes base.now ≡ front ++ bytes self.now) }
         ensures { Self.Offset.number result + length (bytes self.now) ≡ length (bytes base.now) };
 
-    /// How many bytes stand before the first such byte.
+    /// How many bytes stand before the first such byte. Refused by `UnexpectedEof` where there is none.
     fn find(&self, byte: u8) -> Result<Self::Offset>
         ensures { seen Self.Offset.number result ≡ find_at byte (bytes self.now) };
 
@@ -166,7 +166,8 @@ pub trait Reader: Copy {
         Ok(self.endian().read_u64(&buf))
     }
 
-    /// Takes the bytes before the first zero byte, as a reader of their own, and lets the zero byte go.
+    /// Takes the bytes before the first zero byte, as a reader of their own, and lets the zero byte go. Refused by
+    /// `UnexpectedEof` where there is none.
     fn read_null_terminated_slice(&mut self) -> Result<Self>
         ensures read { (seen bytes result, bytes self.new) ≡ text_at (bytes self.old) }
         ensures order { big self.new ≡ big self.old }
