@@ -44,7 +44,7 @@ pub trait Writer {
     fn len(&self) -> usize
         ensures { result ≡ length (contents self.now) };
 
-    /// Appends bytes.
+    /// Appends bytes. Refused by `OutOfMemory` alone, for a type that `fails_for_memory_alone`.
     fn write(&mut self, bytes: &[u8]) -> Result<()>
         ensures keeps { Begins (contents self.old) (contents self.new) }
         ensures ordered { big self.new ≡ big self.old }
@@ -194,7 +194,7 @@ pub trait Writer {
         Err(Error::InvalidReference)
     }
 
-    /// Appends a byte.
+    /// Appends a byte. Refused as `write` is.
     fn write_u8(&mut self, val: u8) -> Result<()>
         ensures keeps { Begins (contents self.old) (contents self.new) }
         ensures ordered { big self.new ≡ big self.old }
@@ -207,7 +207,7 @@ pub trait Writer {
         self.write(&[val])
     }
 
-    /// Appends a number of two bytes.
+    /// Appends a number of two bytes. Refused as `write` is.
     fn write_u16(&mut self, val: u16) -> Result<()>
         ensures keeps { Begins (contents self.old) (contents self.new) }
         ensures ordered { big self.new ≡ big self.old }
@@ -220,7 +220,7 @@ pub trait Writer {
         self.write(&bytes_of_u16(self.endian(), val))
     }
 
-    /// Appends a number of four bytes.
+    /// Appends a number of four bytes. Refused as `write` is.
     fn write_u32(&mut self, val: u32) -> Result<()>
         ensures keeps { Begins (contents self.old) (contents self.new) }
         ensures ordered { big self.new ≡ big self.old }
@@ -233,7 +233,7 @@ pub trait Writer {
         self.write(&bytes_of_u32(self.endian(), val))
     }
 
-    /// Appends a number of eight bytes.
+    /// Appends a number of eight bytes. Refused as `write` is.
     fn write_u64(&mut self, val: u64) -> Result<()>
         ensures keeps { Begins (contents self.old) (contents self.new) }
         ensures ordered { big self.new ≡ big self.old }
@@ -246,7 +246,7 @@ pub trait Writer {
         self.write(&bytes_of_u64(self.endian(), val))
     }
 
-    /// Appends a number of sixteen bytes.
+    /// Appends a number of sixteen bytes. Refused as `write` is.
     fn write_u128(&mut self, val: u128) -> Result<()>
         ensures keeps { Begins (contents self.old) (contents self.new) }
         ensures ordered { big self.new ≡ big self.old }
@@ -447,7 +447,7 @@ pub trait Writer {
         }
     }
 
-    /// Appends an unsigned number as LEB128, in its shortest spelling.
+    /// Appends an unsigned number as LEB128, in its shortest spelling. Refused as `write` is.
     #[inline(always)]
     fn write_uleb128(&mut self, val: u64) -> Result<()>
         ensures shortest { IsShortest (SpellsUleb128 64) (uleb val) val }
@@ -464,7 +464,7 @@ pub trait Writer {
         self.write(Leb128::unsigned(val).bytes())
     }
 
-    /// Appends a signed number as LEB128, in its shortest spelling.
+    /// Appends a signed number as LEB128, in its shortest spelling. Refused as `write` is.
     #[inline(always)]
     fn write_sleb128(&mut self, val: i64) -> Result<()>
         ensures shortest { IsShortest SpellsSleb128 (sleb val) val }
@@ -482,7 +482,7 @@ pub trait Writer {
     }
 
     /// Appends an initial length of 0, and answers where its word stands, for
-    /// `write_initial_length_at`.
+    /// `write_initial_length_at`. Refused as `write` is, which it may call twice.
     fn write_initial_length(&mut self, format: Format) -> Result<InitialLengthOffset>
         ensures keeps { Begins (contents self.old) (contents self.new) }
         ensures ordered { big self.new ≡ big self.old }
