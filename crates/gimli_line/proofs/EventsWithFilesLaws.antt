@@ -4,6 +4,7 @@ use Rattle.gimli_core.specs.declared.error.Error.{Error}
 use Rattle.gimli_line.specs.declared.run.row.LineRow.{LineRow}
 use Rattle.gimli_line.specs.header.Parameters.{Parameters}
 use Rattle.gimli_core.specs.Notation.{Notation}
+use Rattle.gimli_line.specs.header.Orders.{HeaderOrders}
 use Rattle.gimli_line.specs.header.Header.{Header, bare}
 use Rattle.gimli_line.specs.run.Instruction.{Ins, makes_row, files_behind}
 use Rattle.gimli_line.specs.header.File.{File}
@@ -68,17 +69,17 @@ events_with_files_start true h list end = events_with_files_are true h [] list e
 events_with_files_start false h list end = events_with_files_are false h [] list end
 
 -- rows at the start of a sequence, by the bytes that are to come
-module _ (a : Bool) (h : Header) (o : Notation) (offset : ℕ) (s : Unread) where
+module _ (a : Bool) (h : Header) (o : Notation) (offset : ℕ) (w : HeaderOrders) (s : Unread) where
   abbrev parts : List Ins × Option Error
   parts = decoded_at s.notation (bare h) s.bytes
 
   decoding : Decodes s.notation h s.bytes parts.0 parts.1
   decoding = bare_decoding s.notation h s.bytes parts.0 parts.1 (is_decoded s.notation (bare h) s.bytes)
 
-  pub started_events : EventsWithFiles s.notation a h s.bytes (events_left (started a h o offset s))
+  pub started_events : EventsWithFiles s.notation a h s.bytes (events_left (started a h o offset w s))
   started_events = record { list = parts.0; end = parts.1; decoding = decoding; given = events_with_files_start a h parts.0 parts.1 }
 
-  pub started_files : FilesAtEnd s.notation a h s.bytes (files_at_end (started a h o offset s))
+  pub started_files : FilesAtEnd s.notation a h s.bytes (files_at_end (started a h o offset w s))
   started_files = record { list = parts.0; end = parts.1; decoding = decoding; given = files_from_start a h.files parts.0 }
 
 -- ---- the registers after a past

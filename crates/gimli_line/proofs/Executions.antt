@@ -9,6 +9,7 @@ use Rattle.gimli_core.specs.declared.error.Error.TheVariants.{AddressOverflow}
 use Rattle.gimli_line.specs.declared.run.row.LineRow.{LineRow}
 use Rattle.gimli_line.specs.declared.run.rows.Step.TheVariants.{Made, More}
 use Rattle.gimli_line.specs.declared.run.instruction.LineInstruction.TheVariants.{Special, Copy, AdvanceLine, SetFile, SetColumn, NegateStatement, DefineFile}
+use Rattle.gimli_line.specs.header.Orders.{HeaderOrders}
 use Rattle.gimli_line.specs.header.Header.{Header}
 use Rattle.gimli_line.specs.header.Parameters.{Parameters}
 use Rattle.gimli_line.specs.run.Instruction.{Ins, makes_row, defines_file, files_behind}
@@ -91,32 +92,32 @@ files_kept a h (DefineFile f) none = absurd cc
 files_kept a h i none = refl
 
 -- k is the header that was lent, s2 what was left of the instructions
-module _ (a : Bool) (h k : Header) (same : k ≡ h) (o : Notation) (n : ℕ) (r r2 : LineRow) (s s2 : Unread) (notation : s2.notation ≡ s.notation) where
+module _ (a : Bool) (h k : Header) (same : k ≡ h) (o : Notation) (n : ℕ) (w : HeaderOrders) (r r2 : LineRow) (s s2 : Unread) (notation : s2.notation ≡ s.notation) where
   module _ (x : Executed k.parameters (ins_at s.notation k s.bytes) s2.bytes r r2 false) where
-    pub executed_quiet : false ≡ makes_row x.instruction → StepIs (state a h o n r s) (state a h o n r2 s2) More
+    pub executed_quiet : false ≡ makes_row x.instruction → StepIs (state a h o n w r s) (state a h o n w r2 s2) More
     executed_quiet made =
         let f = (reads_instruction s.notation k).found s.bytes x.instruction s2.bytes x.reading in
         let kept = files_kept a h x.instruction x.defines in
         let fits = subst (λ (j : Header). is_refused j.parameters x.instruction r ≡ false) same x.refusal in
         let step = subst (λ (j : Header). r2 ≡ stepped j.parameters x.instruction r) same x.registers in (
-          after_quiet a h k same o o n n r s s2 notation x.instruction f.0 f.1 f.2 h r2 kept fits (sym made) step,
-          is_shorter a h k same o o n n r s s2 notation x.instruction f.0 f.1 f.2,
-          passes_quiet a h k same o o n n r s s2 notation x.instruction f.0 f.1 f.2 h r2 kept fits (sym made) step,
+          after_quiet a h k same o o n n w w r s s2 notation x.instruction f.0 f.1 f.2 h r2 kept fits (sym made) step,
+          is_shorter a h k same o o n n w w r s s2 notation x.instruction f.0 f.1 f.2,
+          passes_quiet a h k same o o n n w w r s s2 notation x.instruction f.0 f.1 f.2 h r2 kept fits (sym made) step,
         )
 
-    pub executed_seen : true ≡ makes_row x.instruction → r2.hidden ≡ false → StepIs (state a h o n r s) (state a h o n r2 s2) Made
+    pub executed_seen : true ≡ makes_row x.instruction → r2.hidden ≡ false → StepIs (state a h o n w r s) (state a h o n w r2 s2) Made
     executed_seen made seen =
         let f = (reads_instruction s.notation k).found s.bytes x.instruction s2.bytes x.reading in
         let kept = files_kept a h x.instruction x.defines in
         let fits = subst (λ (j : Header). is_refused j.parameters x.instruction r ≡ false) same x.refusal in
         let step = subst (λ (j : Header). r2 ≡ stepped j.parameters x.instruction r) same x.registers in
         let seen = sym (ap (λ (q : LineRow). q.hidden) step) ∙ seen in (
-          after_seen a h k same o o n n r s s2 notation x.instruction f.0 f.1 f.2 h r2 kept fits (sym made) seen step,
-          passes_seen a h k same o o n n r s s2 notation x.instruction f.0 f.1 f.2 h r2 kept fits (sym made) seen step,
+          after_seen a h k same o o n n w w r s s2 notation x.instruction f.0 f.1 f.2 h r2 kept fits (sym made) seen step,
+          passes_seen a h k same o o n n w w r s s2 notation x.instruction f.0 f.1 f.2 h r2 kept fits (sym made) seen step,
         )
 
     pub executed_hidden : true ≡ makes_row x.instruction → r2.hidden ≡ true → (r3 : LineRow) → r3 ≡ reset_row h.parameters r2
-        → StepIs (state a h o n r s) (state a h o n r3 s2) More
+        → StepIs (state a h o n w r s) (state a h o n w r3 s2) More
     executed_hidden made hidden r3 again =
         let f = (reads_instruction s.notation k).found s.bytes x.instruction s2.bytes x.reading in
         let kept = files_kept a h x.instruction x.defines in
@@ -124,14 +125,14 @@ module _ (a : Bool) (h k : Header) (same : k ≡ h) (o : Notation) (n : ℕ) (r 
         let step = subst (λ (j : Header). r2 ≡ stepped j.parameters x.instruction r) same x.registers in
         let hidden = sym (ap (λ (q : LineRow). q.hidden) step) ∙ hidden in
         let again = again ∙ ap (λ (q : LineRow). reset_row h.parameters q) step in (
-          after_hidden a h k same o o n n r s s2 notation x.instruction f.0 f.1 f.2 h r3 kept fits (sym made) hidden again,
-          is_shorter a h k same o o n n r s s2 notation x.instruction f.0 f.1 f.2,
-          passes_hidden a h k same o o n n r s s2 notation x.instruction f.0 f.1 f.2 h r3 kept fits (sym made) hidden again,
+          after_hidden a h k same o o n n w w r s s2 notation x.instruction f.0 f.1 f.2 h r3 kept fits (sym made) hidden again,
+          is_shorter a h k same o o n n w w r s s2 notation x.instruction f.0 f.1 f.2,
+          passes_hidden a h k same o o n n w w r s s2 notation x.instruction f.0 f.1 f.2 h r3 kept fits (sym made) hidden again,
         )
 
-  pub executed_overflow : Executed k.parameters (ins_at s.notation k s.bytes) s2.bytes r r2 true → FaultIs (state a h o n r s) (state a h o n r2 s2) AddressOverflow
+  pub executed_overflow : Executed k.parameters (ins_at s.notation k s.bytes) s2.bytes r r2 true → FaultIs (state a h o n w r s) (state a h o n w r2 s2) AddressOverflow
   executed_overflow x =
       let f = (reads_instruction s.notation k).found s.bytes x.instruction s2.bytes x.reading in
       let over = subst (λ (j : Header). is_refused j.parameters x.instruction r ≡ true) same x.refusal in
       let step = subst (λ (j : Header). r2 ≡ stepped j.parameters x.instruction r) same x.registers in
-      inr (after_overflow a h k same o o n n r s s2 notation x.instruction f.0 f.1 f.2 h r2 refl over step)
+      inr (after_overflow a h k same o o n n w w r s s2 notation x.instruction f.0 f.1 f.2 h r2 refl over step)

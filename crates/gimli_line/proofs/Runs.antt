@@ -8,6 +8,7 @@ use Rattle.gimli_core.specs.declared.error.Error.TheVariants.{AddressOverflow, O
 use Rattle.gimli_line.specs.declared.run.row.LineRow.{LineRow}
 use Rattle.gimli_line.specs.declared.run.instruction.LineInstruction.TheVariants.{Special, Copy, EndSequence, DefineFile}
 use Rattle.gimli_line.specs.header.Parameters.{Parameters}
+use Rattle.gimli_line.specs.header.Orders.{HeaderOrders, AreOneOrder}
 use Rattle.gimli_line.specs.header.Header.{Header, bare}
 use Rattle.gimli_line.specs.run.Instruction.{files_behind}
 use Rattle.gimli_line.specs.run.Instruction.{Ins, makes_row, defines_file}
@@ -20,7 +21,7 @@ use Rattle.gimli_line.specs.run.EventsWithFiles.{EventWithFiles, step_events, ne
 use Rattle.gimli_line.specs.run.Unread.{Unread}
 use Rattle.gimli_line.specs.run.RunState.{RunState}
 use Rattle.gimli_line.specs.run.Progress.{Progress, ready, events_from, registers_behind, files_from}
-use Rattle.gimli_line.specs.run.Rows.{live_events, events_left, files_at_end, WantsMemory, FaultComes, FaultIs}
+use Rattle.gimli_line.specs.run.Rows.{live_events, events_left, files_at_end, IsOfOneOrder, WantsMemory, FaultComes, FaultIs}
 use Rattle.gimli_line.proofs.InstructionLaws.{is_decoded, one_decoding, takes_bytes}
 
 -- ---- what a program is decoded into, by its front
@@ -87,14 +88,19 @@ no_file_at_refusal a h i r files large = refl
 
 -- ---- a state of an iterator, whose program has the header h
 
-abbrev pub state : Bool → Header → Notation → ℕ → LineRow → Unread → RunState
-state a h o n r s = record { fixed = bare h; files = h.files; appends = a; notation = o; offset = n; row = r; unread = s }
+abbrev pub state : Bool → Header → Notation → ℕ → HeaderOrders → LineRow → Unread → RunState
+state a h o n w r s = record { fixed = bare h; files = h.files; appends = a; notation = o; offset = n; orders = w; row = r; unread = s }
 
 abbrev pub events : Event → Header → EventWithFiles
 events e h = record { event = e; files = h.files }
 
 pub source_same : (s t : Unread) → s.bytes ≡ t.bytes → s.notation ≡ t.notation → s ≡ t
 source_same s t b n = ap (λ (xs : List ℕ). let u : Unread = record { bytes = xs; notation = s.notation } in u) b ∙ ap (λ (m : Notation). let u : Unread = record { bytes = t.bytes; notation = m } in u) n
+
+-- the readers keep their order, where those that are added have it
+pub keeps_order : (old new : RunState) → new.notation ≡ old.notation → new.appends ≡ old.appends → new.unread.notation ≡ old.unread.notation → (IsOfOneOrder old → AreOneOrder old.notation.big new.orders)
+    → IsOfOneOrder old → IsOfOneOrder new
+keeps_order old new notation appends unread added so = record { readers = rw notation (added so); unread = λ adds. rw (unread, notation) (so.unread (sym appends ∙ adds)) }
 
 -- where no bytes are left
 pub none_left : (a : RunState) → a.unread.bytes ≡ [] → live_events a ≡ []
@@ -107,12 +113,12 @@ pub end_here : (a : RunState) → a.unread.bytes ≡ [] → files_at_end a ≡ a
 end_here a e = rw (decoded_none a.unread.notation a.fixed a.unread.bytes e) refl
 
 -- k is the header that was lent, s2 what was left of the instructions
-module _ (a : Bool) (h k : Header) (same : k ≡ h) (o o2 : Notation) (n n2 : ℕ) (r : LineRow) (s s2 : Unread) where
+module _ (a : Bool) (h k : Header) (same : k ≡ h) (o o2 : Notation) (n n2 : ℕ) (w w2 : HeaderOrders) (r : LineRow) (s s2 : Unread) where
   pub after_fault : (e : Error) → s.bytes ≢ [] → s2.bytes ≡ [] → (instruction_production s.notation k).Fault s.bytes e → (r2 : LineRow)
-      → FaultComes (state a h o n r s) (state a h o2 n2 r2 s2) e
+      → FaultComes (state a h o n w r s) (state a h o2 n2 w2 r2 s2) e
   after_fault e some empty f r2 =
       let last = decoded_fault s.notation (bare h) s.bytes e some (rw same at f) in
-      (rw (last, none_to_come (state a h o2 n2 r2 s2) empty) refl, rw (last, end_here (state a h o2 n2 r2 s2) empty) refl, λ _. empty)
+      (rw (last, none_to_come (state a h o2 n2 w2 r2 s2) empty) refl, rw (last, end_here (state a h o2 n2 w2 r2 s2) empty) refl, λ _. empty)
 
   module _ (notation : s2.notation ≡ s.notation) (i : Ins) (front : List ℕ) (parts : s.bytes ≡ front ++ s2.bytes) (spelled : SpellsInstruction s.notation k front i) where
     first_decoded : decoded_at s.notation (bare h) s.bytes ≡ (i ∷ (decoded_at s.notation (bare h) s2.bytes).0, (decoded_at s.notation (bare h) s2.bytes).1)
@@ -123,7 +129,7 @@ module _ (a : Bool) (h k : Header) (same : k ≡ h) (o o2 : Notation) (n n2 : �
 
     -- one instruction is passed over
     pub passes_one : (h2 : Header) (r2 : LineRow) (events : List Event) → h2 ≡ record h { files = files_behind a i h.files } → step_events h.parameters i r ≡ events
-        → r2 ≡ next_registers h.parameters i r → Progress (state a h o n r s) (state a h2 o2 n2 r2 s2) events
+        → r2 ≡ next_registers h.parameters i r → Progress (state a h o n w r s) (state a h2 o2 n2 w2 r2 s2) events
     passes_one h2 r2 events behind given next = record {
       list = i ∷ [];
       front = front;
@@ -138,16 +144,16 @@ module _ (a : Bool) (h k : Header) (same : k ≡ h) (o o2 : Notation) (n n2 : �
     }
 
     module _ (h2 : Header) (r2 : LineRow) (behind : h2 ≡ record h { files = files_behind a i h.files }) (fits : is_refused h.parameters i r ≡ false) where
-      pub passes_quiet : makes_row i ≡ false → r2 ≡ stepped h.parameters i r → Progress (state a h o n r s) (state a h2 o2 n2 r2 s2) []
+      pub passes_quiet : makes_row i ≡ false → r2 ≡ stepped h.parameters i r → Progress (state a h o n w r s) (state a h2 o2 n2 w2 r2 s2) []
       passes_quiet made row_is = passes_one h2 r2 [] behind (rw (fits, made) refl) (rw (fits, made) row_is)
 
-      pub passes_hidden : makes_row i ≡ true → (stepped h.parameters i r).hidden ≡ true → r2 ≡ reset_row h.parameters (stepped h.parameters i r) → Progress (state a h o n r s) (state a h2 o2 n2 r2 s2) []
+      pub passes_hidden : makes_row i ≡ true → (stepped h.parameters i r).hidden ≡ true → r2 ≡ reset_row h.parameters (stepped h.parameters i r) → Progress (state a h o n w r s) (state a h2 o2 n2 w2 r2 s2) []
       passes_hidden made hidden row_is =
           let was : r.hidden ≡ true = sym (keeps_hidden h.parameters i r made) ∙ hidden in
           passes_one h2 r2 [] behind (rw (fits, made, was) refl) (rw (fits, made) row_is)
 
       pub passes_seen : makes_row i ≡ true → (stepped h.parameters i r).hidden ≡ false → r2 ≡ stepped h.parameters i r
-          → Progress (state a h o n r s) (ready (state a h2 o2 n2 r2 s2)) (row r2 ∷ [])
+          → Progress (state a h o n w r s) (ready (state a h2 o2 n2 w2 r2 s2)) (row r2 ∷ [])
       passes_seen made seen row_is =
           let was : r.hidden ≡ false = sym (keeps_hidden h.parameters i r made) ∙ seen in
           let parameters : h2.parameters ≡ h.parameters = ap (λ (k : Header). k.parameters) behind in
@@ -157,28 +163,28 @@ module _ (a : Bool) (h k : Header) (same : k ≡ h) (o o2 : Notation) (n n2 : �
 
     module _ (h2 : Header) (r2 : LineRow) where
       pub after_quiet : h2 ≡ record h { files = files_behind a i h.files } → is_refused h.parameters i r ≡ false → makes_row i ≡ false → r2 ≡ stepped h.parameters i r
-          → live_events (state a h o n r s) ≡ live_events (state a h2 o2 n2 r2 s2)
+          → live_events (state a h o n w r s) ≡ live_events (state a h2 o2 n2 w2 r2 s2)
       after_quiet behind fits made row_is = rw (first_decoded, behind, row_is, notation, fits, made) refl
 
       pub after_hidden : h2 ≡ record h { files = files_behind a i h.files } → is_refused h.parameters i r ≡ false → makes_row i ≡ true → (stepped h.parameters i r).hidden ≡ true
-          → r2 ≡ reset_row h.parameters (stepped h.parameters i r) → live_events (state a h o n r s) ≡ live_events (state a h2 o2 n2 r2 s2)
+          → r2 ≡ reset_row h.parameters (stepped h.parameters i r) → live_events (state a h o n w r s) ≡ live_events (state a h2 o2 n2 w2 r2 s2)
       after_hidden behind fits made hidden row_is =
           let was : r.hidden ≡ true = sym (keeps_hidden h.parameters i r made) ∙ hidden in
           rw (first_decoded, behind, row_is, notation, fits, made, was) refl
 
       pub after_seen : h2 ≡ record h { files = files_behind a i h.files } → is_refused h.parameters i r ≡ false → makes_row i ≡ true → (stepped h.parameters i r).hidden ≡ false
-          → r2 ≡ stepped h.parameters i r → live_events (state a h o n r s) ≡ events (row r2) h2 ∷ events_left (state a h2 o2 n2 r2 s2)
+          → r2 ≡ stepped h.parameters i r → live_events (state a h o n w r s) ≡ events (row r2) h2 ∷ events_left (state a h2 o2 n2 w2 r2 s2)
       after_seen behind fits made hidden row_is =
           let was : r.hidden ≡ false = sym (keeps_hidden h.parameters i r made) ∙ hidden in
           let files : files_behind a i h.files ≡ h.files = no_file_at_row a i h.files made in
           rw (first_decoded, behind, row_is, notation, fits, made, was, files) refl
 
       pub after_overflow : h2 ≡ h → is_refused h.parameters i r ≡ true → r2 ≡ stepped h.parameters i r
-          → FaultComes (state a h o n r s) (state a h2 o2 n2 r2 s2) AddressOverflow
+          → FaultComes (state a h o n w r s) (state a h2 o2 n2 w2 r2 s2) AddressOverflow
       after_overflow kept large row_is =
           let files : files_behind a i h.files ≡ h.files = no_file_at_refusal a h.parameters i r h.files large in
           let behind = (decoded_at s.notation (bare h) s2.bytes).0 in
-          let at_end : files_at_end (state a h o n r s) ≡ files_from a h.files behind =
+          let at_end : files_at_end (state a h o n w r s) ≡ files_from a h.files behind =
           ap (λ (c : List Ins × Option Error). files_from a h.files c.0) first_decoded ∙ ap (λ (fs : List File). files_from a fs behind) files in
           (rw (first_decoded, kept, row_is, notation, large, files) refl, rw (kept, notation) (sym at_end), λ other. absurd (other refl))
 
@@ -206,6 +212,21 @@ passes_none a b same = record {
   given = refl;
   registers = ap (λ (c : RunState). c.row) same;
   files = ap (λ (c : RunState). c.files) same;
+}
+
+-- the same where only the orders of readers differ
+pub passes_still : (a b : RunState) → b.unread ≡ a.unread → b.fixed ≡ a.fixed → b.appends ≡ a.appends → b.row ≡ a.row → b.files ≡ a.files → Progress a b []
+passes_still a b unread fixed appends registers files = record {
+  list = [];
+  front = [];
+  parts = ap (λ (s : Unread). s.bytes) (sym unread);
+  spelled = refl;
+  notation = ap (λ (s : Unread). s.notation) unread;
+  fixed = fixed;
+  appends = appends;
+  given = refl;
+  registers = registers;
+  files = files;
 }
 
 each_joined : (n : Notation) (h : Header) (front behind : List ℕ) (list more : List Ins) → Each (SpellsInstruction n h) front list → Each (SpellsInstruction n h) behind more
@@ -256,12 +277,12 @@ same_end a b es p =
 -- ---- refusals
 
 -- memory is missing for the file that an instruction defines
-pub wants : (a : Bool) (h k : Header) → k ≡ h → (o o2 : Notation) (n n2 : ℕ) (r : LineRow) (s : Unread) (i : Ins) (front rest : List ℕ) → s.bytes ≡ front ++ rest
+pub wants : (a : Bool) (h k : Header) → k ≡ h → (o o2 : Notation) (n n2 : ℕ) (w w2 : HeaderOrders) (r : LineRow) (s : Unread) (i : Ins) (front rest : List ℕ) → s.bytes ≡ front ++ rest
     → SpellsInstruction s.notation k front i → defines_file i ≡ true → (h2 : Header) (r2 : LineRow) (s2 : Unread) → s2.bytes ≡ [] → h2 ≡ h → a ≡ true
-    → WantsMemory (state a h o n r s) (state a h2 o2 n2 r2 s2)
-wants a h k same o o2 n n2 r s i front rest parts spelled defines h2 r2 s2 empty kept appends = record {
-  place = state a h o n r s;
-  passed = passes_none (state a h o n r s) (state a h o n r s) refl;
+    → WantsMemory (state a h o n w r s) (state a h2 o2 n2 w2 r2 s2)
+wants a h k same o o2 n n2 w w2 r s i front rest parts spelled defines h2 r2 s2 empty kept appends = record {
+  place = state a h o n w r s;
+  passed = passes_none (state a h o n w r s) (state a h o n w r s) refl;
   definition = i;
   front = front;
   rest = rest;
@@ -270,7 +291,7 @@ wants a h k same o o2 n n2 r s i front rest parts spelled defines h2 r2 s2 empty
   defines = defines;
   appends = appends;
   files = ap (λ (k : Header). k.files) kept;
-  none = none_to_come (state a h2 o2 n2 r2 s2) empty;
+  none = none_to_come (state a h2 o2 n2 w2 r2 s2) empty;
   empty = empty;
 }
 

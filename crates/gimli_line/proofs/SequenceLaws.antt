@@ -9,6 +9,7 @@ use Rattle.gimli_core.specs.Production.{Each}
 use Rattle.gimli_core.specs.declared.error.Error.{Error}
 use Rattle.gimli_line.specs.declared.run.row.LineRow.{LineRow}
 use Rattle.gimli_line.specs.header.Parameters.{Parameters}
+use Rattle.gimli_line.specs.header.Orders.{HeaderOrders, no_orders}
 use Rattle.gimli_line.specs.header.Header.{Header, bare}
 use Rattle.gimli_line.specs.run.Instruction.{files_behind}
 use Rattle.gimli_line.specs.run.Instruction.{Ins, makes_row}
@@ -28,7 +29,7 @@ use Rattle.gimli_line.specs.run.SequenceSplit.{SequenceSplit, with_row, RowSplit
 use Rattle.gimli_line.proofs.Backwards.{registers}
 use Rattle.gimli_line.proofs.EventsWithFilesLaws.{gives, goes, files_from_start}
 use Rattle.gimli_line.proofs.InstructionLaws.{is_decoded, one_decoding, takes_bytes}
-use Rattle.gimli_line.proofs.Runs.{decodes_on, bare_decoding, passes_none, passes_both, events_joined}
+use Rattle.gimli_line.proofs.Runs.{decodes_on, bare_decoding, passes_still, passes_both, events_joined}
 
 -- ---- events alone
 
@@ -162,7 +163,7 @@ first_of [] = None
 first_of (r ∷ rows) = Some r.address
 
 abbrev began : Header → Notation → ℕ → List File → Unread → RunState
-began h o n files unread = record { fixed = bare h; files = files; appends = true; notation = o; offset = n; row = initial h.parameters; unread = unread }
+began h o n files unread = record { fixed = bare h; files = files; appends = true; notation = o; offset = n; orders = no_orders; row = initial h.parameters; unread = unread }
 
 pub record Splitting (h : Header) (k : SequenceSplit) (done : List LineRow) (place : RunState) : Type 0 where
   joined : List Event
@@ -176,8 +177,8 @@ pub record Splitting (h : Header) (k : SequenceSplit) (done : List LineRow) (pla
   start_is : k.start ≡ first_of rows
   passes : Progress (began h order offset files k.unread) place (map row rows)
 
-pub starts_splitting : (h : Header) (o : Notation) (n : ℕ) (unread : Unread) → Splitting h (record { parts = []; unread = unread; start = None }) [] (ready (started true h o n unread))
-starts_splitting h o n unread = record {
+pub starts_splitting : (h : Header) (o : Notation) (n : ℕ) (w : HeaderOrders) (unread : Unread) → Splitting h (record { parts = []; unread = unread; start = None }) [] (ready (started true h o n w unread))
+starts_splitting h o n w unread = record {
   order = o;
   offset = n;
   joined = [];
@@ -187,7 +188,7 @@ starts_splitting h o n unread = record {
   closed = refl;
   unended = tt;
   start_is = refl;
-  passes = passes_none (began h o n h.files unread) (ready (started true h o n unread)) refl;
+  passes = passes_still (began h o n h.files unread) (ready (started true h o n w unread)) refl refl refl refl refl;
 }
 
 -- the same, with the rows of each sequence
@@ -196,10 +197,10 @@ pub record Keeping (h : Header) (k : SequenceSplit) (kept : RowSplit) (done : Li
   pub unended : splitting.rows ≡ kept.unended
   pub closed : AllKept h k.parts kept.closed
 
-pub starts_keeping : (h : Header) (o : Notation) (n : ℕ) (unread : Unread)
-    → Keeping h (record { parts = []; unread = unread; start = None }) (record { closed = []; unended = [] }) [] (ready (started true h o n unread))
+pub starts_keeping : (h : Header) (o : Notation) (n : ℕ) (w : HeaderOrders) (unread : Unread)
+    → Keeping h (record { parts = []; unread = unread; start = None }) (record { closed = []; unended = [] }) [] (ready (started true h o n w unread))
 unfolding starts_splitting
-starts_keeping h o n unread = record { splitting = starts_splitting h o n unread; unended = refl; closed = refl }
+starts_keeping h o n w unread = record { splitting = starts_splitting h o n w unread; unended = refl; closed = refl }
 
 open_push : (rows : List LineRow) (r : LineRow) → AreOpen rows → r.end_sequence ≡ false → AreOpen (rows ++ r ∷ [])
 open_push [] r o e = (e, tt)
@@ -215,9 +216,6 @@ first_is (q ∷ rows) start is = rw is refl
 
 anew_at_end : (parameters : Parameters) (r : LineRow) → r.end_sequence ≡ true → reset_row parameters r ≡ initial parameters
 anew_at_end parameters r e = rw e refl
-
-left_same : (a b : RunState) → a.fixed ≡ b.fixed → a.appends ≡ b.appends → a.row ≡ b.row → a.files ≡ b.files → a.notation ≡ b.notation → a.offset ≡ b.offset → a.unread ≡ b.unread → a ≡ b
-left_same a b f p r fs o n s = rw (f, p, r, fs, o, n, s) refl
 
 front_at : (bytes front rest : List ℕ) → bytes ≡ front ++ rest → take (length bytes - length rest) bytes ≡ front
 front_at bytes front rest parts = rw parts (take_at front rest (length (front ++ rest) - length rest) (omega (arith, length-append front rest)))
@@ -277,7 +275,7 @@ module _ (h : Header) (k : SequenceSplit) (done : List LineRow) (place next : Ru
     closed = closed_push h k.parts c.joined ended (map row c.rows ++ row next.row ∷ []) c.closed (closes e);
     unended = tt;
     start_is = refl;
-    passes = passes_none (began h next.notation next.offset next.files next.unread) (ready next) (left_same (ready next) (began h next.notation next.offset next.files next.unread) whole.fixed whole.appends (anew_at_end next.fixed.parameters next.row e ∙ ap (λ (x : Header). initial x.parameters) whole.fixed) refl refl refl refl);
+    passes = passes_still (began h next.notation next.offset next.files next.unread) (ready next) refl whole.fixed whole.appends (anew_at_end next.fixed.parameters next.row e ∙ ap (λ (x : Header). initial x.parameters) whole.fixed) refl;
   }
 
   pub goes_splitting : Splitting h (with_row next.row next.unread k) (done ++ next.row ∷ []) (ready next)
@@ -333,7 +331,7 @@ module _ (n : Notation) (offset : ℕ) (h c : Header) (k : SequenceSplit) (done 
   abbrev whole_program : Unread
   whole_program = record { bytes = h.program; notation = n }
 
-  pub are_sequences : Splitting h k done place → Progress (ready (started true h n offset whole_program)) last (map row done) → last.unread.bytes ≡ [] → bare c ≡ last.fixed → c.files ≡ last.files
+  pub are_sequences : Splitting h k done place → Progress (ready (started true h n offset no_orders whole_program)) last (map row done) → last.unread.bytes ≡ [] → bare c ≡ last.fixed → c.files ≡ last.files
       → AreSequences n h c k.parts
   are_sequences splitting p empty fixed files = record {
     list = p.list;
@@ -374,7 +372,7 @@ passes_left a b es p =
     ∙ ap (λ (xs : List Event). xs ++ (events_from a.fixed.parameters (registers_behind a.fixed.parameters a.row p.list) c.0 ++ end_events c.1)) p.given
     ∙ ap (λ (xs : List Event). es ++ xs) (sym there)
 
-pub has_first_fault : (n : Notation) (offset : ℕ) (h : Header) (done : List LineRow) (old new : RunState) (e : Error) → Progress (ready (started true h n offset (record { bytes = h.program; notation = n }))) (ready old) (map row done)
+pub has_first_fault : (n : Notation) (offset : ℕ) (h : Header) (done : List LineRow) (old new : RunState) (e : Error) → Progress (ready (started true h n offset no_orders (record { bytes = h.program; notation = n }))) (ready old) (map row done)
     → events_left old ≡ event_of (fault e) new ∷ events_left new → HasFirstFault n h e
 has_first_fault n offset h done old new e p is =
     let c = decoded_at n (bare h) h.program in
@@ -386,7 +384,7 @@ has_first_fault n offset h done old new e p is =
       rest = events_of (events_left new);
       given =
           ap (λ (xs : List Event). xs ++ end_events c.1) (sym (from_start h.parameters c.0))
-          ∙ sym (events_live (ready (started true h n offset (record { bytes = h.program; notation = n }))))
-          ∙ passes_left (ready (started true h n offset (record { bytes = h.program; notation = n }))) (ready old) (map row done) p
+          ∙ sym (events_live (ready (started true h n offset no_orders (record { bytes = h.program; notation = n }))))
+          ∙ passes_left (ready (started true h n offset no_orders (record { bytes = h.program; notation = n }))) (ready old) (map row done) p
           ∙ ap (λ (t : List EventWithFiles). map row done ++ events_of t) is;
     }

@@ -2,6 +2,7 @@
 pub mod Parameters
 pub mod File
 pub mod Header
+pub mod Orders
 pub mod HeaderParts
 pub mod Productions
 pub mod HeaderGrammar

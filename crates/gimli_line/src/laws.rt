@@ -10,6 +10,7 @@ ghost use Rattle.gimli_core.specs.declared.common.Format.{Format};
 ghost use Rattle.gimli_core.specs.declared.error.Error.{Error};
 ghost use Rattle.gimli_line.specs.header.File.{file_by};
 ghost use Rattle.gimli_line.specs.header.Header.{Header, UnitEntry};
+ghost use Rattle.gimli_line.specs.header.Orders.{HeaderOrders};
 ghost use Rattle.gimli_line.specs.header.HeaderParts.{ComparesParts, ComparesSeen, entry_count, parts_of};
 ghost use Rattle.gimli_line.specs.header.HeaderGrammar.{SpellsUnit, HasHeaderFault, HasUnit, HasNoUnit, HaveCountedEntries};
 ghost use Rattle.gimli_line.specs.run.Events.{Event, Events, events_behind, row_at, GivesRow};
@@ -95,9 +96,11 @@ pub fn machine_gives_events()
     ensures machine { (appends : Bool) (h : Header) (list : List Ins) (end : Option Error) →
         machine_events appends h list end ≡ events_with_files_behind appends h [] list end }
     ensures started { (appends : Bool) (h : Header) (notation : Notation) (o : ℕ)
-        (unread : Unread) → GivesEvents appends h unread (started appends h notation o unread) }
+        (orders : HeaderOrders) (unread : Unread)
+        → GivesEvents appends h unread (started appends h notation o orders unread) }
     ensures files { (appends : Bool) (h : Header) (notation : Notation) (o : ℕ)
-        (unread : Unread) → GivesFiles appends h unread (started appends h notation o unread) }
+        (orders : HeaderOrders) (unread : Unread)
+        → GivesFiles appends h unread (started appends h notation o orders unread) }
 {}
 
 /// Between two ends of sequences, whether their rows are hidden or not, and from the start to the first, the addresses

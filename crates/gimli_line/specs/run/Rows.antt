@@ -9,6 +9,7 @@ use Rattle.gimli_line.specs.declared.run.rows.Step.TheVariants.{Done, Made, More
 use Rattle.gimli_line.specs.declared.run.row.LineRow.{LineRow}
 use Rattle.gimli_line.specs.header.File.{File}
 use Rattle.gimli_line.specs.header.Header.{Header, SeenHeader, bare}
+use Rattle.gimli_line.specs.header.Orders.{HeaderOrders, AreOneOrder}
 use Rattle.gimli_line.specs.run.Instruction.{Ins, defines_file}
 use Rattle.gimli_line.specs.run.InstructionGrammar.{SpellsInstruction}
 use Rattle.gimli_line.specs.run.InstructionReading.{decoded_at}
@@ -36,15 +37,30 @@ abbrev pub event_of : Event → RunState → EventWithFiles
 event_of e a = record { event = e; files = a.files }
 
 -- rows at the start of a sequence
-abbrev pub started : Bool → Header → Notation → ℕ → Unread → RunState
-started appends h notation offset unread = record { fixed = bare h; files = h.files; appends = appends; notation = notation; offset = offset; row = initial h.parameters; unread = unread }
+abbrev pub started : Bool → Header → Notation → ℕ → HeaderOrders → Unread → RunState
+started appends h notation offset orders unread = record {
+  fixed = bare h;
+  files = h.files;
+  appends = appends;
+  notation = notation;
+  offset = offset;
+  orders = orders;
+  row = initial h.parameters;
+  unread = unread;
+}
 
 -- rows of a whole program, from its start to its end
-abbrev pub whole_run : Header → Notation → ℕ → RunState
-whole_run h notation offset = started true h notation offset (whole_program h notation)
+abbrev pub whole_run : Header → Notation → ℕ → HeaderOrders → RunState
+whole_run h notation offset orders = started true h notation offset orders (whole_program h notation)
 
--- the header is the same but for its files
+-- the readers of the header have the order of its program, and so have the instructions to come, where files are added
+pub record IsOfOneOrder (a : RunState) : Type 0 where
+  pub readers : AreOneOrder a.notation.big a.orders
+  pub unread : a.appends ≡ true → a.unread.notation.big ≡ a.notation.big
+
+-- the header is the same but for its files, whose readers keep the order of its program
 pub record KeepsHeader (old new : RunState) : Type 0 where
+  pub order : IsOfOneOrder old → IsOfOneOrder new
   pub fixed : new.fixed ≡ old.fixed
   pub appends : new.appends ≡ old.appends
   pub notation : new.notation ≡ old.notation

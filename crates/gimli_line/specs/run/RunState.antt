@@ -4,6 +4,7 @@ use Rattle.gimli_core.specs.Notation.{Notation}
 use Rattle.gimli_line.specs.declared.run.row.LineRow.{LineRow}
 use Rattle.gimli_line.specs.header.Header.{Header}
 use Rattle.gimli_line.specs.header.File.{File}
+use Rattle.gimli_line.specs.header.Orders.{HeaderOrders}
 use Rattle.gimli_line.specs.run.Unread.{Unread}
 
 pub record RunState : Type 0 where
@@ -16,6 +17,8 @@ pub record RunState : Type 0 where
   pub notation : Notation
   -- the offset of the header in its section
   pub offset : ℕ
+  -- the orders of bytes of the header's readers
+  pub orders : HeaderOrders
   -- the registers
   pub row : LineRow
   -- the instructions to come

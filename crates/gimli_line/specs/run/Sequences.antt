@@ -5,6 +5,7 @@ use Rattle.gimli_core.specs.declared.error.Error.{Error}
 use Rattle.gimli_core.specs.Notation.{Notation}
 use Rattle.gimli_line.specs.declared.run.row.LineRow.{LineRow}
 use Rattle.gimli_line.specs.declared.run.sequences.LineSequence.{LineSequence}
+use Rattle.gimli_line.specs.header.Orders.{no_orders}
 use Rattle.gimli_line.specs.header.Header.{Header}
 use Rattle.gimli_line.specs.run.Instruction.{Ins}
 use Rattle.gimli_line.specs.run.InstructionGrammar.{Decodes}
@@ -28,7 +29,7 @@ events_of events = map (λ t. t.event) events
 
 -- what a sequence gives that is resumed over a header, wherever the header stands
 abbrev pub resumed : Header → Part → List Event
-resumed h s = events_of (events_left (started false h s.unread.notation 0 s.unread))
+resumed h s = events_of (events_left (started false h s.unread.notation 0 no_orders s.unread))
 
 -- the address of the first row; 0 where there is none
 abbrev pub first_address : List LineRow → ℕ

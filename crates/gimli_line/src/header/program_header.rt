@@ -1,6 +1,6 @@
 //! The header of a line program, and its tables by index.
 
-ghost use Rattle.std.specs.Prelude.{◌≡◌, ◌-◌, ◌<◌, ◌||◌, ◌++◌, ◌∷◌, [], IfErr, IfOk, IsTrue, OnErr, OnOk, map, nat_le, option_map, slice_get, slice_index};
+ghost use Rattle.std.specs.Prelude.{◌≡◌, Bool, ◌-◌, ◌<◌, ◌||◌, ◌++◌, ◌∷◌, [], IfErr, IfOk, IsTrue, OnErr, OnOk, map, nat_le, option_map, slice_get, slice_index};
 ghost use Rattle.gimli_core.specs.Numbers.{is_address_size};
 ghost use Rattle.gimli_core.specs.Values.{value_seen};
 ghost use Rattle.gimli_line.specs.header.Parameters.{IsLineEncoding};
@@ -102,7 +102,8 @@ where
 {
     ghost use Rattle.gimli_line.specs.header.Header.{directory_of, file_of, own_directory_of, own_file_of, has_content, with_file};
     ghost use Rattle.gimli_line.specs.header.HeaderParts.{parts_of};
-    ghost use Rattle.gimli_line.specs.header.File.{file_seen};
+    ghost use Rattle.gimli_line.specs.header.File.{file_seen, FileHasOrder};
+    ghost use Rattle.gimli_line.specs.header.Orders.{AreOneOrder, header_orders};
 
     /// A copy, which agrees with the header in all its parts and says what it says. Refused by `OutOfMemory` alone.
     pub fn clone(&self) -> Result<Self>
@@ -371,6 +372,8 @@ where
         ensures memory { IfErr result (λ e. e ≡ Error.OutOfMemory) }
         ensures notation { self.new.notation ≡ self.old.notation }
         ensures offset { self.new.offset ≡ self.old.offset }
+        ensures order { (order : Bool) → FileHasOrder R.big order file
+            → AreOneOrder order (header_orders R.big self.old) → AreOneOrder order (header_orders R.big self.new) }
     {
         push(&mut self.file_names, file)
     }

@@ -10,7 +10,8 @@ pub trait LineProgram<R: Reader> {
     ghost use Rattle.std.specs.Prelude.{◌≡◌, ℕ, Bool, true, OnOk, OnErr, IfErr};
     ghost use Rattle.gimli_core.specs.Notation.{Notation};
     ghost use Rattle.gimli_line.specs.header.Header.{Header, with_defined_file};
-    ghost use Rattle.gimli_line.specs.header.File.{file_seen};
+    ghost use Rattle.gimli_line.specs.header.File.{file_seen, FileHasOrder};
+    ghost use Rattle.gimli_line.specs.header.Orders.{HeaderOrders, AreOneOrder, header_orders};
 
     /// What the header says.
     ghost meaning: { Self → Header };
@@ -21,6 +22,9 @@ pub trait LineProgram<R: Reader> {
     /// The offset of the header in its section.
     ghost offset: { Self → ℕ };
 
+    /// The orders of bytes of the header's readers.
+    ghost orders: { Self → HeaderOrders };
+
     /// Whether a file is added, or the list is complete.
     ghost appends: { Bool };
 
@@ -28,7 +32,8 @@ pub trait LineProgram<R: Reader> {
     fn header(&self) -> &LineProgramHeader<R>
         ensures meaning { result.now.meaning ≡ meaning self.now }
         ensures notation { result.now.notation ≡ notation self.now }
-        ensures offset { R.Offset.number result.now.offset.0 ≡ offset self.now };
+        ensures offset { R.Offset.number result.now.offset.0 ≡ offset self.now }
+        ensures orders { header_orders R.big result.now ≡ orders self.now };
 
     /// Adds a file that the program defines, where the list of files isn't complete. Refused by `OutOfMemory`
     /// alone; nothing is changed then.
@@ -38,7 +43,9 @@ pub trait LineProgram<R: Reader> {
         ensures err { OnErr result (meaning self.new ≡ meaning self.old) }
         ensures memory { IfErr result (λ e. (e ≡ Error.OutOfMemory) × (appends ≡ true)) }
         ensures notation { notation self.new ≡ notation self.old }
-        ensures offset { offset self.new ≡ offset self.old };
+        ensures offset { offset self.new ≡ offset self.old }
+        ensures order { (order : Bool) → (appends ≡ true → FileHasOrder R.big order file)
+            → AreOneOrder order (orders self.old) → AreOneOrder order (orders self.new) };
 }
 
 /// A line program that was not run yet, so that files may still be defined.
@@ -95,15 +102,18 @@ where
 }
 
 impl<R: Reader> LineProgram<R> for IncompleteLineProgram<R> {
-    ghost use Rattle.std.specs.Prelude.{◌≡◌, true, OnOk, OnErr, IfErr};
-    ghost use Rattle.gimli_line.specs.header.File.{file_seen};
+    ghost use Rattle.std.specs.Prelude.{◌≡◌, Bool, true, OnOk, OnErr, IfErr};
+    ghost use Rattle.gimli_line.specs.header.File.{file_seen, FileHasOrder};
     ghost use Rattle.gimli_line.specs.header.Header.{with_file};
+    ghost use Rattle.gimli_line.specs.header.Orders.{AreOneOrder, header_orders};
 
     ghost meaning = { λ p. p.meaning };
 
     ghost notation = { λ p. p.notation };
 
     ghost offset = { λ p. R.Offset.number p.offset.0 };
+
+    ghost orders = { λ p. header_orders R.big p };
 
     ghost appends = { true };
 
@@ -118,6 +128,8 @@ impl<R: Reader> LineProgram<R> for IncompleteLineProgram<R> {
         ensures memory { IfErr result (λ e. (e ≡ Error.OutOfMemory) × (true ≡ true)) }
         ensures notation { self.new.notation ≡ self.old.notation }
         ensures offset { R.Offset.number self.new.offset.0 ≡ R.Offset.number self.old.offset.0 }
+        ensures order { (order : Bool) → (true ≡ true → FileHasOrder R.big order file)
+            → AreOneOrder order (header_orders R.big self.old) → AreOneOrder order (header_orders R.big self.new) }
     {
         self.header.add_file(file)
     }
@@ -177,13 +189,17 @@ where
 }
 
 impl<'program, R: Reader> LineProgram<R> for &'program CompleteLineProgram<R> {
-    ghost use Rattle.std.specs.Prelude.{◌≡◌, true, false, IsOk, OnOk, OnErr, IfErr};
+    ghost use Rattle.std.specs.Prelude.{◌≡◌, Bool, true, false, IsOk, OnOk, OnErr, IfErr};
+    ghost use Rattle.gimli_line.specs.header.File.{FileHasOrder};
+    ghost use Rattle.gimli_line.specs.header.Orders.{AreOneOrder, header_orders};
 
     ghost meaning = { λ p. p.now.meaning };
 
     ghost notation = { λ p. p.now.notation };
 
     ghost offset = { λ p. R.Offset.number p.now.offset.0 };
+
+    ghost orders = { λ p. header_orders R.big p.now };
 
     ghost appends = { false };
 
@@ -199,6 +215,8 @@ impl<'program, R: Reader> LineProgram<R> for &'program CompleteLineProgram<R> {
         ensures notation { self.new.now.notation ≡ self.old.now.notation }
         ensures offset { R.Offset.number self.new.now.offset.0
             ≡ R.Offset.number self.old.now.offset.0 }
+        ensures order { (order : Bool) → (false ≡ true → FileHasOrder R.big order _file)
+            → AreOneOrder order (header_orders R.big self.old.now) → AreOneOrder order (header_orders R.big self.new.now) }
         ensures only { IsOk result }
     {
         Ok(())

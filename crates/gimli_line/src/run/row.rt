@@ -1,6 +1,6 @@
 //! Rows, and what each instruction does to the registers.
 
-ghost use Rattle.std.specs.Prelude.{◌≡◌, ◌<◌, ◌≤◌, ◌+◌, true, false, IfErr, IfOk, IfSome, IsNone, MatchOption, OnErr, OnOk, option_map};
+ghost use Rattle.std.specs.Prelude.{◌≡◌, ◌<◌, ◌≤◌, ◌+◌, Bool, true, false, IfErr, IfOk, IfSome, IsNone, MatchOption, OnErr, OnOk, option_map};
 ghost use Rattle.std.specs.Int.NonZero.{non_zero_u64_get};
 
 use crate::header::file_entry::FileEntry;
@@ -43,7 +43,8 @@ pub enum ColumnType {
 impl LineRow {
     ghost use Rattle.gimli_core.specs.Notation.{Notation};
     ghost use Rattle.gimli_line.specs.header.Header.{Header, file_of, own_file_of};
-    ghost use Rattle.gimli_line.specs.run.Instruction.{ins_seen, makes_row, header_behind};
+    ghost use Rattle.gimli_line.specs.header.Orders.{AreOneOrder};
+    ghost use Rattle.gimli_line.specs.run.Instruction.{ins_seen, makes_row, header_behind, InsHasOrder};
     ghost use Rattle.gimli_line.specs.header.File.{file_seen};
     ghost use Rattle.gimli_line.specs.run.Machine.{initial, reset_row, rebased, IsAllowed, is_refused, stepped, with_register};
     ghost use Rattle.gimli_line.specs.run.OperationPointer.{exceeds};
@@ -208,6 +209,8 @@ impl LineRow {
         ensures kept { OnErr result (P.meaning program.new ≡ P.meaning program.old) }
         ensures notation { P.notation program.new ≡ P.notation program.old }
         ensures offset { P.offset program.new ≡ P.offset program.old }
+        ensures order { (order : Bool) → (P.appends ≡ true → InsHasOrder R.big order instruction)
+            → AreOneOrder order (P.orders program.old) → AreOneOrder order (P.orders program.new) }
     {
         let parameters = program.header().parameters;
         if let LineInstruction::DefineFile(file) = instruction {

@@ -43,6 +43,7 @@ impl<R: Reader, P: LineProgram<R>> Model for LineRows<R, P> {
       appends = P.appends;
       notation = P.notation a.program;
       offset = P.offset a.program;
+      orders = P.orders a.program;
       row = a.row;
       unread = a.instructions;
     } };
@@ -110,13 +111,14 @@ impl<R: Reader, P: LineProgram<R>> LineRows<R, P> {
     ghost use Rattle.std.specs.Borrow.{sem};
     ghost use Rattle.std.specs.Io.BufRead.{Rests};
     ghost use Rattle.gimli_line.specs.run.Events.{row as row_event};
-    ghost use Rattle.gimli_line.specs.header.Header.{bare};
+    ghost use Rattle.gimli_line.specs.header.Header.{bare, HasOneOrder};
     ghost use Rattle.gimli_line.specs.run.Progress.{ready, Progress};
-    ghost use Rattle.gimli_line.specs.run.Rows.{started, KeepsHeader, StepIs, NextIs, RowIs, EndIs, FaultIs};
+    ghost use Rattle.gimli_line.specs.run.Rows.{started, IsOfOneOrder, KeepsHeader, StepIs, NextIs, RowIs, EndIs, FaultIs};
 
     /// The rows of these instructions of a program, from the start of a sequence on.
     pub(crate) fn start(program: P, instructions: LineInstructions<R>) -> Self
-        ensures { result ≡ started P.appends (P.meaning program) (P.notation program) (P.offset program) instructions }
+        ensures { result ≡ started P.appends (P.meaning program) (P.notation program) (P.offset program)
+            (P.orders program) instructions }
     {
         let row = LineRow::new(program.header());
         LineRows {
@@ -132,6 +134,7 @@ impl<R: Reader, P: LineProgram<R>> LineRows<R, P> {
         ensures files { result.now.meaning.files ≡ self.now.files }
         ensures notation { result.now.notation ≡ self.now.notation }
         ensures offset { R.Offset.number result.now.offset.0 ≡ self.now.offset }
+        ensures order { IsOfOneOrder self.now → HasOneOrder R.big result.now }
     {
         self.program.header()
     }
@@ -150,6 +153,8 @@ impl<R: Reader, P: LineProgram<R>> LineRows<R, P> {
             (λ next. next.0.now.notation ≡ self.old.notation)) }
         ensures offset { IfOk result (λ found. IfSome found
             (λ next. R.Offset.number next.0.now.offset.0 ≡ self.old.offset)) }
+        ensures order { IsOfOneOrder self.old → IfOk result (λ found. IfSome found
+            (λ next. HasOneOrder R.big next.0.now)) }
     {
         match self.advance() {
             Err(e) => Err(e),
@@ -178,6 +183,7 @@ impl<R: Reader, P: LineProgram<R>> LineRows<R, P> {
         ensures files { (P.meaning result).files ≡ self.files }
         ensures notation { P.notation result ≡ self.notation }
         ensures offset { P.offset result ≡ self.offset }
+        ensures orders { P.orders result ≡ self.orders }
     {
         self.program
     }
@@ -193,6 +199,7 @@ impl<R: Reader, P: LineProgram<R>> LineRows<R, P> {
         ensures appends { self.new.appends ≡ self.old.appends }
         ensures notation { self.new.notation ≡ self.old.notation }
         ensures offset { self.new.offset ≡ self.old.offset }
+        ensures order { IsOfOneOrder self.old → IsOfOneOrder self.new }
         ensures passes { IfOk result (λ found. MatchBool found
             (Progress (ready self.old) (ready self.new) (row_event self.new.row ∷ []))
             ((self.new.unread.bytes ≡ []) × Progress (ready self.old) self.new [])) }
@@ -217,6 +224,7 @@ impl<R: Reader, P: LineProgram<R>> LineRows<R, P> {
         ensures appends { self.new.appends ≡ self.old.appends }
         ensures notation { self.new.notation ≡ self.old.notation }
         ensures offset { self.new.offset ≡ self.old.offset }
+        ensures order { IsOfOneOrder self.old → IsOfOneOrder self.new }
     {
         let header = self.program.header();
         let made = match self.instructions.execute_common(header, &mut self.row) {
@@ -242,6 +250,7 @@ impl<R: Reader, P: LineProgram<R>> LineRows<R, P> {
         ensures appends { self.new.appends ≡ self.old.appends }
         ensures notation { self.new.notation ≡ self.old.notation }
         ensures offset { self.new.offset ≡ self.old.offset }
+        ensures order { IsOfOneOrder self.old → IsOfOneOrder self.new }
     {
         let instruction = match self.instructions.next_instruction(self.program.header()) {
             Err(e) => return Err(e),
@@ -275,6 +284,7 @@ impl<R: Reader, P: LineProgram<R>> LineRows<R, P> {
         ensures notation { result.0.now.notation ≡ self.now.notation }
         ensures offset { R.Offset.number result.0.now.offset.0 ≡ self.now.offset }
         ensures row { result.1.now ≡ self.now.row }
+        ensures order { IsOfOneOrder self.now → HasOneOrder R.big result.0.now }
     {
         (self.program.header(), &self.row)
     }
@@ -313,7 +323,9 @@ impl<R: Reader> LineRows<R, IncompleteLineProgram<R>> {
 
 impl<R: Reader> IncompleteLineProgram<R> {
     ghost use Rattle.std.specs.Prelude.{◌≡◌, true};
-    ghost use Rattle.gimli_line.specs.run.Rows.{events_left, files_at_end, whole_run};
+    ghost use Rattle.gimli_line.specs.header.Header.{HasOneOrder};
+    ghost use Rattle.gimli_line.specs.header.Orders.{header_orders};
+    ghost use Rattle.gimli_line.specs.run.Rows.{events_left, files_at_end, whole_run, IsOfOneOrder};
     ghost use Rattle.gimli_line.specs.run.EventsWithFiles.{EventsWithFiles, FilesAtEnd};
 
     /// The rows of the program, from its start to its end.
@@ -322,8 +334,9 @@ impl<R: Reader> IncompleteLineProgram<R> {
             (events_left result) }
         ensures files { FilesAtEnd self.notation true self.meaning self.meaning.program
             (files_at_end result) }
-        ensures start { result
-            ≡ whole_run self.meaning self.notation (R.Offset.number self.offset.0) }
+        ensures start { result ≡ whole_run self.meaning self.notation
+            (R.Offset.number self.offset.0) (header_orders R.big self) }
+        ensures order { HasOneOrder R.big self → IsOfOneOrder result }
     {
         let instructions = self.header.instructions();
         LineRows::start(self, instructions)

@@ -154,6 +154,7 @@ impl RowSplit {
 
 impl<R: Reader> IncompleteLineProgram<R> {
     ghost use Rattle.std.specs.Prelude.{◌≡◌, ◌≢◌, map, IfErr, IfOk};
+    ghost use Rattle.gimli_line.specs.header.Header.{HasOneOrder};
     ghost use Rattle.gimli_line.specs.run.Events.{row};
     ghost use Rattle.gimli_line.specs.run.Sequences.{part_of, resumed, AreSequences, HasFirstFault};
 
@@ -166,6 +167,7 @@ impl<R: Reader> IncompleteLineProgram<R> {
         ensures notation { IfOk result (λ found. found.0.notation ≡ self.notation) }
         ensures offset { IfOk result
             (λ found. R.Offset.number found.0.offset.0 ≡ R.Offset.number self.offset.0) }
+        ensures order { HasOneOrder R.big self → IfOk result (λ found. HasOneOrder R.big found.0) }
         ensures err { IfErr result
             (λ e. e ≢ Error.OutOfMemory → HasFirstFault self.notation self.meaning e) }
     {
@@ -197,6 +199,7 @@ impl<R: Reader> IncompleteLineProgram<R> {
         ensures notation { IfOk result (λ found. found.0.notation ≡ self.notation) }
         ensures offset { IfOk result
             (λ found. R.Offset.number found.0.offset.0 ≡ R.Offset.number self.offset.0) }
+        ensures order { HasOneOrder R.big self → IfOk result (λ found. HasOneOrder R.big found.0) }
         ensures err { IfErr result
             (λ e. e ≢ Error.OutOfMemory → HasFirstFault self.notation self.meaning e) }
     {
@@ -220,7 +223,9 @@ impl<R: Reader> IncompleteLineProgram<R> {
 
 impl<R: Reader> CompleteLineProgram<R> {
     ghost use Rattle.std.specs.Prelude.{◌≡◌, false};
-    ghost use Rattle.gimli_line.specs.run.Rows.{events_left, files_at_end, started};
+    ghost use Rattle.gimli_line.specs.header.Header.{HasOneOrder};
+    ghost use Rattle.gimli_line.specs.header.Orders.{header_orders};
+    ghost use Rattle.gimli_line.specs.run.Rows.{events_left, files_at_end, started, IsOfOneOrder};
     ghost use Rattle.gimli_line.specs.run.EventsWithFiles.{EventsWithFiles};
 
     /// The rows of one of the program's sequences. The header has all files from the start.
@@ -232,7 +237,8 @@ impl<R: Reader> CompleteLineProgram<R> {
             sequence.now.instructions.bytes (events_left result) }
         ensures files { files_at_end result ≡ self.now.meaning.files }
         ensures start { result ≡ started false self.now.meaning self.now.notation
-            (R.Offset.number self.now.offset.0) sequence.now.instructions }
+            (R.Offset.number self.now.offset.0) (header_orders R.big self.now) sequence.now.instructions }
+        ensures order { HasOneOrder R.big self.now → IsOfOneOrder result }
     {
         LineRows::start(self, sequence.instructions.clone())
     }

@@ -4,19 +4,20 @@ use Rattle.gimli_line.specs.header.Header.{Header}
 use Rattle.gimli_line.specs.run.Events.{row}
 use Rattle.gimli_line.specs.run.Machine.{reset_row}
 use Rattle.gimli_line.specs.run.Progress.{ready}
-use Rattle.gimli_line.proofs.Runs.{state, none_to_come, end_here, same_end, passes_none, passes_both, refused_behind}
+use Rattle.gimli_line.proofs.Runs.{state, keeps_order, none_to_come, end_here, same_end, passes_none, passes_both, refused_behind}
 use Rattle.gimli_line.proofs.run.rows.LineRows.advance.Goals as goal
 
 pub instructions-init : goal.instructions-init
 instructions-init g c =
     let h = g.P.LineProgram.meaning c.self.inside.program in
-    let at_row = λ (r : LineRow). state g.P.LineProgram.appends h (g.P.LineProgram.notation c.self.inside.program) (g.P.LineProgram.offset c.self.inside.program) r c.self.inside.instructions in
+    let at_row = λ (r : LineRow). state g.P.LineProgram.appends h (g.P.LineProgram.notation c.self.inside.program) (g.P.LineProgram.offset c.self.inside.program) (g.P.LineProgram.orders c.self.inside.program) r c.self.inside.instructions in
     record {
       events = search rules;
       fixed = rw (← c.self.view_is) refl;
       appends = rw (← c.self.view_is) refl;
       notation = rw (← c.self.view_is) refl;
       offset = rw (← c.self.view_is) refl;
+      order = rw (← c.self.view_is) (keeps_order (at_row c.self.inside.row) (at_row c.reset.new.self) refl refl refl (λ so. so.readers));
       passes = rw (← c.self.view_is) (passes_none (ready (at_row c.self.inside.row)) (at_row c.reset.new.self) (ap at_row (c.reset.ensures ∙ ap (λ (k : Header). reset_row k.parameters c.self.inside.row) c.header.ensures.meaning)));
     }
 
@@ -60,6 +61,7 @@ instructions-preserved g c =
       appends = c.in-Ok-More.ensures.appends ∙ c.instructions.invariant.appends;
       notation = c.in-Ok-More.ensures.notation ∙ c.instructions.invariant.notation;
       offset = c.in-Ok-More.ensures.offset ∙ c.instructions.invariant.offset;
+      order = λ so. c.in-Ok-More.ensures.order (c.instructions.invariant.order so);
       passes = passes_both (ready c.args.self.now) c.instructions.self c.step.new.self [] [] c.instructions.invariant.passes m.2;
     }
 
@@ -100,3 +102,12 @@ returns-in-Ok-Made-clause-notation g c = c.in-Ok-Made.ensures.notation ∙ c.ins
 
 pub returns-in-Ok-Made-clause-offset : goal.returns-in-Ok-Made-clause-offset
 returns-in-Ok-Made-clause-offset g c = c.in-Ok-Made.ensures.offset ∙ c.instructions.invariant.offset
+
+pub returns-in-Err-clause-order : goal.returns-in-Err-clause-order
+returns-in-Err-clause-order g c = λ so. c.in-Err.ensures.order (c.instructions.invariant.order so)
+
+pub returns-in-Ok-Done-clause-order : goal.returns-in-Ok-Done-clause-order
+returns-in-Ok-Done-clause-order g c = λ so. c.in-Ok-Done.ensures.order (c.instructions.invariant.order so)
+
+pub returns-in-Ok-Made-clause-order : goal.returns-in-Ok-Made-clause-order
+returns-in-Ok-Made-clause-order g c = λ so. c.in-Ok-Made.ensures.order (c.instructions.invariant.order so)

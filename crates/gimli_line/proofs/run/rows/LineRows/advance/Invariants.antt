@@ -1,6 +1,6 @@
 use Rattle.std.proofs.Common.{◌≡◌, [], length}
 use Rattle.gimli_line.specs.run.Progress.{Progress, ready}
-use Rattle.gimli_line.specs.run.Rows.{events_left, live_events}
+use Rattle.gimli_line.specs.run.Rows.{events_left, live_events, IsOfOneOrder}
 use Rattle.gimli_line.proofs.run.rows.LineRows.advance.Given as goal
 
 abbrev pub invariant-instructions : goal.invariant-instructions
@@ -10,6 +10,7 @@ invariant-instructions g l = record {
   appends : l.self.appends ≡ l.fn.self.appends;
   notation : l.self.notation ≡ l.fn.self.notation;
   offset : l.self.offset ≡ l.fn.self.offset;
+  order : IsOfOneOrder l.fn.self → IsOfOneOrder l.self;
   passes : Progress (ready l.fn.self) l.self [];
 }
 

@@ -12,6 +12,7 @@ returns-in-Ok-true g c =
       appends = c.in-Ok-true.ensures.appends;
       notation = c.in-Ok-true.ensures.notation;
       offset = c.in-Ok-true.ensures.offset;
+      order = c.in-Ok-true.ensures.order;
     } in (
       (refl, λ _. tt, (keeps, rw (c.current.ensures.row, c.current.ensures.files) r)),
       record {
@@ -19,6 +20,7 @@ returns-in-Ok-true g c =
         header = c.current.ensures.header ∙ c.in-Ok-true.ensures.fixed;
         notation = c.current.ensures.notation ∙ c.in-Ok-true.ensures.notation;
         offset = c.current.ensures.offset ∙ c.in-Ok-true.ensures.offset;
+        order = λ so. c.current.ensures.order (c.in-Ok-true.ensures.order so);
         ended = λ empty. let none = sym (none_to_come c.args.self.now empty) ∙ r.0 in absurd cc;
       },
     )
@@ -30,6 +32,7 @@ returns-in-Err g c =
       appends = c.in-Err.ensures.appends;
       notation = c.in-Err.ensures.notation;
       offset = c.in-Err.ensures.offset;
+      order = c.in-Err.ensures.order;
     } in (
       (refl, λ _. tt, (keeps, c.in-Err.ensures.err)),
       record {
@@ -37,6 +40,7 @@ returns-in-Err g c =
         header = tt;
         notation = tt;
         offset = tt;
+        order = λ so. tt;
         ended = λ empty. absurd (never_refused (ready c.args.self.now) c.advance.new.self c.in-Err.e empty c.in-Err.ensures.err);
       },
     )

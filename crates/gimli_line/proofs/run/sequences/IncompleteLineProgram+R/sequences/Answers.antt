@@ -2,11 +2,13 @@ use Rattle.std.proofs.Common.{[], ◌∷◌, ◌++◌, true, map, List, refl, sy
 use Rattle.std.proofs.lemmas.List.{map-append, append-nil}
 use Rattle.std.proofs.lemmas.Result.{err_from_is_err_and}
 use Rattle.gimli_line.specs.run.Events.{Event, row}
+use Rattle.gimli_line.specs.header.Orders.{no_orders, header_orders}
 use Rattle.gimli_line.specs.header.Header.{bare}
 use Rattle.gimli_line.specs.run.Unread.{Unread}
 use Rattle.gimli_line.specs.run.Progress.{Progress, ready}
 use Rattle.gimli_line.specs.run.Rows.{started}
-use Rattle.gimli_line.proofs.Runs.{passes_none, passes_both}
+use Rattle.gimli_line.proofs.Runs.{passes_still, passes_both}
+use Rattle.gimli_line.proofs.Order.{has_one_order}
 use Rattle.gimli_line.proofs.SequenceLaws.{starts_splitting, goes_splitting, has_front, row_takes, are_sequences, has_first_fault}
 use Rattle.gimli_line.proofs.run.sequences.IncompleteLineProgram+R.sequences.Goals as goal
 
@@ -15,15 +17,16 @@ rows-init g c =
     let h = c.args.self.meaning in
     let at_offset = g.R.Offset.ReaderOffset.number c.args.self.offset.0 in
     let unread : Unread = record { bytes = h.program; notation = c.args.self.notation } in
-    let first = ready (started true h c.args.self.notation at_offset unread) in
+    let first = ready (started true h c.args.self.notation at_offset no_orders unread) in
     record {
       behind = (
         [],
-        rw (c.new-split.ensures, c.clone.ensures ∙ c.instructions.ensures, c.rows-rows.ensures.start) (starts_splitting h c.args.self.notation at_offset unread),
-        rw c.rows-rows.ensures.start (passes_none first first refl),
+        rw (c.new-split.ensures, c.clone.ensures ∙ c.instructions.ensures, c.rows-rows.ensures.start) (starts_splitting h c.args.self.notation at_offset (header_orders g.R.Reader.big c.args.self) unread),
+        rw c.rows-rows.ensures.start (passes_still first _ refl refl refl refl refl),
       );
       notation = rw c.rows-rows.ensures.start refl;
       offset = rw c.rows-rows.ensures.start refl;
+      order = c.rows-rows.ensures.order;
     }
 
 pub returns-in_err-advance-clause-err : goal.returns-in_err-advance-clause-err
@@ -63,11 +66,12 @@ rows-preserved g c =
       behind = (
         b.0 ++ next.row ∷ [],
         rw (c.in_ok-row.ensures.ok, c.row.ensures, c.instructions-in-rows.ensures) (goes_splitting h c.rows.split b.0 (ready c.rows.rows) next b.1 m),
-        subst (λ (es : List Event). Progress (ready (started true h c.args.self.notation at_offset unread)) (ready next) es) (sym (map-append row b.0 (next.row ∷ [])))
-            (passes_both (ready (started true h c.args.self.notation at_offset unread)) (ready c.rows.rows) (ready next) (map row b.0) (row next.row ∷ []) b.2 m),
+        subst (λ (es : List Event). Progress (ready (started true h c.args.self.notation at_offset no_orders unread)) (ready next) es) (sym (map-append row b.0 (next.row ∷ [])))
+            (passes_both (ready (started true h c.args.self.notation at_offset no_orders unread)) (ready c.rows.rows) (ready next) (map row b.0) (row next.row ∷ []) b.2 m),
       );
       notation = c.in_ok-advance.ensures.notation ∙ c.rows.invariant.notation;
       offset = c.in_ok-advance.ensures.offset ∙ c.rows.invariant.offset;
+      order = λ has. c.in_ok-advance.ensures.order (c.rows.invariant.order has);
     }
 
 pub returns-clause-ok : goal.returns-clause-ok
@@ -78,8 +82,8 @@ returns-clause-ok g c =
     let m = rw c.if-branch.false at c.in_ok-advance.ensures.passes in
     let b = c.rows.invariant.behind in
     let last = c.advance.new.self in
-    let whole = subst (λ (es : List Event). Progress (ready (started true h c.args.self.notation at_offset unread)) last es) (append-nil (map row b.0))
-    (passes_both (ready (started true h c.args.self.notation at_offset unread)) (ready c.rows.rows) last (map row b.0) [] b.2 m.1) in
+    let whole = subst (λ (es : List Event). Progress (ready (started true h c.args.self.notation at_offset no_orders unread)) last es) (append-nil (map row b.0))
+    (passes_both (ready (started true h c.args.self.notation at_offset no_orders unread)) (ready c.rows.rows) last (map row b.0) [] b.2 m.1) in
     rw c.into_sequences.ensures (are_sequences c.args.self.notation at_offset h c.header.inside.header.meaning c.rows.split b.0 (ready c.rows.rows) last b.1 whole m.0
     (ap (λ v. bare v.meaning) c.header.view_is ∙ c.into_program.ensures.header) (ap (λ v. v.meaning.files) c.header.view_is ∙ c.into_program.ensures.files))
 
@@ -89,3 +93,9 @@ returns-clause-notation g c = ap (λ v. v.notation) c.header.view_is ∙ c.into_
 pub returns-clause-offset : goal.returns-clause-offset
 returns-clause-offset g c =
     ap (λ v. g.R.Offset.ReaderOffset.number v.offset.0) c.header.view_is ∙ c.into_program.ensures.offset ∙ c.in_ok-advance.ensures.offset ∙ c.rows.invariant.offset
+
+pub returns-clause-order : goal.returns-clause-order
+returns-clause-order g c = λ has.
+    let last = c.advance.new.self in
+    let so = c.in_ok-advance.ensures.order (c.rows.invariant.order has) in
+    has_one_order g.R.Reader.big _ last.notation.big last.orders (ap (λ v. header_orders g.R.Reader.big v) c.header.view_is ∙ c.into_program.ensures.orders) (ap (λ v. v.notation.big) c.header.view_is ∙ ap (λ n. n.big) c.into_program.ensures.notation) so.readers

@@ -1,17 +1,20 @@
 use Rattle.std.proofs.Common.{◌≡◌, true, List, length, map}
 use Rattle.gimli_line.specs.declared.run.row.LineRow.{LineRow}
+use Rattle.gimli_line.specs.header.Header.{HasOneOrder}
+use Rattle.gimli_line.specs.header.Orders.{no_orders}
 use Rattle.gimli_line.specs.run.Events.{row}
 use Rattle.gimli_line.specs.run.Progress.{Progress, ready}
-use Rattle.gimli_line.specs.run.Rows.{started}
+use Rattle.gimli_line.specs.run.Rows.{started, IsOfOneOrder}
 use Rattle.gimli_line.proofs.SequenceLaws.{Splitting}
 use Rattle.gimli_line.proofs.run.sequences.IncompleteLineProgram+R.sequences.Given as goal
 
 abbrev pub invariant-rows : goal.invariant-rows
 invariant-rows g l = record {
   behind : (done : List LineRow) × Splitting l.fn.self.meaning l.split done (ready l.rows)
-      × Progress (ready (started true l.fn.self.meaning l.fn.self.notation (g.R.Offset.ReaderOffset.number l.fn.self.offset.0) (record { bytes = l.fn.self.meaning.program; notation = l.fn.self.notation }))) (ready l.rows) (map row done);
+      × Progress (ready (started true l.fn.self.meaning l.fn.self.notation (g.R.Offset.ReaderOffset.number l.fn.self.offset.0) no_orders (record { bytes = l.fn.self.meaning.program; notation = l.fn.self.notation }))) (ready l.rows) (map row done);
   notation : l.rows.notation ≡ l.fn.self.notation;
   offset : l.rows.offset ≡ g.R.Offset.ReaderOffset.number l.fn.self.offset.0;
+  order : HasOneOrder g.R.Reader.big l.fn.self → IsOfOneOrder l.rows;
 }
 
 abbrev pub decreases-rows : goal.decreases-rows

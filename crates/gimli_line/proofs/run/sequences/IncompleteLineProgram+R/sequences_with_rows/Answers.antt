@@ -3,12 +3,14 @@ use Rattle.std.proofs.lemmas.List.{map-append, append-nil}
 use Rattle.std.proofs.lemmas.Result.{err_from_is_err_and}
 use Rattle.gimli_line.specs.declared.run.row.LineRow.{LineRow}
 use Rattle.gimli_line.specs.run.Events.{Event, row}
+use Rattle.gimli_line.specs.header.Orders.{no_orders, header_orders}
 use Rattle.gimli_line.specs.header.Header.{bare}
 use Rattle.gimli_line.specs.run.Unread.{Unread}
 use Rattle.gimli_line.specs.run.Progress.{Progress, ready}
 use Rattle.gimli_line.specs.run.Rows.{started}
 use Rattle.gimli_line.specs.run.Sequences.{Part, part_of, resumed}
-use Rattle.gimli_line.proofs.Runs.{passes_none, passes_both}
+use Rattle.gimli_line.proofs.Runs.{passes_still, passes_both}
+use Rattle.gimli_line.proofs.Order.{has_one_order}
 use Rattle.gimli_line.proofs.SequenceLaws.{starts_keeping, goes_keeping, has_front, row_takes, are_sequences, has_first_fault, rows_are_kept, each_is_kept, AllKept}
 use Rattle.gimli_line.proofs.run.sequences.IncompleteLineProgram+R.sequences_with_rows.Goals as goal
 
@@ -17,15 +19,16 @@ run-init g c =
     let h = c.args.self.meaning in
     let at_offset = g.R.Offset.ReaderOffset.number c.args.self.offset.0 in
     let unread : Unread = record { bytes = h.program; notation = c.args.self.notation } in
-    let first = ready (started true h c.args.self.notation at_offset unread) in
+    let first = ready (started true h c.args.self.notation at_offset no_orders unread) in
     record {
       behind = (
         [],
-        rw (c.new-split.ensures, c.clone.ensures ∙ c.instructions.ensures, c.rows-run.ensures.start, c.new-kept.ensures) (starts_keeping h c.args.self.notation at_offset unread),
-        rw c.rows-run.ensures.start (passes_none first first refl),
+        rw (c.new-split.ensures, c.clone.ensures ∙ c.instructions.ensures, c.rows-run.ensures.start, c.new-kept.ensures) (starts_keeping h c.args.self.notation at_offset (header_orders g.R.Reader.big c.args.self) unread),
+        rw c.rows-run.ensures.start (passes_still first _ refl refl refl refl refl),
       );
       notation = rw c.rows-run.ensures.start refl;
       offset = rw c.rows-run.ensures.start refl;
+      order = c.rows-run.ensures.order;
     }
 
 pub returns-in_err-advance-clause-err : goal.returns-in_err-advance-clause-err
@@ -70,11 +73,12 @@ run-preserved g c =
       behind = (
         b.0 ++ next.row ∷ [],
         rw (c.in_ok-row.ensures.ok, c.in_ok-keep.ensures.ok, c.row-row.ensures, c.instructions-in-run.ensures) (goes_keeping h c.run.split b.0 (ready c.run.run) next b.1.splitting m c.run.kept b.1.unended b.1.closed),
-        subst (λ (es : List Event). Progress (ready (started true h c.args.self.notation at_offset unread)) (ready next) es) (sym (map-append row b.0 (next.row ∷ [])))
-            (passes_both (ready (started true h c.args.self.notation at_offset unread)) (ready c.run.run) (ready next) (map row b.0) (row next.row ∷ []) b.2 m),
+        subst (λ (es : List Event). Progress (ready (started true h c.args.self.notation at_offset no_orders unread)) (ready next) es) (sym (map-append row b.0 (next.row ∷ [])))
+            (passes_both (ready (started true h c.args.self.notation at_offset no_orders unread)) (ready c.run.run) (ready next) (map row b.0) (row next.row ∷ []) b.2 m),
       );
       notation = c.in_ok-advance.ensures.notation ∙ c.run.invariant.notation;
       offset = c.in_ok-advance.ensures.offset ∙ c.run.invariant.offset;
+      order = λ has. c.in_ok-advance.ensures.order (c.run.invariant.order has);
     }
 
 pub returns-clause-ok : goal.returns-clause-ok
@@ -85,8 +89,8 @@ returns-clause-ok g c =
     let m = rw c.if-branch.false at c.in_ok-advance.ensures.passes in
     let b = c.run.invariant.behind in
     let last = c.advance.new.self in
-    let whole = subst (λ (es : List Event). Progress (ready (started true h c.args.self.notation at_offset unread)) last es) (append-nil (map row b.0))
-    (passes_both (ready (started true h c.args.self.notation at_offset unread)) (ready c.run.run) last (map row b.0) [] b.2 m.1) in
+    let whole = subst (λ (es : List Event). Progress (ready (started true h c.args.self.notation at_offset no_orders unread)) last es) (append-nil (map row b.0))
+    (passes_both (ready (started true h c.args.self.notation at_offset no_orders unread)) (ready c.run.run) last (map row b.0) [] b.2 m.1) in
     rw c.into_sequences.ensures (are_sequences c.args.self.notation at_offset h c.header.inside.header.meaning c.run.split b.0 (ready c.run.run) last b.1.splitting whole m.0
     (ap (λ v. bare v.meaning) c.header.view_is ∙ c.into_program.ensures.header) (ap (λ v. v.meaning.files) c.header.view_is ∙ c.into_program.ensures.files))
 
@@ -103,3 +107,9 @@ returns-clause-notation g c = ap (λ v. v.notation) c.header.view_is ∙ c.into_
 pub returns-clause-offset : goal.returns-clause-offset
 returns-clause-offset g c =
     ap (λ v. g.R.Offset.ReaderOffset.number v.offset.0) c.header.view_is ∙ c.into_program.ensures.offset ∙ c.in_ok-advance.ensures.offset ∙ c.run.invariant.offset
+
+pub returns-clause-order : goal.returns-clause-order
+returns-clause-order g c = λ has.
+    let last = c.advance.new.self in
+    let so = c.in_ok-advance.ensures.order (c.run.invariant.order has) in
+    has_one_order g.R.Reader.big _ last.notation.big last.orders (ap (λ v. header_orders g.R.Reader.big v) c.header.view_is ∙ c.into_program.ensures.orders) (ap (λ v. v.notation.big) c.header.view_is ∙ ap (λ n. n.big) c.into_program.ensures.notation) so.readers

@@ -1,17 +1,20 @@
 use Rattle.std.proofs.Common.{◌≡◌, true, List, length, map}
 use Rattle.gimli_line.specs.declared.run.row.LineRow.{LineRow}
+use Rattle.gimli_line.specs.header.Header.{HasOneOrder}
+use Rattle.gimli_line.specs.header.Orders.{no_orders}
 use Rattle.gimli_line.specs.run.Events.{row}
 use Rattle.gimli_line.specs.run.Progress.{Progress, ready}
-use Rattle.gimli_line.specs.run.Rows.{started}
+use Rattle.gimli_line.specs.run.Rows.{started, IsOfOneOrder}
 use Rattle.gimli_line.proofs.SequenceLaws.{Keeping}
 use Rattle.gimli_line.proofs.run.sequences.IncompleteLineProgram+R.sequences_with_rows.Given as goal
 
 abbrev pub invariant-run : goal.invariant-run
 invariant-run g l = record {
   behind : (done : List LineRow) × Keeping l.fn.self.meaning l.split l.kept done (ready l.run)
-      × Progress (ready (started true l.fn.self.meaning l.fn.self.notation (g.R.Offset.ReaderOffset.number l.fn.self.offset.0) (record { bytes = l.fn.self.meaning.program; notation = l.fn.self.notation }))) (ready l.run) (map row done);
+      × Progress (ready (started true l.fn.self.meaning l.fn.self.notation (g.R.Offset.ReaderOffset.number l.fn.self.offset.0) no_orders (record { bytes = l.fn.self.meaning.program; notation = l.fn.self.notation }))) (ready l.run) (map row done);
   notation : l.run.notation ≡ l.fn.self.notation;
   offset : l.run.offset ≡ g.R.Offset.ReaderOffset.number l.fn.self.offset.0;
+  order : HasOneOrder g.R.Reader.big l.fn.self → IsOfOneOrder l.run;
 }
 
 abbrev pub decreases-run : goal.decreases-run
