@@ -1,10 +1,11 @@
 //! The rows of a program, kept so that those that cover an address are found.
 
 ghost use Rattle.std.specs.Prelude.{◌≡◌, ◌≢◌, ◌≤◌, ◌<◌, ◌^◌, List, length, map, sum_by, All, Any, IfErr, IfOk, MatchOption};
+ghost use Rattle.gimli_line.specs.header.Header.{HasOneOrder};
 ghost use Rattle.gimli_line.specs.run.Events.{Event, Events, row};
 ghost use Rattle.gimli_line.specs.run.Sequences.{part_of, resumed, AreSequences, HasFirstFault};
 ghost use Rattle.gimli_lookup.specs.FirstPair.{HasNoPair, IsFirstPair};
-ghost use Rattle.gimli_lookup.specs.Kept.{AreRowsThroughLastEnd};
+ghost use Rattle.gimli_lookup.specs.Kept.{AreRowsThroughLastEnd, IsOfOneOrder};
 ghost use Rattle.gimli_lookup.specs.Probes.{most_probes};
 
 use crate::kept_rows::KeptRows;
@@ -51,6 +52,7 @@ pub struct Lookup<R: Reader> {
 
 impl<R: Reader> Model for Lookup<R> {
     ghost use Rattle.std.specs.Prelude.{◌<◌, ◌^◌, length, map, sum_by};
+    ghost use Rattle.gimli_line.specs.header.Orders.{header_orders};
     ghost use Rattle.gimli_line.specs.run.Sequences.{part_of};
     ghost use Rattle.gimli_lookup.specs.Kept.{Kept};
 
@@ -60,6 +62,7 @@ impl<R: Reader> Model for Lookup<R> {
       header = a.program.meaning;
       notation = a.program.notation;
       offset = R.Offset.number a.program.offset.0;
+      orders = header_orders R.big a.program;
       parts = map part_of a.sequences.items;
       rows = a.rows.items;
     } };
@@ -79,6 +82,7 @@ impl<R: Reader> Lookup<R> {
             AreRowsThroughLastEnd program.notation program.meaning lookup.rows) }
         ensures notation { IfOk result (λ lookup. lookup.notation ≡ program.notation) }
         ensures offset { IfOk result (λ lookup. lookup.offset ≡ R.Offset.number program.offset.0) }
+        ensures order { HasOneOrder R.big program → IfOk result IsOfOneOrder }
         ensures err { IfErr result (λ e. e ≢ Error.OutOfMemory
             → HasFirstFault program.notation program.meaning e) }
     {
@@ -97,6 +101,7 @@ impl<R: Reader> Lookup<R> {
         ensures header { result.now.meaning ≡ self.now.header }
         ensures notation { result.now.notation ≡ self.now.notation }
         ensures offset { R.Offset.number result.now.offset.0 ≡ self.now.offset }
+        ensures order { IsOfOneOrder self.now → HasOneOrder R.big result.now }
     {
         self.program.header()
     }

@@ -2,6 +2,7 @@ use Rattle.std.proofs.Common.{map, Vec, Global}
 use Rattle.std.proofs.lemmas.Result.{err_from_is_err_and}
 use Rattle.gimli_line.specs.declared.run.row.LineRow.{LineRow}
 use Rattle.gimli_line.specs.run.Sequences.{part_of, resumed}
+use Rattle.gimli_line.proofs.Order.{are_one_order}
 use Rattle.gimli_lookup.proofs.KeptRows.{same_rows, are_joined, rows_fit}
 use Rattle.gimli_lookup.proofs.lookup.Lookup.new.Goals as goal
 
@@ -26,3 +27,6 @@ pub returns-clause-joined : goal.returns-clause-joined
 returns-clause-joined g c =
     are_joined c.args.program.notation c.args.program.meaning c.in_ok-program.program.meaning (map part_of c.in_ok-program.sequences.items) c.in_ok-rows.rows.items
     c.in_ok-program.ensures.ok (returns-clause-each g c)
+
+pub returns-clause-order : goal.returns-clause-order
+returns-clause-order g c = λ has. are_one_order g.R.Reader.big c.in_ok-program.program (c.in_ok-program.ensures.order has)
