@@ -9,6 +9,7 @@ use Rattle.gimli_core.specs.declared.common.LineEncoding.{LineEncoding}
 use Rattle.gimli_core.specs.declared.error.Error.{Error}
 use Rattle.gimli_core.specs.declared.error.Error.TheVariants.{AddressOverflow}
 use Rattle.gimli_line.specs.header.File.{File}
+use Rattle.gimli_line.specs.header.Orders.{HeaderOrders}
 use Rattle.gimli_line.specs.header.Header.{Header, bare}
 use Rattle.gimli_line.specs.header.Parameters.{Parameters}
 use Rattle.gimli_line.specs.declared.run.row.LineRow.{LineRow as ReadRow}
@@ -194,9 +195,9 @@ bare_each : (notation : Notation) (h : Header) (front : List ℕ) (list : List I
 bare_each notation h front [] s = s
 bare_each notation h front (i ∷ list) s = (s.0, s.1, s.2, s.3, bare_each notation h s.1 list s.4)
 
-pub starts-none : (notation : Notation) (h : Header) (appends : Bool) (offset : ℕ) (list : List Ins) → Decodes notation h h.program list None → All (λ i. defines_file i ≡ false) list
-    → DefinesNoFile (started appends h notation offset (record { bytes = h.program; notation = notation }))
-starts-none notation h appends offset list d none = record {
+pub starts-none : (notation : Notation) (h : Header) (appends : Bool) (offset : ℕ) (orders : HeaderOrders) (list : List Ins) → Decodes notation h h.program list None → All (λ i. defines_file i ≡ false) list
+    → DefinesNoFile (started appends h notation offset orders (record { bytes = h.program; notation = notation }))
+starts-none notation h appends offset orders list d none = record {
   list = list;
   decoding = record { front = d.front; rest = d.rest; parts = d.parts; spelled = bare_each notation h d.front list d.spelled; ended = d.ended };
   none = none;

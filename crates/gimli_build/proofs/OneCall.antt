@@ -1,6 +1,5 @@
 -- What one call appends, or none.
 use Rattle.std.proofs.Common.{List, [], ℕ, Ok, Err, refl, sym, inl, inr}
-use Rattle.std.specs.Prelude.{Result}
 use Rattle.std.proofs.lemmas.List.{append-nil}
 use Rattle.gimli_bytes.specs.declared.error.Error.{Error}
 use Rattle.gimli_bytes.specs.declared.writer.Writer.{Ghosts}

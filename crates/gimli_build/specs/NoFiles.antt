@@ -2,6 +2,7 @@
 use Rattle.std.specs.Prelude.{◌≡◌, ℕ, Bool, false, List, None, All}
 use Rattle.gimli_core.specs.Notation.{Notation}
 use Rattle.gimli_line.specs.header.Header.{Header}
+use Rattle.gimli_line.specs.header.Orders.{HeaderOrders}
 use Rattle.gimli_line.specs.run.Instruction.{Ins, defines_file}
 use Rattle.gimli_line.specs.run.InstructionGrammar.{Decodes}
 use Rattle.gimli_line.specs.run.RunState.{RunState}
@@ -14,5 +15,5 @@ pub record DefinesNoFile (a : RunState) : Type 0 where
   pub none : All (λ i. defines_file i ≡ false) list
 
 -- rows at the start of the program of a header
-abbrev pub program_started : Bool → Header → Notation → ℕ → RunState
-program_started appends h notation offset = started appends h notation offset (record { bytes = h.program; notation = notation })
+abbrev pub program_started : Bool → Header → Notation → ℕ → HeaderOrders → RunState
+program_started appends h notation offset orders = started appends h notation offset orders (record { bytes = h.program; notation = notation })

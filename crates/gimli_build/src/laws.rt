@@ -10,6 +10,7 @@ ghost use Rattle.gimli_core.specs.declared.error.Error.TheVariants.{AddressOverf
 ghost use Rattle.gimli_core.specs.declared.common.Encoding.{Encoding};
 ghost use Rattle.gimli_core.specs.declared.common.LineEncoding.{LineEncoding};
 ghost use Rattle.gimli_line.specs.header.Header.{Header};
+ghost use Rattle.gimli_line.specs.header.Orders.{HeaderOrders};
 ghost use Rattle.gimli_line.specs.run.Instruction.{Ins, defines_file};
 ghost use Rattle.gimli_line.specs.run.Events.{Event, row};
 ghost use Rattle.gimli_line.specs.run.RunState.{RunState};
@@ -141,7 +142,8 @@ pub fn items_define_no_file()
 /// `next_row` is refused by `AddressOverflow` alone then, never for want of memory.
 pub fn written_rows_take_no_memory()
     ensures start { (notation : Notation) (h : Header) (p : Built) → DecodesAs notation h p →
-        (appends : Bool) (offset : ℕ) → DefinesNoFile (program_started appends h notation offset) }
+        (appends : Bool) (offset : ℕ) (orders : HeaderOrders)
+        → DefinesNoFile (program_started appends h notation offset orders) }
     ensures goes { (old new : RunState) (events : List Event) → DefinesNoFile old →
         Progress old new events → DefinesNoFile new }
     ensures refused { (old new : RunState) (e : Error) → DefinesNoFile old →
