@@ -1,9 +1,9 @@
 -- Files that were there keep their ids and their numbers.
-use Rattle.std.proofs.Common.{◌≡◌, ◌++◌, List, [], ◌∷◌, refl, sym, ap, ◌∙◌, arith}
+use Rattle.std.proofs.Common.{◌++◌, List, [], ◌∷◌, refl, sym, ap, ◌∙◌, arith}
 use Rattle.std.specs.Prelude.{Some}
 use Rattle.std.proofs.lemmas.List.{length-append, get_or_append_left}
 use Rattle.std.proofs.lemmas.Option.{slice_get-get_or}
-use Rattle.gimli_build.specs.Tables.{FileKey, Keeps, keys_of}
+use Rattle.gimli_build.specs.Tables.{Keeps, keys_of}
 use Rattle.gimli_write.specs.convert.Lists.{Converted}
 use Rattle.gimli_write.specs.convert.KeptLists.{KeepsFiles}
 

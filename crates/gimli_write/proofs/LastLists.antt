@@ -1,6 +1,6 @@
 -- What one instruction of a source does to the lists that the source leaves.
-use Rattle.std.proofs.Common.{◌≡◌, ◌≢◌, ℕ, ◌<◌, Bool, true, false, not, ◌&&◌, ◌||◌, if◌then◌else◌, List, [], ◌∷◌, ◌++◌, refl, sym, ap, ◌∙◌, inl, inr}
-use Rattle.std.specs.Prelude.{Option, Some, None, Result, Ok, Err, OnOk, IfOk, IfErr}
+use Rattle.std.proofs.Common.{◌≡◌, ◌≢◌, ℕ, Bool, true, false, not, ◌&&◌, ◌||◌, if◌then◌else◌, List, [], ◌∷◌, ◌++◌, refl, sym, ap, ◌∙◌, inl, inr}
+use Rattle.std.specs.Prelude.{Option, Some, Result, Ok, Err, OnOk, IfOk, IfErr}
 use Rattle.gimli_core.specs.Notation.{Notation}
 use Rattle.gimli_core.specs.declared.error.Error.{Error}
 use Rattle.gimli_core.specs.declared.error.Error.TheVariants.{AddressOverflow}

@@ -1,15 +1,16 @@
 -- A program can be written still, with longer tables and with more files.
 use Rattle.std.proofs.Common.{◌≡◌, ℕ, ◌≤◌, true, false, List, sym, subst}
-use Rattle.std.specs.Prelude.{Option, Some, None, IfSome, All, option_map}
+use Rattle.std.specs.Prelude.{Option, Some, None, Result, Ok, Err, OnOk, OnErr, IfSome, All, option_map}
 use Rattle.std.proofs.lemmas.List.Elements.{All-weaker}
 use Rattle.gimli_bytes.specs.Texts.{KeepsTexts}
 use Rattle.gimli_build.specs.Built.{Built}
 use Rattle.gimli_build.specs.Calls.{after_file}
 use Rattle.gimli_build.specs.Conditions.{CanWrite}
-use Rattle.gimli_build.specs.LineText.{LineText, Inline, InStrings, InLineStrings, IsWithin, HasNoZero}
+use Rattle.gimli_build.specs.LineText.{LineText, IsWithin, HasNoZero}
 use Rattle.gimli_build.specs.Tables.{Details, File as BuiltFile}
 use Rattle.gimli_write.specs.convert.Lists.{Converted}
 use Rattle.gimli_write.specs.convert.Feeding.{without_items}
+use Rattle.gimli_write.specs.convert.ConversionState.{ConversionState, with_program}
 use Rattle.gimli_write.specs.convert.KeptLists.{StaysWritable}
 use Rattle.gimli_write.proofs.ConvertSteps.{kept_then, still_there}
 use Rattle.gimli_write.proofs.MappedLists.{within_where, if_some_where, files_with}
@@ -101,3 +102,9 @@ writable_with_items old new line_strings same = record {
       written_tables new.program strings line_strings
       (subst (λ (p : Built). WrittenTables p strings line_strings) (sym same) (tables_written old.program strings line_strings can));
 }
+
+-- after a builder call, of which a refused one changes nothing
+pub writable_built : {A E : Type 0} (result : Result A E) (old new : ConversionState) (line_strings : List (List ℕ)) (built : Built) → without_items built ≡ without_items old.lists.program
+    → OnOk result (new ≡ with_program built old) → OnErr result (new ≡ old) → StaysWritable old.lists line_strings new.lists line_strings
+writable_built (Ok _) old new line_strings built same is kept = rw is (writable_with_items old.lists (with_program built old).lists line_strings same)
+writable_built (Err _) old new line_strings built same is kept = rw kept (record { still = λ strings can. can })

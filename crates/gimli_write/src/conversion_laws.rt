@@ -1,5 +1,5 @@
-//! Laws of conversions: a converted program can be written; it says what its source says; and so do the rows that are read
-//! back of it. And laws of equality and of clones.
+//! Laws of conversions: a converted program meets what `write` asks; it says what its source says; and so do the rows that
+//! are read back of it. And laws of equality and of clones.
 
 ghost use Rattle.std.specs.Prelude.{◌≡◌, ℕ, List};
 ghost use Rattle.std.specs.Bool.{Decides};
@@ -19,8 +19,6 @@ ghost use Rattle.gimli_write.specs.convert.DoneConversions.{DoneConversion, IsTo
 use crate::convert::offer::ConvertLineRow;
 use crate::convert::sequence::{ConvertLineSequence, ConvertLineSequenceEnd};
 use crate::convert_error::ConvertError;
-use gimli_bytes::Error;
-use gimli_core::Error as ReadError;
 
 /// A conversion asks of each row and end what the builder's own calls ask.
 pub fn conversions_ask_what_the_builder_asks()
@@ -28,7 +26,7 @@ pub fn conversions_ask_what_the_builder_asks()
         → Decides (can_build e place item) (CanBuild e place item) }
 {}
 
-/// A converted program can be written, whatever its addresses are mapped to.
+/// A converted program meets what `write` asks, whatever its addresses are mapped to. `write` may refuse it for a cause.
 pub fn converted_programs_can_be_written()
     ensures { (d : DoneConversion) (strings : List (List ℕ))
         → CanWrite d.outcome.program strings d.outcome.line_strings }
@@ -81,11 +79,13 @@ pub fn equal_rows_and_sequences()
 {}
 
 /// `==` holds of two refusals exactly where they are of one kind and agree in the refusal of reading or writing that they
-/// hold, if this is so of those.
+/// hold.
 pub fn equal_refusals()
-    ensures { IsExact ⟦<ReadError as PartialEq>⟧.eq → IsExact ⟦<Error as PartialEq>⟧.eq
-        → IsExact ⟦<ConvertError as PartialEq>⟧.eq }
-{}
+    ensures { IsExact ⟦<ConvertError as PartialEq>⟧.eq }
+{
+    gimli_core::laws::equal_errors_are_same();
+    gimli_bytes::laws::equal_errors_are_same();
+}
 
 /// `clone` of what `read_row` gives, of the end of a sequence and of a refusal is never refused, and gives the same.
 pub fn clones_are_same()

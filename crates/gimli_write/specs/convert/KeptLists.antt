@@ -2,6 +2,7 @@
 -- another cause than want of memory, all are there that its source defines before. And the program can be written,
 -- whatever was read.
 use Rattle.std.specs.Prelude.{◌≡◌, ℕ, if◌then◌else◌, is_some, List}
+use Rattle.gimli_build.specs.Built.{Built}
 use Rattle.gimli_build.specs.Conditions.{CanWrite}
 use Rattle.gimli_build.specs.Tables.{keys_of, Keeps}
 use Rattle.gimli_write.specs.convert.Lists.{Converted, Lists, lists_with}
@@ -35,9 +36,9 @@ IsAtLast old old_strings new new_strings = lists_with new_strings new.lists ≡ 
 abbrev pub KeepsLast : ConversionState → List (List ℕ) → ConversionState → List (List ℕ) → Type 0
 KeepsLast old old_strings new new_strings = last_lists new new_strings ≡ last_lists old old_strings
 
--- the program can be written, whatever the table of strings is, which it names no text of
-pub record IsWritable (c : Converted) (line_strings : List (List ℕ)) : Type 0 where
-  pub can : (strings : List (List ℕ)) → CanWrite c.program strings line_strings
+-- a program can be written, whatever the table of strings is, which it names no text of
+pub record IsWritable (p : Built) (line_strings : List (List ℕ)) : Type 0 where
+  pub can : (strings : List (List ℕ)) → CanWrite p strings line_strings
 
 -- a program that could be written still can be
 pub record StaysWritable (old : Converted) (old_strings : List (List ℕ)) (new : Converted) (new_strings : List (List ℕ)) : Type 0 where

@@ -1,9 +1,8 @@
 //! What is read of a source, handed to the builder.
 
-ghost use Rattle.std.specs.Prelude.{◌≡◌, ℕ, List, Ok, Option, IfErr, IfOk, OnOk};
+ghost use Rattle.std.specs.Prelude.{◌≡◌, ℕ, Ok, Option, IfErr, IfOk, OnOk};
 ghost use Rattle.gimli_bytes.specs.Texts.{KeepsTexts};
 ghost use Rattle.gimli_bytes.specs.declared.address.Address.{Address};
-ghost use Rattle.gimli_build.specs.Conditions.{CanWrite};
 ghost use Rattle.gimli_write.specs.convert.KeptLists.{IsWritable, StaysWritable};
 ghost use Rattle.gimli_write.specs.convert.Texts.{IsRefusedBy};
 ghost use Rattle.gimli_write.specs.convert.Feeding.{fed, without_items};
@@ -83,8 +82,8 @@ pub(crate) fn convert_all<R: Reader, F: Fn(u64) -> Option<Address>>(
     ensures ok { IfOk result (λ answer. RestConvertsTo (F.post convert_address)
         conversion line_strings.old answer line_strings.new) }
     ensures err { IfErr result (IsRestRefusal (F.post convert_address) conversion line_strings.old) }
-    ensures writable { IsWritable conversion.lists line_strings.old → IfOk result (λ answer.
-        (strings : List (List ℕ)) → CanWrite answer.0 strings line_strings.new) }
+    ensures writable { IsWritable conversion.lists.program line_strings.old
+        → IfOk result (λ answer. IsWritable answer.0 line_strings.new) }
     ensures stays { KeepsTexts line_strings.old line_strings.new }
 {
     conversion.feed_all(line_strings, &convert_address)?;

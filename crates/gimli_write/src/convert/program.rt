@@ -1,11 +1,11 @@
 //! The conversion of a line program, as its callers see it.
 
-ghost use Rattle.std.specs.Prelude.{◌≡◌, ◌≢◌, ℕ, false, List, Option, Some, None, Err, IfErr, IfOk, IfSome, IsTrue, OnErr, OnOk};
+ghost use Rattle.std.specs.Prelude.{◌≡◌, ◌≢◌, ℕ, false, Option, Some, None, Err, IfErr, IfOk, IfSome, IsTrue, OnErr, OnOk};
 ghost use Rattle.gimli_core.specs.Numbers.{is_address_size};
 ghost use Rattle.gimli_bytes.specs.Texts.{KeepsTexts};
 ghost use Rattle.gimli_build.specs.Calls.{after_begin, after_address, after_row, after_end};
 ghost use Rattle.gimli_build.specs.Advance.{CanEncode};
-ghost use Rattle.gimli_build.specs.Conditions.{CanEndSequence, CanWrite};
+ghost use Rattle.gimli_build.specs.Conditions.{CanEndSequence};
 ghost use Rattle.gimli_write.specs.declared.convert_error.ConvertError.TheVariants.{OutOfMemory};
 ghost use Rattle.gimli_write.specs.convert.KeptLists.{IsUnread, IsWritable, StaysWritable, KeepsFiles, IsAtLast, KeepsLast};
 ghost use Rattle.gimli_write.specs.convert.Sources.{source_of};
@@ -72,8 +72,8 @@ impl<R: Reader> Model for ConvertLineHeader<R> {
 impl<R: Reader> ConvertLineHeader<R> {
     /// The first half of `ConvertLineProgram::new`: all of it that can be refused. The directories and files of the
     /// source are added to the program that is built, by the encodings that are handed, else by the source's own.
-    /// Requires encodings that a program may have, where they are handed. The program that is begun can be written. The
-    /// table keeps its texts, also where it is refused.
+    /// Requires encodings that a program may have, where they are handed. The program that is begun meets what `write`
+    /// asks. The table keeps its texts, also where it is refused.
     ///
     /// Refused by the first of these that is, or by `OutOfMemory`: the working directory, as `MissingCompilationDirectory`
     /// where a program from version 5 on would have none; the source file, as `MissingCompilationName` there, and as
@@ -100,7 +100,7 @@ impl<R: Reader> ConvertLineHeader<R> {
             from_program from_comp_name encoding line_encoding) header line_strings.new) }
         ensures unread { IfOk result (λ header. IsUnread (source_of R.bytes debug_str debug_line_str
             from_program from_comp_name encoding line_encoding) header) }
-        ensures writable { IfOk result (λ header. IsWritable header.lists line_strings.new) }
+        ensures writable { IfOk result (λ header. IsWritable header.lists.program line_strings.new) }
         ensures stays { KeepsTexts line_strings.old line_strings.new }
     {
         let sections = TextSections {
@@ -154,8 +154,8 @@ impl<'a, 'b, R: Reader> ConvertLineProgram<'a, 'b, R, Conversion<R>> {
     /// A conversion of a source, over the sections that hold its texts. Its directories and files are added to the
     /// program that is built, by the encodings that are handed, else by the source's own. The name is that of the source
     /// file, where the source is of version 4 or less; else file 0 is it. Requires encodings that a program may have, where
-    /// they are handed. The program that is begun can be written. Refused as `ConvertLineHeader::new` is. Where it isn't
-    /// refused, the tables keep their texts; where it is, only the clauses of `ConvertLineHeader::new` say so.
+    /// they are handed. The program that is begun meets what `write` asks. Refused as `ConvertLineHeader::new` is. Where it
+    /// isn't refused, the tables keep their texts; where it is, only the clauses of `ConvertLineHeader::new` say so.
     pub fn new(
         debug_str: R,
         debug_line_str: R,
@@ -177,7 +177,7 @@ impl<'a, 'b, R: Reader> ConvertLineProgram<'a, 'b, R, Conversion<R>> {
         ensures unread { IfOk result (λ convert. IsUnread (source_of R.bytes debug_str debug_line_str
             from_program from_comp_name encoding line_encoding) convert.conversion) }
         ensures writable { IfOk result
-            (λ convert. IsWritable convert.conversion.lists convert.line_strings.now) }
+            (λ convert. IsWritable convert.conversion.lists.program convert.line_strings.now) }
         ensures stays { IfOk result
             (λ convert. KeepsTexts line_strings.old convert.line_strings.now) }
         ensures strings { IfOk result (λ convert. convert.strings.now ≡ strings.old) }
@@ -207,6 +207,8 @@ impl<'a, 'b, R: Reader> ConvertLineProgram<'a, 'b, R, Conversion<R>> {
         ensures err { IfErr result
             (IsBuildRefusal (self.old.conversion.lists.program.in_sequence ≡ false)) }
         ensures kept { OnErr result (self.new.conversion ≡ self.old.conversion) }
+        ensures writable { StaysWritable self.old.conversion.lists self.old.line_strings.now
+            self.new.conversion.lists self.new.line_strings.now }
         ensures line_strings { self.new.line_strings.now ≡ self.old.line_strings.now }
         ensures strings { self.new.strings.now ≡ self.old.strings.now }
         ensures same_line_strings { self.new.line_strings.ghost_name
@@ -223,6 +225,8 @@ impl<'a, 'b, R: Reader> ConvertLineProgram<'a, 'b, R, Conversion<R>> {
             (after_address address self.old.conversion.lists.program) self.old.conversion) }
         ensures memory { IfErr result (λ e. e ≡ ConvertError.OutOfMemory) }
         ensures kept { OnErr result (self.new.conversion ≡ self.old.conversion) }
+        ensures writable { StaysWritable self.old.conversion.lists self.old.line_strings.now
+            self.new.conversion.lists self.new.line_strings.now }
         ensures line_strings { self.new.line_strings.now ≡ self.old.line_strings.now }
         ensures strings { self.new.strings.now ≡ self.old.strings.now }
         ensures same_line_strings { self.new.line_strings.ghost_name
@@ -242,6 +246,8 @@ impl<'a, 'b, R: Reader> ConvertLineProgram<'a, 'b, R, Conversion<R>> {
         ensures err { IfErr result
             (IsBuildRefusal (CanBuildRow self.old.conversion.lists.program row)) }
         ensures kept { OnErr result (self.new.conversion ≡ self.old.conversion) }
+        ensures writable { StaysWritable self.old.conversion.lists self.old.line_strings.now
+            self.new.conversion.lists self.new.line_strings.now }
         ensures line_strings { self.new.line_strings.now ≡ self.old.line_strings.now }
         ensures strings { self.new.strings.now ≡ self.old.strings.now }
         ensures same_line_strings { self.new.line_strings.ghost_name
@@ -261,6 +267,8 @@ impl<'a, 'b, R: Reader> ConvertLineProgram<'a, 'b, R, Conversion<R>> {
         ensures err { IfErr result
             (IsBuildRefusal (CanEndSequence self.old.conversion.lists.program address_offset)) }
         ensures kept { OnErr result (self.new.conversion ≡ self.old.conversion) }
+        ensures writable { StaysWritable self.old.conversion.lists self.old.line_strings.now
+            self.new.conversion.lists self.new.line_strings.now }
         ensures line_strings { self.new.line_strings.now ≡ self.old.line_strings.now }
         ensures strings { self.new.strings.now ≡ self.old.strings.now }
         ensures same_line_strings { self.new.line_strings.ghost_name
@@ -296,10 +304,12 @@ impl<'a, 'b, R: Reader> ConvertLineProgram<'a, 'b, R, Conversion<R>> {
 
     /// Reads up to the next row, end, or address that one of these follows. An address that hides what follows it, and
     /// what it hides, gives nothing. Files that are defined on the way are added to the program that is built. Refused
-    /// as `Read` for a fault of the source, as `InvalidFileIndex` for a row of no file, as a file that is defined is, or
-    /// by `OutOfMemory` where this read defines one; every later read repeats the refusal. The tables keep their texts.
+    /// as `Read` for a fault of the source, and as `InvalidFileIndex` for a row of no file. A file that is defined is
+    /// refused as `InvalidDirectoryIndex` in a directory that isn't there, as `InvalidAttributeValue` for an empty path
+    /// where the program is of version 4 or less, or by `OutOfMemory`. Every later read repeats the refusal. The tables
+    /// keep their texts.
     /// So do files their ids and their numbers in the source; after a refusal for another cause than memory, and at the
-    /// end, all files are there that the source defines before. A program that could be written still can be.
+    /// end, all files are there that the source defines before. A program that met what `write` asks still does.
     pub fn read_row(&mut self) -> ConvertResult<Option<ConvertLineRow>>
         ensures ok { IfOk result (λ row. GivesNext self.old.conversion self.old.line_strings.now
             row self.new.conversion self.new.line_strings.now) }
@@ -332,7 +342,7 @@ impl<'a, 'b, R: Reader> ConvertLineProgram<'a, 'b, R, Conversion<R>> {
     /// first. Refused as `read_row` is, as `MissingLineEndSequence` for rows without an end, or by `OutOfMemory`; every
     /// later read repeats the refusal. The tables keep their texts.
     /// So do files their ids and their numbers in the source; after a refusal for another cause than memory, and at the
-    /// end, all files are there that the source defines before. A program that could be written still can be.
+    /// end, all files are there that the source defines before. A program that met what `write` asks still does.
     pub fn read_sequence(&mut self) -> ConvertResult<Option<ConvertLineSequence>>
         ensures ok { IfOk result (λ sequence. GathersNext self.old.conversion
             self.old.line_strings.now sequence self.new.conversion self.new.line_strings.now) }
@@ -364,7 +374,7 @@ impl<'a, 'b, R: Reader> ConvertLineProgram<'a, 'b, R, Conversion<R>> {
     /// is read. The map gives for each address of the source the one that is set in its place. Refused by the first of
     /// these: an address that has no other, as `InvalidAddress`; what can't be built, as `UnsupportedLineInstruction`; a
     /// refusal of reading; a sequence that is left open, as `MissingLineEndSequence`; or by `OutOfMemory`. The tables keep
-    /// their texts. Where the program could be written before, the answer can be. Requires a map that may always be called.
+    /// their texts. Where the program met what `write` asks, the answer does. Requires a map that may always be called.
     pub fn convert<F: Fn(u64) -> Option<Address>>(
         self,
         convert_address: F,
@@ -374,8 +384,8 @@ impl<'a, 'b, R: Reader> ConvertLineProgram<'a, 'b, R, Conversion<R>> {
             self.entry.conversion self.entry.line_strings.now answer self.exit.0.now) }
         ensures err { IfErr result (IsRestRefusal (F.post convert_address)
             self.entry.conversion self.entry.line_strings.now) }
-        ensures writable { IsWritable self.entry.conversion.lists self.entry.line_strings.now → IfOk result
-            (λ answer. (strings : List (List ℕ)) → CanWrite answer.0 strings self.exit.0.now) }
+        ensures writable { IsWritable self.entry.conversion.lists.program self.entry.line_strings.now
+            → IfOk result (λ answer. IsWritable answer.0 self.exit.0.now) }
         ensures stays { KeepsTexts self.entry.line_strings.now self.exit.0.now }
         ensures strings { self.exit.1.0.now ≡ self.entry.strings.now }
     {

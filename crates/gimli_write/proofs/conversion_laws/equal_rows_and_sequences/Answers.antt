@@ -10,9 +10,8 @@ use Rattle.gimli_line.proofs.Variants.{or, end, one}
 use Rattle.gimli_build.proofs.Equality.{row-Decides}
 use Rattle.gimli_write.specs.contracts.convert.sequence.ConvertLineSequenceEnd.{as_values, enum}
 use Rattle.gimli_write.specs.contracts.convert.sequence.ConvertLineSequenceEndPartialEq.TheImpl.{ghosts as the_ends}
-use Rattle.gimli_write.specs.declared.convert.sequence.ConvertLineSequence.{ConvertLineSequence}
 use Rattle.gimli_write.specs.declared.convert.sequence.ConvertLineSequenceEnd.{ConvertLineSequenceEnd}
-use Rattle.gimli_write.specs.convert.Sequences.{SequenceRead, sequence_with, sequence_read}
+use Rattle.gimli_write.specs.convert.Sequences.{SequenceRead, sequence_with}
 use Rattle.gimli_write.proofs.conversion_laws.equal_rows_and_sequences.Goals as goal
 
 starts : (x y : Option ℕ) → Decides (option_eq nat_eq x y) (x ≡ y)

@@ -11,5 +11,5 @@ returns-clause-ok g c = λ m says.
     rw (c.into_program.ensures.program, c.into_program.ensures.files) (c.in_ok-feed_all.ensures.ok m says)
 
 pub returns-clause-writable : goal.returns-clause-writable
-returns-clause-writable g c = λ can strings.
-    rw c.into_program.ensures.program (c.in_ok-feed_all.ensures.writable.still strings (can.can strings))
+returns-clause-writable g c = λ can.
+    rw c.into_program.ensures.program (record { can = λ strings. c.in_ok-feed_all.ensures.writable.still strings (can.can strings) })
