@@ -154,8 +154,8 @@ uint32_t gimli_line_unit(const uint8_t *section, size_t length, bool big, uint8_
 
 /* Runs the program of the unit at an offset. Its rows from the skip-th on, from 0, go into rows[0] and so on, as far as
  * there is room; *count is how many rows it has in all. The first fault ends the run: its number is answered, and the rows
- * before it are there. Where no unit can be read *count is 0. Where memory is missing, *count is 0, and rows may have been
- * written. */
+ * before it are there. Where no unit can be read *count is 0. Where memory is missing, *count is 0, and the first rows may
+ * have been written. */
 uint32_t gimli_line_rows(const uint8_t *section, size_t length, bool big, uint8_t address_size, size_t offset,
                          uint64_t skip, gimli_row *rows, size_t room, uint64_t *count);
 

@@ -18,7 +18,7 @@ use Rattle.gimli_line.specs.run.Rows.{files_at_end}
 use Rattle.gimli_line.specs.run.RunState.{RunState}
 use Rattle.gimli_c.specs.declared.row.GimliRow.{GimliRow}
 use Rattle.gimli_c.specs.Place.{Place, notation_at, HasUnit}
-use Rattle.gimli_c.specs.Run.{rows_of, fault_of, Copied, HasEvents}
+use Rattle.gimli_c.specs.Run.{rows_of, fault_of, Begun, Copied, HasEvents}
 use Rattle.gimli_c.specs.Seen.{row_seen}
 use Rattle.gimli_c.specs.Written.{written}
 use Rattle.gimli_c.proofs.Arrays.{written_none, written_more}
@@ -88,6 +88,15 @@ at_end events left skip count old now end way none is =
       end_is = sym is ∙ sym (fault_behind way.seen left) ∙ ap fault_of (sym way.given);
       copied = way.copied ∙ ap (λ (xs : List LineRow). written (map row_seen (drop skip xs)) old) (sym rows_are);
     }
+
+-- where it stops, the rows that were seen are the first ones
+pub stopped : (events left : List Event) (skip count : ℕ) (old now : List GimliRow) → IsOnTheWay events left skip count old now → Begun events skip old now
+stopped events left skip count old now way = record {
+  met = way.seen;
+  rest = rows_of left;
+  parts = ap rows_of way.given ∙ rows_behind way.seen left;
+  copied = way.copied;
+}
 
 -- those that were seen and the next one are no more than all
 pub counted : (events left rest : List Event) (skip count : ℕ) (old now : List GimliRow) (r : LineRow) → IsOnTheWay events left skip count old now

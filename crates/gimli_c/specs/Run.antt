@@ -1,5 +1,5 @@
 -- What the run of a unit's program gives, up to its first fault.
-use Rattle.std.specs.Prelude.{◌≡◌, ◌⊎◌, ℕ, List, [], ◌∷◌, length, map, drop, Option, Some, None}
+use Rattle.std.specs.Prelude.{◌≡◌, ◌⊎◌, ℕ, List, [], ◌∷◌, ◌++◌, length, map, drop, Option, Some, None}
 use Rattle.gimli_core.specs.declared.error.Error.{Error}
 use Rattle.gimli_line.specs.declared.run.row.LineRow.{LineRow}
 use Rattle.gimli_line.specs.header.Header.{Header}
@@ -29,6 +29,14 @@ pub record Copied (events : List Event) (skip : ℕ) (old new : List GimliRow) (
   pub end_is : end ≡ fault_of events
   pub copied : new ≡ written (map row_seen (drop skip (rows_of events))) old
 
+-- a run of these events that stopped on its way: the rows that it met, from the skip-th on, stand in an array that held
+-- others, as far as it has room
+pub record Begun (events : List Event) (skip : ℕ) (old new : List GimliRow) : Type 0 where
+  pub met : List LineRow
+  pub rest : List LineRow
+  pub parts : rows_of events ≡ met ++ rest
+  pub copied : new ≡ written (map row_seen (drop skip met)) old
+
 -- the program of the unit at the place gives these events
 pub record HasEvents (p : Place) (h : Header) (events : List Event) : Type 0 where
   pub unit : HasUnit p h
@@ -53,3 +61,14 @@ pub record GivesNone (p : Place) (old new : List GimliRow) (count status : ℕ) 
 -- the rows of the unit at the place, or none, where no unit stands there
 abbrev pub GivesRowsOrNone : Place → ℕ → List GimliRow → List GimliRow → ℕ → ℕ → Type 0
 GivesRowsOrNone p skip old new count status = GivesRows p skip old new count status ⊎ GivesNone p old new count status
+
+-- the first rows of the unit at the place, up to some row, stand in an array of the caller
+pub record GivesFirstRows (p : Place) (skip : ℕ) (old new : List GimliRow) : Type 0 where
+  pub header : Header
+  pub events : List Event
+  pub unit : HasEvents p header events
+  pub begun : Begun events skip old new
+
+-- these, or nothing was written
+abbrev pub GivesFirstRowsOrNone : Place → ℕ → List GimliRow → List GimliRow → Type 0
+GivesFirstRowsOrNone p skip old new = GivesFirstRows p skip old new ⊎ (new ≡ old)

@@ -3,7 +3,7 @@
 ghost use Rattle.std.specs.Prelude.{◌≡◌, ◌≢◌, false};
 ghost use Rattle.gimli_core.specs.Numbers.{is_address_size};
 ghost use Rattle.gimli_c.specs.Place.{place};
-ghost use Rattle.gimli_c.specs.Run.{GivesRowsOrNone};
+ghost use Rattle.gimli_c.specs.Run.{GivesFirstRowsOrNone, GivesRowsOrNone};
 
 use crate::place::program_at;
 use crate::row::GimliRow;
@@ -13,7 +13,7 @@ use std::alloc::Global;
 
 /// Runs the program of the unit at an offset. Its rows from the `skip`-th on, from 0, go into `rows`, as far as there is
 /// room; `count` is how many rows it has in all. The first fault ends the run: its number is answered, and the rows before
-/// it are there. For `address_size` and the order see `gimli_line_unit`.
+/// it are there. Where memory is missing, `count` is 0, and the first rows may be there. For `address_size` and the order see `gimli_line_unit`.
 #[unsafe(no_mangle)]
 pub extern "C" fn gimli_line_rows(
     alloc: Global,
@@ -27,6 +27,9 @@ pub extern "C" fn gimli_line_rows(
 ) -> u32
     ensures rows { result ≢ OUT_OF_MEMORY → GivesRowsOrNone
         (place section.now big address_size offset) skip rows.old rows.new count.new result }
+    ensures first_rows { result ≡ OUT_OF_MEMORY → GivesFirstRowsOrNone
+        (place section.now big address_size offset) skip rows.old rows.new }
+    ensures no_count { result ≡ OUT_OF_MEMORY → count.new ≡ 0 }
     ensures size { is_address_size address_size ≡ false → result ≡ UNSUPPORTED_ADDRESS_SIZE }
 {
     *count = 0;

@@ -1,11 +1,11 @@
 //! The run of a program, up to its first fault.
 
-ghost use Rattle.std.specs.Prelude.{List, true, false, ◌≡◌, ◌≢◌, ◌<◌, ◌≤◌, ◌^◌, ◌-◌, ◌∷◌, [], Some, IfErr, IfNone, IfOk, IfSome, OnOk, length, set};
+ghost use Rattle.std.specs.Prelude.{List, true, false, ◌≡◌, ◌≢◌, ◌<◌, ◌≤◌, ◌^◌, ◌-◌, ◌∷◌, [], Some, IfErr, IfNone, IfOk, IfSome, OnErr, OnOk, length, set};
 ghost use Rattle.gimli_line.specs.run.Events.{row, fault};
 ghost use Rattle.gimli_line.specs.run.Rows.{events_left, files_at_end};
 ghost use Rattle.gimli_line.specs.run.Sequences.{events_of};
 ghost use Rattle.gimli_line.specs.run.EventsWithFiles.{EventWithFiles, EventsWithFiles};
-ghost use Rattle.gimli_c.specs.Run.{rows_of, Copied};
+ghost use Rattle.gimli_c.specs.Run.{rows_of, Begun, Copied};
 ghost use Rattle.gimli_c.specs.Seen.{row_seen};
 ghost use Rattle.gimli_c.specs.Status.{fault_status};
 
@@ -51,8 +51,10 @@ pub(crate) fn copy_rows<R: Reader>(
     requires { length (rows_of (events_of (events_left rows.old))) < 2 ^ 64 }
     ensures ok { IfOk result (λ run.
         Copied (events_of (events_left rows.old)) skip room.old room.new run.count run.fault) }
+    ensures fault { IfOk result (λ run. run.fault ≢ Some Error.OutOfMemory) }
     ensures files { OnOk result (files_at_end rows.new ≡ files_at_end rows.old) }
     ensures err { IfErr result (λ e. e ≡ Error.OutOfMemory) }
+    ensures begun { OnErr result (Begun (events_of (events_left rows.old)) skip room.old room.new) }
 {
     let mut count = 0;
     'rows: loop {

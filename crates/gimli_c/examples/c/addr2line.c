@@ -1,6 +1,6 @@
 /* Prints which row of a program's line information an address belongs to, and the next one.
  *
- *   objcopy -O binary --only-section=.debug_line program line.bin       (for an executable; see run.sh)
+ *   objcopy --dump-section .debug_line=line.bin program copy            (for an executable; see run.sh)
  *   addr2line line.bin ADDRESS..                                        the two rows, by linetool's numbers, or none
  *   addr2line line.bin                                                  every row of every unit
  *

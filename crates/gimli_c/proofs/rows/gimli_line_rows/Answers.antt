@@ -13,3 +13,11 @@ returns-clause-rows c = λ not_memory. inl (record {
   copied = c.in-Ok-copy_rows.ensures.ok;
   status_is = c.fault_status.ensures;
 })
+
+pub returns-in-Err-copy_rows-clause-first_rows : goal.returns-in-Err-copy_rows-clause-first_rows
+returns-in-Err-copy_rows-clause-first_rows c = λ memory. inl (record {
+  header = c.in-Ok.program.meaning;
+  events = events_of (events_left c.rows.result);
+  unit = has_events _ _ _ _ c.in-Ok.ensures.unit c.in-Ok.ensures.notation c.rows.ensures.events;
+  begun = c.in-Err-copy_rows.ensures.begun;
+})

@@ -2,7 +2,7 @@ use Rattle.std.proofs.Common.{refl, ap, ◌∙◌, ◌<◌, ◌+◌, ◌^◌, ar
 use Rattle.std.specs.Prelude.{Some, None}
 use Rattle.gimli_line.specs.run.Sequences.{events_of}
 use Rattle.gimli_c.specs.Run.{rows_of, fault_of}
-use Rattle.gimli_c.proofs.Runs.{at_start, one_more, at_end, counted}
+use Rattle.gimli_c.proofs.Runs.{at_start, one_more, at_end, stopped, counted}
 use Rattle.gimli_c.proofs.run.copy_rows.Goals as goal
 
 pub rows-init : goal.rows-init
@@ -18,6 +18,9 @@ pub returns-in-Err-clause-ok : goal.returns-in-Err-clause-ok
 returns-in-Err-clause-ok g c =
     let next = c.in-Err.ensures.fault (c.is_memory.ensures.other c.if-is_memory.false) in
     at_end _ _ _ _ _ _ (Some c.in-Err.e) c.rows.invariant.way (ap rows_of next) (ap fault_of next)
+
+pub returns-then-is_memory-clause-begun : goal.returns-then-is_memory-clause-begun
+returns-then-is_memory-clause-begun g c = stopped _ _ _ _ _ _ c.rows.invariant.way
 
 pub overflow_add-count : goal.overflow_add-count
 overflow_add-count g c =
