@@ -342,9 +342,11 @@ fn first_refusal<R: Reader>(alloc: Global, section: &DebugLine<R>) -> Option<Err
     section.program(alloc, offset, 4, None, None).err()
 }
 
-/// A section over slices has no bytes by default, and no unit stands there.
+/// A reader over a slice and a section over slices have no bytes by default, and no unit stands there.
 #[test]
 fn default_sections(rt: HostRuntime) {
+    let empty = EndianSlice::new(&[], LittleEndian);
+    check_equal(&rt, EndianSlice::<LittleEndian>::default(), empty);
     let section = DebugLine::<&[u8]>::default();
     check_equal(&rt, section.reader().len(), 0);
     let lent = section.borrow(|bytes| EndianSlice::new(bytes, LittleEndian));

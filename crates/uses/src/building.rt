@@ -35,7 +35,7 @@ pub fn one_file(alloc: Global) -> Result<LineProgram>
     )
 }
 
-/// A row of a file: its offset from the address of the sequence, and its line.
+/// A row: its offset from the address of the sequence, and its line.
 pub struct BuiltPlace {
     /// Bytes from the address of the sequence.
     pub offset: u64,
@@ -43,10 +43,11 @@ pub struct BuiltPlace {
     pub line: u64,
 }
 
-/// Adds a sequence at an address: a row for each place, and an end. Says whether each of them could be built; what
-/// was built before one that couldn't stays. Refused by `OutOfMemory` alone.
+/// Adds a sequence of a file at an address: a row for each place, and an end. Says whether each of them could be built;
+/// what was built before one that couldn't stays. Refused by `OutOfMemory` alone.
 pub fn add_sequence(
     program: &mut LineProgram,
+    file: FileId,
     address: u64,
     places: &[BuiltPlace],
     length: u64,
@@ -58,6 +59,7 @@ pub fn add_sequence(
     program.set_address(Address::Constant(address))?;
     for place in places {
         let row = program.row();
+        row.file = file;
         row.address_offset = place.offset;
         row.line = place.line;
         if !program.can_generate_row() {

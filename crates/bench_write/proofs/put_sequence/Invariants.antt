@@ -1,4 +1,4 @@
-use Rattle.std.proofs.Common.{◌≡◌, [], OnOk, IfOk, ℕ, ◌+◌, ◌-◌, ◌*◌, ◌<◌, ◌≤◌, length}
+use Rattle.std.proofs.Common.{[]}
 use Rattle.gimli_build.specs.Conditions.{CanWrite}
 use Rattle.bench_write.proofs.put_sequence.Given as goal
 
