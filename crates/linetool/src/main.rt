@@ -5,10 +5,14 @@
 mod tests;
 
 use line_commands::Refusal;
+use std::env::{Env, FillError};
 use std::fs::File;
 use std::io::BufWriter;
 use std::process::ExitCode;
-use std::{env, io};
+use std::{io, str};
+
+/// The most bytes of one word that Linux hands to a program.
+const LONGEST_WORD: usize = 131_072;
 
 fn main(rt: HostRuntime) -> ExitCode {
     let status = match start(&rt) {
@@ -20,14 +24,32 @@ fn main(rt: HostRuntime) -> ExitCode {
 
 /// Runs on the words after the program's name, and answers the status of the program.
 fn start(rt: &HostRuntime) -> io::Result<u8> {
-    let arguments: Vec<String> = env::args(rt)?.collect(rt.alloc())?;
+    let arguments = arguments(rt)?;
     let mut words = Vec::new(rt.alloc());
-    for word in arguments.iter().skip(1) {
+    for word in &arguments {
         words.push(word.as_str())?;
     }
     let file = open_file(rt, &words);
     let mut out = BufWriter::new(rt.alloc(), rt.stdout())?;
     Ok(line_commands::run(rt.alloc(), &words, file, &mut out, &mut rt.stderr()))
+}
+
+/// The words after the program's name. One that isn't UTF-8 is taken for an empty word, which is no command, no number
+/// and the name of no file.
+fn arguments(rt: &HostRuntime) -> io::Result<Vec<String>> {
+    let mut room = Vec::new(rt.alloc());
+    room.resize(LONGEST_WORD, 0u8)?;
+    let mut arguments = Vec::new(rt.alloc());
+    for i in 1..usize::MAX {
+        let length = match rt.arg(i, &mut room) {
+            Ok(length) => length,
+            Err(FillError::TooLong) => 0,
+            Err(FillError::NotPresent) => break,
+        };
+        let word = str::from_utf8(&room[..length]).unwrap_or("");
+        arguments.push(String::from_str(rt.alloc(), word)?)?;
+    }
+    Ok(arguments)
 }
 
 /// The file that the second word names, where a command needs it and it can be opened.
