@@ -26,10 +26,18 @@ pub(crate) fn parse_order(word: &str) -> Result<RunTimeEndian, Fault> {
 pub(crate) fn parse_target(words: &[&str]) -> Result<Target, Fault> {
     match words {
         ["vec"] => Ok(Target::Vector),
-        ["pieces", "1"] => Ok(Target::Pieces(PieceSize::One)),
-        ["pieces", "4"] => Ok(Target::Pieces(PieceSize::Four)),
-        ["pieces", "16"] => Ok(Target::Pieces(PieceSize::Sixteen)),
+        ["pieces", size] => Ok(Target::Pieces(parse_piece_size(size)?)),
         ["array", count] => parse_array(count),
+        _ => Err(Fault::Script),
+    }
+}
+
+/// The size of pieces.
+fn parse_piece_size(word: &str) -> Result<PieceSize, Fault> {
+    match number(word)? {
+        1 => Ok(PieceSize::One),
+        4 => Ok(PieceSize::Four),
+        16 => Ok(PieceSize::Sixteen),
         _ => Err(Fault::Script),
     }
 }

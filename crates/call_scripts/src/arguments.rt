@@ -75,7 +75,7 @@ impl<'a> Arguments<'a> {
         if self.rest.is_empty() {
             self.is_bad = true;
         }
-        match self.rest.split_once(' ') {
+        match self.rest.split_once(char::is_whitespace) {
             Some((word, rest)) => {
                 self.rest = rest.trim_start();
                 word
@@ -116,12 +116,8 @@ impl<'a> Arguments<'a> {
 
     /// A number of 128 bits.
     pub fn u128(&mut self) -> u128 {
-        let word = self.word();
-        let number = match word.strip_prefix("0x") {
-            Some(digits) => u128::from_str_radix(digits, 16),
-            None => word.parse::<u128>(),
-        };
-        self.said(number.ok(), 0)
+        let number = parse_wide(self.word());
+        self.said(number, 0)
     }
 
     /// A number of bytes.
@@ -194,9 +190,19 @@ impl<'a> Arguments<'a> {
     }
 }
 
-/// Whether a word is bytes, or a `-` for none. No call has such a name.
+/// A number of 128 bits, as the shorter ones are read.
+fn parse_wide(word: &str) -> Option<u128> {
+    match word.strip_prefix("0x") {
+        Some(digits) if digits.starts_with('+') => None,
+        Some(digits) => u128::from_str_radix(digits, 16).ok(),
+        None if word.starts_with('+') => None,
+        None => word.parse::<u128>().ok(),
+    }
+}
+
+/// Whether a word is bytes, which a `*` repeats, or a `-` for none. No call has such a name.
 pub fn is_bytes(word: &str) -> bool {
-    word == "-" || word.bytes().all(|b| b == b'*' || b.is_ascii_hexdigit())
+    word == "-" || word.contains('*') || word.bytes().all(|b| b.is_ascii_hexdigit())
 }
 
 /// The order that the words of a command name.

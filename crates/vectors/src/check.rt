@@ -45,12 +45,13 @@ fn is_as_stated(row: &Row<'_>, got: &[u8]) -> bool {
     }
 }
 
-/// Whether two texts have the same lines, where blanks at the end of a line, and blank lines at the end, don't count.
+/// Whether two texts have the same lines, where blank lines at the end of what is expected don't count.
 fn has_same_lines(expected: &str, got: &str) -> bool {
-    let mut lines = got.trim_end().lines();
-    for expected in expected.trim_end().lines() {
+    let mut lines = got.lines();
+    for expected in expected.lines() {
         match lines.next() {
-            Some(line) if line.trim_end() == expected.trim_end() => {}
+            Some(line) if line == expected => {}
+            None if expected.trim().is_empty() => {}
             _ => return false,
         }
     }
@@ -65,7 +66,7 @@ fn print_row<O: Write>(row: &Row<'_>, got: &[u8], out: &mut O) -> io::Result<()>
     } else {
         "expected"
     };
-    let expected = row.expected.as_str().trim_end();
+    let expected = row.expected.as_str().trim_end_matches('\n');
     writeln!(out, "== {name}\n{rule}\n{expected}\ngot")?;
     out.write_all(got)
 }

@@ -3,8 +3,8 @@
 use conversion_text::Sections;
 use std::{fs, io};
 
-/// How many words of a conversion stand before its files of texts.
-const WORDS: usize = 7;
+/// How many words of a conversion stand before its files of texts, or the parts that are their bytes.
+pub const WORDS: usize = 7;
 
 /// Sections that were read of files.
 #[derive(Drop)]

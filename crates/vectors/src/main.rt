@@ -29,8 +29,7 @@
 //!
 //! The commands are `write`, `read`, `bytes` and `pieces`, which take a script, `header`, `instructions`, `convert`,
 //! `convert_sequences`, and those of `linetool`. A line `:= NAME BYTES` defines a part, for which `@NAME` then stands; `unit(..)` puts a unit length
-//! before its bytes, and `N*HH` is N times a byte. Blanks at the end of a line, and blank lines at the end of the
-//! output, don't count.
+//! before its bytes, and `N*HH` is N times a byte. Blank lines at the end of the expected output don't count.
 #![tactic(auto)]
 
 mod again;

@@ -15,8 +15,8 @@ pub enum Order {
 #[derive(Drop)]
 struct Part<'t> {
     name: &'t str,
-    little: Vec<u8>,
-    big: Vec<u8>,
+    little: Expansion,
+    big: Expansion,
 }
 
 /// The parts that were defined so far.
@@ -29,28 +29,37 @@ impl<'t> Parts<'t> {
         Parts(Vec::new(alloc))
     }
 
-    /// Defines a part by its name and its bytes. False where they are none.
+    /// Defines a part by its name and its bytes. False where they are none, or the part before isn't ended.
     pub fn define(&mut self, alloc: Global, line: &'t str) -> Result<bool, AllocError> {
-        let (name, text) = line.split_once(' ').unwrap_or((line, ""));
-        let little = self.expand(alloc, text, Order::Little)?;
-        let big = self.expand(alloc, text, Order::Big)?;
-        let (Some(little), Some(big)) = (little, big) else {
-            return Ok(false);
-        };
-        self.0.push(Part { name, little, big })?;
-        Ok(true)
+        let (name, text) = line.split_once(char::is_whitespace).unwrap_or((line, ""));
+        let little = Expansion::new(alloc, Order::Little);
+        let big = Expansion::new(alloc, Order::Big);
+        Ok(self.are_ended() && self.put_part(alloc, Part { name, little, big }, text)?)
     }
 
     /// Adds bytes to the last part. False where there is no part, or they are no bytes.
     pub fn extend_last(&mut self, alloc: Global, text: &str) -> Result<bool, AllocError> {
-        let little = self.expand(alloc, text, Order::Little)?;
-        let big = self.expand(alloc, text, Order::Big)?;
-        let (Some(little), Some(big), Some(part)) = (little, big, self.0.last_mut()) else {
-            return Ok(false);
-        };
-        part.little.extend_from_slice(&little)?;
-        part.big.extend_from_slice(&big)?;
-        Ok(true)
+        match self.0.pop() {
+            Some(part) => self.put_part(alloc, part, text),
+            None => Ok(false),
+        }
+    }
+
+    /// Adds bytes to a part, and puts it last. The bytes may name the parts before it.
+    fn put_part(&mut self, alloc: Global, part: Part<'t>, text: &str) -> Result<bool, AllocError> {
+        let mut part = part;
+        let known = part.little.put_text(alloc, self, text)?
+            && part.big.put_text(alloc, self, text)?;
+        self.0.push(part)?;
+        Ok(known)
+    }
+
+    /// Whether the last part has no unit that isn't ended.
+    pub fn are_ended(&self) -> bool {
+        match self.0.last() {
+            Some(part) => part.little.is_ended() && part.big.is_ended(),
+            None => true,
+        }
     }
 
     /// The bytes that a text says; None where it has a word that says none.
@@ -60,25 +69,20 @@ impl<'t> Parts<'t> {
         text: &str,
         order: Order,
     ) -> Result<Option<Vec<u8>>, AllocError> {
-        let mut expansion = Expansion {
-            order,
-            bytes: Vec::new(alloc),
-            before_unit: None,
-        };
-        for word in text.split_whitespace() {
-            if !expansion.put_word(alloc, self, word)? {
-                return Ok(None);
-            }
+        let mut expansion = Expansion::new(alloc, order);
+        if expansion.put_text(alloc, self, text)? && expansion.is_ended() {
+            Ok(Some(expansion.bytes))
+        } else {
+            Ok(None)
         }
-        Ok(expansion.finish())
     }
 
     /// The bytes of the part that was defined last under a name.
     fn bytes_of(&self, name: &str, order: Order) -> Option<&[u8]> {
         let part = self.0.iter().rev().find(|part| part.name == name)?;
         match order {
-            Order::Little => Some(part.little.as_slice()),
-            Order::Big => Some(part.big.as_slice()),
+            Order::Little => Some(part.little.bytes.as_slice()),
+            Order::Big => Some(part.big.bytes.as_slice()),
         }
     }
 }
@@ -94,6 +98,35 @@ struct Expansion {
 }
 
 impl Expansion {
+    /// No bytes.
+    fn new(alloc: Global, order: Order) -> Expansion {
+        Expansion {
+            order,
+            bytes: Vec::new(alloc),
+            before_unit: None,
+        }
+    }
+
+    /// Whether each unit is ended.
+    fn is_ended(&self) -> bool {
+        self.before_unit.is_none()
+    }
+
+    /// Adds what the words of a text say. False where one says no bytes.
+    fn put_text(
+        &mut self,
+        alloc: Global,
+        parts: &Parts<'_>,
+        text: &str,
+    ) -> Result<bool, AllocError> {
+        for word in text.split_whitespace() {
+            if !self.put_word(alloc, parts, word)? {
+                return Ok(false);
+            }
+        }
+        Ok(true)
+    }
+
     /// Adds what a word says. False where it says no bytes.
     fn put_word(
         &mut self,
@@ -151,13 +184,5 @@ impl Expansion {
         bytes.extend_from_slice(&self.bytes)?;
         self.bytes = bytes;
         Ok(true)
-    }
-
-    /// The bytes; None where a unit isn't ended.
-    fn finish(self) -> Option<Vec<u8>> {
-        match self.before_unit {
-            None => Some(self.bytes),
-            Some(_) => None,
-        }
     }
 }

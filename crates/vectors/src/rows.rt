@@ -1,5 +1,6 @@
 //! Files of rows as they are read.
 
+use crate::files::WORDS;
 use crate::parts::{Order, Parts};
 use std::alloc::{AllocError, Global};
 
@@ -55,7 +56,7 @@ pub fn parse_rows<'t>(alloc: Global, text: &'t str) -> Result<Vec<Row<'t>>, Faul
             return Err(Fault::Line(count));
         }
     }
-    if !file.end_row()? {
+    if !file.end_row()? || !file.parts.are_ended() {
         return Err(Fault::Line(count));
     }
     Ok(file.rows)
@@ -97,15 +98,23 @@ impl<'t> RowsReader<'t> {
     /// Takes a line. False where it can't stand there.
     fn take_line(&mut self, line: &'t str) -> Result<bool, AllocError> {
         if let Some(name) = line.strip_prefix("== ") {
-            return Ok(self.end_row()? && self.begin_row(name.trim()));
+            return Ok(self.end_row()? && self.parts.are_ended() && self.begin_row(name.trim()));
         }
         if let Some(part) = line.strip_prefix(":= ") {
-            return self.parts.define(self.alloc, part.trim());
+            return self.take_part(part.trim());
         }
         match self.place() {
             Place::Head => self.take_head(line.trim()),
             Place::Input(words) => self.take_input(words, line),
             Place::Output => self.take_output(line),
+        }
+    }
+
+    /// Takes a line that defines a part. False in an output, whose lines are all that a command gives.
+    fn take_part(&mut self, part: &'t str) -> Result<bool, AllocError> {
+        match self.place() {
+            Place::Head | Place::Input(_) => self.parts.define(self.alloc, part),
+            Place::Output => Ok(false),
         }
     }
 
@@ -142,7 +151,7 @@ impl<'t> RowsReader<'t> {
         match (line.strip_prefix('>'), &mut self.draft) {
             (Some(words), Some(draft)) => {
                 draft.words = Some(words.trim());
-                Ok(true)
+                Ok(self.parts.are_ended())
             }
             _ if line.is_empty() || line.starts_with("--") => Ok(true),
             _ => self.parts.extend_last(self.alloc, line),
@@ -210,7 +219,8 @@ impl<'t> RowsReader<'t> {
     }
 }
 
-/// The bytes of the parts that the words of a command name; None where there is no such part.
+/// The bytes of the parts that a conversion names after its other words; None where there is no such part. Another
+/// command names none.
 fn named_parts(
     alloc: Global,
     parts: &Parts<'_>,
@@ -218,7 +228,10 @@ fn named_parts(
     order: Order,
 ) -> Result<Option<Vec<Vec<u8>>>, AllocError> {
     let mut named = Vec::new(alloc);
-    for word in words.split_whitespace() {
+    if !converts(words) {
+        return Ok(Some(named));
+    }
+    for word in words.split_whitespace().skip(WORDS + 1) {
         if word.starts_with('@') {
             match parts.expand(alloc, word, order)? {
                 Some(bytes) => named.push(bytes)?,
@@ -236,6 +249,14 @@ fn push_line(text: &mut String, line: &str) -> Result<bool, AllocError> {
     Ok(true)
 }
 
+/// Whether these words are a conversion.
+fn converts(words: &str) -> bool {
+    match words.split_whitespace().next() {
+        Some(word) => matches!(word, "convert" | "convert_sequences"),
+        None => false,
+    }
+}
+
 /// Whether the command with these words takes a script.
 fn takes_script(words: &str) -> bool {
     match words.split_whitespace().next() {
@@ -244,11 +265,10 @@ fn takes_script(words: &str) -> bool {
     }
 }
 
-/// The order of bytes that the words of a command name, little if none.
+/// The order of bytes that the word after a command names, little if none.
 fn order_of(words: &str) -> Order {
-    if words.split_whitespace().any(|word| word == "big") {
-        Order::Big
-    } else {
-        Order::Little
+    match words.split_whitespace().nth(1) {
+        Some("big") => Order::Big,
+        _ => Order::Little,
     }
 }

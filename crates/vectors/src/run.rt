@@ -1,6 +1,7 @@
 //! What the command of a row gives.
 
 use crate::again::watch_rows;
+use crate::files::split_words;
 use crate::output::print_line;
 use crate::rows::{Input, Row};
 use conversion_text::Sections;
@@ -91,10 +92,11 @@ fn run_over(
     }
 }
 
-/// The words that name no part.
+/// The words of a conversion that name no part; parts stand after the others.
 fn without_parts<'w>(alloc: Global, words: &[&'w str]) -> Result<Vec<&'w str>, AllocError> {
-    let mut others = Vec::new(alloc);
-    for word in words {
+    let (words, named) = split_words(words);
+    let mut others = Vec::from_slice(alloc, words)?;
+    for word in named {
         if !word.starts_with('@') {
             others.push(*word)?;
         }
