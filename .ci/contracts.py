@@ -1,8 +1,9 @@
 #!/usr/bin/env python3
-"""The public functions of a crate with their clauses, as its CALLING page quotes them.
+"""The public functions of a crate with their clauses, as its CALLING page quotes them, and docs/API.md, the list of all.
 
-  .ci/contracts.py CRATE     prints them
-  .ci/contracts.py --write   puts them into each CALLING page, in the place of the text block under `## Contracts`
+  .ci/contracts.py CRATE     prints the functions of a crate with their clauses
+  .ci/contracts.py --write   puts them into each CALLING page, in the place of the text block under `## Contracts`,
+                             and writes docs/API.md
   .ci/contracts.py --check   says which page differs from its crate, with status 1 if one does
 """
 import glob
@@ -124,12 +125,114 @@ def pages(write):
     return wrong
 
 
+# ---- docs/API.md
+
+LIBRARIES = ("gimli_line", "gimli_lookup", "gimli_write", "gimli_build", "gimli_bytes", "gimli_core", "gimli_c", "elf_sections")
+HEAD = """# Every public type and call
+
+By crate and type, each with the first sentence of its comment. The pages behind the names say how to call them, and quote
+their contracts. `.ci/contracts.py --write` makes this list, and the gate refuses one that differs from the sources.
+"""
+
+
+def exported(root):
+    """The names that a crate's root gives on of its own modules, and those modules that are public themselves."""
+    modules = set(re.findall(r"^(?:pub )?mod ([a-z_0-9]+);", root, re.M))
+    names = set()
+    for path, name, group in re.findall(r"^pub use (?:crate::)?([a-z_0-9:]+?)::(?:(\w+)|\{([^}]*)\});", root, re.M):
+        if path.split("::")[0] in modules:
+            names |= set(re.findall(r"\w+", name + group))
+    return names, set(re.findall(r"^pub mod ([a-z_0-9]+);", root, re.M))
+
+
+def first_sentence(text, start):
+    """The first sentence of the comment that stands before an item."""
+    words = []
+    for line in reversed(text[:start].rstrip("\n").split("\n")):
+        line = line.strip()
+        if line.startswith("///"):
+            words.insert(0, line[3:].strip())
+        elif not line.startswith("#["):
+            break
+    paragraph = " ".join(words[: words.index("")] if "" in words else words)
+    paragraph = re.sub(r"\[([^\]]*)\]\([^)]*\)", r"\1", paragraph)
+    return re.split(r"(?<=[.:]) (?=[A-Z`(])", paragraph)[0].removesuffix(":")
+
+
+ITEM = re.compile(
+    r"^( *)(pub )?(?:const )?(?:unsafe )?(?:extern \"C\" )?(struct|enum|trait|type|fn) ([A-Za-z_0-9]+)", re.M
+)
+
+
+def items(crate):
+    """The public types and calls of a crate: a list of (module, type or None, kind, name, first sentence)."""
+    base = os.path.join(TOP, "crates", crate, "src")
+    names, open_modules = exported(open(base + "/lib.rt").read())
+    found = []
+    for path in sorted(glob.glob(base + "/**/*.rt", recursive=True)):
+        text = open(path).read()
+        module = os.path.relpath(path, base)[:-3]
+        is_open = module in open_modules
+        bare = re.sub(r"//[^\n]*", lambda m: " " * len(m[0]), text)
+        blocks = []
+        for m in re.finditer(r"^(?:pub )?(impl|trait)\b([^{]*)\{", bare, re.M):
+            header = squeezed(m.group(2))
+            of_trait = " for " in header
+            blocks.append((m.start(), end_of(bare, m.end() - 1, "{", "}"), m.group(1), owner_of(header), of_trait))
+        for m in ITEM.finditer(bare):
+            indent, public, kind, name = m.groups()
+            inside = [b for b in blocks if b[0] < m.start() < b[1]]
+            if inside:
+                _, _, block, owner, of_trait = inside[-1]
+                if len(indent) != 4 or kind != "fn" or of_trait or owner not in names:
+                    continue
+                if block == "impl" and not public:
+                    continue
+                found.append((module, owner, kind, name, first_sentence(text, m.start())))
+            elif not indent and public and (name in names or is_open):
+                found.append((module, None, kind, name, first_sentence(text, m.start())))
+    return found
+
+
+def line_of(crate, name, sentence):
+    return f"- [`{name}`](../crates/{crate}/CALLING.md): {sentence}"
+
+
+def listing(crate):
+    """The lines of one crate: a heading for each type with its calls, then the functions, and then the laws."""
+    title = open(os.path.join(TOP, "crates", crate, "src", "lib.rt")).readline().removeprefix("//!").strip()
+    lines = [f"## [`{crate}`](../crates/{crate}/CALLING.md)", "", title, ""]
+    all_items = items(crate)
+    for _, _, kind, name, sentence in (it for it in all_items if it[1] is None and it[2] != "fn"):
+        lines.append(line_of(crate, f"{kind} {name}", sentence))
+        calls = [it for it in all_items if it[1] == name]
+        lines += ["  " + line_of(crate, f"{name}::{call}", told) for _, _, _, call, told in calls]
+    alone = [it for it in all_items if it[1] is None and it[2] == "fn"]
+    for module, _, _, name, sentence in alone:
+        is_law = module.endswith("laws")
+        lines.append(line_of(crate, f"{module}::{name}" if is_law else f"fn {name}", sentence))
+    return "\n".join(lines)
+
+
+def api_differs(write):
+    path = os.path.join(TOP, "docs", "API.md")
+    new = "\n".join([HEAD, "\n\n".join(map(listing, LIBRARIES)), ""])
+    old = open(path).read() if os.path.exists(path) else ""
+    if write and new != old:
+        open(path, "w").write(new)
+    return new != old
+
+
 if sys.argv[1] == "--write":
     pages(True)
+    api_differs(True)
 elif sys.argv[1] == "--check":
     stale = pages(False)
     for crate in stale:
         print(f"crates/{crate}/CALLING.md quotes other clauses than the crate has")
-    sys.exit(1 if stale else 0)
+    listed = not api_differs(False)
+    if not listed:
+        print("docs/API.md lists other types and calls than the crates have")
+    sys.exit(0 if listed and not stale else 1)
 else:
     print(functions(sys.argv[1]))

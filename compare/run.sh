@@ -1,7 +1,8 @@
 #!/usr/bin/env bash
 # Compares the rows that linetool prints with those of llvm-dwarfdump and readelf, over small C and C++ programs built by
 # each compiler at hand, in each version from 2 to 5, both formats, with and without optimisation, and with a section for
-# each function. Outside the gate. It needs python3, objcopy, readelf, llvm-dwarfdump and at least one of gcc and clang;
+# each function; and what lines says of addresses and units with addr2line, llvm-symbolizer and llvm-dwarfdump, where these are
+# there. Outside the gate. It needs python3, objcopy, readelf, llvm-dwarfdump and at least one of gcc and clang;
 # on Debian: apt-get install binutils llvm gcc g++ clang python3.
 #
 # A command that a compiler can't do (clang has no 64-bit format in version 2) is passed over, and counted.
@@ -14,6 +15,10 @@ done
 program=$top/crates/linetool/out/linetool
 if [ ! -x "$program" ]; then
     (cd "$top/crates/linetool" && rt run -- demo >/dev/null)
+fi
+lines=$top/crates/lines/out/lines
+if [ ! -x "$lines" ]; then
+    (cd "$top/crates/lines" && rt run -- --version >/dev/null)
 fi
 work=$(mktemp -d)
 trap 'rm -rf "$work"' EXIT
@@ -55,3 +60,4 @@ for version in 2 3 4 5; do
 done
 echo "$built programs built, $passed_over passed over"
 python3 "$here/compare.py" "$program" "$work"
+python3 "$here/compare_lines.py" "$lines" "$work"

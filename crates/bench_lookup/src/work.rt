@@ -1,10 +1,11 @@
 //! The work that is measured.
 
-use gimli_core::{DebugLineOffset, Error, Reader, Result};
+use gimli_core::{DebugLineOffset, Error, Reader, ReaderOffset, Result};
 use gimli_line::{
     CompleteLineProgram, DebugLine, IncompleteLineProgram, LineProgram, LineRows, LineSequence,
+    LineUnit,
 };
-use gimli_lookup::Lookup;
+use gimli_lookup::{Lookup, SectionLookup, find_in_run};
 use std::alloc::Global;
 
 /// How many addresses are found each time.
@@ -34,13 +35,20 @@ pub fn do_work<R: Reader>(
     work: &str,
     times: u64,
 ) -> Result<Tally> {
-    if work == "find" {
-        let lookup = Lookup::new(section.program(alloc, offset, 8, None, None)?)?;
-        return Ok(find_times(&lookup, times));
+    match work {
+        "find" => {
+            let lookup = Lookup::new(section.program(alloc, offset, 8, None, None)?)?;
+            return Ok(find_times(&lookup, times));
+        }
+        "section_find" => return find_times_in_section(alloc, section, times),
+        _ => {}
     }
     let mut tally = Tally::default();
     for _ in 0..times {
-        tally = tally_of(section.program(alloc, offset, 8, None, None)?, work)?;
+        tally = match work {
+            "section" => tally_of_section(alloc, section)?,
+            _ => tally_of(section.program(alloc, offset, 8, None, None)?, work)?,
+        };
     }
     Ok(tally)
 }
@@ -52,6 +60,7 @@ fn tally_of<R: Reader>(program: IncompleteLineProgram<R>, work: &str) -> Result<
         "sequences" => tally_of_cut(program),
         "resumed" => tally_of_resumed(program),
         "new" => tally_of_new(program),
+        "find_in_run" => tally_of_find_in_run(program),
         _ => Err(Error::UnsupportedOffset),
     }
 }
@@ -120,6 +129,26 @@ fn add_rows_of<R: Reader>(
     add_rows(program.resume_from(sequence), tally)
 }
 
+/// The units of a lookup over a section that is made.
+fn tally_of_section<R: Reader>(alloc: Global, section: &DebugLine<R>) -> Result<Tally> {
+    let lookup = SectionLookup::new(section, alloc, 8, 0)?;
+    let mut tally = Tally::default();
+    for unit in lookup.units() {
+        let offset = unit.offset();
+        tally.add(offset.0.into_u64());
+    }
+    Ok(tally)
+}
+
+/// The row that covers the address 0x1000, found in one run.
+fn tally_of_find_in_run<R: Reader>(program: IncompleteLineProgram<R>) -> Result<Tally> {
+    let mut tally = Tally::default();
+    if let Some((row, _)) = find_in_run(program, 0x1000)? {
+        tally.add(row.address());
+    }
+    Ok(tally)
+}
+
 // ---- addresses
 
 /// The addresses from the lowest start of a sequence on, and how many there are to the highest end.
@@ -162,6 +191,63 @@ fn find_all<R: Reader>(lookup: &Lookup<R>, lowest: u64, length: u64) -> Tally {
 
 /// The probes of finding each address.
 fn count_probes<R: Reader>(lookup: &Lookup<R>, lowest: u64, length: u64) -> u64 {
+    let mut probes: u64 = 0;
+    for place in 0..ADDRESSES {
+        let (_, count) = lookup.find_indexed_counted(address(lowest, length, place));
+        probes = probes.wrapping_add(count);
+    }
+    probes
+}
+
+/// The same over all units of a section that aren't refused.
+fn span_of_section<R: Reader>(alloc: Global, section: &DebugLine<R>) -> Result<(u64, u64)> {
+    let mut lowest = u64::MAX;
+    let mut highest = 0;
+    let mut units = section.units(alloc, 8);
+    for _ in 0..u64::MAX {
+        let Some(unit) = units.next()? else {
+            return Ok((lowest, u64::saturating_sub(highest, lowest)));
+        };
+        let LineUnit { offset: _, program } = unit;
+        if let Ok(program) = program {
+            let (_, sequences) = program.sequences()?;
+            let (start, length) = span(&sequences);
+            lowest = lowest.min(start);
+            highest = u64::max(highest, start.saturating_add(length));
+        }
+    }
+    Ok((lowest, 0))
+}
+
+/// Finds addresses at even distances so many times in a section. The probes are counted in one more time.
+fn find_times_in_section<R: Reader>(
+    alloc: Global,
+    section: &DebugLine<R>,
+    times: u64,
+) -> Result<Tally> {
+    let (lowest, length) = span_of_section(alloc, section)?;
+    let lookup = SectionLookup::new(section, alloc, 8, 0)?;
+    let mut tally = Tally::default();
+    for _ in 0..times {
+        tally = find_all_in_section(&lookup, lowest, length);
+    }
+    tally.probes = count_probes_in_section(&lookup, lowest, length);
+    Ok(tally)
+}
+
+/// Finds each address in a section.
+fn find_all_in_section<R: Reader>(lookup: &SectionLookup<R>, lowest: u64, length: u64) -> Tally {
+    let mut tally = Tally::default();
+    for place in 0..ADDRESSES {
+        if let Some(found) = lookup.find(address(lowest, length, place)) {
+            tally.add(found.row.address());
+        }
+    }
+    tally
+}
+
+/// The probes of finding each address in a section.
+fn count_probes_in_section<R: Reader>(lookup: &SectionLookup<R>, lowest: u64, length: u64) -> u64 {
     let mut probes: u64 = 0;
     for place in 0..ADDRESSES {
         let (_, count) = lookup.find_counted(address(lowest, length, place));

@@ -1,9 +1,9 @@
 //! Instructions one by one: what comes after the last and after a refusal, and what each does to a row by itself.
 
-use crate::check::{check, check_equal, check_equal_at};
+use crate::check::{check, check_at, check_equal, check_equal_at};
 use crate::units::{
-    HEADER, HEADER_OF_RANGE_12, HEADER_OF_TWO_FILES, file_count, flags, is_text, numbers, program,
-    slice, unit,
+    HEADER, HEADER_OF_RANGE_12, HEADER_OF_THREE_OPERATIONS, HEADER_OF_TWO_FILES, file_count, flags,
+    is_text, numbers, program, slice, unit,
 };
 use gimli_core::{Error, Reader, ReaderOffsetId, Result};
 use gimli_line::LineInstruction::{
@@ -136,6 +136,42 @@ fn nothing_behind_a_refused_instruction(rt: HostRuntime) {
     check_equal(
         &rt,
         steps_of_nothing_behind_a_refused_instruction(&rt, rt.alloc()),
+        Ok(()),
+    );
+}
+
+/// The first instruction of a unit is this special opcode. After it stands an extended instruction without its opcode,
+/// which is refused, and nothing after that.
+fn check_special<R: Reader>(rt: &impl Abort, alloc: Global, unit: R, opcode: u8) -> Result<()> {
+    let program = program(alloc, unit, 8)?;
+    let header = program.header();
+    let mut instructions = header.instructions();
+    let found = match instructions.next_instruction(header)? {
+        Some(LineInstruction::Special(found)) => found,
+        _ => 0,
+    };
+    check_equal(rt, found, opcode);
+    let refused = instructions.next_instruction(header);
+    check_at(rt, matches!(refused, Err(Error::UnexpectedEof(_))), opcode);
+    let end = instructions.next_instruction(header);
+    check_at(rt, matches!(end, Ok(None)), opcode);
+    Ok(())
+}
+
+/// Each special opcode takes its own byte alone, whatever stands after it.
+fn steps_of_special_opcodes_by_themselves(rt: &impl Abort, alloc: Global) -> Result<()> {
+    for opcode in 13..=255 {
+        let unit = unit(alloc, HEADER, &[opcode, 0, 0, 0])?;
+        check_special(rt, alloc, slice(&unit), opcode)?;
+    }
+    Ok(())
+}
+
+#[test]
+fn special_opcodes_by_themselves(rt: HostRuntime) {
+    check_equal(
+        &rt,
+        steps_of_special_opcodes_by_themselves(&rt, rt.alloc()),
         Ok(()),
     );
 }
@@ -348,6 +384,142 @@ fn one_instruction_executed(rt: HostRuntime) {
     check_equal(
         &rt,
         steps_of_one_instruction_executed(&rt, rt.alloc()),
+        Ok(()),
+    );
+}
+
+// ---- operations
+
+/// Programs of three operations, up to operation 2 of address 0, or of address 2 in the last; then a set address under
+/// a tombstone, or one that goes back. No advance after it moves the address or op_index, until an address is set that
+/// is one.
+const UNDER_TOMBSTONE: [Executed; 8] = [
+    (
+        &[2, 2, 0, 5, 2, 0xfe, 0xff, 0xff, 0xff],
+        4,
+        Ok(false),
+        [0, 2, 1, 1, 0, 0, 0],
+        STATEMENT,
+    ),
+    (
+        &[2, 2, 0, 5, 2, 0xff, 0xff, 0xff, 0xff, 2, 2],
+        4,
+        Ok(false),
+        [0, 2, 1, 1, 0, 0, 0],
+        STATEMENT,
+    ),
+    (
+        &[2, 2, 0, 5, 2, 0xfe, 0xff, 0xff, 0xff, 0x4b],
+        4,
+        Ok(true),
+        [0, 2, 1, 2, 0, 0, 0],
+        STATEMENT,
+    ),
+    (
+        &[2, 2, 0, 5, 2, 0xfe, 0xff, 0xff, 0xff, 8],
+        4,
+        Ok(false),
+        [0, 2, 1, 1, 0, 0, 0],
+        STATEMENT,
+    ),
+    (
+        &[2, 2, 0, 5, 2, 0xfe, 0xff, 0xff, 0xff, 9, 5, 0],
+        4,
+        Ok(false),
+        [0, 2, 1, 1, 0, 0, 0],
+        STATEMENT,
+    ),
+    (
+        &[2, 2, 0, 5, 2, 0xfe, 0xff, 0xff, 0xff, 9, 0, 0],
+        4,
+        Ok(false),
+        [0, 2, 1, 1, 0, 0, 0],
+        STATEMENT,
+    ),
+    (
+        &[
+            2, 2, 0, 5, 2, 0xfe, 0xff, 0xff, 0xff, 2, 2, 0, 5, 2, 16, 0, 0, 0,
+        ],
+        4,
+        Ok(false),
+        [16, 0, 1, 1, 0, 0, 0],
+        STATEMENT,
+    ),
+    (
+        &[2, 8, 0, 5, 2, 1, 0, 0, 0, 2, 2],
+        4,
+        Ok(false),
+        [2, 2, 1, 1, 0, 0, 0],
+        STATEMENT,
+    ),
+];
+
+fn steps_of_operations_under_a_tombstone(rt: &impl Abort, alloc: Global) -> Result<()> {
+    for executed in &UNDER_TOMBSTONE {
+        let unit = unit(alloc, HEADER_OF_THREE_OPERATIONS, executed.0)?;
+        check_executed(rt, alloc, slice(&unit), executed)?;
+    }
+    Ok(())
+}
+
+#[test]
+fn operations_under_a_tombstone(rt: HostRuntime) {
+    check_equal(
+        &rt,
+        steps_of_operations_under_a_tombstone(&rt, rt.alloc()),
+        Ok(()),
+    );
+}
+
+/// Programs, and op_index after them on a row of operation 2, where an instruction has one operation: each advance of
+/// the address sets it to 0, also one of no bytes.
+const ONE_OPERATION: [(&[u8], u64); 8] = [
+    (&[18], 0),
+    (&[2, 0], 0),
+    (&[2, 5], 0),
+    (&[8], 0),
+    (&[9, 0, 0], 0),
+    (&[0, 5, 2, 0, 0, 0, 0], 0),
+    (&[1], 2),
+    (&[3, 1], 2),
+];
+
+/// A program leaves this op_index of a row.
+fn check_operation<R: Reader>(
+    rt: &impl Abort,
+    alloc: Global,
+    unit: R,
+    row: LineRow,
+    (bytes, op_index): (&[u8], u64),
+) -> Result<()> {
+    let mut program = program(alloc, unit, 4)?;
+    let mut instructions = program.header().instructions();
+    let mut row = row;
+    execute_all(&mut row, &mut instructions, &mut program)?;
+    check_equal_at(rt, row.op_index(), op_index, bytes);
+    Ok(())
+}
+
+/// The row comes from a program of three operations, since no other has it.
+fn steps_of_row_of_several_operations_where_there_is_one(
+    rt: &impl Abort,
+    alloc: Global,
+) -> Result<()> {
+    let three = unit(alloc, HEADER_OF_THREE_OPERATIONS, &[2, 2])?;
+    let (_, row) = executed_by_unit(alloc, slice(&three), 4)?;
+    check_equal(rt, numbers(&row), [0, 2, 1, 1, 0, 0, 0]);
+    for operation in ONE_OPERATION {
+        let unit = unit(alloc, HEADER, operation.0)?;
+        check_operation(rt, alloc, slice(&unit), row, operation)?;
+    }
+    Ok(())
+}
+
+#[test]
+fn row_of_several_operations_where_there_is_one(rt: HostRuntime) {
+    check_equal(
+        &rt,
+        steps_of_row_of_several_operations_where_there_is_one(&rt, rt.alloc()),
         Ok(()),
     );
 }

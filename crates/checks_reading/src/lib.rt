@@ -17,6 +17,8 @@ mod instructions;
 #[cfg(test)]
 mod lookup;
 #[cfg(test)]
+mod many;
+#[cfg(test)]
 mod narrow;
 #[cfg(test)]
 mod readers;

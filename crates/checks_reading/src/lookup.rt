@@ -3,7 +3,7 @@
 use crate::check::{check, check_at, check_equal, check_equal_at};
 use crate::units::{DEMO_PROGRAM, HEADER, changed, cut_program, file_count, program, slice, unit};
 use gimli_core::{Error, Reader, Result};
-use gimli_line::{CompleteLineProgram, LineRow, LineSequence, ResumedLineRows};
+use gimli_line::{CompleteLineProgram, LineRow, LineSequence, ResumedLineRows, RowList};
 use gimli_lookup::Lookup;
 use std::alloc::{AllocError, Global};
 use std::process::Abort;
@@ -264,11 +264,11 @@ fn each_address_of_small_programs(rt: HostRuntime) {
 // ---- the rows that one run keeps
 
 /// A resumed sequence gives these rows, and no more.
-fn check_rows<R: Reader>(rt: &impl Abort, resumed: ResumedLineRows<'_, R>, kept: &[LineRow]) {
+fn check_rows<R: Reader>(rt: &impl Abort, resumed: ResumedLineRows<'_, R>, kept: &RowList) {
     let mut resumed = resumed;
-    for row in kept {
+    for index in 0..kept.len() {
         match resumed.next_row() {
-            Ok(Some((_, found))) => check_equal(rt, *found, *row),
+            Ok(Some((_, found))) => check_equal(rt, Some(*found), kept.get(index)),
             _ => check(rt, false),
         }
     }
@@ -279,11 +279,7 @@ fn check_rows<R: Reader>(rt: &impl Abort, resumed: ResumedLineRows<'_, R>, kept:
 type Cut<R> = (CompleteLineProgram<R>, Vec<LineSequence<R>>);
 
 /// What `sequences_with_rows` answers: the same, and the rows of each sequence.
-type CutWithRows<R> = (
-    CompleteLineProgram<R>,
-    Vec<LineSequence<R>>,
-    Vec<Vec<LineRow>>,
-);
+type CutWithRows<R> = (CompleteLineProgram<R>, Vec<LineSequence<R>>, Vec<RowList>);
 
 /// The program of a unit, its sequences and their rows.
 fn cut_with_rows<R: Reader>(alloc: Global, unit: R) -> Result<CutWithRows<R>> {

@@ -36,6 +36,10 @@ pub const DEMO_PROGRAM: &[u8] = b"\0\x05\x02\0\x10\0\0\x01\x4c\x02\x04\0\x01\x01
 pub const HEADER_OF_RANGE_12: &[u8] =
     b"\x2f\0\0\0\x04\0\x1b\0\0\0\x01\x01\x01\xfd\x0c\x0d\0\x01\x01\x01\x01\0\0\0\x01\0\0\x01\0a.c\0\0\0\0\0";
 
+/// The header with three operations in an instruction.
+pub const HEADER_OF_THREE_OPERATIONS: &[u8] =
+    b"\x2f\0\0\0\x04\0\x1b\0\0\0\x01\x03\x01\xfb\x0e\x0d\0\x01\x01\x01\x01\0\0\0\x01\0\0\x01\0a.c\0\0\0\0\0";
+
 /// The header with the files `foo.rs` and `bar.h`.
 pub const HEADER_OF_TWO_FILES: &[u8] =
     b"\x2f\0\0\0\x04\0\x27\0\0\0\x01\x01\x01\xfb\x0e\x0d\0\x01\x01\x01\x01\0\0\0\x01\0\0\x01\0\

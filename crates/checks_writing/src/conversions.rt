@@ -15,7 +15,7 @@ use gimli_write::{
     ConvertLineSequenceEnd, ConvertResult, EndianVec, LineProgram, LineRow, LineStringId,
     LineStringTable, StringId, StringTable,
 };
-use std::alloc::Global;
+use std::alloc::{AllocError, Global};
 use std::process::Abort;
 
 /// A unit of version 4 with the file `a.c`: an address of 0x10 with a row, an address of 0x20 with a row, and an end 4 bytes
@@ -219,6 +219,7 @@ fn check_unit(
     program: &LineProgram,
     line_strings: &mut LineStringTable,
     strings: &mut StringTable,
+    unit: &[u8],
 )
     requires { CanWrite program.now strings.old line_strings.old }
 {
@@ -226,7 +227,7 @@ fn check_unit(
     let encoding = program.encoding();
     let answer = program.write(&mut section, encoding, line_strings, strings);
     check_equal(rt, answer, Ok(DebugLineOffset(0)));
-    check_equal(rt, section.0.slice(), BUILT_BY_HAND);
+    check_equal(rt, section.0.slice(), unit);
 }
 
 /// The items of a program with two addresses, and a row at each.
@@ -270,7 +271,7 @@ fn steps_of_builder_calls(
     let program = program_of(alloc, slice(TWO_ADDRESSES), None)?;
     let built = built_by_hand(rt, program, line_strings, strings)?;
     check_two_addresses(rt, &built);
-    check_unit(rt, alloc, &built, line_strings, strings);
+    check_unit(rt, alloc, &built, line_strings, strings, BUILT_BY_HAND);
     Ok(())
 }
 
@@ -331,11 +332,11 @@ fn steps_of_convert(
     let program = program_of(alloc, slice(TWO_ADDRESSES), None)?;
     let whole = converted_whole(rt, program, line_strings, strings)?;
     check_two_addresses(rt, &whole);
-    check_unit(rt, alloc, &whole, line_strings, strings);
+    check_unit(rt, alloc, &whole, line_strings, strings, BUILT_BY_HAND);
     let program = program_of(alloc, slice(TWO_ADDRESSES), None)?;
     let rest = converted_after_a_row(rt, program, line_strings, strings)?;
     check_two_addresses(rt, &rest);
-    check_unit(rt, alloc, &rest, line_strings, strings);
+    check_unit(rt, alloc, &rest, line_strings, strings, BUILT_BY_HAND);
     Ok(())
 }
 
@@ -346,6 +347,59 @@ fn convert_from_the_start_and_after_a_row(rt: HostRuntime) {
     let steps = steps_of_convert(&rt, rt.alloc(), &mut line_strings, &mut strings);
     check_equal(&rt, steps, Ok(()));
 }
+
+// ---- many rows
+
+/// The same header with a unit of 3,048 bytes, an address of 0x10, 2,999 rows a byte apart, and an end a byte after them.
+fn bytes_of_many_rows(alloc: Global) -> std::result::Result<Vec<u8>, AllocError> {
+    let front =
+        b"\xe4\x0b\0\0\x04\0\x1b\0\0\0\x01\x01\x01\xfb\x0e\x0d\0\x01\x01\x01\x01\0\0\0\x01\0\0\x01\0a.c\0\0\0\0\0\
+          \0\x05\x02\x10\0\0\0";
+    let mut unit = Vec::from_slice(alloc, front)?;
+    for _ in 0..2999 {
+        unit.push(0x20)?;
+    }
+    unit.extend_from_slice(b"\x02\x01\0\x01\x01")?;
+    Ok(unit)
+}
+
+/// The items of the program that is built of it.
+fn check_many_rows(rt: &impl Abort, program: &LineProgram) {
+    let mut items = program.items();
+    check_equal(rt, set_address(items.next()), Some(16));
+    for offset in 1..3000 {
+        check_equal(rt, row_built(items.next()), Some((offset, 1)));
+    }
+    check_equal(rt, end_built(items.next()), Some((3000, 0)));
+    check(rt, items.next().is_none());
+}
+
+/// Memory for three thousand rows is there, so a refusal by `OutOfMemory` would be wrong, which no contract tells.
+fn steps_of_many_rows(
+    rt: &impl Abort,
+    alloc: Global,
+    line_strings: &mut LineStringTable,
+    strings: &mut StringTable,
+) -> ConvertResult<()> {
+    let Ok(unit) = bytes_of_many_rows(alloc) else {
+        return Err(ConvertError::OutOfMemory);
+    };
+    let program = program_of(alloc, slice(&unit), None)?;
+    let built = converted_whole(rt, program, line_strings, strings)?;
+    check_many_rows(rt, &built);
+    check_unit(rt, alloc, &built, line_strings, strings, &unit);
+    Ok(())
+}
+
+#[test]
+fn many_rows(rt: HostRuntime) {
+    let mut line_strings = LineStringTable::default(rt.alloc());
+    let mut strings = StringTable::default(rt.alloc());
+    let steps = steps_of_many_rows(&rt, rt.alloc(), &mut line_strings, &mut strings);
+    check_equal(&rt, steps, Ok(()));
+}
+
+// ---- calls outside their conditions
 
 /// A second begin, a row of operation 1, a row of line 2^63, and a row and an end at a lower offset: each is refused after
 /// a row of line 7 at offset 4.

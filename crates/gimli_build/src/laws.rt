@@ -5,6 +5,7 @@ ghost use Rattle.std.specs.Prelude.{◌≡◌, ℕ, Bool, false, All, ◌≤◌,
 ghost use Rattle.std.specs.Bool.{Decides};
 ghost use Rattle.gimli_core.specs.Equality.{ClonesGiveSame};
 ghost use Rattle.gimli_core.specs.Notation.{Notation};
+ghost use Rattle.gimli_bytes.specs.HashAlike.{HashAlike};
 ghost use Rattle.gimli_core.specs.declared.error.Error.{Error};
 ghost use Rattle.gimli_core.specs.declared.error.Error.TheVariants.{AddressOverflow};
 ghost use Rattle.gimli_core.specs.declared.common.Encoding.{Encoding};
@@ -42,8 +43,8 @@ use crate::built::line_string::LineString;
 use crate::built::row::LineRow;
 pub use gimli_bytes::laws::{
     clones_are_same, clones_of_addresses_and_ids, clones_of_errors_are_same,
-    equal_addresses_and_ids, equal_errors_are_same, sleb_is_shortest, table_bytes_length,
-    text_at_offset, uleb_is_shortest, with_text_are_texts,
+    equal_addresses_and_ids, equal_addresses_and_ids_hash_alike, equal_errors_are_same,
+    sleb_is_shortest, table_bytes_length, text_at_offset, uleb_is_shortest, with_text_are_texts,
 };
 use std::hash::Hash;
 
@@ -159,6 +160,12 @@ pub fn equal_texts_and_files()
         Decides (⟦<FileInfo as PartialEq>⟧.eq a b) (details a ≡ details b) }
     ensures directory { (i j : ℕ) → Decides (⟦<DirectoryId as PartialEq>⟧.eq i j) (i ≡ j) }
     ensures file { (i j : ℕ) → Decides (⟦<FileId as PartialEq>⟧.eq i j) (i ≡ j) }
+{}
+
+/// Equal ids hash alike.
+pub fn equal_ids_hash_alike()
+    ensures directory { HashAlike ⟦<DirectoryId as PartialEq>⟧.eq ⟦<DirectoryId as Hash>⟧.hash_input }
+    ensures file { HashAlike ⟦<FileId as PartialEq>⟧.eq ⟦<FileId as Hash>⟧.hash_input }
 {}
 
 /// `==` holds of two rows, and of two items, exactly where all their parts agree.

@@ -4,3 +4,4 @@ pub mod Section
 pub mod Pieces
 pub mod Texts
 pub mod TextsInside
+pub mod HashAlike

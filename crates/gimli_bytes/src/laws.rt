@@ -5,6 +5,7 @@ ghost use Rattle.std.specs.Bool.{Decides};
 ghost use Rattle.std.specs.Int.{w64};
 ghost use Rattle.gimli_core.specs.Equality.{ClonesGiveSame, IsExact, IsSameClone};
 ghost use Rattle.gimli_core.specs.Numbers.{SpellsUleb128, SpellsSleb128, IsShortest};
+ghost use Rattle.gimli_bytes.specs.HashAlike.{HashAlike};
 ghost use Rattle.gimli_bytes.specs.Number.{uleb, sleb};
 ghost use Rattle.gimli_bytes.specs.declared.address.Address.{Address};
 ghost use Rattle.gimli_bytes.specs.declared.str.StringId.{StringId};
@@ -17,6 +18,7 @@ use crate::error::Error;
 use crate::str::{LineStringId, StringId};
 use crate::writer::InitialLengthOffset;
 use gimli_core::Endianity;
+use std::hash::Hash;
 
 /// `==` holds of two addresses, and of two ids, exactly where all their parts agree.
 pub fn equal_addresses_and_ids()
@@ -24,6 +26,13 @@ pub fn equal_addresses_and_ids()
     ensures string { (a b : StringId) → Decides (⟦<StringId as PartialEq>⟧.eq a b) (a ≡ b) }
     ensures line_string { (a b : LineStringId) →
         Decides (⟦<LineStringId as PartialEq>⟧.eq a b) (a ≡ b) }
+{}
+
+/// Equal addresses hash alike, and so do equal ids.
+pub fn equal_addresses_and_ids_hash_alike()
+    ensures address { HashAlike ⟦<Address as PartialEq>⟧.eq ⟦<Address as Hash>⟧.hash_input }
+    ensures string { HashAlike ⟦<StringId as PartialEq>⟧.eq ⟦<StringId as Hash>⟧.hash_input }
+    ensures line_string { HashAlike ⟦<LineStringId as PartialEq>⟧.eq ⟦<LineStringId as Hash>⟧.hash_input }
 {}
 
 /// `==` of errors holds exactly where they are of one kind and agree in what they hold.

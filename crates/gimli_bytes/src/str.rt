@@ -225,8 +225,10 @@ impl LineStringTable {
         }
     }
 
-    /// What the table takes its memory from.
-    pub fn allocator(&self) -> &Global {
+    /// What the table takes its memory from: the one allocator of its type.
+    pub fn allocator(&self) -> &Global
+        ensures { (other : Global) → result.now ≡ other }
+    {
         self.texts.strings.allocator()
     }
 

@@ -1,9 +1,9 @@
 #!/usr/bin/env bash
 # Builds a small program, takes its line information as raw bytes, builds both examples over libgimli_c.a, and compares what
 # they print with what linetool prints: every row of every unit, and the rows round some addresses. A third example writes what
-# it reads as a new unit, reads that, and compares the two itself. A fourth prints paths and lines, which are compared with
-# those of addr2line of binutils. It needs a C compiler, objcopy and addr2line; rustc for the second example. Where one is
-# missing it says so, and ends well.
+# it reads as a new unit, reads that, and compares the two itself. Two more, in C and in C++, print paths and lines by an index,
+# which are compared with those of addr2line of binutils. It needs a C compiler, objcopy and addr2line; rustc for the second
+# example, and a C++ compiler for the last. Where one is missing it says so, and ends well.
 #
 # The library is built by (cd crates/gimli_c && rt lib), and linetool by (cd crates/linetool && rt run -- demo); both are
 # built here where they aren't there.
@@ -15,6 +15,9 @@ top=$(cd "$crate/../.." && pwd)
 # and in file.rt.
 diff <(sed -nE 's/^ +GIMLI_([A-Z0-9_]+) = ([0-9]+).*/\1 \2/p' "$crate/include/gimli_line.h") \
     <(cd "$crate/src" && sed -nE 's/^pub const ([A-Z0-9_]+): u[0-9]+ = ([0-9]+);/\1 \2/p' status.rt row.rt file.rt)
+# So is its version.
+[ "$(sed -nE 's/^#define GIMLI_VERSION_[A-Z]+ ([0-9]+)$/\1/p' "$crate/include/gimli_line.h" | awk '{v = v * 100 + $1} END {print v}')" = \
+    "$(sed -nE 's/^pub const VERSION: u32 = ([0-9]+);/\1/p' "$crate/src/version.rt")" ]
 for tool in cc objcopy addr2line; do
     command -v $tool >/dev/null || { echo "gimli_c: not tried, since $tool is missing"; exit 0; }
 done
@@ -30,6 +33,13 @@ trap 'rm -rf "$work"' EXIT
 cc -std=c11 -Wall -Wextra -Werror -O2 -I "$crate/include" "$here/c/addr2line.c" "$library" "$kit/liblibc_c.a" -o "$work/c"
 cc -std=c11 -Wall -Wextra -Werror -O2 -I "$crate/include" "$here/c/rewrite.c" "$library" "$kit/liblibc_c.a" -o "$work/rewrite"
 cc -std=c11 -Wall -Wextra -Werror -O2 -I "$crate/include" "$here/c/where_is.c" "$library" "$kit/liblibc_c.a" -o "$work/where_is"
+indexed=where_is
+if command -v c++ >/dev/null; then
+    c++ -std=c++11 -Wall -Wextra -Werror -O2 -I "$crate/include" "$here/cpp/where_is.cc" "$library" "$kit/liblibc_c.a" -o "$work/where_is_cpp"
+    indexed="where_is where_is_cpp"
+else
+    echo "gimli_c: the C++ example isn't tried, since c++ is missing"
+fi
 examples=c
 if command -v rustc >/dev/null; then
     rustc --edition 2024 -O "$here/rust/addr2line.rs" -L "native=$crate/out" -l static=gimli_c -L "native=$kit" -l static=libc_c \
@@ -68,11 +78,16 @@ for version in 2 3 4 5; do
     # The path and the line of each row that ends nothing. Up to version 4 the section lacks the compilation's directory.
     covered=$(awk '$NF !~ /e/ {print $1}' "$work/rows" | sort -u)
     # shellcheck disable=SC2086
-    "$work/where_is" "$work/line.bin" "$work/line_str.bin" $covered | sed -E "s,:[0-9]+\$,,; s,^([^/]),$top/compare/\\1," >"$work/answer"
-    # shellcheck disable=SC2086
     addr2line -e "$work/built" $covered | sed -E 's/ \(discriminator [0-9]+\)//' >"$work/places"
-    cmp "$work/places" "$work/answer"
-    places=$((places + $(wc -l <"$work/places")))
+    for example in $indexed; do
+        # shellcheck disable=SC2086
+        "$work/$example" "$work/built" $covered | sed -E "s,:[0-9]+\$,,; s,^([^/]),$top/compare/\\1," >"$work/answer"
+        cmp "$work/places" "$work/answer"
+        places=$((places + $(wc -l <"$work/places")))
+    done
+    echo "$covered" | "$work/where_is" "$work/built" | sed -E "s,:[0-9]+\$,,; s,^([^/]),$top/compare/\\1," | cmp "$work/places" -
+    [ "$("$work/where_is" "$work/built" 0 ffffffffffffffff)" = "none
+none" ]
     for example in $examples; do
         "$work/$example" "$work/line.bin" >"$work/answer"
         cmp "$work/rows" "$work/answer"
@@ -83,5 +98,5 @@ for version in 2 3 4 5; do
     done
 done
 echo "gimli_c: $rewritten rows were written as they were read"
-echo "gimli_c: $places paths and lines are addr2line's"
+echo "gimli_c: $places paths and lines of the examples ($indexed) are addr2line's"
 echo "gimli_c: $compared lines of the examples ($examples) are linetool's"

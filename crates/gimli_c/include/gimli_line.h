@@ -1,19 +1,16 @@
-/* Line number programs of DWARF, versions 2 to 5, for C. The calls are those of libgimli_c.a, which is proved: called as this
- * page says, none has undefined behaviour, each returns, and each answers what is said here,
- * with the exceptions that CALLING.md names.
+/* Line number programs of DWARF, versions 2 to 5, for C and C++. The calls are those of libgimli_line.a, which is proved: called
+ * as this page says, none has undefined behaviour, each returns, and each answers what is said here, with the exceptions that
+ * CALLING.md names.
  *
- * Build the library in crates/gimli_c by `rt lib`, and link with it and with the kit's c/liblibc_c.a, which hands malloc and
- * free on:
+ * `make` in crates/gimli_c builds the library, and `make install` puts it where pkg-config finds it:
  *
- *   cc -I include program.c out/libgimli_c.a "$(dirname "$(rt doc)")/c/liblibc_c.a"
+ *   cc program.c $(pkg-config --cflags --libs gimli_line)
  *
- * For the path, line and column of an address: gimli_line_unit gives the units one after the other, gimli_line_find the row,
- * and gimli_line_file the path of row.file and its directory. In version 5 a path is mostly of the kind
- * GIMLI_TEXT_DEBUG_LINE_STR: it stands in the section .debug_line_str at path.place, up to a zero byte.
+ * For the path, line and column of many addresses: gimli_line_index_open once, gimli_line_index_find for each address, and
+ * gimli_line_index_path for the path of the row's file. examples/c/where_is.c does this.
  *
- * The whole path is `path` where it begins with `/`, else `directory/path` where the directory does, else that from the
- * directory of the compilation on. In version 5 gimli_line_directory gives this as directory 0; up to version 4 it isn't in the
- * section: it is DW_AT_comp_dir of .debug_info. The library joins nothing. examples/c/where_is.c does all of this.
+ * For one unit, without an index: gimli_line_unit gives the units one after the other, gimli_line_rows the rows of one,
+ * gimli_line_find the row of an address, and gimli_line_file and gimli_line_directory what a path is made of.
  *
  * `objcopy --dump-section .debug_line=line.bin --dump-section .debug_line_str=line_str.bin program copy` takes the sections out
  * of a program. Where there is no .debug_line_str, as up to version 4, objcopy says so and goes on: hand in no bytes then. The
@@ -23,6 +20,8 @@
  * - A pointer is never null, also where its length is 0: hand in any place then.
  * - What a call writes to overlaps neither the section nor anything else that it writes to.
  * - No call is made from a signal handler, or in the forked child of a process with threads.
+ * - A handle is used by one call at a time. Threads that share one take a lock, or open one each.
+ * - A handle is as GIMLI_LINE_INDEX_CLOSED, or as the last call on it left it: it isn't copied, and its field isn't touched.
  * Nothing of the caller is kept after a call. Calls may run in several threads at once. */
 #ifndef GIMLI_LINE_H
 #define GIMLI_LINE_H
@@ -35,7 +34,16 @@
 extern "C" {
 #endif
 
-/* What a call answers. */
+/* The version of this header. gimli_version() answers that of the library. */
+#define GIMLI_VERSION_MAJOR 0
+#define GIMLI_VERSION_MINOR 1
+#define GIMLI_VERSION_PATCH 0
+#define GIMLI_VERSION (GIMLI_VERSION_MAJOR * 10000 + GIMLI_VERSION_MINOR * 100 + GIMLI_VERSION_PATCH)
+
+/* The version of the library: GIMLI_VERSION of the header that it was built with. */
+uint32_t gimli_version(void);
+
+/* What a call answers. gimli_status_name and gimli_status_sentence, at the end of this page, put it into words. */
 enum gimli_status {
     GIMLI_OK = 0,
     GIMLI_UNEXPECTED_EOF = 1,                          /* bytes are missing */
@@ -56,7 +64,7 @@ enum gimli_status {
     GIMLI_EXPECTED_STRING_ATTRIBUTE_VALUE = 16,
     GIMLI_OUT_OF_MEMORY = 17,
     GIMLI_NOT_FOUND = 18,                              /* what was looked up isn't there */
-    /* The others are answered by gimli_line_write alone. */
+    /* 19 to 31 are answered by gimli_line_write alone. */
     GIMLI_UNSUPPORTED_OFFSET_SIZE = 19,                /* the size of offsets isn't 4 or 8 */
     GIMLI_UNSUPPORTED_LINE_ENCODING = 20,              /* rows can't be written by the line encoding */
     GIMLI_TEXT_OUT_OF_BOUNDS = 21,                     /* a text isn't within the texts */
@@ -69,7 +77,9 @@ enum gimli_status {
     GIMLI_UNKNOWN_FLAG = 28,                           /* a row has a flag that isn't known */
     GIMLI_NEED_VERSION_4 = 29,                         /* several operations in an instruction, before version 4 */
     GIMLI_UNIT_TOO_LONG = 30,                          /* a length, or the first address of a sequence, doesn't fit its word */
-    GIMLI_NO_ROOM = 31                                 /* the unit is longer than the room for it */
+    GIMLI_NO_ROOM = 31,                                /* the unit is longer than the room for it */
+    GIMLI_CLOSED = 32,                                 /* the handle of an index is closed */
+    GIMLI_UNKNOWN_PATH = 33                            /* a string of a path can't be told */
 };
 
 /* A unit of the section .debug_line. */
@@ -182,6 +192,70 @@ uint32_t gimli_line_directory(const uint8_t *section, size_t length, bool big, u
 uint32_t gimli_line_find(const uint8_t *section, size_t length, bool big, uint8_t address_size, size_t offset,
                          uint64_t address, gimli_row *first, gimli_row *second);
 
+/* The handle of an index. It owns the index; a closed one owns nothing. */
+typedef struct gimli_line_index {
+    void *at; /* null where it is closed */
+} gimli_line_index;
+
+/* What a handle begins with. */
+#define GIMLI_LINE_INDEX_CLOSED {0}
+
+/* Makes an index over all units of the section .debug_line, and puts it behind the handle; an index that stood there is closed.
+ * `line_strings` and `strings` are the sections .debug_line_str and .debug_str, or no bytes. The index has copies of all three:
+ * the caller's may go. A unit that can't be read has no rows; of one whose run has a fault it has the sequences that end before
+ * that. Sequences that begin below the address `lowest` are left out, since a linker leaves code that it drops at low addresses;
+ * 0 leaves none out. Where another number than 0 is answered, GIMLI_OUT_OF_MEMORY or GIMLI_UNSUPPORTED_ADDRESS_SIZE, the handle
+ * has what it had. */
+uint32_t gimli_line_index_open(const uint8_t *section, size_t length, bool big, uint8_t address_size, uint64_t lowest,
+                               const uint8_t *line_strings, size_t line_strings_length, const uint8_t *strings,
+                               size_t strings_length, gimli_line_index *index);
+
+/* Closes a handle: all memory of its index is given back. A closed one stays closed. The answer is 0. */
+uint32_t gimli_line_index_close(gimli_line_index *index);
+
+/* Where an address belongs. */
+typedef struct gimli_place {
+    gimli_row row;  /* the row of the address */
+    uint64_t end;   /* the address up to which the row holds: that of the next row of its sequence */
+    uint64_t unit;  /* the index of the unit, from 0 on */
+} gimli_place;
+
+/* Looks an address up in all units. The row is the first of the first two adjacent rows of one sequence of which the first has
+ * an address at most the one that is looked up, and the second one above it, in the order of the units and of their sequences.
+ * GIMLI_NOT_FOUND where there are none, and GIMLI_CLOSED where the handle is: then *place stays as it was. Takes no memory. */
+uint32_t gimli_line_index_find(gimli_line_index *index, uint64_t address, gimli_place *place);
+
+/* Tells the whole path of the file of a unit: its path, with the directories that it goes on from, up to the directory of the
+ * compilation. In version 5 the unit has that one; up to version 4 it is `comp_dir` (DW_AT_comp_dir), and without it the path
+ * stays relative. The bytes go into path[0] and so on, as far as there is room, without a zero byte; *size is how many there
+ * are. GIMLI_NOT_FOUND where there is no such unit, or its table has no such file (a file that the program itself defines is told
+ * by gimli_line_file), GIMLI_UNKNOWN_PATH where a string of the path can't be told, and
+ * GIMLI_CLOSED where the handle is; the number of the refusal where the unit can't be read. Where another number than 0 is
+ * answered, nothing is written. The header of the unit is read for each call: keep the paths of files that come often. */
+uint32_t gimli_line_index_path(gimli_line_index *index, uint64_t unit, uint64_t file, const uint8_t *comp_dir,
+                               size_t comp_dir_length, uint8_t *path, size_t room, uint64_t *size);
+
+/* Tells how many units an index has. GIMLI_CLOSED where the handle is; then nothing is written. */
+uint32_t gimli_line_index_unit_count(gimli_line_index *index, uint64_t *count);
+
+/* A unit of an index. */
+typedef struct gimli_index_unit {
+    uint64_t offset; /* in the section */
+    uint32_t fault;  /* why it can't be read, or the number of its program's first fault; 0 where it has none */
+} gimli_index_unit;
+
+/* Tells where a unit stands, and what is wrong with it. GIMLI_NOT_FOUND where there is no such unit, and GIMLI_CLOSED where the
+ * handle is; then nothing is written. */
+uint32_t gimli_line_index_unit(gimli_line_index *index, uint64_t unit, gimli_index_unit *found);
+
+/* Tells the addresses for a breakpoint at a line of a file of one unit: of each run of rows of that line that stand side by side
+ * in a sequence, that of the first with GIMLI_IS_STMT. Where the line has none, those of the next line that has; *found_line is
+ * that line. The addresses go into addresses[0] and so on, as far as there is room; *count is how many there are.
+ * GIMLI_NOT_FOUND where there is no such unit, or no line from it on has any; GIMLI_CLOSED where the handle is. Where another
+ * number than 0 is answered, nothing is written. */
+uint32_t gimli_line_index_addresses(gimli_line_index *index, uint64_t unit, uint64_t file, uint64_t line,
+                                    uint64_t *found_line, uint64_t *addresses, size_t room, uint64_t *count);
+
 /* What a unit that is written is encoded by. */
 typedef struct gimli_encoding {
     uint16_t version;                            /* 2 to 5 */
@@ -237,6 +311,88 @@ uint32_t gimli_line_write(const gimli_encoding *encoding, bool big, uint64_t det
                           const gimli_name *directories, size_t directory_count, const gimli_file_name *files,
                           size_t file_count, const gimli_row *rows, size_t row_count, uint8_t *unit, size_t room,
                           uint64_t *size);
+
+/* The name of a number that a call answered. */
+static inline const char *gimli_status_name(uint32_t status) {
+    switch (status) {
+    case GIMLI_OK: return "GIMLI_OK";
+    case GIMLI_UNEXPECTED_EOF: return "GIMLI_UNEXPECTED_EOF";
+    case GIMLI_BAD_UNSIGNED_LEB128: return "GIMLI_BAD_UNSIGNED_LEB128";
+    case GIMLI_BAD_SIGNED_LEB128: return "GIMLI_BAD_SIGNED_LEB128";
+    case GIMLI_UNKNOWN_RESERVED_LENGTH: return "GIMLI_UNKNOWN_RESERVED_LENGTH";
+    case GIMLI_UNKNOWN_VERSION: return "GIMLI_UNKNOWN_VERSION";
+    case GIMLI_UNSUPPORTED_ADDRESS_SIZE: return "GIMLI_UNSUPPORTED_ADDRESS_SIZE";
+    case GIMLI_UNSUPPORTED_SEGMENT_SIZE: return "GIMLI_UNSUPPORTED_SEGMENT_SIZE";
+    case GIMLI_MINIMUM_INSTRUCTION_LENGTH_ZERO: return "GIMLI_MINIMUM_INSTRUCTION_LENGTH_ZERO";
+    case GIMLI_MAXIMUM_OPERATIONS_PER_INSTRUCTION_ZERO: return "GIMLI_MAXIMUM_OPERATIONS_PER_INSTRUCTION_ZERO";
+    case GIMLI_LINE_RANGE_ZERO: return "GIMLI_LINE_RANGE_ZERO";
+    case GIMLI_OPCODE_BASE_ZERO: return "GIMLI_OPCODE_BASE_ZERO";
+    case GIMLI_MISSING_FILE_ENTRY_FORMAT_PATH: return "GIMLI_MISSING_FILE_ENTRY_FORMAT_PATH";
+    case GIMLI_UNKNOWN_FORM: return "GIMLI_UNKNOWN_FORM";
+    case GIMLI_ADDRESS_OVERFLOW: return "GIMLI_ADDRESS_OVERFLOW";
+    case GIMLI_UNSUPPORTED_OFFSET: return "GIMLI_UNSUPPORTED_OFFSET";
+    case GIMLI_EXPECTED_STRING_ATTRIBUTE_VALUE: return "GIMLI_EXPECTED_STRING_ATTRIBUTE_VALUE";
+    case GIMLI_OUT_OF_MEMORY: return "GIMLI_OUT_OF_MEMORY";
+    case GIMLI_NOT_FOUND: return "GIMLI_NOT_FOUND";
+    case GIMLI_UNSUPPORTED_OFFSET_SIZE: return "GIMLI_UNSUPPORTED_OFFSET_SIZE";
+    case GIMLI_UNSUPPORTED_LINE_ENCODING: return "GIMLI_UNSUPPORTED_LINE_ENCODING";
+    case GIMLI_TEXT_OUT_OF_BOUNDS: return "GIMLI_TEXT_OUT_OF_BOUNDS";
+    case GIMLI_ZERO_IN_TEXT: return "GIMLI_ZERO_IN_TEXT";
+    case GIMLI_EMPTY_TEXT: return "GIMLI_EMPTY_TEXT";
+    case GIMLI_NO_SOURCE_FILE: return "GIMLI_NO_SOURCE_FILE";
+    case GIMLI_NO_SUCH_DIRECTORY: return "GIMLI_NO_SUCH_DIRECTORY";
+    case GIMLI_NO_SUCH_FILE: return "GIMLI_NO_SUCH_FILE";
+    case GIMLI_ROW_OUT_OF_ORDER: return "GIMLI_ROW_OUT_OF_ORDER";
+    case GIMLI_UNKNOWN_FLAG: return "GIMLI_UNKNOWN_FLAG";
+    case GIMLI_NEED_VERSION_4: return "GIMLI_NEED_VERSION_4";
+    case GIMLI_UNIT_TOO_LONG: return "GIMLI_UNIT_TOO_LONG";
+    case GIMLI_NO_ROOM: return "GIMLI_NO_ROOM";
+    case GIMLI_CLOSED: return "GIMLI_CLOSED";
+    case GIMLI_UNKNOWN_PATH: return "GIMLI_UNKNOWN_PATH";
+    default: return "unknown status";
+    }
+}
+
+/* What it says. */
+static inline const char *gimli_status_sentence(uint32_t status) {
+    switch (status) {
+    case GIMLI_OK: return "the call did what it says";
+    case GIMLI_UNEXPECTED_EOF: return "bytes are missing";
+    case GIMLI_BAD_UNSIGNED_LEB128: return "an unsigned LEB128 number is too large or too long";
+    case GIMLI_BAD_SIGNED_LEB128: return "a signed LEB128 number is too large or too long";
+    case GIMLI_UNKNOWN_RESERVED_LENGTH: return "the length of a unit is a reserved one";
+    case GIMLI_UNKNOWN_VERSION: return "the version of a unit is none of 2 to 5";
+    case GIMLI_UNSUPPORTED_ADDRESS_SIZE: return "the size of addresses isn't 1, 2, 4 or 8";
+    case GIMLI_UNSUPPORTED_SEGMENT_SIZE: return "the size of segment selectors isn't 0";
+    case GIMLI_MINIMUM_INSTRUCTION_LENGTH_ZERO: return "the minimum instruction length is 0";
+    case GIMLI_MAXIMUM_OPERATIONS_PER_INSTRUCTION_ZERO: return "the maximum number of operations of an instruction is 0";
+    case GIMLI_LINE_RANGE_ZERO: return "the line range is 0";
+    case GIMLI_OPCODE_BASE_ZERO: return "the opcode base is 0";
+    case GIMLI_MISSING_FILE_ENTRY_FORMAT_PATH: return "a table of version 5 doesn't have exactly one path format";
+    case GIMLI_UNKNOWN_FORM: return "a form isn't one that line programs know";
+    case GIMLI_ADDRESS_OVERFLOW: return "an address passes the greatest one of its size";
+    case GIMLI_UNSUPPORTED_OFFSET: return "a number doesn't fit an offset";
+    case GIMLI_EXPECTED_STRING_ATTRIBUTE_VALUE: return "a value that stands for a text is of another kind";
+    case GIMLI_OUT_OF_MEMORY: return "not enough memory";
+    case GIMLI_NOT_FOUND: return "what was looked up isn't there";
+    case GIMLI_UNSUPPORTED_OFFSET_SIZE: return "the size of offsets isn't 4 or 8";
+    case GIMLI_UNSUPPORTED_LINE_ENCODING: return "rows can't be written by the line encoding";
+    case GIMLI_TEXT_OUT_OF_BOUNDS: return "a text isn't within the texts";
+    case GIMLI_ZERO_IN_TEXT: return "a text has a zero byte";
+    case GIMLI_EMPTY_TEXT: return "a text is empty, up to version 4";
+    case GIMLI_NO_SOURCE_FILE: return "no directory or no file, in version 5";
+    case GIMLI_NO_SUCH_DIRECTORY: return "a file has the index of no directory";
+    case GIMLI_NO_SUCH_FILE: return "a row has the number of no file";
+    case GIMLI_ROW_OUT_OF_ORDER: return "a row can't follow the one before it";
+    case GIMLI_UNKNOWN_FLAG: return "a row has a flag that isn't known";
+    case GIMLI_NEED_VERSION_4: return "several operations in an instruction, before version 4";
+    case GIMLI_UNIT_TOO_LONG: return "a length or the first address of a sequence doesn't fit its word";
+    case GIMLI_NO_ROOM: return "the unit is longer than the room for it";
+    case GIMLI_CLOSED: return "the handle of the index is closed";
+    case GIMLI_UNKNOWN_PATH: return "a string of a path can't be told";
+    default: return "the number is none that a call answers";
+    }
+}
 
 #ifdef __cplusplus
 }

@@ -6,3 +6,5 @@ pub mod Units
 pub mod Handings
 pub mod CauseLemmas
 pub mod SamePrograms
+pub mod Handles
+pub mod Indexes

@@ -1,24 +1,21 @@
 -- What a look-up in a unit's program answers.
-use Rattle.std.specs.Prelude.{◌≡◌, ◌⊎◌, ℕ, List, map, All}
+use Rattle.std.specs.Prelude.{◌≡◌, ◌⊎◌, ℕ, List, All}
 use Rattle.gimli_core.specs.declared.error.Error.{Error}
 use Rattle.gimli_line.specs.declared.run.row.LineRow.{LineRow}
 use Rattle.gimli_line.specs.header.Header.{Header}
-use Rattle.gimli_line.specs.run.Events.{row}
-use Rattle.gimli_line.specs.run.Sequences.{Part, resumed, AreSequences, HasFirstFault}
+use Rattle.gimli_line.specs.run.Sequences.{HasFirstFault}
 use Rattle.gimli_lookup.specs.FirstPair.{HasNoPair, IsFirstPair}
+use Rattle.gimli_lookup.specs.Run.{AreRowsOfSequences}
 use Rattle.gimli_c.specs.declared.row.GimliRow.{GimliRow}
 use Rattle.gimli_c.specs.Place.{Place, notation_at, HasUnit, HasNoUnit}
 use Rattle.gimli_c.specs.Seen.{row_seen}
 use Rattle.gimli_c.specs.Status.{error_status}
 
--- the program of the unit at the place is cut into sequences, and these are the rows of each
+-- the program of the unit at the place gives rows and no fault, and these are the rows of each of its sequences
 pub record HasSequences (p : Place) (rows : List (List LineRow)) : Type 0 where
   pub header : Header
   pub unit : HasUnit p header
-  pub complete : Header
-  pub parts : List Part
-  pub cut : AreSequences (notation_at p) header complete parts
-  pub each : map (map row) rows ≡ map (resumed complete) parts
+  pub are : AreRowsOfSequences (notation_at p) header rows
 
 -- the first two rows that cover the address
 pub record GivesPair (p : Place) (address : ℕ) (first second : GimliRow) : Type 0 where

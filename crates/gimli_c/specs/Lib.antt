@@ -12,3 +12,5 @@ pub mod Start
 pub mod Handing
 pub mod Refused
 pub mod Causes
+pub mod Owned
+pub mod Indexed

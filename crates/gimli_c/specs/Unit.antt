@@ -1,9 +1,9 @@
 -- What C sees of a unit.
 use Rattle.std.specs.Prelude.{◌≡◌, ℕ, true, List, length}
 use Rattle.gimli_core.specs.Numbers.{word_size}
-use Rattle.section_units.specs.Units.{offset_after}
 use Rattle.gimli_line.specs.header.File.{File}
 use Rattle.gimli_line.specs.header.Header.{Header}
+use Rattle.gimli_line.specs.Units.{offset_after}
 use Rattle.gimli_core.specs.Notation.{Notation}
 use Rattle.gimli_line.specs.run.Events.{Event, Events}
 use Rattle.gimli_line.specs.run.EventsWithFiles.{FilesAtEnd}
@@ -18,7 +18,7 @@ unit_seen offset h events files =
     let encoding = h.parameters.encoding in
     record {
       length = h.unit_length;
-      next = offset_after offset encoding.format h.unit_length;
+      next = offset_after offset h;
       directories = length h.directories;
       files = length files;
       rows = length (rows_of events);

@@ -8,7 +8,7 @@ ghost use Rattle.gimli_c.specs.Place.{place};
 use crate::place::program_at;
 use crate::row::GimliRow;
 use crate::status::{NOT_FOUND, OK, OUT_OF_MEMORY, UNSUPPORTED_ADDRESS_SIZE, error_status};
-use gimli_lookup::Lookup;
+use gimli_lookup::find_in_run;
 use std::alloc::Global;
 
 /// Looks an address up in the unit at an offset: `first` is the row that it belongs to, and `second` the next row, up to
@@ -40,16 +40,13 @@ pub extern "C" fn gimli_line_find(
         Ok(program) => program,
         Err(status) => return status,
     };
-    let lookup = match Lookup::new(program) {
-        Ok(lookup) => lookup,
-        Err(e) => return error_status(e),
-    };
-    match lookup.find(address) {
-        Some((x, y)) => {
+    match find_in_run(program, address) {
+        Ok(Some((x, y))) => {
             *first = GimliRow::new(&x);
             *second = GimliRow::new(&y);
             OK
         }
-        None => NOT_FOUND,
+        Ok(None) => NOT_FOUND,
+        Err(e) => error_status(e),
     }
 }

@@ -1,13 +1,14 @@
 //! Line number programs of DWARF, versions 2 to 5, for programs in C and in Rust.
 //!
-//! Each call takes the bytes of a section and numbers, and answers a number of [`status`]; what it found goes into places
-//! of the caller. Nothing of the caller is kept after a call. `include/gimli_line.h` declares all of it.
+//! Each call takes the bytes of a section, or the handle of an index, and numbers, and answers a number of [`status`]; what it
+//! found goes into places of the caller. Nothing of the caller is kept after a call. `include/gimli_line.h` declares all of it.
 #![tactic(auto)]
 
 mod directory;
 mod encoding;
 mod file;
 mod find;
+mod index;
 mod items;
 pub mod laws;
 mod place;
@@ -18,6 +19,7 @@ pub mod status;
 mod tables;
 mod text;
 mod unit;
+mod version;
 mod write;
 
 pub use directory::gimli_line_directory;
@@ -27,9 +29,15 @@ pub use file::{
     TEXT_DEBUG_STR, TEXT_DEBUG_STR_SUP, TEXT_HERE, TEXT_INDEX, TEXT_NONE, gimli_line_file,
 };
 pub use find::gimli_line_find;
+pub use index::{
+    GimliIndexUnit, GimliLineIndex, GimliPlace, SectionIndex, gimli_line_index_addresses,
+    gimli_line_index_close, gimli_line_index_find, gimli_line_index_open, gimli_line_index_path,
+    gimli_line_index_unit, gimli_line_index_unit_count,
+};
 pub use row::{BASIC_BLOCK, END_SEQUENCE, EPILOGUE_BEGIN, GimliRow, IS_STMT, PROLOGUE_END};
 pub use rows::gimli_line_rows;
 pub use tables::GimliFileName;
 pub use text::GimliName;
 pub use unit::{GimliUnit, gimli_line_unit};
+pub use version::{VERSION, gimli_version};
 pub use write::gimli_line_write;

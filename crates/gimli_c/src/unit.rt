@@ -3,15 +3,14 @@
 ghost use Rattle.std.specs.Prelude.{◌≡◌, ◌≢◌, ◌≤◌, ◌<◌, ◌+◌, ◌^◌, false, IfErr, IfOk};
 ghost use Rattle.gimli_core.specs.Numbers.{is_address_size};
 ghost use Rattle.gimli_c.specs.Place.{place, HasNoUnit};
-ghost use Rattle.section_units.specs.Units.{offset_after};
+ghost use Rattle.gimli_line.specs.Units.{offset_after};
 ghost use Rattle.gimli_c.specs.Unit.{GivesUnit, IsReadUnit};
 
 use crate::place::program_at;
 use crate::run::{copy_rows, fault_status, rows_fit, run_on};
 use crate::status::{OK, OUT_OF_MEMORY, UNSUPPORTED_ADDRESS_SIZE, error_status};
 use gimli_core::{Error, Reader, ReaderOffset, Result};
-use gimli_line::IncompleteLineProgram;
-use section_units::length_field;
+use gimli_line::{IncompleteLineProgram, laws};
 use std::alloc::Global;
 
 /// A unit of a section `.debug_line`: its header, and what its program gives.
@@ -61,6 +60,7 @@ pub extern "C" fn gimli_line_unit(
         Ok(program) => program,
         Err(status) => return status,
     };
+    laws::units_follow_headers();
     match read_unit(program, offset) {
         Ok(read) => {
             *unit = read;
@@ -73,14 +73,14 @@ pub extern "C" fn gimli_line_unit(
 /// What is said of the unit of a program, which stands at an offset. Requires that 64 bits hold the offset of what follows
 /// it. Refused by `OutOfMemory` alone.
 fn read_unit<R: Reader>(program: IncompleteLineProgram<R>, offset: usize) -> Result<GimliUnit>
-    requires { offset_after offset program.meaning.parameters.encoding.format
-        program.meaning.unit_length < 2 ^ 64 }
+    requires { offset_after offset program.meaning < 2 ^ 64 }
     ensures ok { IfOk result (λ unit. IsReadUnit offset program.meaning program.notation unit) }
     ensures err { IfErr result (λ e. e ≡ Error.OutOfMemory) }
 {
     rows_fit(&program);
     let header = program.header();
     let encoding = header.encoding();
+    let length_size = u64::from(encoding.format.initial_length_size());
     let length = header.unit_length().into_u64();
     let directories = header.include_directories().len() as u64;
     let mut rows = program.rows();
@@ -88,7 +88,7 @@ fn read_unit<R: Reader>(program: IncompleteLineProgram<R>, offset: usize) -> Res
     run_on(&mut rows)?;
     Ok(GimliUnit {
         length,
-        next: offset as u64 + length_field(encoding.format) + length,
+        next: offset as u64 + length_size + length,
         directories,
         files: rows.header().file_names().len() as u64,
         rows: run.count,

@@ -68,6 +68,11 @@ abbrev pub word_size : Format → ℕ
 word_size Dwarf32 = 4
 word_size Dwarf64 = 8
 
+-- the bytes that the length of a unit takes (DWARF 5, section 7.4)
+abbrev pub initial_length_size : Format → ℕ
+initial_length_size Dwarf32 = 4
+initial_length_size Dwarf64 = 12
+
 -- the length of a unit, by which its format is known: four bytes below 0xffff_fff0, or the four bytes 0xffff_ffff and eight
 -- further ones (DWARF 5, section 7.4)
 abbrev pub SpellsInitialLength : Bool → List ℕ → Format → ℕ → Type 0

@@ -47,6 +47,7 @@ pub enum Error {
 }
 
 impl Error {
+    /// The text of an error, without the number that it may hold.
     fn description(&self) -> &'static str {
         match self {
             Error::UnexpectedEof(_) => "the input ended before the value did",
@@ -74,7 +75,17 @@ impl Error {
 
 impl fmt::Display for Error {
     fn fmt<W: fmt::Write>(&self, f: &mut fmt::Formatter<W>) -> fmt::Result {
-        f.write_str(self.description())
+        match *self {
+            Error::UnknownVersion(version) => write!(f, "the version {version} is unknown"),
+            Error::UnsupportedAddressSize(size) => {
+                write!(f, "the address size {size} is not 1, 2, 4 or 8")
+            }
+            Error::UnsupportedSegmentSize(size) => {
+                write!(f, "the segment selector size {size} is not 0")
+            }
+            Error::UnknownForm(DwForm(form)) => write!(f, "the form {form:#x} is unknown"),
+            _ => f.write_str(self.description()),
+        }
     }
 }
 

@@ -1,6 +1,7 @@
 pub mod Pointers
 pub mod Backwards
 pub mod ShortLeb
+pub mod Steps
 pub mod Variants
 pub mod Worked
 pub mod Closed
@@ -9,6 +10,7 @@ pub mod InstructionLaws
 pub mod InstructionRefusals
 pub mod Bounds
 pub mod RowBounds
+pub mod RowsAlone
 pub mod Programs
 pub mod Headers
 pub mod HeaderParts
@@ -19,6 +21,7 @@ pub mod LookUps
 pub mod Operands
 pub mod Runs
 pub mod Executions
+pub mod RarerExecutions
 pub mod EventsWithFilesLaws
 pub mod SequenceLaws
 pub mod NonDecreasingLaws
@@ -26,3 +29,4 @@ pub mod Order
 pub mod Equality
 pub mod Tables
 pub mod Fields
+pub mod UnitLaws

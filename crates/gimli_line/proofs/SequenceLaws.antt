@@ -3,7 +3,6 @@ use Rattle.std.proofs.Common.{◌<◌, ◌≡◌, ℕ, ◌-◌, Bool, true, fals
 use Rattle.std.specs.List.{AllByRecursion, list_any, flat_map}
 use Rattle.std.specs.Option.{unwrap_or}
 use Rattle.std.proofs.lemmas.List.{length-append, append-nil, map-append, take_at}
-use Rattle.std.proofs.lemmas.Simd.{map-map}
 use Rattle.gimli_core.specs.Notation.{Notation}
 use Rattle.gimli_core.specs.Production.{Each}
 use Rattle.gimli_core.specs.declared.error.Error.{Error}
@@ -151,10 +150,6 @@ module _ (h c : Header) (files : List File) (c_is : c ≡ record h { files = fil
 pub rows_are_kept : (n : Notation) (h c : Header) (parts : List Part) (rows : List (List LineRow)) → AreSequences n h c parts → AllKept h parts rows
     → map (map row) rows ≡ map (resumed c) parts
 rows_are_kept n h c parts rows are all = all_kept h c (defined_files h.files (behind [] are.list)) are.files parts rows all
-
-pub each_is_kept : {A : Type 0} (rows_in : A → List LineRow) (items : List A) (kept : List (List LineRow)) (events : List (List Event))
-    → map rows_in items ≡ kept → map (map row) kept ≡ events → map (λ (x : A). map row (rows_in x)) items ≡ events
-each_is_kept rows_in items kept events are same = sym (map-map (map row) rows_in items) ∙ ap (map (map row)) are ∙ same
 
 -- ---- the state of the split after some rows
 

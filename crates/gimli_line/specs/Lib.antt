@@ -1,3 +1,5 @@
 pub mod header
 pub mod run
 pub mod UnitAt
+pub mod Units
+pub mod UnitReading

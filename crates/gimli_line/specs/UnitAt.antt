@@ -10,7 +10,10 @@ use Rattle.gimli_line.specs.run.Unread.{Unread}
 abbrev pub HasUnitAt : {R Offset Endian : Type 0} → Unread → ℕ → UnitEntry → SeenHeader R Offset Endian → Type 0
 HasUnitAt section offset unit_entry header = SpellsUnit section.notation unit_entry (drop offset section.bytes) header.meaning
 
--- unless memory was missing, the section begins with no unit from the offset on, and this is the refusal of the first
--- part of the header that isn't met
+-- from the offset on the section begins with no unit, and this is the refusal of the first part of the header that isn't met
+abbrev pub HasUnitFaultAt : Unread → ℕ → UnitEntry → Error → Type 0
+HasUnitFaultAt section offset unit_entry e = HasHeaderFault section.notation unit_entry (drop offset section.bytes) e
+
+-- the same, unless memory was missing
 abbrev pub IsUnitRefusal : Unread → ℕ → UnitEntry → Error → Type 0
-IsUnitRefusal section offset unit_entry e = e ≢ OutOfMemory → HasHeaderFault section.notation unit_entry (drop offset section.bytes) e
+IsUnitRefusal section offset unit_entry e = e ≢ OutOfMemory → HasUnitFaultAt section offset unit_entry e

@@ -10,6 +10,7 @@ pub mod Events
 pub mod Machine
 pub mod Execution
 pub mod Row
+pub mod StoredRow
 pub mod EventsWithFiles
 pub mod RunState
 pub mod Progress

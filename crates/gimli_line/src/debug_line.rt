@@ -81,7 +81,7 @@ impl<R: Reader> DebugLine<R> {
     }
 
     /// The bytes from an offset on; none where it is past the end.
-    fn input_at(&self, offset: R::Offset) -> R
+    pub(crate) fn input_at(&self, offset: R::Offset) -> R
         ensures bytes { R.bytes result ≡ drop (R.Offset.number offset) (R.bytes self.now) }
         ensures order { R.big result ≡ R.big self.now }
     {

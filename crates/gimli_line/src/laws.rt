@@ -1,7 +1,7 @@
 //! Laws of the two grammars: a unit has one header or one refusal, a program is decoded in one way. And laws of what
 //! a run gives.
 
-ghost use Rattle.std.specs.Prelude.{◌≡◌, ◌≢◌, ◌≤◌, ◌⊎◌, ◌+◌, ℕ, Bool, List, [], Option, Some, length, nat_eq, option_map};
+ghost use Rattle.std.specs.Prelude.{◌≡◌, ◌≢◌, ◌≤◌, ◌⊎◌, ◌+◌, ℕ, Bool, List, [], ◌∷◌, Option, Some, length, nat_eq, option_map};
 ghost use Rattle.std.specs.Ordering.{nat_cmp};
 ghost use Rattle.gimli_core.specs.Equality.{AreAlwaysCloned, ClonesGiveSame, ComparesBy, IsExact, IsSameClone, both};
 ghost use Rattle.gimli_core.specs.Notation.{Notation};
@@ -27,6 +27,7 @@ ghost use Rattle.gimli_line.specs.run.Machine.{run, initial, is_refused};
 ghost use Rattle.gimli_line.specs.run.NonDecreasing.{AreOneSequence, NeverBelow};
 ghost use Rattle.gimli_line.specs.header.Parameters.{Parameters};
 ghost use Rattle.gimli_line.specs.run.Row.{column_number};
+ghost use Rattle.gimli_line.specs.Units.{AreUnits, AreUnitsOnce, offset_after};
 ghost use Rattle.gimli_line.specs.declared.header.file_entry.FileEntryFormat.{FileEntryFormat};
 ghost use Rattle.gimli_line.specs.declared.run.row.ColumnType.{ColumnType as Column};
 
@@ -54,6 +55,23 @@ pub fn one_unit_or_refusal()
         → SpellsUnit notation entry bytes h → SpellsUnit notation entry bytes k → h ≡ k }
     ensures refusal { (notation : Notation) (entry : UnitEntry) (bytes : List ℕ) (e d : Error) →
         HasHeaderFault notation entry bytes e → HasHeaderFault notation entry bytes d → e ≡ d }
+{}
+
+/// The bytes of a section have one list of offsets of units.
+pub fn one_list_of_units()
+    ensures some { (notation : Notation) (offset : ℕ) (bytes : List ℕ) →
+        (offsets : List ℕ) × AreUnits notation offset bytes offsets }
+    ensures one { (notation : Notation) (offset : ℕ) (bytes : List ℕ) →
+        AreUnitsOnce notation offset bytes }
+{}
+
+/// A unit with a header ends within its section, at the offset of the unit that follows it.
+pub fn units_follow_headers()
+    ensures end { (notation : Notation) (entry : UnitEntry) (offset : ℕ) (bytes : List ℕ) (h : Header)
+        → SpellsUnit notation entry bytes h → offset_after offset h ≤ offset + length bytes }
+    ensures next { (notation : Notation) (entry : UnitEntry) (offset next : ℕ) (bytes offsets : List ℕ)
+        (h : Header) → SpellsUnit notation entry bytes h
+        → AreUnits notation offset bytes (offset ∷ next ∷ offsets) → next ≡ offset_after offset h }
 {}
 
 /// A program is decoded into instructions, and in one way.

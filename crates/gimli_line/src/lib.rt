@@ -8,6 +8,7 @@ mod debug_line;
 mod header;
 pub mod laws;
 mod run;
+mod units;
 
 pub use debug_line::DebugLine;
 pub use header::file_entry::{FileEntry, FileEntryFormat};
@@ -15,5 +16,7 @@ pub use header::program_header::LineProgramHeader;
 pub use run::instruction::{LineInstruction, LineInstructions};
 pub use run::program::{CompleteLineProgram, IncompleteLineProgram, LineProgram};
 pub use run::row::{ColumnType, LineRow};
+pub use run::row_list::RowList;
 pub use run::rows::{LineRows, OneShotLineRows, ResumedLineRows};
 pub use run::sequences::LineSequence;
+pub use units::{LineUnit, LineUnits};

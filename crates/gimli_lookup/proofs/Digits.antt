@@ -1,5 +1,6 @@
 -- Binary digits, and searches by halves.
-use Rattle.std.proofs.Common.{◌≡◌, ℕ, zero, suc, ◌+◌, ◌/◌, ◌<◌, ◌≤◌, Bool, true, false, if◌then◌else◌, List, length, refl, ap, arith}
+use Rattle.std.proofs.Common.{◌≡◌, ℕ, zero, suc, ◌+◌, ◌/◌, ◌<◌, ◌≤◌, ◌^◌, Bool, true, false, if◌then◌else◌, List, length, refl, ap, arith}
+use Rattle.std.proofs.Math.Nat.{pow-suc}
 use Rattle.gimli_line.specs.declared.run.row.LineRow.{LineRow}
 use Rattle.gimli_lookup.specs.Probes.{halvings, binary_digits, most_probes, never_go_down}
 
@@ -49,3 +50,17 @@ probes_few rows = at_test (never_go_down rows)
     at_test : (b : Bool) → (if b then binary_digits (length rows) else length rows) ≤ length rows
     at_test true = digits_few (length rows)
     at_test false = omega arith
+
+-- a larger number has no fewer digits
+pub digits_grow : (m n : ℕ) → m ≤ n → binary_digits m ≤ binary_digits n
+digits_grow m n le = omega (arith, enough m n m (omega arith) le, fewer n m n le)
+
+-- a number below a power of two has no more digits than the power says
+halvings_below : (k l n : ℕ) → n < 2 ^ k → halvings l n ≤ k
+halvings_below k zero n lt = none_is_least k
+halvings_below k (suc l) zero lt = none_is_least k
+halvings_below zero (suc l) (suc n) lt = absurd (omega arith)
+halvings_below (suc k) (suc l) (suc n) lt = one_within (halvings l (suc n / 2)) k (halvings_below k l (suc n / 2) (omega (arith, pow-suc 2 k)))
+
+pub digits_below : (k n : ℕ) → n < 2 ^ k → binary_digits n ≤ k
+digits_below k n lt = halvings_below k n n lt

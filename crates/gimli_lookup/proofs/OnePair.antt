@@ -9,7 +9,7 @@ use Rattle.gimli_line.specs.declared.run.row.LineRow.{LineRow}
 use Rattle.gimli_lookup.specs.FirstPair.{HasNoPair, IsFirstPairOf, IsFirstPair}
 
 -- the sequence of a first pair stands where those before it end
-stands_there : (a : ℕ) (s : List (List LineRow)) (x y : LineRow) (f : IsFirstPair a s x y) (d : List LineRow) → slice_index_or s (length f.earlier) d ≡ f.rows
+pub stands_there : (a : ℕ) (s : List (List LineRow)) (x y : LineRow) (f : IsFirstPair a s x y) (d : List LineRow) → slice_index_or s (length f.earlier) d ≡ f.rows
 stands_there a s x y f d =
     ap (λ (t : List (List LineRow)). slice_index_or t (length f.earlier) d) f.parts ∙ get_or-append_seam f.earlier f.rows f.later d
 

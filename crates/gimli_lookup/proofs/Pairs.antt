@@ -1,11 +1,11 @@
 -- Pairs of rows that cover an address.
 use Rattle.std.proofs.Common.{◌≡◌, ◌⊎◌, ℕ, zero, suc, ◌+◌, ◌-◌, ◌<◌, ◌≤◌, true, not, List, [], ◌∷◌, ◌++◌, length, take, drop, Some, sym, ap, subst, ◌∙◌, inl, inr, arith}
-use Rattle.std.specs.Prelude.{slice_get, slice_index_or, nat_lt, All}
+use Rattle.std.specs.Prelude.{slice_get, slice_index_or, nat_lt, ◌&&◌, All}
 use Rattle.std.proofs.lemmas.Bool.{and_parts, not-true, ltb-false, cases_order}
 use Rattle.std.proofs.lemmas.List.{take-append-drop, drop_more}
 use Rattle.std.proofs.lemmas.Option.{get_or_from_slice_get, slice_get_within}
 use Rattle.gimli_line.specs.declared.run.row.LineRow.{LineRow}
-use Rattle.gimli_lookup.specs.FirstPair.{IsPairAt, HasNoPair, IsFirstPairOf, IsFirstPair}
+use Rattle.gimli_lookup.specs.FirstPair.{IsPairAt, HasNoPair, IsFirstPairOf, IsFirstPair, IsFirstPairIn}
 use Rattle.gimli_lookup.specs.Probes.{never_go_below, never_go_down}
 
 -- ---- addresses that never go down
@@ -33,6 +33,14 @@ in_order lowest (r ∷ rows) (suc i) (suc j) d order le lt =
 pub rises : (rows : List LineRow) (i j : ℕ) (d : LineRow) → never_go_down rows ≡ true → i ≤ j → j < length rows
     → (slice_index_or rows i d).address ≤ (slice_index_or rows j d).address
 rises rows i j d order le lt = in_order 0 rows i j d order le lt
+
+-- one more row
+pub never_below_next : (lowest address : ℕ) (rows : List LineRow) (i : ℕ) → i < length rows → ((d : LineRow) → address ≡ (slice_index_or rows i d).address)
+    → never_go_below lowest (drop i rows) ≡ (not (nat_lt address lowest) && never_go_below address (drop (i + 1) rows))
+never_below_next lowest address [] i lt is = absurd (omega arith)
+never_below_next lowest address (r ∷ rows) i lt is =
+    ap (never_go_below lowest) (drop_more (r ∷ rows) i r lt)
+    ∙ ap (λ (n : ℕ). not (nat_lt n lowest) && never_go_below n (drop (i + 1) (r ∷ rows))) (sym (is r))
 
 -- ---- round the first address that is above
 
@@ -126,3 +134,9 @@ first_found a sequences i rows x y lt item none first = record {
 -- a sequence with a pair has rows
 pub has_rows : (a : ℕ) (rows : List LineRow) (x y : LineRow) → IsFirstPairOf a rows x y → 0 < length rows
 has_rows a rows x y first = omega (arith, slice_get_within rows first.place x first.is_pair.first)
+
+-- the sequence of a first pair is one of those
+pub first_pair_of_place : (a : ℕ) (sequences : List (List LineRow)) (place : ℕ) (x y : LineRow) → IsFirstPairIn a sequences place x y → IsFirstPair a sequences x y
+first_pair_of_place a sequences place x y first =
+    first_found a sequences place first.rows x y (slice_get_within sequences place first.rows first.there)
+    (sym (get_or_from_slice_get sequences place first.rows first.rows first.there)) first.none_earlier first.is_first

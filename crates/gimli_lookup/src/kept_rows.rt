@@ -1,22 +1,24 @@
 //! The rows of a sequence, which count each reading of an address.
 
-ghost use Rattle.std.specs.Prelude.{◌≡◌, ◌<◌, ◌+◌, ◌-◌, ◌^◌, length, slice_get, slice_index_or, Some};
+ghost use Rattle.std.specs.Prelude.{◌≡◌, ◌<◌, ◌+◌, ◌-◌, ◌^◌, length, option_map, slice_get, slice_index_or, Some};
 ghost use Rattle.gimli_line.specs.declared.run.row.LineRow.{LineRow};
+ghost use Rattle.gimli_lookup.specs.Covering.{range};
 ghost use Rattle.gimli_lookup.specs.Probes.{never_go_down};
 
-use gimli_line::LineRow;
+use gimli_line::{LineRow, RowList};
 use std::marker::Model;
 
 /// Whether no row has an address below the one before it.
-fn addresses_never_go_down(rows: &[LineRow]) -> bool
+fn addresses_never_go_down(rows: &RowList) -> bool
     ensures { result ≡ never_go_down rows.now }
 {
     let mut lowest = 0;
-    for row in rows {
-        if row.address() < lowest {
+    for index in 0..rows.len() {
+        let address = rows.address(index);
+        if address < lowest {
             return false;
         }
-        lowest = row.address();
+        lowest = address;
     }
     true
 }
@@ -25,7 +27,7 @@ fn addresses_never_go_down(rows: &[LineRow]) -> bool
 /// hands out the two rows that it found, and counts nothing.
 #[derive(Debug, Drop)]
 pub(crate) struct KeptRows {
-    rows: Vec<LineRow>,
+    rows: RowList,
     is_in_order: bool,
 }
 
@@ -36,17 +38,17 @@ impl Model for KeptRows {
 
     ghost Value = { List LineRow };
 
-    ghost view = { λ a. a.rows.items };
+    ghost view = { λ a. a.rows };
 
-    ghost invariant = { λ a. a.is_in_order ≡ never_go_down a.rows.items };
+    ghost invariant = { λ a. a.is_in_order ≡ never_go_down a.rows };
 }
 
 impl KeptRows {
     /// These rows.
-    pub(crate) fn new(rows: Vec<LineRow>) -> Self
-        ensures { result ≡ rows.items }
+    pub(crate) fn new(rows: RowList) -> Self
+        ensures { result ≡ rows }
     {
-        let is_in_order = addresses_never_go_down(rows.as_slice());
+        let is_in_order = addresses_never_go_down(&rows);
         KeptRows { rows, is_in_order }
     }
 
@@ -72,7 +74,15 @@ impl KeptRows {
         ensures counted { probes.new ≡ probes.old + 1 }
     {
         *probes += 1;
-        self.rows[place].address()
+        self.rows.address(place)
+    }
+
+    /// The row at a place, which is no probe. Requires a place of a row.
+    pub(crate) fn row(&self, place: usize) -> LineRow
+        requires { place < length self.now }
+        ensures { slice_get self.now place ≡ Some result }
+    {
+        self.rows.get(place).unwrap()
     }
 
     /// The row before a place, and the one at it. Requires a place of a row that isn't the first.
@@ -82,6 +92,20 @@ impl KeptRows {
         ensures first { slice_get self.now (place - 1) ≡ Some result.0 }
         ensures second { slice_get self.now place ≡ Some result.1 }
     {
-        (self.rows[place - 1], self.rows[place])
+        let first = self.rows.get(place - 1).unwrap();
+        let second = self.rows.get(place).unwrap();
+        (first, second)
+    }
+
+    /// The address of the first row, and that of the last one; None where there are no rows. Counts no probe.
+    pub(crate) fn range(&self) -> Option<(u64, u64)>
+        ensures first { option_map (λ range. range.0) result
+            ≡ option_map (λ row. row.address) (slice_get self.now 0) }
+        ensures last { option_map (λ range. range.1) result
+            ≡ option_map (λ row. row.address) (slice_get self.now (length self.now - 1)) }
+        ensures ends { result ≡ range self.now }
+    {
+        let last = self.rows.len().checked_sub(1)?;
+        Some((self.rows.address(0), self.rows.address(last)))
     }
 }

@@ -1,11 +1,76 @@
-//! A law of what a lookup answers.
+//! Laws of what a lookup answers, of strings and of paths.
 
-ghost use Rattle.std.specs.Prelude.{◌≡◌, ℕ, List};
+ghost use Rattle.std.specs.Prelude.{◌≡◌, ◌≤◌, ◌↔◌, ℕ, List, length, Ok, Err, IsTrue};
+ghost use Rattle.gimli_core.specs.Equality.{ClonesGiveSame, GivesSame, IsExact};
+ghost use Rattle.gimli_core.specs.Notation.{Notation};
 ghost use Rattle.gimli_line.specs.declared.run.row.LineRow.{LineRow};
+ghost use Rattle.gimli_line.specs.header.File.{File};
+ghost use Rattle.gimli_line.specs.header.Header.{Header};
 ghost use Rattle.gimli_lookup.specs.FirstPair.{IsFirstPair};
+ghost use Rattle.gimli_lookup.specs.Paths.{Paths, is_absolute, file_path, EndsWithOwnPath, HasAbsoluteRoot};
+ghost use Rattle.gimli_lookup.specs.Run.{AreRowsOfSequences, IsFirstFound, IsFoundInRun};
+ghost use Rattle.gimli_lookup.specs.declared.path_error.PathError.TheVariants.{StringOffsetOutOfBounds, UnterminatedString};
+ghost use Rattle.gimli_lookup.specs.Strings.{string_at, HasNoStringEnd, IsStringAt};
+
+use crate::path_error::PathError;
+use crate::string_sections::StringSections;
+use gimli_core::laws;
+use gimli_line::laws::one_decoding;
 
 /// An address has no more than one first pair.
 pub fn one_first_pair()
     ensures { (a : ℕ) (sequences : List (List LineRow)) (x y z w : LineRow) →
         IsFirstPair a sequences x y → IsFirstPair a sequences z w → (x ≡ z) × (y ≡ w) }
 {}
+
+/// The string at an offset of a section is the one that is spelled there. It is refused exactly where the section has no
+/// byte at the offset, or no zero byte from there on.
+pub fn strings_are_spelled()
+    ensures found { (section : List ℕ) (offset : ℕ) (string : List ℕ) →
+        string_at section offset ≡ Ok string → IsStringAt section offset string }
+    ensures only { (section : List ℕ) (offset : ℕ) (string : List ℕ) →
+        IsStringAt section offset string → string_at section offset ≡ Ok string }
+    ensures out_of_bounds { (section : List ℕ) (offset : ℕ) →
+        (string_at section offset ≡ Err StringOffsetOutOfBounds) ↔ (length section ≤ offset) }
+    ensures unterminated { (section : List ℕ) (offset : ℕ) →
+        (string_at section offset ≡ Err UnterminatedString) ↔ HasNoStringEnd section offset }
+{
+    laws::texts();
+}
+
+/// Whole paths are absolute where the directory of the compilation is.
+pub fn whole_paths_are_absolute()
+    ensures { (paths : Paths) (f : File) (path : List ℕ) → HasAbsoluteRoot paths
+        → file_path paths f ≡ Ok path → IsTrue (is_absolute path) }
+{}
+
+/// A whole path ends with the path that the table of files has.
+pub fn whole_paths_end_with_own()
+    ensures { (paths : Paths) (f : File) (path : List ℕ) → file_path paths f ≡ Ok path
+        → EndsWithOwnPath paths.sections f path }
+{}
+
+/// `==` of refusals holds exactly where they are of one kind and hold the same.
+pub fn equal_errors_are_same()
+    ensures { IsExact ⟦<PathError as PartialEq>⟧.eq }
+{}
+
+/// `clone` of refusals is never refused, and gives the same.
+pub fn clones_of_errors_are_same()
+    ensures { ClonesGiveSame ⟦<PathError as Clone>⟧ }
+{}
+
+/// The same of the sections of strings, if it is so of readers.
+pub fn clones_of_sections_are_same<R: Clone>()
+    ensures { GivesSame R.is_clone R.is_infallible → ClonesGiveSame ⟦<StringSections<R> as Clone>⟧ }
+{}
+/// A program has one list of the rows of its sequences. So `find_in_run` answers what `Lookup::find` does, over a lookup
+/// of the same program.
+pub fn one_answer()
+    ensures sequences { (notation : Notation) (h : Header) (rows other : List (List LineRow)) →
+        AreRowsOfSequences notation h rows → AreRowsOfSequences notation h other → rows ≡ other }
+    ensures find { (n : Notation) (h : Header) (a : ℕ) (rows : List (List LineRow)) (x y : _) →
+        AreRowsOfSequences n h rows → IsFirstFound a rows x → IsFoundInRun n h a y → x ≡ y }
+{
+    one_decoding();
+}

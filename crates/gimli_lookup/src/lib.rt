@@ -1,11 +1,35 @@
-//! The rows of a line program that cover an address, in DWARF versions 2 to 5.
+//! The rows of line programs that cover an address, the paths of their files, and the addresses of a line, in DWARF
+//! versions 2 to 5.
 //!
 //! [`Lookup`] keeps the rows of each sequence of a program, and finds the two between which an address stands.
+//! [`SectionLookup`] does so for all units of a section. [`find_in_run`] answers what a lookup does for one address, and
+//! keeps no rows. [`Paths`] tells the whole path of a row's file. The way back, from a line of a file to [`Addresses`],
+//! goes by the same rows.
 #![tactic(auto)]
 
+mod index;
 mod kept_rows;
 pub mod laws;
 mod lookup;
+mod path_error;
+mod path_files;
+mod paths;
+mod run;
 mod search;
+mod section_addresses;
+mod section_lookup;
+mod section_unit;
+mod sequence_cut;
+mod statements;
+mod steps;
+mod string_sections;
+mod unit_run;
 
 pub use lookup::Lookup;
+pub use path_error::PathError;
+pub use paths::Paths;
+pub use run::find_in_run;
+pub use section_lookup::{CoveringRows, SectionLookup};
+pub use section_unit::UnitLookup;
+pub use statements::Addresses;
+pub use string_sections::StringSections;

@@ -1,35 +1,31 @@
 //! The rows of a program, kept so that those that cover an address are found.
 
-ghost use Rattle.std.specs.Prelude.{◌≡◌, ◌≢◌, ◌≤◌, ◌<◌, ◌^◌, List, length, map, sum_by, All, Any, IfErr, IfOk, MatchOption};
+ghost use Rattle.std.specs.Prelude.{◌≡◌, ◌≢◌, ◌≤◌, ◌+◌, ◌*◌, List, length, map, nat_eq, sum_by, All, Any, IfErr, IfOk, MatchOption};
 ghost use Rattle.gimli_line.specs.header.Header.{HasOneOrder};
-ghost use Rattle.gimli_line.specs.run.Events.{Event, Events, row};
+ghost use Rattle.gimli_line.specs.header.Orders.{header_orders};
+ghost use Rattle.gimli_line.specs.run.Events.{row};
 ghost use Rattle.gimli_line.specs.run.Sequences.{part_of, resumed, AreSequences, HasFirstFault};
 ghost use Rattle.gimli_lookup.specs.FirstPair.{HasNoPair, IsFirstPair};
 ghost use Rattle.gimli_lookup.specs.Kept.{AreRowsThroughLastEnd, IsOfOneOrder};
-ghost use Rattle.gimli_lookup.specs.Probes.{most_probes};
+ghost use Rattle.gimli_lookup.specs.Run.{AreRowsOfSequences};
+ghost use Rattle.gimli_lookup.specs.Covering.{covering_probes, scan_probes, IsLookedInto};
+ghost use Rattle.gimli_lookup.specs.Probes.{binary_digits, most_probes};
+ghost use Rattle.gimli_lookup.specs.Statements.{addresses_of, AreAddressesFrom};
 
+use crate::index::Index;
 use crate::kept_rows::KeptRows;
 use crate::search;
-use gimli_core::{Error, Reader, ReaderOffset, Result};
+use crate::statements::{self, Addresses};
+use gimli_core::{Error, Reader, Result};
 use gimli_line::{
-    CompleteLineProgram, IncompleteLineProgram, LineProgramHeader, LineRow, LineSequence, laws,
+    CompleteLineProgram, IncompleteLineProgram, LineProgramHeader, LineRow, LineSequence, RowList,
 };
 use std::alloc::Global;
 use std::marker::Model;
 
-/// A program gives fewer rows and refusals than a `u64` counts, since it has no fewer bytes.
-fn events_fit<R: Reader>(program: &IncompleteLineProgram<R>)
-    ensures { (events : List Event)
-        → Events program.now.notation program.now.meaning program.now.meaning.program events
-        → length events < 2 ^ 64 }
-{
-    laws::rows_are_bounded();
-    let _bytes = program.header().raw_program_buf().len().into_u64();
-}
-
-/// Keeps the rows of each sequence. Refused by `OutOfMemory` alone.
-fn keep_each(alloc: Global, rows: Vec<Vec<LineRow>>) -> Result<Vec<KeptRows>>
-    ensures ok { IfOk result (λ kept. kept.items ≡ map (λ each. each.items) rows.items) }
+/// Keeps the rows of each sequence. Fails only with `OutOfMemory`.
+fn keep_each(alloc: Global, rows: Vec<RowList>) -> Result<Vec<KeptRows>>
+    ensures ok { IfOk result (λ kept. kept.items ≡ rows.items) }
     ensures err { IfErr result (λ e. e ≡ Error.OutOfMemory) }
 {
     let mut kept = Vec::new(alloc);
@@ -48,13 +44,15 @@ pub struct Lookup<R: Reader> {
     program: CompleteLineProgram<R>,
     sequences: Vec<LineSequence<R>>,
     rows: Vec<KeptRows>,
+    index: Index,
 }
 
 impl<R: Reader> Model for Lookup<R> {
-    ghost use Rattle.std.specs.Prelude.{◌<◌, ◌^◌, length, map, sum_by};
+    ghost use Rattle.std.specs.Prelude.{map};
     ghost use Rattle.gimli_line.specs.header.Orders.{header_orders};
     ghost use Rattle.gimli_line.specs.run.Sequences.{part_of};
     ghost use Rattle.gimli_lookup.specs.Kept.{Kept};
+    ghost use Rattle.gimli_lookup.specs.Steps.{IsIndexOf};
 
     ghost Value = { Kept };
 
@@ -67,7 +65,7 @@ impl<R: Reader> Model for Lookup<R> {
       rows = a.rows.items;
     } };
 
-    ghost invariant = { λ a. sum_by length a.rows.items < 2 ^ 64 };
+    ghost invariant = { λ a. IsIndexOf a.index a.rows.items };
 }
 
 impl<R: Reader> Lookup<R> {
@@ -80,19 +78,24 @@ impl<R: Reader> Lookup<R> {
             map (map row) lookup.rows ≡ map (resumed lookup.header) lookup.parts) }
         ensures joined { IfOk result (λ lookup.
             AreRowsThroughLastEnd program.notation program.meaning lookup.rows) }
+        ensures cut { IfOk result (λ lookup.
+            AreRowsOfSequences program.notation program.meaning lookup.rows) }
         ensures notation { IfOk result (λ lookup. lookup.notation ≡ program.notation) }
         ensures offset { IfOk result (λ lookup. lookup.offset ≡ R.Offset.number program.offset.0) }
         ensures order { HasOneOrder R.big program → IfOk result IsOfOneOrder }
+        ensures handed { IfOk result (λ lookup.
+            lookup.orders.handed ≡ (header_orders R.big program).handed) }
         ensures err { IfErr result (λ e. e ≢ Error.OutOfMemory
             → HasFirstFault program.notation program.meaning e) }
     {
-        events_fit(&program);
         let (program, sequences, rows) = program.sequences_with_rows()?;
         let rows = keep_each(*sequences.allocator(), rows)?;
+        let index = Index::new(*sequences.allocator(), rows.as_slice())?;
         Ok(Lookup {
             program,
             sequences,
             rows,
+            index,
         })
     }
 
@@ -102,6 +105,7 @@ impl<R: Reader> Lookup<R> {
         ensures notation { result.now.notation ≡ self.now.notation }
         ensures offset { R.Offset.number result.now.offset.0 ≡ self.now.offset }
         ensures order { IsOfOneOrder self.now → HasOneOrder R.big result.now }
+        ensures handed { (header_orders R.big result.now).handed ≡ self.now.orders.handed }
     {
         self.program.header()
     }
@@ -119,11 +123,29 @@ impl<R: Reader> Lookup<R> {
         ensures { MatchOption result (All (HasNoPair a) self.now.rows)
             (λ pair. IsFirstPair a self.now.rows pair.0 pair.1) }
     {
-        self.find_counted(a).0
+        self.find_indexed_counted(a).0
     }
 
-    /// What `find` answers, and the number of probes that it takes: of times that the address of a row is read. In a
-    /// sequence whose addresses never go down the rows are searched by halves, in any other one by one.
+    /// What `find` answers, and the number of probes that it takes: of stored addresses that are looked at. A sequence
+    /// whose addresses never go down is found by halves, however many there are and however they overlap, and then its
+    /// rows by halves; the others are searched row by row.
+    pub fn find_indexed_counted(&self, a: u64) -> (Option<(LineRow, LineRow)>, u64)
+        ensures pair { MatchOption result.0 (All (HasNoPair a) self.now.rows)
+            (λ pair. IsFirstPair a self.now.rows pair.0 pair.1) }
+        ensures at_least { Any IsLookedInto self.now.rows → 1 ≤ result.1 }
+        ensures at_most { result.1 ≤ binary_digits (2 * length self.now.rows)
+            + covering_probes a self.now.rows + sum_by scan_probes self.now.rows }
+    {
+        let (found, count) = self.index.find(self.rows.as_slice(), a);
+        match found {
+            Some(found) => (Some((found.row, found.next)), count),
+            None => (None, count),
+        }
+    }
+
+    /// What `find` answers, found by going over the sequences one after the other, and the number of probes that this
+    /// takes: of times that the address of a row is read. In a sequence whose addresses never go down the rows are
+    /// searched by halves, in any other one by one.
     pub fn find_counted(&self, a: u64) -> (Option<(LineRow, LineRow)>, u64)
         ensures pair { MatchOption result.0 (All (HasNoPair a) self.now.rows)
             (λ pair. IsFirstPair a self.now.rows pair.0 pair.1) }
@@ -137,5 +159,17 @@ impl<R: Reader> Lookup<R> {
             }
         }
         (None, probes)
+    }
+
+    /// The addresses for a breakpoint at a line of a file, by the file's index in the header: of each run of rows of
+    /// that line that stand side by side in a sequence, that of the first with `is_stmt` (DWARF 5, section 6.2.2).
+    /// Where the line has none, those of the next line that has; None where no line from it on has any. Fails only
+    /// with `OutOfMemory`.
+    pub fn addresses_of_file(&self, file: u64, line: u64) -> Result<Option<Addresses>>
+        ensures ok { IfOk result
+            (AreAddressesFrom (addresses_of (nat_eq file) self.now.rows) line) }
+        ensures err { IfErr result (λ e. e ≡ Error.OutOfMemory) }
+    {
+        statements::addresses_from(*self.rows.allocator(), &self.rows, &[file], line)
     }
 }

@@ -35,7 +35,11 @@ fn first_above(rows: &KeptRows, a: u64, probes: &mut u64) -> usize
 }
 
 /// The first rows that cover `a`, found by halves. Requires addresses that never go down.
-fn find_by_halves(rows: &KeptRows, a: u64, probes: &mut u64) -> Option<(LineRow, LineRow)>
+pub(crate) fn find_by_halves(
+    rows: &KeptRows,
+    a: u64,
+    probes: &mut u64,
+) -> Option<(LineRow, LineRow)>
     requires order { never_go_down rows.now ≡ true }
     requires count { probes.old + length rows.now < 2 ^ 64 }
     ensures pair { MatchOption result (HasNoPair a rows.now)
@@ -52,7 +56,7 @@ fn find_by_halves(rows: &KeptRows, a: u64, probes: &mut u64) -> Option<(LineRow,
 }
 
 /// The first rows that cover `a`, found row by row.
-fn find_by_scan(rows: &KeptRows, a: u64, probes: &mut u64) -> Option<(LineRow, LineRow)>
+pub(crate) fn find_by_scan(rows: &KeptRows, a: u64, probes: &mut u64) -> Option<(LineRow, LineRow)>
     requires count { probes.old + length rows.now < 2 ^ 64 }
     ensures pair { MatchOption result (HasNoPair a rows.now)
         (λ pair. IsFirstPairOf a rows.now pair.0 pair.1) }

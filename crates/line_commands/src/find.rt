@@ -7,12 +7,12 @@ use crate::refusal::Refusal;
 use crate::section::program_at;
 use crate::words::Query;
 use gimli_line::LineRow;
-use gimli_lookup::Lookup;
+use gimli_lookup::find_in_run;
 use std::alloc::Global;
 use std::io::Write;
 
-/// Prints the two rows that cover an address of a unit, or that none do. Nothing is printed where the unit can't be cut
-/// into sequences.
+/// Prints the two rows that cover an address of a unit, or that none do. The unit is run once, and nothing is printed
+/// where it has a fault, wherever that stands.
 pub(crate) fn print_pair<O: Write>(
     alloc: Global,
     section: &[u8],
@@ -22,10 +22,10 @@ pub(crate) fn print_pair<O: Write>(
     ensures refusal { IfErr result (λ r. r ≢ Refusal.Usage) }
 {
     let program = program_at(alloc, section, query.place)?;
-    let lookup = Lookup::new(program).map_err(|e| Refusal::of_unit(e, Refusal::Rows))?;
-    let outcome = match lookup.find(query.address) {
-        Some((first, second)) => print_both(first, second, out),
-        None => print_line("none", out),
+    let outcome = match find_in_run(program, query.address) {
+        Ok(Some((first, second))) => print_both(first, second, out),
+        Ok(None) => print_line("none", out),
+        Err(e) => return Err(Refusal::of_unit(e, Refusal::Rows)),
     };
     finished(outcome, out)
 }

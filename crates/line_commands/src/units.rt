@@ -1,23 +1,20 @@
 //! The units of a section, one after the other.
 
-ghost use Rattle.std.specs.Prelude.{◌≢◌, IfErr};
+ghost use Rattle.std.specs.Prelude.{◌≢◌, ◌<◌, IfErr, IfOk, IfSome, length};
 
 use crate::print::{finished, print_line};
 use crate::refusal::Refusal;
-use crate::section::program_at;
 use crate::words::Numbers;
-use gimli_core::Reader;
-use gimli_line::{LineProgram, LineRows};
-use section_units::offset_after;
+use gimli_core::{Reader, ReaderOffset};
+use gimli_line::{DebugLine, LineProgram, LineRows, LineUnit, LineUnits};
 use std::alloc::Global;
 use std::fmt;
 use std::io::Write;
-use unit_text::Place;
 
 /// The line of a unit: its offset in the section, its version, and how many rows it gives, ends among them.
 #[derive(Clone, Copy)]
 struct UnitLine {
-    offset: usize,
+    offset: u64,
     version: u16,
     rows: u64,
 }
@@ -41,42 +38,49 @@ pub(crate) fn print_units<O: Write>(
 ) -> Result<(), Refusal>
     ensures refusal { IfErr result (λ r. r ≢ Refusal.Usage) }
 {
-    let outcome = print_each(alloc, section, numbers, out);
+    let section = DebugLine::new(section, numbers.order);
+    let units = section.units(alloc, numbers.address_size.bytes());
+    let outcome = print_each(units, out);
     finished(outcome, out)
 }
 
-/// The same, without what stands in the writer's own memory.
-fn print_each<O: Write>(
-    alloc: Global,
-    section: &[u8],
-    numbers: Numbers,
-    out: &mut O,
-) -> Result<(), Refusal>
+/// The same of units of any reader, without what stands in the writer's own memory.
+fn print_each<R: Reader, O: Write>(units: LineUnits<R>, out: &mut O) -> Result<(), Refusal>
     ensures refusal { IfErr result (λ r. r ≢ Refusal.Usage) }
 {
-    let mut offset = 0;
-    'units: while offset < section.len() {
-        let place = Place {
-            order: numbers.order,
-            address_size: numbers.address_size,
-            offset,
-        };
-        let program = program_at(alloc, section, place)?;
-        let header = program.header();
-        let version = header.version();
-        let next = offset_after(offset, header.format(), header.unit_length());
-        let rows = count_rows(program.rows())?;
-        print_line(
-            UnitLine {
-                offset,
-                version,
-                rows,
-            },
-            out,
-        )?;
-        offset = next.ok_or(Refusal::Header)?;
+    let mut units = units;
+    'units: while let Some(unit) = next_unit(&mut units)? {
+        print_line(unit_line(unit)?, out)?;
     }
     Ok(())
+}
+
+/// The next unit.
+fn next_unit<R: Reader>(units: &mut LineUnits<R>) -> Result<Option<LineUnit<R>>, Refusal>
+    ensures refusal { IfErr result (λ r. r ≢ Refusal.Usage) }
+    ensures fewer { IfOk result (λ next. IfSome next
+        (λ unit. length units.new.offsets < length units.old.offsets)) }
+{
+    units
+        .next()
+        .map_err(|e| Refusal::of_unit(e, Refusal::Header))
+}
+
+/// The line of a unit that can be read, and whose rows can.
+fn unit_line<R: Reader>(unit: LineUnit<R>) -> Result<UnitLine, Refusal>
+    ensures refusal { IfErr result (λ r. r ≢ Refusal.Usage) }
+{
+    let offset = unit.offset;
+    let program = unit
+        .program
+        .map_err(|e| Refusal::of_unit(e, Refusal::Header))?;
+    let version = program.header().version();
+    let rows = count_rows(program.rows())?;
+    Ok(UnitLine {
+        offset: offset.0.into_u64(),
+        version,
+        rows,
+    })
 }
 
 /// How many rows are still to come, to the first fault.

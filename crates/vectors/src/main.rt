@@ -28,13 +28,14 @@
 //! ```
 //!
 //! The commands are `write`, `read`, `bytes` and `pieces`, which take a script, `header`, `instructions`, `convert`,
-//! `convert_sequences`, and those of `linetool`. A line `:= NAME BYTES` defines a part, for which `@NAME` then stands; `unit(..)` puts a unit length
+//! `convert_sequences`, those of `linetool`, and `lines` with the words of that program. A line `:= NAME BYTES` defines a part, for which `@NAME` then stands; `unit(..)` puts a unit length
 //! before its bytes, and `N*HH` is N times a byte. Blank lines at the end of the expected output don't count.
 #![tactic(auto)]
 
 mod again;
 mod check;
 mod files;
+mod lines;
 mod output;
 mod parts;
 mod rows;

@@ -219,8 +219,8 @@ impl<'t> RowsReader<'t> {
     }
 }
 
-/// The bytes of the parts that a conversion names after its other words; None where there is no such part. Another
-/// command names none.
+/// The bytes of the parts that a command with texts names after its other words; None where there is no such part.
+/// Another command names none.
 fn named_parts(
     alloc: Global,
     parts: &Parts<'_>,
@@ -228,10 +228,10 @@ fn named_parts(
     order: Order,
 ) -> Result<Option<Vec<Vec<u8>>>, AllocError> {
     let mut named = Vec::new(alloc);
-    if !converts(words) {
+    let Some(others) = words_before_parts(words) else {
         return Ok(Some(named));
-    }
-    for word in words.split_whitespace().skip(WORDS + 1) {
+    };
+    for word in words.split_whitespace().skip(others) {
         if word.starts_with('@') {
             match parts.expand(alloc, word, order)? {
                 Some(bytes) => named.push(bytes)?,
@@ -249,11 +249,15 @@ fn push_line(text: &mut String, line: &str) -> Result<bool, AllocError> {
     Ok(true)
 }
 
-/// Whether these words are a conversion.
-fn converts(words: &str) -> bool {
-    match words.split_whitespace().next() {
-        Some(word) => matches!(word, "convert" | "convert_sequences"),
-        None => false,
+/// How many words of a command with texts stand before the parts that hold them, itself among these. None where the
+/// command has no texts.
+fn words_before_parts(words: &str) -> Option<usize> {
+    match words.split_whitespace().next()? {
+        "convert" | "convert_sequences" => Some(WORDS + 1),
+        "paths" => Some(6),
+        "addresses" => Some(6),
+        "lines" => Some(1),
+        _ => None,
     }
 }
 
@@ -265,10 +269,12 @@ fn takes_script(words: &str) -> bool {
     }
 }
 
-/// The order of bytes that the word after a command names, little if none.
+/// The order of bytes that the word after a command names, or any word of `lines`; little if none.
 fn order_of(words: &str) -> Order {
-    match words.split_whitespace().nth(1) {
-        Some("big") => Order::Big,
-        _ => Order::Little,
-    }
+    let mut words = words.split_whitespace();
+    let is_big = match words.next() {
+        Some("lines") => words.any(|word| word == "big"),
+        _ => words.next() == Some("big"),
+    };
+    if is_big { Order::Big } else { Order::Little }
 }

@@ -2,6 +2,7 @@
 
 use crate::again::watch_rows;
 use crate::files::split_words;
+use crate::lines::run_lines;
 use crate::output::print_line;
 use crate::rows::{Input, Row};
 use conversion_text::Sections;
@@ -16,10 +17,9 @@ pub fn run_row(alloc: Global, row: &Row<'_>, attempts: Attempts) -> Result<Vec<u
     let mut out = Vec::new(alloc);
     let status = match &row.input {
         Input::Script(script) => run_script(alloc, &words, script, attempts, &mut out)?,
-        Input::Section(section, named) => match sections_of(section, named) {
-            Some(sections) => run_over(alloc, &words, sections, attempts, &mut out)?,
-            None => 2,
-        },
+        Input::Section(section, named) => {
+            run_over_parts(alloc, &words, section, named, attempts, &mut out)?
+        }
     };
     if status != 0 {
         print_line(&mut out, format_args!("status {status}"))?;
@@ -41,6 +41,24 @@ fn run_script(
         ["bytes", rest @ ..] => call_scripts::bytes(alloc, rest, script, attempts, out),
         ["pieces", rest @ ..] => call_scripts::pieces(alloc, rest, script, attempts, out),
         _ => Ok(2),
+    }
+}
+
+/// Runs a command over a section and the parts that its words name, and answers its status.
+fn run_over_parts<'r>(
+    alloc: Global,
+    words: &[&str],
+    section: &'r [u8],
+    named: &'r [Vec<u8>],
+    attempts: Attempts,
+    out: &mut Vec<u8>,
+) -> Result<u8, AllocError> {
+    if words.first() == Some(&"lines") {
+        return run_lines(alloc, words, section, named, out);
+    }
+    match sections_of(section, named) {
+        Some(sections) => run_over(alloc, words, sections, attempts, out),
+        None => Ok(2),
     }
 }
 
@@ -76,6 +94,30 @@ fn run_over(
         ["convert_sequences", rest @ ..] => {
             let rest = without_parts(alloc, rest)?;
             conversion_text::convert_sequences(alloc, &rest, sections, attempts, out)
+        }
+        ["places", rest @ ..] => rows_lookup::places(alloc, rest, section, out),
+        ["addresses", rest @ ..] => {
+            let words = &rest[..rest.len().min(5)];
+            rows_lookup::addresses(
+                alloc,
+                words,
+                section,
+                sections.strings,
+                sections.line_strings,
+                out,
+            )
+        }
+        ["walk", rest @ ..] => rows_lookup::walk(alloc, rest, section, out),
+        ["paths", rest @ ..] => {
+            let words = &rest[..rest.len().min(5)];
+            rows_lookup::paths(
+                alloc,
+                words,
+                section,
+                sections.strings,
+                sections.line_strings,
+                out,
+            )
         }
         ["header", rest @ ..] => unit_text::header(alloc, rest, section, attempts, out),
         ["instructions", rest @ ..] => {
@@ -135,7 +177,7 @@ fn run_linetool(
 }
 
 /// Prints what stands on standard error.
-fn print_errors(err: &[u8], out: &mut Vec<u8>) -> Result<(), AllocError> {
+pub(crate) fn print_errors(err: &[u8], out: &mut Vec<u8>) -> Result<(), AllocError> {
     for line in str::from_utf8(err).unwrap_or("").lines() {
         print_line(out, format_args!("stderr {line}"))?;
     }

@@ -1,88 +1,93 @@
-/* Prints the path, line and column of addresses.
+/* Prints the path, line and column of addresses of a program.
  *
- *   where_is line.bin line_str.bin ADDRESS..    the sections .debug_line and .debug_line_str (empty where there is none)
+ *   where_is PROGRAM ADDRESS..      or where_is PROGRAM, which reads addresses from its input, one a line, all in hexadecimal
  *
- * For a little-endian program with addresses of 8 bytes. A path that isn't full goes on from its directory, and a directory
- * that isn't full from that of the compilation. Version 5 has that as directory 0; up to version 4 it is DW_AT_comp_dir in
- * .debug_info, which isn't read here: such a path is printed as far as it is known. */
+ * One index is made of the whole program; each address is looked up in it, and a path is asked for once. A program of version 4 or
+ * below has the directory of the compilation in .debug_info, which isn't read here: a path that goes on from it is printed as far
+ * as it is known. Sections that are compressed aren't read: `objcopy --decompress-debug-sections` writes them out. */
 #include <inttypes.h>
 #include <stdio.h>
 #include <stdlib.h>
+#include <string.h>
 
+#include "elf_sections.h"
 #include "gimli_line.h"
 
-enum { ROOM = 4096 };
+/* The paths that were asked for, by unit and file: a later one takes the place of an earlier one. */
+enum { PATHS = 1024 };
 
-typedef struct section {
-    uint8_t *bytes; /* a zero byte comes after them */
-    size_t length;
-} section;
-
-static section read_file(const char *name) {
-    section read = {NULL, 0};
-    FILE *file = fopen(name, "rb");
-    if (file == NULL || fseek(file, 0, SEEK_END) != 0) exit(2);
-    long size = ftell(file);
-    rewind(file);
-    read.bytes = calloc(size > 0 ? (size_t)size + 1 : 1, 1);
-    if (size < 0 || read.bytes == NULL || fread(read.bytes, 1, (size_t)size, file) != (size_t)size) exit(2);
-    fclose(file);
-    read.length = (size_t)size;
-    return read;
-}
+typedef struct path {
+    uint64_t unit, file, size;
+    uint8_t *bytes; /* null where there is none yet */
+} path;
 
 static void stop_if(uint32_t status, const char *call) {
     if (status == GIMLI_OK) return;
-    fprintf(stderr, "%s: status %" PRIu32 "\n", call, status);
+    fprintf(stderr, "where_is: %s: %s\n", call, gimli_status_sentence(status));
     exit(1);
 }
 
-/* A text, which stands in `here` where it stands in the section itself; empty where it isn't known. */
-static const char *text_of(const gimli_text *text, const uint8_t *here, section line_strings) {
-    if (text->kind == GIMLI_TEXT_HERE) return (const char *)here;
-    if (text->kind == GIMLI_TEXT_DEBUG_LINE_STR && text->place < line_strings.length)
-        return (const char *)line_strings.bytes + text->place;
-    return "";
-}
-
-static void print_place(section lines, section line_strings, const gimli_unit *unit, size_t offset, const gimli_row *row) {
-    uint8_t path_here[ROOM] = {0}, directory_here[ROOM] = {0}, base_here[ROOM] = {0};
-    gimli_file file;
-    stop_if(gimli_line_file(lines.bytes, lines.length, false, 8, offset, row->file, &file, path_here, ROOM - 1, directory_here,
-                            ROOM - 1), "gimli_line_file");
-    const char *path = text_of(&file.path, path_here, line_strings);
-    const char *directory = text_of(&file.directory, directory_here, line_strings);
-    if (path[0] != '/' && directory[0] != '/' && unit->version == 5 && file.directory_index != 0) {
-        gimli_text base;
-        stop_if(gimli_line_directory(lines.bytes, lines.length, false, 8, offset, 0, &base, base_here, ROOM - 1),
-                "gimli_line_directory");
-        printf("%s/", text_of(&base, base_here, line_strings));
+/* Asks for a path with some room, and again where it is longer. */
+static void read_path(gimli_line_index *index, path *found) {
+    uint64_t room = 256;
+    for (;;) {
+        found->bytes = realloc(found->bytes, room);
+        if (found->bytes == NULL) stop_if(GIMLI_OUT_OF_MEMORY, "realloc");
+        uint32_t status = gimli_line_index_path(index, found->unit, found->file, (const uint8_t *)"", 0, found->bytes, room,
+                                                &found->size);
+        if (status == GIMLI_UNKNOWN_PATH || status == GIMLI_NOT_FOUND) {
+            memcpy(found->bytes, "??", 2);
+            found->size = 2;
+            return;
+        }
+        stop_if(status, "gimli_line_index_path");
+        if (found->size <= room) return;
+        room = found->size;
     }
-    if (path[0] != '/' && directory[0] != 0) printf("%s/", directory);
-    printf("%s:%" PRIu64 ":%" PRIu64 "\n", path, row->line, row->column);
 }
 
-/* Prints the place of an address, by the first unit that has it. */
-static void look_up(section lines, section line_strings, uint64_t address) {
-    gimli_unit unit;
-    for (size_t offset = 0; offset < lines.length; offset = unit.next) {
-        gimli_row first, second;
-        stop_if(gimli_line_unit(lines.bytes, lines.length, false, 8, offset, &unit), "gimli_line_unit");
-        uint32_t status = gimli_line_find(lines.bytes, lines.length, false, 8, offset, address, &first, &second);
-        if (status == GIMLI_NOT_FOUND) continue;
-        stop_if(status, "gimli_line_find");
-        print_place(lines, line_strings, &unit, offset, &first);
+static void print_place(gimli_line_index *index, path *paths, const gimli_place *place) {
+    path *found = &paths[(place->unit * 31 + place->row.file) % PATHS];
+    if (found->bytes == NULL || found->unit != place->unit || found->file != place->row.file) {
+        found->unit = place->unit;
+        found->file = place->row.file;
+        read_path(index, found);
+    }
+    fwrite(found->bytes, 1, found->size, stdout);
+    printf(":%" PRIu64 ":%" PRIu64 "\n", place->row.line, place->row.column);
+}
+
+static void look_up(gimli_line_index *index, path *paths, uint64_t address) {
+    gimli_place place;
+    uint32_t status = gimli_line_index_find(index, address, &place);
+    if (status == GIMLI_NOT_FOUND) {
+        puts("none");
         return;
     }
-    puts("none");
+    stop_if(status, "gimli_line_index_find");
+    print_place(index, paths, &place);
 }
 
 int main(int argc, char **argv) {
-    if (argc < 3) {
-        fprintf(stderr, "usage: where_is SECTION LINE_STRINGS ADDRESS..\n");
+    if (argc < 2) {
+        fprintf(stderr, "usage: where_is PROGRAM ADDRESS..\n");
         return 2;
     }
-    section lines = read_file(argv[1]), line_strings = read_file(argv[2]);
-    for (int i = 3; i < argc; i++) look_up(lines, line_strings, strtoull(argv[i], NULL, 16));
+    elf_sections program;
+    if (!elf_read(argv[1], &program)) {
+        fprintf(stderr, "where_is: %s can't be read, or is no ELF program\n", argv[1]);
+        return 1;
+    }
+    gimli_line_index index = GIMLI_LINE_INDEX_CLOSED;
+    stop_if(gimli_line_index_open(program.line.bytes, program.line.length, program.big, program.address_size, 1,
+                                  program.line_str.bytes, program.line_str.length, program.str.bytes, program.str.length, &index),
+            "gimli_line_index_open");
+    elf_free(&program); /* the index has what it needs */
+    static path paths[PATHS];
+    char line[64];
+    for (int i = 2; i < argc; i++) look_up(&index, paths, strtoull(argv[i], NULL, 16));
+    while (argc == 2 && fgets(line, sizeof line, stdin) != NULL) look_up(&index, paths, strtoull(line, NULL, 16));
+    for (int i = 0; i < PATHS; i++) free(paths[i].bytes);
+    stop_if(gimli_line_index_close(&index), "gimli_line_index_close");
     return 0;
 }

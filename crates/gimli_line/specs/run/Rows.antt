@@ -1,5 +1,5 @@
 -- What a row iterator still gives.
-use Rattle.std.specs.Prelude.{◌≡◌, ◌≢◌, ◌⊎◌, ◌<◌, ℕ, Bool, true, List, [], ◌∷◌, ◌++◌, length, Option, Some, None, Result, Ok, Err}
+use Rattle.std.specs.Prelude.{◌≡◌, ◌≢◌, ◌⊎◌, ◌<◌, ℕ, Bool, true, false, List, [], ◌∷◌, ◌++◌, length, All, Option, Some, None, Result, Ok, Err}
 use Rattle.std.specs.Borrow.{Bor}
 use Rattle.gimli_core.specs.declared.error.Error.{Error}
 use Rattle.gimli_core.specs.declared.error.Error.TheVariants.{AddressOverflow, OutOfMemory}
@@ -58,9 +58,21 @@ pub record IsOfOneOrder (a : RunState) : Type 0 where
   pub readers : AreOneOrder a.notation.big a.orders
   pub unread : a.appends ≡ true → a.unread.notation.big ≡ a.notation.big
 
--- the header is the same but for its files, whose readers keep the order of its program
+-- an event is a row
+abbrev pub IsRow : EventWithFiles → Type 0
+IsRow t = (r : LineRow) × (t.event ≡ row r)
+
+-- all files are there, and rows alone are to come: such a run is refused for nothing
+pub record GivesRowsAlone (a : RunState) : Type 0 where
+  pub complete : a.appends ≡ false
+  pub rows : All IsRow (events_left a)
+
+-- the header is the same but for its files, whose readers keep the order of its program; readers that were handed in keep
+-- theirs; and a run that is refused for nothing stays one
 pub record KeepsHeader (old new : RunState) : Type 0 where
   pub order : IsOfOneOrder old → IsOfOneOrder new
+  pub handed : new.orders.handed ≡ old.orders.handed
+  pub alone : GivesRowsAlone old → GivesRowsAlone new
   pub fixed : new.fixed ≡ old.fixed
   pub appends : new.appends ≡ old.appends
   pub notation : new.notation ≡ old.notation

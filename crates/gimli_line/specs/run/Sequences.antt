@@ -12,7 +12,7 @@ use Rattle.gimli_line.specs.run.InstructionGrammar.{Decodes}
 use Rattle.gimli_line.specs.run.Events.{Event, row, fault, program_events, defined_files, behind, through_last_end}
 use Rattle.gimli_line.specs.run.Unread.{Unread}
 use Rattle.gimli_line.specs.run.EventsWithFiles.{EventWithFiles}
-use Rattle.gimli_line.specs.run.Rows.{events_left, started}
+use Rattle.gimli_line.specs.run.Rows.{events_left, started, GivesRowsAlone}
 
 -- a sequence: the addresses that it names, and the instructions that give its rows
 pub record Part : Type 0 where
@@ -30,6 +30,10 @@ events_of events = map (λ t. t.event) events
 -- what a sequence gives that is resumed over a header, wherever the header stands
 abbrev pub resumed : Header → Part → List Event
 resumed h s = events_of (events_left (started false h s.unread.notation 0 no_orders s.unread))
+
+-- a sequence that is resumed over a header gives rows alone, and is refused for nothing
+abbrev pub ResumesToRows : Header → Part → Type 0
+ResumesToRows h s = GivesRowsAlone (started false h s.unread.notation 0 no_orders s.unread)
 
 -- the address of the first row; 0 where there is none
 abbrev pub first_address : List LineRow → ℕ

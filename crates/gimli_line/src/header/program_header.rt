@@ -1,6 +1,6 @@
 //! The header of a line program, and its tables by index.
 
-ghost use Rattle.std.specs.Prelude.{◌≡◌, Bool, ◌-◌, ◌<◌, ◌||◌, ◌++◌, ◌∷◌, [], IfErr, IfOk, IsTrue, OnErr, OnOk, map, nat_le, option_map, slice_get, slice_index};
+ghost use Rattle.std.specs.Prelude.{◌≡◌, Bool, ◌-◌, ◌^◌, ◌<◌, ◌≤◌, ◌↔◌, ◌||◌, ◌++◌, ◌∷◌, [], IfErr, IfOk, IfSome, IsNone, IsTrue, OnErr, OnOk, map, min, nat_le, option_map, slice_get, slice_index};
 ghost use Rattle.gimli_core.specs.Numbers.{is_address_size};
 ghost use Rattle.gimli_core.specs.Values.{value_seen};
 ghost use Rattle.gimli_line.specs.header.Parameters.{IsLineEncoding};
@@ -104,6 +104,7 @@ where
     ghost use Rattle.gimli_line.specs.header.HeaderParts.{parts_of};
     ghost use Rattle.gimli_line.specs.header.File.{file_seen, FileHasOrder};
     ghost use Rattle.gimli_line.specs.header.Orders.{AreOneOrder, header_orders};
+    ghost use Rattle.gimli_line.specs.Units.{offset_after};
 
     /// A copy, which agrees with the header in all its parts and says what it says. Refused by `OutOfMemory` alone.
     pub fn clone(&self) -> Result<Self>
@@ -149,6 +150,24 @@ where
         ensures { Offset.number result ≡ self.now.meaning.unit_length }
     {
         self.unit_length
+    }
+
+    /// The offset of what follows the unit in its section: the unit's own, the size of its length, and as many bytes as
+    /// that says (DWARF 5, section 7.4). None where it is too large for the reader's offsets, or for 64 bits.
+    pub fn next_unit_offset(&self) -> Option<DebugLineOffset<Offset>>
+        ensures some { IfSome result (λ next. Offset.number next.0
+            ≡ offset_after (Offset.number self.now.offset.0) self.now.meaning) }
+        ensures none { IsNone result ↔ (min Offset.limit (2 ^ 64)
+            ≤ offset_after (Offset.number self.now.offset.0) self.now.meaning) }
+    {
+        let length_size = u64::from(self.format().initial_length_size());
+        let offset = self.offset.0.into_u64();
+        let length = self.unit_length.into_u64();
+        let next = offset.checked_add(length_size)?.checked_add(length)?;
+        match Offset::from_u64(next) {
+            Ok(next) => Some(DebugLineOffset(next)),
+            Err(_) => None,
+        }
     }
 
     /// What the numbers of the unit are encoded by; addresses have 1, 2, 4 or 8 bytes.
@@ -374,6 +393,7 @@ where
         ensures offset { self.new.offset ≡ self.old.offset }
         ensures order { (order : Bool) → FileHasOrder R.big order file
             → AreOneOrder order (header_orders R.big self.old) → AreOneOrder order (header_orders R.big self.new) }
+        ensures handed { (header_orders R.big self.new).handed ≡ (header_orders R.big self.old).handed }
     {
         push(&mut self.file_names, file)
     }

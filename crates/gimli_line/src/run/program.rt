@@ -45,7 +45,8 @@ pub trait LineProgram<R: Reader> {
         ensures notation { notation self.new ≡ notation self.old }
         ensures offset { offset self.new ≡ offset self.old }
         ensures order { (order : Bool) → (appends ≡ true → FileHasOrder R.big order file)
-            → AreOneOrder order (orders self.old) → AreOneOrder order (orders self.new) };
+            → AreOneOrder order (orders self.old) → AreOneOrder order (orders self.new) }
+        ensures handed { (orders self.new).handed ≡ (orders self.old).handed };
 }
 
 /// A line program that was not run yet, so that files may still be defined.
@@ -130,6 +131,7 @@ impl<R: Reader> LineProgram<R> for IncompleteLineProgram<R> {
         ensures offset { R.Offset.number self.new.offset.0 ≡ R.Offset.number self.old.offset.0 }
         ensures order { (order : Bool) → (true ≡ true → FileHasOrder R.big order file)
             → AreOneOrder order (header_orders R.big self.old) → AreOneOrder order (header_orders R.big self.new) }
+        ensures handed { (header_orders R.big self.new).handed ≡ (header_orders R.big self.old).handed }
     {
         self.header.add_file(file)
     }
@@ -217,6 +219,7 @@ impl<'program, R: Reader> LineProgram<R> for &'program CompleteLineProgram<R> {
             ≡ R.Offset.number self.old.now.offset.0 }
         ensures order { (order : Bool) → (false ≡ true → FileHasOrder R.big order _file)
             → AreOneOrder order (header_orders R.big self.old.now) → AreOneOrder order (header_orders R.big self.new.now) }
+        ensures handed { (header_orders R.big self.new.now).handed ≡ (header_orders R.big self.old.now).handed }
         ensures only { IsOk result }
     {
         Ok(())

@@ -16,19 +16,19 @@ use std::num::NonZeroU64;
 #[derive(Clone, Copy, Debug, PartialEq, Eq)]
 pub struct LineRow {
     /// The last set address hides what follows it.
-    hidden: bool,
-    address: u64,
-    op_index: u64,
-    file: u64,
-    line: u64,
-    column: u64,
-    is_stmt: bool,
-    basic_block: bool,
-    end_sequence: bool,
-    prologue_end: bool,
-    epilogue_begin: bool,
-    isa: u64,
-    discriminator: u64,
+    pub(super) hidden: bool,
+    pub(super) address: u64,
+    pub(super) op_index: u64,
+    pub(super) file: u64,
+    pub(super) line: u64,
+    pub(super) column: u64,
+    pub(super) is_stmt: bool,
+    pub(super) basic_block: bool,
+    pub(super) end_sequence: bool,
+    pub(super) prologue_end: bool,
+    pub(super) epilogue_begin: bool,
+    pub(super) isa: u64,
+    pub(super) discriminator: u64,
 }
 
 /// The column of a row. The left edge is below all columns.
@@ -211,6 +211,7 @@ impl LineRow {
         ensures offset { P.offset program.new ≡ P.offset program.old }
         ensures order { (order : Bool) → (P.appends ≡ true → InsHasOrder R.big order instruction)
             → AreOneOrder order (P.orders program.old) → AreOneOrder order (P.orders program.new) }
+        ensures handed { (P.orders program.new).handed ≡ (P.orders program.old).handed }
     {
         let parameters = program.header().parameters;
         if let LineInstruction::DefineFile(file) = instruction {
@@ -364,7 +365,7 @@ impl LineRow {
     }
 
     /// Moves the address and op_index by so many operations.
-    fn apply_operation_advance(
+    pub(super) fn apply_operation_advance(
         &mut self,
         operation_advance: u64,
         parameters: &Parameters,
@@ -424,7 +425,7 @@ impl LineRow {
     }
 
     /// Moves on as special opcode 255 does, but for the line.
-    fn exec_const_add_pc(&mut self, parameters: &Parameters) -> Result<()>
+    pub(super) fn exec_const_add_pc(&mut self, parameters: &Parameters) -> Result<()>
         ensures step { self.new ≡ stepped parameters.now LineInstruction.ConstAddPc self.old }
         ensures fits { OnOk result (is_refused parameters.now LineInstruction.ConstAddPc self.old ≡ false) }
         ensures overflow { IfErr result (λ e. (e ≡ Error.AddressOverflow)
@@ -454,7 +455,7 @@ impl LineRow {
 
     /// Sets the address, from operation 0 on; or hides what follows, where the address is below the one before it,
     /// or stands for nothing.
-    fn exec_set_address(&mut self, address: u64, parameters: &Parameters)
+    pub(super) fn exec_set_address(&mut self, address: u64, parameters: &Parameters)
         ensures { self.new ≡ stepped parameters.now (LineInstruction.SetAddress address) self.old }
     {
         let min_tombstone = u64::min_tombstone(parameters.encoding.address_size);

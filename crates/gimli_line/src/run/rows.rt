@@ -7,13 +7,13 @@ use crate::run::row::LineRow;
 use gimli_core::{DwLns, Error, Reader, ReaderOffset, Result};
 use std::marker::Model;
 
-/// What one instruction did.
+/// What was done on the way to a row.
 enum Step {
-    /// There was none.
+    /// Nothing: there was no instruction.
     Done,
-    /// It made a row that isn't hidden.
+    /// A row was made that isn't hidden.
     Made,
-    /// It made none.
+    /// Instructions were executed, and no such row was made.
     More,
 }
 
@@ -107,13 +107,14 @@ impl<R: Reader> LineInstructions<R> {
 }
 
 impl<R: Reader, P: LineProgram<R>> LineRows<R, P> {
-    ghost use Rattle.std.specs.Prelude.{◌≡◌, [], ◌∷◌, None, Ok, IfErr, IfOk, IfSome, MatchBool};
+    ghost use Rattle.std.specs.Prelude.{◌≡◌, [], ◌∷◌, None, Ok, IfErr, IfOk, IfSome, IsOk, MatchBool};
     ghost use Rattle.std.specs.Borrow.{sem};
     ghost use Rattle.std.specs.Io.BufRead.{Rests};
     ghost use Rattle.gimli_line.specs.run.Events.{row as row_event};
     ghost use Rattle.gimli_line.specs.header.Header.{bare, HasOneOrder};
+    ghost use Rattle.gimli_line.specs.header.Orders.{header_orders};
     ghost use Rattle.gimli_line.specs.run.Progress.{ready, Progress};
-    ghost use Rattle.gimli_line.specs.run.Rows.{started, IsOfOneOrder, KeepsHeader, StepIs, NextIs, RowIs, EndIs, FaultIs};
+    ghost use Rattle.gimli_line.specs.run.Rows.{started, GivesRowsAlone, IsOfOneOrder, KeepsHeader, StepIs, NextIs, RowIs, EndIs, FaultIs};
 
     /// The rows of these instructions of a program, from the start of a sequence on.
     pub(crate) fn start(program: P, instructions: LineInstructions<R>) -> Self
@@ -135,6 +136,7 @@ impl<R: Reader, P: LineProgram<R>> LineRows<R, P> {
         ensures notation { result.now.notation ≡ self.now.notation }
         ensures offset { R.Offset.number result.now.offset.0 ≡ self.now.offset }
         ensures order { IsOfOneOrder self.now → HasOneOrder R.big result.now }
+        ensures handed { (header_orders R.big result.now).handed ≡ self.now.orders.handed }
     {
         self.program.header()
     }
@@ -155,6 +157,9 @@ impl<R: Reader, P: LineProgram<R>> LineRows<R, P> {
             (λ next. R.Offset.number next.0.now.offset.0 ≡ self.old.offset)) }
         ensures order { IsOfOneOrder self.old → IfOk result (λ found. IfSome found
             (λ next. HasOneOrder R.big next.0.now)) }
+        ensures handed { IfOk result (λ found. IfSome found
+            (λ next. (header_orders R.big next.0.now).handed ≡ self.old.orders.handed)) }
+        ensures unrefused { GivesRowsAlone self.old → IsOk result }
     {
         match self.advance() {
             Err(e) => Err(e),
@@ -200,6 +205,7 @@ impl<R: Reader, P: LineProgram<R>> LineRows<R, P> {
         ensures notation { self.new.notation ≡ self.old.notation }
         ensures offset { self.new.offset ≡ self.old.offset }
         ensures order { IsOfOneOrder self.old → IsOfOneOrder self.new }
+        ensures handed { self.new.orders.handed ≡ self.old.orders.handed }
         ensures passes { IfOk result (λ found. MatchBool found
             (Progress (ready self.old) (ready self.new) (row_event self.new.row ∷ []))
             ((self.new.unread.bytes ≡ []) × Progress (ready self.old) self.new [])) }
@@ -215,7 +221,9 @@ impl<R: Reader, P: LineProgram<R>> LineRows<R, P> {
         }
     }
 
-    /// Executes one instruction: one of those that are met most from its bytes, any other as it is parsed.
+    /// Executes instructions that are met most, from their bytes, up to the first that makes a row,
+    /// or up to one of another kind, and that one too. What is read from stands in a variable of its
+    /// own over the loop, so that it stays in the processor's registers.
     #[inline(always)]
     fn step(&mut self) -> Result<Step>
         ensures ok { IfOk result (StepIs self.old self.new) }
@@ -225,9 +233,46 @@ impl<R: Reader, P: LineProgram<R>> LineRows<R, P> {
         ensures notation { self.new.notation ≡ self.old.notation }
         ensures offset { self.new.offset ≡ self.old.offset }
         ensures order { IsOfOneOrder self.old → IsOfOneOrder self.new }
+        ensures handed { self.new.orders.handed ≡ self.old.orders.handed }
+    {
+        let mut instructions = self.instructions.clone();
+        'common: loop {
+            let header = self.program.header();
+            match instructions.execute_common(header, &mut self.row) {
+                Err(e) => {
+                    self.instructions = instructions;
+                    return Err(e);
+                }
+                Ok(None) => break,
+                Ok(Some(false)) => {}
+                Ok(Some(true)) => {
+                    self.instructions = instructions;
+                    if !self.row.is_hidden() {
+                        return Ok(Step::Made);
+                    }
+                    self.row.reset(self.program.header());
+                    return Ok(Step::More);
+                }
+            }
+        }
+        self.instructions = instructions;
+        self.step_rarer()
+    }
+
+    /// Executes one instruction: one of those that are met now and then from its bytes, any other
+    /// as it is parsed.
+    fn step_rarer(&mut self) -> Result<Step>
+        ensures ok { IfOk result (StepIs self.old self.new) }
+        ensures err { IfErr result (FaultIs self.old self.new) }
+        ensures fixed { self.new.fixed ≡ self.old.fixed }
+        ensures appends { self.new.appends ≡ self.old.appends }
+        ensures notation { self.new.notation ≡ self.old.notation }
+        ensures offset { self.new.offset ≡ self.old.offset }
+        ensures order { IsOfOneOrder self.old → IsOfOneOrder self.new }
+        ensures handed { self.new.orders.handed ≡ self.old.orders.handed }
     {
         let header = self.program.header();
-        let made = match self.instructions.execute_common(header, &mut self.row) {
+        let made = match self.instructions.execute_rarer(header, &mut self.row) {
             Err(e) => return Err(e),
             Ok(None) => return self.step_any(),
             Ok(Some(made)) => made,
@@ -251,6 +296,7 @@ impl<R: Reader, P: LineProgram<R>> LineRows<R, P> {
         ensures notation { self.new.notation ≡ self.old.notation }
         ensures offset { self.new.offset ≡ self.old.offset }
         ensures order { IsOfOneOrder self.old → IsOfOneOrder self.new }
+        ensures handed { self.new.orders.handed ≡ self.old.orders.handed }
     {
         let instruction = match self.instructions.next_instruction(self.program.header()) {
             Err(e) => return Err(e),
@@ -285,6 +331,7 @@ impl<R: Reader, P: LineProgram<R>> LineRows<R, P> {
         ensures offset { R.Offset.number result.0.now.offset.0 ≡ self.now.offset }
         ensures row { result.1.now ≡ self.now.row }
         ensures order { IsOfOneOrder self.now → HasOneOrder R.big result.0.now }
+        ensures handed { (header_orders R.big result.0.now).handed ≡ self.now.orders.handed }
     {
         (self.program.header(), &self.row)
     }

@@ -4,11 +4,11 @@ use crate::header::tables::push;
 use crate::run::instruction::LineInstructions;
 use crate::run::program::{CompleteLineProgram, IncompleteLineProgram};
 use crate::run::row::LineRow;
+use crate::run::row_list::RowList;
 use crate::run::rows::{LineRows, ResumedLineRows};
 use gimli_core::{Error, Reader, ReaderOffset, Result};
 use std::alloc::Global;
 use std::marker::Model;
-use std::mem;
 
 /// A sequence of a line program: rows of which the last one is an end row, and no other.
 #[derive(Clone, Debug, Drop)]
@@ -104,21 +104,20 @@ impl<R: Reader> SequenceSplit<R> {
 /// The rows of each sequence found so far, and those of the one that is open.
 #[derive(Drop)]
 struct RowSplit {
-    closed: Vec<Vec<LineRow>>,
-    unended: Vec<LineRow>,
+    closed: Vec<RowList>,
+    unended: RowList,
 }
 
 impl Model for RowSplit {
-    ghost use Rattle.std.specs.Prelude.{map};
     ghost use Rattle.gimli_line.specs.run.SequenceSplit.{RowSplit};
 
     ghost Value = { RowSplit };
 
-    ghost view = { λ a. record { closed = map (λ rows. rows.items) a.closed.items; unended = a.unended.items } };
+    ghost view = { λ a. record { closed = a.closed.items; unended = a.unended } };
 }
 
 impl RowSplit {
-    ghost use Rattle.std.specs.Prelude.{◌≡◌, [], map, IfErr, OnOk};
+    ghost use Rattle.std.specs.Prelude.{◌≡◌, [], IfErr, OnOk};
     ghost use Rattle.gimli_line.specs.run.SequenceSplit.{with_kept_row};
 
     /// No rows yet.
@@ -127,7 +126,7 @@ impl RowSplit {
     {
         RowSplit {
             closed: Vec::new(alloc),
-            unended: Vec::new(alloc),
+            unended: RowList::new(alloc),
         }
     }
 
@@ -136,27 +135,28 @@ impl RowSplit {
         ensures ok { OnOk result (self.new ≡ with_kept_row row.now self.old) }
         ensures err { IfErr result (λ e. e ≡ Error.OutOfMemory) }
     {
-        push(&mut self.unended, *row)?;
+        self.unended.push(row)?;
         if !row.end_sequence() {
             return Ok(());
         }
-        let none = Vec::new(*self.unended.allocator());
-        push(&mut self.closed, mem::replace(&mut self.unended, none))
+        let rows = self.unended.take()?;
+        push(&mut self.closed, rows)
     }
 
     /// The rows of each sequence that was found.
-    fn into_rows(self) -> Vec<Vec<LineRow>>
-        ensures { map (λ rows. rows.items) result.items ≡ self.closed }
+    fn into_rows(self) -> Vec<RowList>
+        ensures { result.items ≡ self.closed }
     {
         self.closed
     }
 }
 
 impl<R: Reader> IncompleteLineProgram<R> {
-    ghost use Rattle.std.specs.Prelude.{◌≡◌, ◌≢◌, map, IfErr, IfOk};
+    ghost use Rattle.std.specs.Prelude.{◌≡◌, ◌≢◌, map, All, IfErr, IfOk};
     ghost use Rattle.gimli_line.specs.header.Header.{HasOneOrder};
     ghost use Rattle.gimli_line.specs.run.Events.{row};
-    ghost use Rattle.gimli_line.specs.run.Sequences.{part_of, resumed, AreSequences, HasFirstFault};
+    ghost use Rattle.gimli_line.specs.header.Orders.{header_orders};
+    ghost use Rattle.gimli_line.specs.run.Sequences.{part_of, resumed, AreSequences, HasFirstFault, ResumesToRows};
 
     /// Runs the whole program, and splits it into its sequences, so that each can be run by itself. Rows after the
     /// last end row are in no sequence. Refused by the first fault of the run, wherever it stands, or by
@@ -168,6 +168,10 @@ impl<R: Reader> IncompleteLineProgram<R> {
         ensures offset { IfOk result
             (λ found. R.Offset.number found.0.offset.0 ≡ R.Offset.number self.offset.0) }
         ensures order { HasOneOrder R.big self → IfOk result (λ found. HasOneOrder R.big found.0) }
+        ensures handed { IfOk result (λ found.
+            (header_orders R.big found.0).handed ≡ (header_orders R.big self).handed) }
+        ensures unrefused { IfOk result (λ found.
+            All (ResumesToRows found.0.meaning) (map part_of found.1.items)) }
         ensures err { IfErr result
             (λ e. e ≢ Error.OutOfMemory → HasFirstFault self.notation self.meaning e) }
     {
@@ -185,21 +189,19 @@ impl<R: Reader> IncompleteLineProgram<R> {
     /// run, so that no sequence has to be run again for them. Refused as `sequences` is.
     pub fn sequences_with_rows(
         self,
-    ) -> Result<
-        (
-            CompleteLineProgram<R>,
-            Vec<LineSequence<R>>,
-            Vec<Vec<LineRow>>,
-        ),
-    >
+    ) -> Result<(CompleteLineProgram<R>, Vec<LineSequence<R>>, Vec<RowList>)>
         ensures ok { IfOk result (λ found.
             AreSequences self.notation self.meaning found.0.meaning (map part_of found.1.items)) }
-        ensures each { IfOk result (λ found. map (λ rows. map row rows.items) found.2.items
-            ≡ map (resumed found.0.meaning) (map part_of found.1.items)) }
+        ensures each { IfOk result (λ found.
+            map (map row) found.2.items ≡ map (resumed found.0.meaning) (map part_of found.1.items)) }
         ensures notation { IfOk result (λ found. found.0.notation ≡ self.notation) }
         ensures offset { IfOk result
             (λ found. R.Offset.number found.0.offset.0 ≡ R.Offset.number self.offset.0) }
         ensures order { HasOneOrder R.big self → IfOk result (λ found. HasOneOrder R.big found.0) }
+        ensures handed { IfOk result (λ found.
+            (header_orders R.big found.0).handed ≡ (header_orders R.big self).handed) }
+        ensures unrefused { IfOk result (λ found.
+            All (ResumesToRows found.0.meaning) (map part_of found.1.items)) }
         ensures err { IfErr result
             (λ e. e ≢ Error.OutOfMemory → HasFirstFault self.notation self.meaning e) }
     {
@@ -225,7 +227,8 @@ impl<R: Reader> CompleteLineProgram<R> {
     ghost use Rattle.std.specs.Prelude.{◌≡◌, false};
     ghost use Rattle.gimli_line.specs.header.Header.{HasOneOrder};
     ghost use Rattle.gimli_line.specs.header.Orders.{header_orders};
-    ghost use Rattle.gimli_line.specs.run.Rows.{events_left, files_at_end, started, IsOfOneOrder};
+    ghost use Rattle.gimli_line.specs.run.Rows.{events_left, files_at_end, started, GivesRowsAlone, IsOfOneOrder};
+    ghost use Rattle.gimli_line.specs.run.Sequences.{part_of, ResumesToRows};
     ghost use Rattle.gimli_line.specs.run.EventsWithFiles.{EventsWithFiles};
 
     /// The rows of one of the program's sequences. The header has all files from the start.
@@ -239,6 +242,8 @@ impl<R: Reader> CompleteLineProgram<R> {
         ensures start { result ≡ started false self.now.meaning self.now.notation
             (R.Offset.number self.now.offset.0) (header_orders R.big self.now) sequence.now.instructions }
         ensures order { HasOneOrder R.big self.now → IsOfOneOrder result }
+        ensures unrefused { ResumesToRows self.now.meaning (part_of sequence.now)
+            → GivesRowsAlone result }
     {
         LineRows::start(self, sequence.instructions.clone())
     }

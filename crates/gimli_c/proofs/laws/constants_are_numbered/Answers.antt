@@ -35,4 +35,6 @@ returns c = record {
   need_version_4 = refl;
   unit_too_long = refl;
   no_room = refl;
+  closed = refl;
+  unknown_path = refl;
 }

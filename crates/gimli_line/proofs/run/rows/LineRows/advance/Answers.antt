@@ -18,6 +18,7 @@ instructions-init g c =
       notation = rw (← c.self.view_is) refl;
       offset = rw (← c.self.view_is) refl;
       order = rw (← c.self.view_is) (keeps_order (at_row c.self.inside.row) (at_row c.reset.new.self) refl refl refl (λ so. so.readers));
+      handed = rw (← c.self.view_is) refl;
       passes = rw (← c.self.view_is) (passes_none (ready (at_row c.self.inside.row)) (at_row c.reset.new.self) (ap at_row (c.reset.ensures ∙ ap (λ (k : Header). reset_row k.parameters c.self.inside.row) c.header.ensures.meaning)));
     }
 
@@ -62,6 +63,7 @@ instructions-preserved g c =
       notation = c.in-Ok-More.ensures.notation ∙ c.instructions.invariant.notation;
       offset = c.in-Ok-More.ensures.offset ∙ c.instructions.invariant.offset;
       order = λ so. c.in-Ok-More.ensures.order (c.instructions.invariant.order so);
+      handed = c.in-Ok-More.ensures.handed ∙ c.instructions.invariant.handed;
       passes = passes_both (ready c.args.self.now) c.instructions.self c.step.new.self [] [] c.instructions.invariant.passes m.2;
     }
 
@@ -111,3 +113,12 @@ returns-in-Ok-Done-clause-order g c = λ so. c.in-Ok-Done.ensures.order (c.instr
 
 pub returns-in-Ok-Made-clause-order : goal.returns-in-Ok-Made-clause-order
 returns-in-Ok-Made-clause-order g c = λ so. c.in-Ok-Made.ensures.order (c.instructions.invariant.order so)
+
+pub returns-in-Err-clause-handed : goal.returns-in-Err-clause-handed
+returns-in-Err-clause-handed g c = c.in-Err.ensures.handed ∙ c.instructions.invariant.handed
+
+pub returns-in-Ok-Done-clause-handed : goal.returns-in-Ok-Done-clause-handed
+returns-in-Ok-Done-clause-handed g c = c.in-Ok-Done.ensures.handed ∙ c.instructions.invariant.handed
+
+pub returns-in-Ok-Made-clause-handed : goal.returns-in-Ok-Made-clause-handed
+returns-in-Ok-Made-clause-handed g c = c.in-Ok-Made.ensures.handed ∙ c.instructions.invariant.handed

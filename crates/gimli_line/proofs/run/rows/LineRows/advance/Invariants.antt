@@ -11,6 +11,7 @@ invariant-instructions g l = record {
   notation : l.self.notation ≡ l.fn.self.notation;
   offset : l.self.offset ≡ l.fn.self.offset;
   order : IsOfOneOrder l.fn.self → IsOfOneOrder l.self;
+  handed : l.self.orders.handed ≡ l.fn.self.orders.handed;
   passes : Progress (ready l.fn.self) l.self [];
 }
 

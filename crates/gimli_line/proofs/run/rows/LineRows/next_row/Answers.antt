@@ -2,6 +2,7 @@ use Rattle.std.proofs.Common.{refl, sym, ◌∙◌}
 use Rattle.gimli_line.specs.run.Progress.{ready}
 use Rattle.gimli_line.specs.run.Rows.{KeepsHeader}
 use Rattle.gimli_line.proofs.Runs.{none_to_come, never_refused}
+use Rattle.gimli_line.proofs.RowsAlone.{rest_alone, never_refused_alone}
 use Rattle.gimli_line.proofs.run.rows.LineRows.next_row.Goals as goal
 
 pub returns-in-Ok-true : goal.returns-in-Ok-true
@@ -13,6 +14,8 @@ returns-in-Ok-true g c =
       notation = c.in-Ok-true.ensures.notation;
       offset = c.in-Ok-true.ensures.offset;
       order = c.in-Ok-true.ensures.order;
+      handed = c.in-Ok-true.ensures.handed;
+      alone = rest_alone c.args.self.now c.advance.new.self _ c.in-Ok-true.ensures.appends r.0;
     } in (
       (refl, λ _. tt, (keeps, rw (c.current.ensures.row, c.current.ensures.files) r)),
       record {
@@ -21,6 +24,8 @@ returns-in-Ok-true g c =
         notation = c.current.ensures.notation ∙ c.in-Ok-true.ensures.notation;
         offset = c.current.ensures.offset ∙ c.in-Ok-true.ensures.offset;
         order = λ so. c.current.ensures.order (c.in-Ok-true.ensures.order so);
+        handed = c.current.ensures.handed ∙ c.in-Ok-true.ensures.handed;
+        unrefused = λ _. refl;
         ended = λ empty. let none = sym (none_to_come c.args.self.now empty) ∙ r.0 in absurd cc;
       },
     )
@@ -33,6 +38,8 @@ returns-in-Err g c =
       notation = c.in-Err.ensures.notation;
       offset = c.in-Err.ensures.offset;
       order = c.in-Err.ensures.order;
+      handed = c.in-Err.ensures.handed;
+      alone = λ alone. absurd (never_refused_alone c.args.self.now c.advance.new.self c.in-Err.e c.in-Err.ensures.appends c.in-Err.ensures.err alone);
     } in (
       (refl, λ _. tt, (keeps, c.in-Err.ensures.err)),
       record {
@@ -41,6 +48,8 @@ returns-in-Err g c =
         notation = tt;
         offset = tt;
         order = λ so. tt;
+        handed = tt;
+        unrefused = λ alone. absurd (never_refused_alone c.args.self.now c.advance.new.self c.in-Err.e c.in-Err.ensures.appends c.in-Err.ensures.err alone);
         ended = λ empty. absurd (never_refused (ready c.args.self.now) c.advance.new.self c.in-Err.e empty c.in-Err.ensures.err);
       },
     )

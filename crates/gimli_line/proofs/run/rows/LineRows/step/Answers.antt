@@ -1,76 +1,88 @@
-use Rattle.std.proofs.Common.{refl, sym, ap, ◌∙◌}
+use Rattle.std.proofs.Common.{[], sym, ap, refl, ◌≡◌, ◌∙◌}
+use Rattle.gimli_core.specs.declared.error.Error.TheVariants.{AddressOverflow}
+use Rattle.gimli_line.specs.declared.run.row.LineRow.{LineRow}
+use Rattle.gimli_line.specs.declared.run.rows.Step.TheVariants.{Made, More}
 use Rattle.gimli_line.specs.header.Header.{Header}
 use Rattle.gimli_line.specs.run.Machine.{reset_row}
+use Rattle.gimli_line.specs.run.Rows.{live_events}
+use Rattle.gimli_line.specs.run.Unread.{Unread}
 use Rattle.gimli_line.proofs.Executions.{executed_quiet, executed_seen, executed_hidden, executed_overflow}
+use Rattle.gimli_line.proofs.Runs.{state, passes_none, passes_both, refused_behind}
+use Rattle.gimli_line.proofs.Steps.{step_behind, answer_behind, refusal_behind}
 use Rattle.gimli_line.proofs.run.rows.LineRows.step.Goals as goal
+
+pub common-init : goal.common-init
+common-init g c =
+    let p = c.self.inside.program in
+    let at = λ (s : Unread). state g.P.LineProgram.appends (g.P.LineProgram.meaning p) (g.P.LineProgram.notation p) (g.P.LineProgram.offset p) (g.P.LineProgram.orders p) c.self.inside.row s in
+    let same = ap at c.clone-instructions.ensures in
+    record {
+      program = refl;
+      events = rw (← c.self.view_is) (ap live_events (sym same));
+      passes = rw (← c.self.view_is) (passes_none (at c.self.inside.instructions) (at c.clone-instructions.result) same);
+    }
+
+pub common-smaller : goal.common-smaller
+common-smaller g c =
+    let p = c.common.self-inside.program in
+    let x = rw c.in-Ok-Some-false.field-0-is at c.in-Ok-Some-false.ensures.ok in
+    (executed_quiet g.P.LineProgram.appends _ _ c.header-header.ensures.meaning (g.P.LineProgram.notation p) (g.P.LineProgram.offset p) (g.P.LineProgram.orders p) _ _ _ _ c.in-Ok-Some-false.ensures.notation x.0 (sym c.in-Ok-Some-false.field-0-0-test ∙ x.1)).1
+
+pub common-preserved : goal.common-preserved
+common-preserved g c =
+    let p = c.common.self-inside.program in
+    let at = λ (r : LineRow) (s : Unread). state g.P.LineProgram.appends (g.P.LineProgram.meaning p) (g.P.LineProgram.notation p) (g.P.LineProgram.offset p) (g.P.LineProgram.orders p) r s in
+    let x = rw c.in-Ok-Some-false.field-0-is at c.in-Ok-Some-false.ensures.ok in
+    let q = executed_quiet g.P.LineProgram.appends _ _ c.header-header.ensures.meaning (g.P.LineProgram.notation p) (g.P.LineProgram.offset p) (g.P.LineProgram.orders p) _ _ _ _ c.in-Ok-Some-false.ensures.notation x.0 (sym c.in-Ok-Some-false.field-0-0-test ∙ x.1) in
+    record {
+      program = c.common.invariant.program;
+      events = c.common.invariant.events ∙ q.0;
+      passes = passes_both c.args.self.now (at c.common.self-inside.row c.common.instructions) (at c.execute_common.new.row c.execute_common.new.self) [] [] c.common.invariant.passes q.2;
+    }
 
 pub returns-in-Err-clause-err : goal.returns-in-Err-clause-err
 returns-in-Err-clause-err g c =
+    let p = c.common.self-inside.program in
+    let at = λ (r : LineRow) (s : Unread). state g.P.LineProgram.appends (g.P.LineProgram.meaning p) (g.P.LineProgram.notation p) (g.P.LineProgram.offset p) (g.P.LineProgram.orders p) r s in
     let e = c.in-Err.ensures.err in
-    rw (e.0, ← c.self.view_is) (executed_overflow g.P.LineProgram.appends _ _ c.header-header.ensures.meaning (g.P.LineProgram.notation c.self.inside.program) (g.P.LineProgram.offset c.self.inside.program) (g.P.LineProgram.orders c.self.inside.program) _ _ _ _ c.in-Err.ensures.notation e.1)
-
-pub returns-then-not-made-clause-ok : goal.returns-then-not-made-clause-ok
-returns-then-not-made-clause-ok g c =
-    let x = rw c.in-Ok-Some.field-0-is at c.in-Ok-Some.ensures.ok in
-    rw (← c.self.view_is) (executed_quiet g.P.LineProgram.appends _ _ c.header-header.ensures.meaning (g.P.LineProgram.notation c.self.inside.program) (g.P.LineProgram.offset c.self.inside.program) (g.P.LineProgram.orders c.self.inside.program) _ _ _ _ c.in-Ok-Some.ensures.notation x.0 (sym c.if-not-made.true ∙ x.1))
+    rw e.0 (refused_behind c.args.self.now (at c.common.self-inside.row c.common.instructions) (at c.execute_common.new.row c.execute_common.new.self) AddressOverflow c.common.invariant.events c.common.invariant.passes
+    (executed_overflow g.P.LineProgram.appends _ _ c.header-header.ensures.meaning (g.P.LineProgram.notation p) (g.P.LineProgram.offset p) (g.P.LineProgram.orders p) _ _ _ _ c.in-Err.ensures.notation e.1))
 
 pub returns-then-not-is_hidden-clause-ok : goal.returns-then-not-is_hidden-clause-ok
 returns-then-not-is_hidden-clause-ok g c =
-    let x = rw c.in-Ok-Some.field-0-is at c.in-Ok-Some.ensures.ok in
-    rw (← c.self.view_is) (executed_seen g.P.LineProgram.appends _ _ c.header-header.ensures.meaning (g.P.LineProgram.notation c.self.inside.program) (g.P.LineProgram.offset c.self.inside.program) (g.P.LineProgram.orders c.self.inside.program) _ _ _ _ c.in-Ok-Some.ensures.notation x.0 (sym c.if-not-made.false ∙ x.1) (sym c.is_hidden.ensures ∙ c.if-not-is_hidden.true))
+    let p = c.common.self-inside.program in
+    let at = λ (r : LineRow) (s : Unread). state g.P.LineProgram.appends (g.P.LineProgram.meaning p) (g.P.LineProgram.notation p) (g.P.LineProgram.offset p) (g.P.LineProgram.orders p) r s in
+    let x = rw c.in-Ok-Some-true.field-0-is at c.in-Ok-Some-true.ensures.ok in
+    step_behind c.args.self.now (at c.common.self-inside.row c.common.instructions) (at c.execute_common.new.row c.execute_common.new.self) c.common.invariant.events c.common.invariant.passes Made
+    (executed_seen g.P.LineProgram.appends _ _ c.header-header.ensures.meaning (g.P.LineProgram.notation p) (g.P.LineProgram.offset p) (g.P.LineProgram.orders p) _ _ _ _ c.in-Ok-Some-true.ensures.notation x.0 (sym c.in-Ok-Some-true.field-0-0-test ∙ x.1) (sym c.is_hidden.ensures ∙ c.if-not-is_hidden.true))
+
+pub returns-in-Ok-Some-true-clause-ok : goal.returns-in-Ok-Some-true-clause-ok
+returns-in-Ok-Some-true-clause-ok g c =
+    let p = c.common.self-inside.program in
+    let at = λ (r : LineRow) (s : Unread). state g.P.LineProgram.appends (g.P.LineProgram.meaning p) (g.P.LineProgram.notation p) (g.P.LineProgram.offset p) (g.P.LineProgram.orders p) r s in
+    let x = rw c.in-Ok-Some-true.field-0-is at c.in-Ok-Some-true.ensures.ok in
+    let again = c.reset.ensures ∙ ap (λ (h : Header). reset_row h.parameters c.execute_common.new.row) c.header.ensures.meaning in
+    step_behind c.args.self.now (at c.common.self-inside.row c.common.instructions) (at c.reset.new.self c.execute_common.new.self) c.common.invariant.events c.common.invariant.passes More
+    (executed_hidden g.P.LineProgram.appends _ _ c.header-header.ensures.meaning (g.P.LineProgram.notation p) (g.P.LineProgram.offset p) (g.P.LineProgram.orders p) _ _ _ _ c.in-Ok-Some-true.ensures.notation x.0 (sym c.in-Ok-Some-true.field-0-0-test ∙ x.1) (sym c.is_hidden.ensures ∙ c.if-not-is_hidden.false) _ again)
 
 pub returns-clause-ok : goal.returns-clause-ok
 returns-clause-ok g c =
-    let x = rw c.in-Ok-Some.field-0-is at c.in-Ok-Some.ensures.ok in
-    let again = c.reset.ensures ∙ ap (λ (h : Header). reset_row h.parameters c.execute_common.new.row) c.header.ensures.meaning in
-    rw (← c.self.view_is) (executed_hidden g.P.LineProgram.appends _ _ c.header-header.ensures.meaning (g.P.LineProgram.notation c.self.inside.program) (g.P.LineProgram.offset c.self.inside.program) (g.P.LineProgram.orders c.self.inside.program) _ _ _ _ c.in-Ok-Some.ensures.notation x.0 (sym c.if-not-made.false ∙ x.1) (sym c.is_hidden.ensures ∙ c.if-not-is_hidden.false) _ again)
+    let p = c.common.self-inside.program in
+    let at = λ (r : LineRow) (s : Unread). state g.P.LineProgram.appends (g.P.LineProgram.meaning p) (g.P.LineProgram.notation p) (g.P.LineProgram.offset p) (g.P.LineProgram.orders p) r s in
+    let kept = (rw c.in-Ok-None.field-0-is at c.in-Ok-None.ensures.none) refl in
+    let before = at c.common.self-inside.row c.common.instructions in
+    let here = at c.execute_common.new.row c.execute_common.new.self in
+    let same : here ≡ before = ap (λ (r : LineRow). at r c.execute_common.new.self) kept.1 ∙ ap (λ (s : Unread). at c.common.self-inside.row s) kept.0 in
+    answer_behind c.args.self.now here c.step_rarer.new.self (c.common.invariant.events ∙ ap live_events (sym same))
+    (passes_both c.args.self.now before here [] [] c.common.invariant.passes (passes_none before here same)) _ c.step_rarer.ensures.ok
 
--- what stays as it was
-
-pub returns-in-Err-clause-fixed : goal.returns-in-Err-clause-fixed
-returns-in-Err-clause-fixed g c = rw (← c.self.view_is) refl
-
-pub returns-in-Err-clause-appends : goal.returns-in-Err-clause-appends
-returns-in-Err-clause-appends g c = rw (← c.self.view_is) refl
-
-pub returns-in-Err-clause-notation : goal.returns-in-Err-clause-notation
-returns-in-Err-clause-notation g c = rw (← c.self.view_is) refl
-
-pub returns-in-Err-clause-offset : goal.returns-in-Err-clause-offset
-returns-in-Err-clause-offset g c = rw (← c.self.view_is) refl
-
-pub returns-then-not-made-clause-fixed : goal.returns-then-not-made-clause-fixed
-returns-then-not-made-clause-fixed g c = rw (← c.self.view_is) refl
-
-pub returns-then-not-made-clause-appends : goal.returns-then-not-made-clause-appends
-returns-then-not-made-clause-appends g c = rw (← c.self.view_is) refl
-
-pub returns-then-not-made-clause-notation : goal.returns-then-not-made-clause-notation
-returns-then-not-made-clause-notation g c = rw (← c.self.view_is) refl
-
-pub returns-then-not-made-clause-offset : goal.returns-then-not-made-clause-offset
-returns-then-not-made-clause-offset g c = rw (← c.self.view_is) refl
-
-pub returns-then-not-is_hidden-clause-fixed : goal.returns-then-not-is_hidden-clause-fixed
-returns-then-not-is_hidden-clause-fixed g c = rw (← c.self.view_is) refl
-
-pub returns-then-not-is_hidden-clause-appends : goal.returns-then-not-is_hidden-clause-appends
-returns-then-not-is_hidden-clause-appends g c = rw (← c.self.view_is) refl
-
-pub returns-then-not-is_hidden-clause-notation : goal.returns-then-not-is_hidden-clause-notation
-returns-then-not-is_hidden-clause-notation g c = rw (← c.self.view_is) refl
-
-pub returns-then-not-is_hidden-clause-offset : goal.returns-then-not-is_hidden-clause-offset
-returns-then-not-is_hidden-clause-offset g c = rw (← c.self.view_is) refl
-
-pub returns-clause-fixed : goal.returns-clause-fixed
-returns-clause-fixed g c = rw (← c.self.view_is) refl
-
-pub returns-clause-appends : goal.returns-clause-appends
-returns-clause-appends g c = rw (← c.self.view_is) refl
-
-pub returns-clause-notation : goal.returns-clause-notation
-returns-clause-notation g c = rw (← c.self.view_is) refl
-
-pub returns-clause-offset : goal.returns-clause-offset
-returns-clause-offset g c = rw (← c.self.view_is) refl
+pub returns-clause-err : goal.returns-clause-err
+returns-clause-err g c =
+    let p = c.common.self-inside.program in
+    let at = λ (r : LineRow) (s : Unread). state g.P.LineProgram.appends (g.P.LineProgram.meaning p) (g.P.LineProgram.notation p) (g.P.LineProgram.offset p) (g.P.LineProgram.orders p) r s in
+    let kept = (rw c.in-Ok-None.field-0-is at c.in-Ok-None.ensures.none) refl in
+    let before = at c.common.self-inside.row c.common.instructions in
+    let here = at c.execute_common.new.row c.execute_common.new.self in
+    let same : here ≡ before = ap (λ (r : LineRow). at r c.execute_common.new.self) kept.1 ∙ ap (λ (s : Unread). at c.common.self-inside.row s) kept.0 in
+    refusal_behind c.args.self.now here c.step_rarer.new.self (c.common.invariant.events ∙ ap live_events (sym same))
+    (passes_both c.args.self.now before here [] [] c.common.invariant.passes (passes_none before here same)) _ c.step_rarer.ensures.err

@@ -67,6 +67,7 @@ returns-in_default g c =
       appends = rw (← c.self.view_is) refl;
       notation = rw (← c.self.view_is) c.in-Err-execute.ensures.notation;
       offset = rw (← c.self.view_is) c.in-Err-execute.ensures.offset;
+      handed = rw (← c.self.view_is) c.in-Err-execute.ensures.handed;
       order =
           rw (← c.self.view_is) (keeps_order (state g.P.LineProgram.appends (g.P.LineProgram.meaning c.self.inside.program) (g.P.LineProgram.notation c.self.inside.program) (g.P.LineProgram.offset c.self.inside.program) (g.P.LineProgram.orders c.self.inside.program) c.self.inside.row c.self.inside.instructions) _ c.in-Err-execute.ensures.notation refl c.in-Ok-Some.ensures.notation
           (λ so. let operands = rw c.in-Ok-Some.field-0-is at c.in-Ok-Some.ensures.operands in

@@ -17,3 +17,6 @@ returns-clause-files g c =
 -- a complete program adds no file
 pub returns-clause-order : goal.returns-clause-order
 returns-clause-order g c = λ has. rw c.start.ensures (record { readers = are_one_order g.R.Reader.big c.args.self.now has; unread = λ adds. absurd cc })
+
+pub returns-clause-unrefused : goal.returns-clause-unrefused
+returns-clause-unrefused g c = λ alone. rw (c.start.ensures, c.clone.ensures) (record { complete = alone.complete; rows = alone.rows })

@@ -7,8 +7,10 @@ use Rattle.gimli_line.specs.header.Header.{bare}
 use Rattle.gimli_line.specs.run.Unread.{Unread}
 use Rattle.gimli_line.specs.run.Progress.{Progress, ready}
 use Rattle.gimli_line.specs.run.Rows.{started}
+use Rattle.gimli_line.specs.run.Sequences.{part_of}
 use Rattle.gimli_line.proofs.Runs.{passes_still, passes_both}
 use Rattle.gimli_line.proofs.Order.{has_one_order}
+use Rattle.gimli_line.proofs.RowsAlone.{resume_to_rows}
 use Rattle.gimli_line.proofs.SequenceLaws.{starts_splitting, goes_splitting, has_front, row_takes, are_sequences, has_first_fault}
 use Rattle.gimli_line.proofs.run.sequences.IncompleteLineProgram+R.sequences.Goals as goal
 
@@ -27,6 +29,7 @@ rows-init g c =
       notation = rw c.rows-rows.ensures.start refl;
       offset = rw c.rows-rows.ensures.start refl;
       order = c.rows-rows.ensures.order;
+      handed = rw c.rows-rows.ensures.start refl;
     }
 
 pub returns-in_err-advance-clause-err : goal.returns-in_err-advance-clause-err
@@ -72,6 +75,7 @@ rows-preserved g c =
       notation = c.in_ok-advance.ensures.notation ∙ c.rows.invariant.notation;
       offset = c.in_ok-advance.ensures.offset ∙ c.rows.invariant.offset;
       order = λ has. c.in_ok-advance.ensures.order (c.rows.invariant.order has);
+      handed = c.in_ok-advance.ensures.handed ∙ c.rows.invariant.handed;
     }
 
 pub returns-clause-ok : goal.returns-clause-ok
@@ -99,3 +103,12 @@ returns-clause-order g c = λ has.
     let last = c.advance.new.self in
     let so = c.in_ok-advance.ensures.order (c.rows.invariant.order has) in
     has_one_order g.R.Reader.big _ last.notation.big last.orders (ap (λ v. header_orders g.R.Reader.big v) c.header.view_is ∙ c.into_program.ensures.orders) (ap (λ v. v.notation.big) c.header.view_is ∙ ap (λ n. n.big) c.into_program.ensures.notation) so.readers
+
+pub returns-clause-handed : goal.returns-clause-handed
+returns-clause-handed g c =
+    ap (λ v. (header_orders g.R.Reader.big v).handed) c.header.view_is ∙ ap (λ o. o.handed) c.into_program.ensures.orders ∙ c.in_ok-advance.ensures.handed ∙ c.rows.invariant.handed
+
+pub returns-clause-unrefused : goal.returns-clause-unrefused
+returns-clause-unrefused g c =
+    let are = returns-clause-ok g c in
+    resume_to_rows c.header.inside.header.meaning (map part_of c.into_sequences.result.items) are.each

@@ -1,17 +1,17 @@
-use Rattle.std.proofs.Common.{[], ◌∷◌, ◌++◌, true, map, List, Vec, Global, refl, sym, ap, subst, ◌∙◌, inl, inr}
+use Rattle.std.proofs.Common.{[], ◌∷◌, ◌++◌, true, map, List, refl, sym, ap, subst, ◌∙◌, inl, inr}
 use Rattle.std.proofs.lemmas.List.{map-append, append-nil}
 use Rattle.std.proofs.lemmas.Result.{err_from_is_err_and}
-use Rattle.gimli_line.specs.declared.run.row.LineRow.{LineRow}
 use Rattle.gimli_line.specs.run.Events.{Event, row}
 use Rattle.gimli_line.specs.header.Orders.{no_orders, header_orders}
 use Rattle.gimli_line.specs.header.Header.{bare}
 use Rattle.gimli_line.specs.run.Unread.{Unread}
 use Rattle.gimli_line.specs.run.Progress.{Progress, ready}
 use Rattle.gimli_line.specs.run.Rows.{started}
-use Rattle.gimli_line.specs.run.Sequences.{Part, part_of, resumed}
+use Rattle.gimli_line.specs.run.Sequences.{Part, part_of}
 use Rattle.gimli_line.proofs.Runs.{passes_still, passes_both}
 use Rattle.gimli_line.proofs.Order.{has_one_order}
-use Rattle.gimli_line.proofs.SequenceLaws.{starts_keeping, goes_keeping, has_front, row_takes, are_sequences, has_first_fault, rows_are_kept, each_is_kept, AllKept}
+use Rattle.gimli_line.proofs.RowsAlone.{resume_to_rows}
+use Rattle.gimli_line.proofs.SequenceLaws.{starts_keeping, goes_keeping, has_front, row_takes, are_sequences, has_first_fault, rows_are_kept, AllKept}
 use Rattle.gimli_line.proofs.run.sequences.IncompleteLineProgram+R.sequences_with_rows.Goals as goal
 
 pub run-init : goal.run-init
@@ -29,6 +29,7 @@ run-init g c =
       notation = rw c.rows-run.ensures.start refl;
       offset = rw c.rows-run.ensures.start refl;
       order = c.rows-run.ensures.order;
+      handed = rw c.rows-run.ensures.start refl;
     }
 
 pub returns-in_err-advance-clause-err : goal.returns-in_err-advance-clause-err
@@ -79,6 +80,7 @@ run-preserved g c =
       notation = c.in_ok-advance.ensures.notation ∙ c.run.invariant.notation;
       offset = c.in_ok-advance.ensures.offset ∙ c.run.invariant.offset;
       order = λ has. c.in_ok-advance.ensures.order (c.run.invariant.order has);
+      handed = c.in_ok-advance.ensures.handed ∙ c.run.invariant.handed;
     }
 
 pub returns-clause-ok : goal.returns-clause-ok
@@ -98,8 +100,7 @@ pub returns-clause-each : goal.returns-clause-each
 returns-clause-each g c =
     let parts = map part_of c.into_sequences.result.items in
     let all = subst (λ (xs : List Part). AllKept c.args.self.meaning xs c.run.kept.closed) (sym c.into_sequences.ensures) c.run.invariant.behind.1.closed in
-    each_is_kept (λ (rows : Vec LineRow Global). rows.items) c.into_rows.result.items c.run.kept.closed (map (resumed c.header.inside.header.meaning) parts) c.into_rows.ensures
-    (rows_are_kept c.args.self.notation c.args.self.meaning c.header.inside.header.meaning parts c.run.kept.closed (returns-clause-ok g c) all)
+    rw c.into_rows.ensures (rows_are_kept c.args.self.notation c.args.self.meaning c.header.inside.header.meaning parts c.run.kept.closed (returns-clause-ok g c) all)
 
 pub returns-clause-notation : goal.returns-clause-notation
 returns-clause-notation g c = ap (λ v. v.notation) c.header.view_is ∙ c.into_program.ensures.notation ∙ c.in_ok-advance.ensures.notation ∙ c.run.invariant.notation
@@ -113,3 +114,12 @@ returns-clause-order g c = λ has.
     let last = c.advance.new.self in
     let so = c.in_ok-advance.ensures.order (c.run.invariant.order has) in
     has_one_order g.R.Reader.big _ last.notation.big last.orders (ap (λ v. header_orders g.R.Reader.big v) c.header.view_is ∙ c.into_program.ensures.orders) (ap (λ v. v.notation.big) c.header.view_is ∙ ap (λ n. n.big) c.into_program.ensures.notation) so.readers
+
+pub returns-clause-handed : goal.returns-clause-handed
+returns-clause-handed g c =
+    ap (λ v. (header_orders g.R.Reader.big v).handed) c.header.view_is ∙ ap (λ o. o.handed) c.into_program.ensures.orders ∙ c.in_ok-advance.ensures.handed ∙ c.run.invariant.handed
+
+pub returns-clause-unrefused : goal.returns-clause-unrefused
+returns-clause-unrefused g c =
+    let are = returns-clause-ok g c in
+    resume_to_rows c.header.inside.header.meaning (map part_of c.into_sequences.result.items) are.each

@@ -1,7 +1,7 @@
 use Rattle.std.proofs.Common.{◌≡◌, true, List, length, map}
 use Rattle.gimli_line.specs.declared.run.row.LineRow.{LineRow}
 use Rattle.gimli_line.specs.header.Header.{HasOneOrder}
-use Rattle.gimli_line.specs.header.Orders.{no_orders}
+use Rattle.gimli_line.specs.header.Orders.{no_orders, header_orders}
 use Rattle.gimli_line.specs.run.Events.{row}
 use Rattle.gimli_line.specs.run.Progress.{Progress, ready}
 use Rattle.gimli_line.specs.run.Rows.{started, IsOfOneOrder}
@@ -15,6 +15,7 @@ invariant-run g l = record {
   notation : l.run.notation ≡ l.fn.self.notation;
   offset : l.run.offset ≡ g.R.Offset.ReaderOffset.number l.fn.self.offset.0;
   order : HasOneOrder g.R.Reader.big l.fn.self → IsOfOneOrder l.run;
+  handed : l.run.orders.handed ≡ (header_orders g.R.Reader.big l.fn.self).handed;
 }
 
 abbrev pub decreases-run : goal.decreases-run

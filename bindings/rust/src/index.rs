@@ -1,0 +1,150 @@
+//! An index over all units of a section.
+
+use crate::calls;
+use crate::error::Error;
+use crate::row::LineRow;
+use crate::Sections;
+use std::ptr::null_mut;
+
+/// Where an address belongs.
+#[derive(Clone, Copy, Debug, PartialEq, Eq, Hash)]
+pub struct Place {
+    /// The row of the address.
+    pub row: LineRow,
+    /// The address up to which the row holds.
+    pub end: u64,
+    /// The index of the unit, from 0 on.
+    pub unit: u64,
+}
+
+/// The addresses for a breakpoint.
+#[derive(Clone, Debug, PartialEq, Eq)]
+pub struct Addresses {
+    /// The line that has them: the one that was asked for, or the next that has any.
+    pub line: u64,
+    /// The addresses.
+    pub addresses: Vec<u64>,
+}
+
+/// An index over all units of a section. It has copies of what it needs: the sections may go.
+///
+/// It stays on its thread: that it may go to another one isn't proved.
+pub struct Index {
+    handle: calls::Index,
+}
+
+impl Index {
+    /// Runs all units of a program once. Sequences that begin below the address `lowest` are left out, since a linker leaves
+    /// code that it drops at low addresses; 0 leaves none out.
+    pub fn open(sections: &Sections<'_>, lowest: u64) -> Result<Index, Error> {
+        let mut index = Index {
+            handle: calls::Index { at: null_mut() },
+        };
+        // The pointers are those of slices, and the handle is a closed one.
+        Error::of(unsafe {
+            calls::gimli_line_index_open(
+                sections.debug_line.as_ptr(),
+                sections.debug_line.len(),
+                sections.big_endian,
+                sections.address_size,
+                lowest,
+                sections.debug_line_str.as_ptr(),
+                sections.debug_line_str.len(),
+                sections.debug_str.as_ptr(),
+                sections.debug_str.len(),
+                &mut index.handle,
+            )
+        })?;
+        Ok(index)
+    }
+
+    /// Looks an address up. None where no row covers it.
+    pub fn find(&mut self, address: u64) -> Option<Place> {
+        let mut place = calls::Place::default();
+        // The handle is an open one, which no other call uses.
+        let status = unsafe { calls::gimli_line_index_find(&mut self.handle, address, &mut place) };
+        (status == 0).then(|| Place {
+            row: LineRow::new(&place.row),
+            end: place.end,
+            unit: place.unit,
+        })
+    }
+
+    /// The whole path of the file of a unit. `comp_dir` is the directory of the compilation (`DW_AT_comp_dir`), which counts up
+    /// to version 4; without it such a path stays relative.
+    pub fn path(&mut self, unit: u64, file: u64, comp_dir: &[u8]) -> Result<Vec<u8>, Error> {
+        let mut path = vec![0; 256];
+        loop {
+            let mut size = 0;
+            Error::of(unsafe {
+                calls::gimli_line_index_path(
+                    &mut self.handle,
+                    unit,
+                    file,
+                    comp_dir.as_ptr(),
+                    comp_dir.len(),
+                    path.as_mut_ptr(),
+                    path.len(),
+                    &mut size,
+                )
+            })?;
+            let fits = size as usize <= path.len();
+            path.resize(size as usize, 0);
+            if fits {
+                return Ok(path);
+            }
+        }
+    }
+
+    /// How many units there are.
+    pub fn unit_count(&mut self) -> u64 {
+        let mut count = 0;
+        let _ok = unsafe { calls::gimli_line_index_unit_count(&mut self.handle, &mut count) };
+        count
+    }
+
+    /// The offset of a unit, and why it can't be read, or the first fault of its program.
+    pub fn unit(&mut self, unit: u64) -> Option<(u64, Option<Error>)> {
+        let mut found = calls::IndexUnit::default();
+        let status = unsafe { calls::gimli_line_index_unit(&mut self.handle, unit, &mut found) };
+        (status == 0).then(|| (found.offset, Error::fault(found.fault)))
+    }
+
+    /// The addresses for a breakpoint at a line of a file of one unit, or at the next line that has any.
+    pub fn addresses_of(&mut self, unit: u64, file: u64, line: u64) -> Result<Option<Addresses>, Error> {
+        let mut addresses = vec![0; 16];
+        loop {
+            let (mut found_line, mut count) = (0, 0);
+            let answer = Error::of(unsafe {
+                calls::gimli_line_index_addresses(
+                    &mut self.handle,
+                    unit,
+                    file,
+                    line,
+                    &mut found_line,
+                    addresses.as_mut_ptr(),
+                    addresses.len(),
+                    &mut count,
+                )
+            });
+            if answer == Err(Error::NOT_FOUND) {
+                return Ok(None);
+            }
+            answer?;
+            let fits = count as usize <= addresses.len();
+            addresses.resize(count as usize, 0);
+            if fits {
+                return Ok(Some(Addresses {
+                    line: found_line,
+                    addresses,
+                }));
+            }
+        }
+    }
+}
+
+impl Drop for Index {
+    fn drop(&mut self) {
+        let _ok = unsafe { calls::gimli_line_index_close(&mut self.handle) };
+    }
+}

@@ -1,0 +1,5 @@
+mod Names
+pub mod Worked
+mod Headers
+mod Lowest
+mod TableNames

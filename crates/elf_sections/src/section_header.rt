@@ -1,0 +1,96 @@
+//! The header of a section, and the bytes that it stands for.
+
+ghost use Rattle.std.specs.Prelude.{◌≡◌, ◌≤◌, length, if◌then◌else◌};
+ghost use Rattle.gimli_core.specs.Reading.{seen};
+ghost use Rattle.elf_sections.specs.SectionHeader.{section_header_size, section_header, is_active, has_flag, is_code, section_bytes};
+
+use crate::error::ElfError;
+use crate::layout::Layout;
+
+/// An inactive header, which is no section's (`SHT_NULL`).
+const NULL: u32 = 0;
+/// A section without bytes in the file (`SHT_NOBITS`).
+const NOBITS: u32 = 8;
+/// The section is in memory when the program runs (`SHF_ALLOC`).
+const ALLOC: u64 = 2;
+/// The section holds code (`SHF_EXECINSTR`).
+const EXECINSTR: u64 = 4;
+/// The section is compressed (`SHF_COMPRESSED`).
+const COMPRESSED: u64 = 0x800;
+
+/// The header of a section.
+#[derive(Clone, Copy, Debug)]
+pub(crate) struct SectionHeader {
+    /// The offset of its name in the section of names (`sh_name`).
+    pub(crate) name: u32,
+    /// What the section holds (`sh_type`).
+    pub(crate) kind: u32,
+    /// `sh_flags`.
+    pub(crate) flags: u64,
+    /// Where it begins in memory (`sh_addr`).
+    pub(crate) address: u64,
+    /// The offset of its bytes in the file (`sh_offset`).
+    pub(crate) offset: u64,
+    /// Its bytes (`sh_size`).
+    pub(crate) size: u64,
+    /// The index of another section (`sh_link`).
+    pub(crate) link: u32,
+}
+
+impl SectionHeader {
+    /// The section header that bytes begin with.
+    pub(crate) fn parse(layout: Layout, bytes: &[u8]) -> SectionHeader
+        requires { section_header_size layout.class ≤ length bytes.now }
+        ensures { result ≡ section_header layout bytes.now }
+    {
+        let address = usize::from(layout.address_size());
+        SectionHeader {
+            name: layout.word(bytes, 0),
+            kind: layout.word(bytes, 4),
+            flags: layout.address(bytes, 8),
+            address: layout.address(bytes, 8 + address),
+            offset: layout.address(bytes, 8 + 2 * address),
+            size: layout.address(bytes, 8 + 3 * address),
+            link: layout.word(bytes, 8 + 4 * address),
+        }
+    }
+
+    /// Whether this is a section's header.
+    pub(crate) fn is_active(&self) -> bool
+        ensures { result ≡ is_active self.now }
+    {
+        self.kind != NULL
+    }
+
+    /// Whether the flags have this bit.
+    fn has_flag(&self, bit: u64) -> bool
+        ensures { result ≡ has_flag self.now bit }
+    {
+        self.flags & bit != 0
+    }
+
+    /// Whether the section is code that is in memory when the program runs.
+    pub(crate) fn is_code(&self) -> bool
+        ensures { result ≡ is_code self.now }
+    {
+        self.has_flag(ALLOC) && self.has_flag(EXECINSTR) && self.size != 0
+    }
+
+    /// The section's bytes in its file.
+    pub(crate) fn bytes_in<'a>(&self, file: &'a [u8]) -> Result<&'a [u8], ElfError>
+        ensures { seen (λ bytes. bytes.now) result ≡ section_bytes file.now self.now }
+    {
+        if self.has_flag(COMPRESSED) {
+            return Err(ElfError::Compressed);
+        }
+        if self.kind == NOBITS {
+            return Ok(&[]);
+        }
+        match self.offset.checked_add(self.size) {
+            Some(end) if end <= file.len() as u64 => {
+                Ok(&file[self.offset as usize..end as usize])
+            }
+            _ => Err(ElfError::SectionCut),
+        }
+    }
+}

@@ -1,0 +1,190 @@
+//! The section table of a file.
+
+ghost use Rattle.std.specs.Prelude.{◌≡◌, ◌≤◌, ◌<◌, ◌+◌, ◌*◌, min, drop, length, find, filter, map, MatchOption, []};
+ghost use Rattle.std.specs.Option.{option_map_or};
+ghost use Rattle.gimli_core.specs.Reading.{seen};
+ghost use Rattle.elf_sections.specs.SectionHeader.{section_header_size, section_header, is_active, is_code};
+ghost use Rattle.elf_sections.specs.Table.{table_at, names_at, is_name_at, count_of, names_index_of};
+
+use crate::error::ElfError;
+use crate::header::Header;
+use crate::layout::Layout;
+use crate::section_header::SectionHeader;
+
+/// An index that stands for no section of names (`SHN_UNDEF`).
+const UNDEF: u64 = 0;
+/// An index that section 0 holds instead (`SHN_XINDEX`).
+const XINDEX: u16 = 0xffff;
+
+/// The section headers of a file.
+#[derive(Clone, Copy, Debug)]
+pub(crate) struct SectionTable<'a> {
+    layout: Layout,
+    /// The bytes of the file from the table on.
+    entries: &'a [u8],
+    /// The bytes of an entry.
+    entry_size: usize,
+    /// The number of entries.
+    count: usize,
+    /// The index of the section of names.
+    names_index: u64,
+    ghost wide: { section_header_size layout.class ≤ entry_size },
+    ghost whole: { count * entry_size ≤ length entries.now },
+}
+
+/// How many section headers a file has.
+fn count_of(header: &Header, first: &SectionHeader) -> u64
+    ensures { result ≡ count_of header.now first.now }
+{
+    match header.count {
+        0 => first.size,
+        count => u64::from(count),
+    }
+}
+
+/// The index of the section of names.
+fn names_index_of(header: &Header, first: &SectionHeader) -> u64
+    ensures { result ≡ names_index_of header.now first.now }
+{
+    match header.names_index {
+        XINDEX => u64::from(first.link),
+        index => u64::from(index),
+    }
+}
+
+/// Whether a text, which a zero byte ends, stands at an offset of the names.
+fn is_name_at(names: &[u8], offset: u32, name: &[u8]) -> bool
+    ensures { result ≡ is_name_at names.now offset name.now }
+{
+    let Some(text) = names.get(offset as usize..) else {
+        return false;
+    };
+    if name.contains(&0) || !text.starts_with(name) {
+        return false;
+    }
+    match &text[name.len()..] {
+        [end, ..] => *end == 0,
+        [] => false,
+    }
+}
+
+/// The lower of an address and the lowest one so far.
+fn lower_of(lowest: Option<u64>, address: u64) -> u64
+    ensures { result ≡ option_map_or (λ least. min least address) lowest address }
+{
+    match lowest {
+        Some(least) => least.min(address),
+        None => address,
+    }
+}
+
+impl<'a> SectionTable<'a> {
+    ghost use Rattle.elf_sections.specs.SectionTable.{table_of};
+    ghost use Rattle.elf_sections.specs.File.{IsLeast};
+
+    /// The section table that a file's header tells of.
+    pub(crate) fn parse(
+        layout: Layout,
+        header: &Header,
+        bytes: &'a [u8],
+    ) -> Result<SectionTable<'a>, ElfError>
+        ensures { seen table_of result ≡ table_at layout header.now bytes.now }
+    {
+        if header.table_offset == 0 {
+            return Ok(SectionTable::empty(layout));
+        }
+        let smallest = layout.section_header_size();
+        let entry_size = usize::from(header.entry_size);
+        if entry_size < smallest {
+            return Err(ElfError::SectionHeaderSize(header.entry_size));
+        }
+        let Some(entries) = bytes.get(header.table_offset as usize..) else {
+            return Err(ElfError::SectionTableCut);
+        };
+        if entries.len() < smallest {
+            return Err(ElfError::SectionTableCut);
+        }
+        let first = SectionHeader::parse(layout, entries);
+        let count = count_of(header, &first) as usize;
+        match count.checked_mul(entry_size) {
+            Some(size) if size <= entries.len() => Ok(SectionTable {
+                layout,
+                entries,
+                entry_size,
+                count,
+                names_index: names_index_of(header, &first),
+            }),
+            _ => Err(ElfError::SectionTableCut),
+        }
+    }
+
+    /// A table of no headers.
+    fn empty(layout: Layout) -> SectionTable<'a>
+        ensures headers { (table_of result).headers ≡ [] }
+        ensures names_index { (table_of result).names_index ≡ 0 }
+    {
+        SectionTable {
+            layout,
+            entries: &[],
+            entry_size: layout.section_header_size(),
+            count: 0,
+            names_index: UNDEF,
+        }
+    }
+
+    /// The section header of an index.
+    fn header(&self, index: usize) -> SectionHeader
+        requires { index < self.now.count }
+        ensures { result ≡ section_header self.now.layout
+            (drop (index * self.now.entry_size) self.now.entries.now) }
+    {
+        SectionHeader::parse(self.layout, &self.entries[index * self.entry_size..])
+    }
+
+    /// The names of the sections.
+    pub(crate) fn names(&self, file: &'a [u8]) -> Result<&'a [u8], ElfError>
+        ensures { seen (λ names. names.now) result ≡ names_at file.now (table_of self.now) }
+    {
+        if self.names_index == UNDEF {
+            return Ok(&[]);
+        }
+        let index = self.names_index as usize;
+        if self.count <= index {
+            return Err(ElfError::NamesCut);
+        }
+        match self.header(index).bytes_in(file) {
+            Ok(names) => Ok(names),
+            Err(_) => Err(ElfError::NamesCut),
+        }
+    }
+
+    /// The header of the first section of a name.
+    pub(crate) fn find(&self, names: &[u8], name: &[u8]) -> Option<SectionHeader>
+        ensures { result ≡ find (λ header. is_name_at names.now header.name name.now)
+            (filter is_active (table_of self.now).headers) }
+    {
+        for index in 0..self.count {
+            let header = self.header(index);
+            if header.is_active() && is_name_at(names, header.name, name) {
+                return Some(header);
+            }
+        }
+        None
+    }
+
+    /// The lowest address of the sections of code.
+    pub(crate) fn lowest_code_address(&self) -> Option<u64>
+        ensures { let addresses = map (λ header. header.address) (filter is_code
+            (filter is_active (table_of self.now).headers)) in
+            MatchOption result (addresses ≡ []) (IsLeast addresses) }
+    {
+        let mut lowest = None;
+        for index in 0..self.count {
+            let header = self.header(index);
+            if header.is_active() && header.is_code() {
+                lowest = Some(lower_of(lowest, header.address));
+            }
+        }
+        lowest
+    }
+}

@@ -1,0 +1,55 @@
+#!/usr/bin/env bash
+# Installs the library into an empty folder, builds the example by what pkg-config says of it, shared and static, and runs both;
+# reads the header by each standard of C and C++ that the compilers know; and looks at the symbols of both libraries. `make check`
+# calls it after `make`. Where a tool is missing it says so, and passes over what needs it.
+set -eu
+here=$(cd "$(dirname "$0")" && pwd)
+crate=$(dirname "$here")
+work=$(mktemp -d)
+trap 'rm -rf "$work"' EXIT
+have() { command -v "$1" >/dev/null || { echo "gimli_c: $1 is missing: $2 isn't tried"; false; }; }
+
+make -C "$crate" -s install DESTDIR="$work/root" PREFIX=/opt/gimli
+installed=$work/root/opt/gimli
+
+# Each symbol that is seen from outside is a call of the header.
+declared() { grep -oE '^(uint32_t) gimli_[a-z_]+' "$crate/include/gimli_line.h" | cut -d' ' -f2 | sort -u; }
+nm -D --defined-only "$installed/lib/libgimli_line.so" | awk '$2 == "T" {print $3}' | sort -u >"$work/shared"
+nm --defined-only -g "$installed/lib/libgimli_line.a" | awk '$2 == "T" {print $3}' | sort -u >"$work/static"
+declared | cmp - "$work/shared"
+declared | cmp - "$work/static"
+
+# The header, alone, without a warning.
+printf '#include <gimli_line.h>\nconst char *name(void);\nconst char *name(void) { return gimli_status_name(GIMLI_OK); }\n' >"$work/header.c"
+cp "$work/header.c" "$work/header.cc"
+read_header() {
+    local compiler=$1 file=$2
+    shift 2
+    have "$compiler" "the header by it" || return 0
+    for standard in "$@"; do
+        "$compiler" "-std=$standard" -Wall -Wextra -pedantic -Werror -I "$installed/include" -c "$work/$file" -o "$work/header.o"
+    done
+}
+for compiler in gcc clang; do read_header $compiler header.c c99 c11 c17 c2x; done
+for compiler in g++ clang++; do read_header $compiler header.cc c++11 c++14 c++17 c++20 c++2b; done
+
+# A program over what was installed.
+if have pkg-config "a program built by it"; then
+    export PKG_CONFIG_PATH=$installed/lib/pkgconfig PKG_CONFIG_SYSROOT_DIR=$work/root
+    flags=$(pkg-config --cflags --libs gimli_line)
+    # shellcheck disable=SC2086
+    cc -std=c11 -g -O1 "$here/c/where_is.c" $flags -o "$work/by_shared"
+    # shellcheck disable=SC2086
+    cc -std=c11 -g -O1 "$here/c/where_is.c" $(pkg-config --cflags gimli_line) "$installed/lib/libgimli_line.a" -o "$work/by_static"
+    main=$(nm "$work/by_static" | awk '$3 == "main" {print $1}')
+    place=$("$work/by_static" "$work/by_static" "$main")
+    [ "${place%:*}" = "$here/c/where_is.c:$(grep -n '^int main' "$here/c/where_is.c" | cut -d: -f1)" ] ||
+        { echo "gimli_c: main is said to be at $place" && exit 1; }
+    [ "$(LD_LIBRARY_PATH=$installed/lib "$work/by_shared" "$work/by_static" "$main")" = "$place" ]
+fi
+
+# No memory is lost or misused.
+if have valgrind "memory by it" && [ -x "$work/by_static" ]; then
+    valgrind -q --error-exitcode=9 --leak-check=full --errors-for-leak-kinds=all "$work/by_static" "$work/by_static" "$main" 0 >/dev/null
+fi
+echo "gimli_c: installed, $(wc -l <"$work/static") calls and no other symbol, built by pkg-config"

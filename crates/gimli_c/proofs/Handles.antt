@@ -1,0 +1,127 @@
+-- The machine values of a `Loose` and of a `Handle`. Assumes `Logic`.
+use Rattle.std.proofs.Common.{◌≡◌, ℕ, List, [], ◌∷◌, ◌++◌, refl, subst}
+use mathlib.Core.Bool.{Bool, true, false, ◌&&◌}
+use lib.Dec.{T}
+use seplogic.Ra.Ura.{Ura}
+use mir.Syntax.{impl, tnil, dnil, ty_ptr}
+use mir.Raw.{raw as bare}
+use mir.Val.{Val, vptr, vstruct, vcons, vnil, of_list, has_ty, WT}
+use base.Logic.{never, fst∗}
+use types.Logic.{Logic, sem}
+use types.Kit.{Item, Goal, Seq, Step, step, ‵, ◌$◌, move, drop, fsplit, fjoin, fpick, fpack, feq_i, feq_l}
+use denote.RattleType.{RattleType, Valss}
+use denote.Builtin.{RawPtr}
+use denote.Memory.{lone}
+use denote.RawPtr.{Ptr, block_ptr, null_ptr, ptr_val, in_a_block}
+use denote.Steps.{nothing}
+use denote.Param.{layout}
+use denote.Param.Laws.{Laws}
+use denote.Struct.Struct.{within}
+use denote.Struct.Owning.{shape}
+use Rattle.core.specs.declared.alloc.Allocator.{Ghosts}
+use Rattle.core.proofs.alloc.Calls.{Al, handle_tells}
+use Rattle.core.proofs.cell.Inside.{Good, one}
+use Rattle.std_alloc.specs.Box.Ownership.{box_owns}
+use Rattle.std_alloc.proofs.ResultValues.{and_tt}
+use Rattle.gimli_c.specs.contracts.index.loose.Loose as loose
+use Rattle.gimli_c.specs.contracts.index.handle.GimliLineIndex as handle
+use Rattle.gimli_c.specs.contracts.index.kept.SectionIndex as kept
+use Rattle.gimli_c.specs.Owned.{owned_at, the_heap}
+use Rattle.std.specs.Prelude.{Option, Some, None}
+use Rattle.std.specs.declared.alloc.Global.{Global}
+use Rattle.std.specs.contracts.alloc.Global as heap
+use Rattle.std.proofs.alloc.Global.TheLaws as heap_laws
+use Rattle.std.specs.contracts.impls.GlobalAllocator.TheImpl.{ghosts}
+use Rattle.std.proofs.GlobalToken.{dealloc_token-Testable}
+use base.Logic.{ent, guard, via, snd∗, guard_i}
+use base.Fraction.{full_share}
+use contract.Monad.{fact_use}
+use denote.RawPtr.{lies_at, Testable}
+use types.Kit.{given, learn, use1}
+use lib.Dec.{lit<}
+
+abbrev pub both : Val → Val → Val
+both v w = vstruct (vcons v (vcons w vnil))
+
+pub both_tt : (x y : Bool) → T x → T y → T (x && (y && true))
+both_tt true true s t = tt
+both_tt true false s t = absurd t
+both_tt false y s t = absurd s
+
+module _ (R Z : RattleType) (L : Laws Z) (g : Ghosts Z.Denot) where
+  abbrev pub Loose : RattleType
+  Loose = loose.the_row R Z g
+
+  abbrev al : Al
+  al = record { row = Z; laws = L; g = g; d = impl [] tnil dnil; drops = impl [] tnil dnil }
+
+  pub loose_good : (b o : ℕ) (h : Val) → Good (layout Z) h → T (has_ty (layout Z) h && true) × WT (both (vptr b o) h)
+  loose_good b o h fits = (and_tt (has_ty (layout Z) h) fits.0, (tt, (fits.1, tt)))
+
+  module _ {M : Type 1} {𝓤 : Ura M} {𝓛 : Logic 𝓤} {K : Type 0} {Γ : List (Item 𝓤)} {G : Goal 𝓤 𝓛.H} where
+    pub loose_out : K → (d : Loose.Denot) (vs : List Val)
+        → ((b o : ℕ) (h : Val) → d.at ≡ block_ptr b o → vs ≡ both (vptr b o) h ∷ [] → Good (layout Z) h → Seq K 𝓛 (‵ (box_owns (g.dealloc_token d.alloc) R (block_ptr b o) d.value) ∷ ‵ (Z.own_val d.alloc (h ∷ [])) ∷ Γ) G)
+        → Seq K 𝓛 (‵ (Loose.own_val d vs) ∷ Γ) G
+    loose_out t d vs k =
+        fsplit t $ fpick t (λ vss. fsplit t $ feq_l t (λ ev. fsplit t $ feq_l t (λ ep. fsplit t $ handle_tells al t d.alloc vss.1.0 (λ h ea fits. move t (1 ∷ []) $ drop t $ move t (1 ∷ []) $
+        in_a_block t d.at (λ p. box_owns (g.dealloc_token d.alloc) R p d.value) (fst∗ 𝓤 (never 𝓤) (sem 𝓛 (g.dealloc_token d.alloc (bare (lone R.mir)) null_ptr))) (λ b o e. k b o h e
+        (subst (λ (p : Ptr). vs ≡ vstruct (of_list (ptr_val p ∷ h ∷ [])) ∷ []) e
+        (subst (λ (ws : List Val). vs ≡ vstruct (of_list (ptr_val d.at ∷ (ws ++ []))) ∷ []) ea (subst (λ (ps : List Val). vs ≡ vstruct (of_list (ps ++ (vss.1.0 ++ []))) ∷ []) ep ev))) fits)))))
+
+    pub loose_in : K → (b o : ℕ) (h : Val) (a : Z.Denot) (x : R.Denot)
+        → Step K 𝓛 (‵ (Loose.own_val (record { at = block_ptr b o; alloc = a; value = x }) (both (vptr b o) h ∷ [])) ∷ Γ) G (‵ (box_owns (g.dealloc_token a) R (block_ptr b o) x) ∷ ‵ (Z.own_val a (h ∷ [])) ∷ Γ) G
+    loose_in t b o h a x = step (λ s. let v : Val = both (vptr b o) h in
+        nothing t $ move t (2 ∷ 0 ∷ []) $ fjoin t $ feq_i t (List Val) (vptr b o ∷ []) (vptr b o ∷ []) refl $ fjoin t $ feq_i t (List Val) (v ∷ []) (v ∷ []) refl $ fjoin t $
+        fpack t (Valss (RawPtr ∷ Z ∷ [])) (within (shape (loose.the_type R Z g)) (block_ptr b o, (a, tt)) (v ∷ [])) (vptr b o ∷ [], (h ∷ [], tt)) $ fjoin t $ s)
+
+abbrev pub R : RattleType
+R = kept.the_row
+
+abbrev pub Z : RattleType
+Z = heap.the_row
+
+abbrev pub LZ : Laws Z
+LZ = heap_laws.the_row_laws
+
+abbrev pub Handle : RattleType
+Handle = handle.the_row
+
+abbrev pub heap_al : Al
+heap_al = record { row = Z; laws = LZ; g = ghosts; d = impl [] tnil dnil; drops = impl [] tnil dnil }
+
+abbrev pub lone_word : Val → Val
+lone_word v = vstruct (vcons v vnil)
+
+pub null_good : T (has_ty ty_ptr (ptr_val null_ptr)) × WT (ptr_val null_ptr)
+null_good = (tt, record { fits = lit< tt })
+
+-- a box's pointer may be compared with null
+pub tested : {M : Type 1} {𝓤 : Ura M} (𝓛 : Logic 𝓤) (a : Global) (p : Ptr) (x : R.Denot)
+    → ent 𝓤 (sem 𝓛 (box_owns (ghosts.dealloc_token a) R p x)) (guard 𝓤 (Testable p) (sem 𝓛 (box_owns (ghosts.dealloc_token a) R p x)))
+tested {𝓤 = 𝓤} 𝓛 a p x = fact_use 𝓤 (Testable p) (via 𝓤 _ (snd∗ 𝓤 (sem 𝓛 (lies_at R full_share p x)) (sem 𝓛 (ghosts.dealloc_token a (bare (lone R.mir)) p)))
+    (dealloc_token-Testable 𝓛 a (bare (lone R.mir)) p)) (guard_i 𝓤 (Testable p) (sem 𝓛 (box_owns (ghosts.dealloc_token a) R p x)))
+
+module _ {M : Type 1} {𝓤 : Ura M} {𝓛 : Logic 𝓤} {K : Type 0} {Γ : List (Item 𝓤)} {G : Goal 𝓤 𝓛.H} where
+  pub handle_in : K → (p : Ptr) (x : Option R.Denot)
+      → Step K 𝓛 (‵ (Handle.own_val (record { at = p; index = x }) (lone_word (ptr_val p) ∷ [])) ∷ Γ) G (‵ (owned_at R p x) ∷ Γ) G
+  handle_in t p x = step (λ s. let v : Val = lone_word (ptr_val p) in
+      nothing t $ feq_i t (List Val) (ptr_val p ∷ []) (ptr_val p ∷ []) refl $ fjoin t $ feq_i t (List Val) (v ∷ []) (v ∷ []) refl $ fjoin t $
+      fpack t (Valss (RawPtr ∷ [])) (within (shape handle.the_type) (p, tt) (v ∷ [])) (ptr_val p ∷ [], tt) $ fjoin t $ s)
+
+  -- a handle by value is what stands at it
+  pub handle_out : K → (p : Ptr) (x : Option R.Denot) (vs : List Val)
+      → (vs ≡ lone_word (ptr_val p) ∷ [] → Seq K 𝓛 (‵ (owned_at R p x) ∷ Γ) G)
+      → Seq K 𝓛 (‵ (Handle.own_val (record { at = p; index = x }) vs) ∷ Γ) G
+  handle_out t p x vs k =
+      fsplit t $ fpick t (λ vss. fsplit t $ feq_l t (λ ev. fsplit t $ feq_l t (λ ep. drop t $
+      k (subst (λ (ps : List Val). vs ≡ vstruct (of_list (ps ++ [])) ∷ []) ep ev))))
+
+  -- nothing stands at a closed one, which is null, and at an open one a box, whose pointer may be compared with null
+  pub either : K → (p : Ptr) (x : Option R.Denot)
+      → (p ≡ null_ptr → x ≡ None → Seq K 𝓛 Γ G)
+      → ((b o : ℕ) (y : R.Denot) → p ≡ block_ptr b o → x ≡ Some y → Testable (block_ptr b o) → Seq K 𝓛 (‵ (box_owns (ghosts.dealloc_token the_heap) R (block_ptr b o) y) ∷ Γ) G)
+      → Seq K 𝓛 (‵ (owned_at R p x) ∷ Γ) G
+  either t p None none one = feq_l t (λ e. none e refl)
+  either t p (Some y) none one =
+      in_a_block t p (λ q. box_owns (ghosts.dealloc_token the_heap) R q y) (fst∗ 𝓤 (never 𝓤) (sem 𝓛 (ghosts.dealloc_token the_heap (bare (lone R.mir)) null_ptr))) (λ b o e.
+      use1 𝓛 (given (Testable (block_ptr b o)) (‵ (box_owns (ghosts.dealloc_token the_heap) R (block_ptr b o) y))) (tested 𝓛 the_heap (block_ptr b o) y) $ learn t (λ test. one b o y e refl test))

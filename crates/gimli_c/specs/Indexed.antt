@@ -1,0 +1,166 @@
+-- What an index keeps, and what it answers.
+use Rattle.std.specs.Prelude.{◌≡◌, ◌^◌, ◌⊎◌, ℕ, Bool, true, List, length, map, All, Some, None, Ok, Err, nat_eq, slice_get}
+use Rattle.gimli_core.specs.Notation.{noted}
+use Rattle.gimli_core.specs.Numbers.{is_address_size}
+use Rattle.gimli_line.specs.Units.{AreUnits}
+use Rattle.gimli_line.specs.declared.run.row.LineRow.{LineRow}
+use Rattle.gimli_line.specs.header.File.{File}
+use Rattle.gimli_line.specs.header.Header.{Header, UnitEntry, file_of}
+use Rattle.gimli_line.specs.run.Unread.{Unread}
+use Rattle.gimli_lookup.specs.Paths.{Paths, file_path}
+use Rattle.gimli_lookup.specs.Section.{IsFirstPairOfUnit, KeptUnit, unit_without_header}
+use Rattle.gimli_lookup.specs.SectionUnits.{IsUnitOf}
+use Rattle.gimli_lookup.specs.Statements.{addresses_of, HasNoLine, IsFirstLine}
+use Rattle.gimli_lookup.specs.declared.path_error.PathError.{PathError}
+use Rattle.gimli_c.specs.declared.index.find.GimliPlace.{GimliPlace}
+use Rattle.gimli_c.specs.declared.index.units.GimliIndexUnit.{GimliIndexUnit}
+use Rattle.gimli_c.specs.declared.index.kept.SectionIndex.{SectionIndex}
+use Rattle.gimli_c.specs.declared.status.TheConstants.{NOT_FOUND, UNKNOWN_PATH}
+use Rattle.gimli_c.specs.Place.{Place, place, HasNoUnit, HasUnit}
+use Rattle.gimli_c.specs.Seen.{row_seen}
+use Rattle.gimli_c.specs.Status.{fault_status}
+use Rattle.gimli_c.specs.Written.{written}
+
+-- ---- what an index is made of
+
+-- the sections of a program, its order of bytes, the size of its addresses up to version 4, and the address below which there is
+-- no code
+pub record Program : Type 0 where
+  pub section : List ℕ
+  pub big : Bool
+  pub address_size : ℕ
+  pub lowest : ℕ
+  pub line_strings : List ℕ
+  pub strings : List ℕ
+
+abbrev pub program : List ℕ → Bool → ℕ → ℕ → List ℕ → List ℕ → Program
+program section big address_size lowest line_strings strings = record {
+  section = section;
+  big = big;
+  address_size = address_size;
+  lowest = lowest;
+  line_strings = line_strings;
+  strings = strings;
+}
+
+-- offsets have 64 bits, and no directory and no name is handed in with a unit
+abbrev pub section_read : List ℕ → Bool → Unread
+section_read section big = record { bytes = section; notation = noted big (2 ^ 64) }
+
+abbrev pub entry_of : ℕ → UnitEntry
+entry_of address_size = record { address_size = address_size; directory = None; name = None }
+
+-- these are all units of a section, each with the sequences that are kept of it; their headers aren't kept
+pub record AreUnitsOf (section : List ℕ) (big : Bool) (address_size lowest : ℕ) (kept : List KeptUnit) : Type 0 where
+  pub units : List KeptUnit
+  pub offsets : AreUnits (noted big (2 ^ 64)) 0 section (map (λ u. u.unit.offset) units)
+  pub each : All (IsUnitOf (section_read section big) (entry_of address_size) lowest) units
+  pub kept_are : kept ≡ map unit_without_header units
+
+-- the index of a program
+pub record IsIndexOf (p : Program) (i : SectionIndex) : Type 0 where
+  pub section : i.section.items ≡ p.section
+  pub line_strings : i.line_strings.items ≡ p.line_strings
+  pub strings : i.strings.items ≡ p.strings
+  pub big : i.big ≡ p.big
+  pub address_size : i.address_size ≡ p.address_size
+  pub is_size : is_address_size p.address_size ≡ true
+  pub units : AreUnitsOf p.section p.big p.address_size p.lowest i.units
+
+-- ---- what it answers
+
+-- the first two rows that cover an address, and the unit that has them
+pub record GivesPlace (units : List KeptUnit) (address : ℕ) (seen : GimliPlace) : Type 0 where
+  pub x : LineRow
+  pub y : LineRow
+  pub is_first : IsFirstPairOfUnit address units seen.unit x y
+  pub row_is : seen.row ≡ row_seen x
+  pub end_is : seen.end ≡ y.address
+
+-- where the unit of an index stands
+abbrev pub unit_place : SectionIndex → KeptUnit → Place
+unit_place i u = place i.section.items i.big i.address_size u.unit.offset
+
+-- what the paths of a header are made of
+abbrev pub paths_in : SectionIndex → Header → List ℕ → Paths
+paths_in i h comp_dir = record {
+  sections = record { debug_line_str = i.line_strings.items; debug_str = i.strings.items };
+  header = h;
+  comp_dir = Some comp_dir;
+}
+
+-- the file of an index in the table of a unit
+pub record IsFileOf (i : SectionIndex) (unit file : ℕ) (h : Header) (entry : File) : Type 0 where
+  pub kept : KeptUnit
+  pub is_unit : slice_get i.units unit ≡ Some kept
+  pub has_unit : HasUnit (unit_place i kept) h
+  pub is_file : file_of h file ≡ Some entry
+
+-- the whole path of the file of a unit
+pub record GivesPath (i : SectionIndex) (unit file : ℕ) (comp_dir whole : List ℕ) : Type 0 where
+  pub header : Header
+  pub entry : File
+  pub is_file : IsFileOf i unit file header entry
+  pub is_path : file_path (paths_in i header comp_dir) entry ≡ Ok whole
+
+-- that path in an array of the caller, and its length
+abbrev pub WritesPath : SectionIndex → ℕ → ℕ → List ℕ → List ℕ → List ℕ → ℕ → Type 0
+WritesPath i unit file comp_dir old new size =
+    (whole : List ℕ) × GivesPath i unit file comp_dir whole × (new ≡ written whole old) × (size ≡ length whole)
+
+-- a string of the file's path can't be told
+pub record CantTellPath (i : SectionIndex) (unit file : ℕ) (comp_dir : List ℕ) : Type 0 where
+  pub header : Header
+  pub entry : File
+  pub is_file : IsFileOf i unit file header entry
+  pub error : PathError
+  pub is_error : file_path (paths_in i header comp_dir) entry ≡ Err error
+
+-- a unit of an index
+abbrev pub IsUnit : SectionIndex → ℕ → KeptUnit → Type 0
+IsUnit i unit kept = slice_get i.units unit ≡ Some kept
+
+-- the index has no such unit, or the unit's table no such file
+abbrev pub HasNoFile : SectionIndex → ℕ → ℕ → Type 0
+HasNoFile i unit file =
+    (slice_get i.units unit ≡ None)
+    ⊎ ((kept : KeptUnit) × IsUnit i unit kept × (h : Header) × HasUnit (unit_place i kept) h × (file_of h file ≡ None))
+
+-- a unit can't be read, and this is the number of the refusal
+pub record UnitRefused (i : SectionIndex) (unit status : ℕ) : Type 0 where
+  pub kept : KeptUnit
+  pub is_unit : IsUnit i unit kept
+  pub refused : HasNoUnit (unit_place i kept) status
+
+-- why the path of a file isn't answered, memory aside: there is no such file, its path can't be told, or the unit can't be read
+abbrev pub HasNoPath : SectionIndex → ℕ → ℕ → List ℕ → ℕ → Type 0
+HasNoPath i unit file comp_dir status =
+    ((status ≡ NOT_FOUND) × HasNoFile i unit file)
+    ⊎ (((status ≡ UNKNOWN_PATH) × CantTellPath i unit file comp_dir) ⊎ UnitRefused i unit status)
+
+-- where a unit stands, and the number of what is wrong with it
+pub record GivesIndexUnit (i : SectionIndex) (unit : ℕ) (seen : GimliIndexUnit) : Type 0 where
+  pub kept : KeptUnit
+  pub is_unit : IsUnit i unit kept
+  pub offset_is : seen.offset ≡ kept.unit.offset
+  pub fault_is : seen.fault ≡ fault_status kept.unit.fault
+
+-- the addresses of a line in the sequences of a unit, by the index of a file
+abbrev pub addresses_in : KeptUnit → ℕ → ℕ → List ℕ
+addresses_in kept file line = addresses_of (nat_eq file) kept.sequences line
+
+-- the addresses of the first line from the asked one on that has any
+pub record GivesAddresses (i : SectionIndex) (unit file asked line : ℕ) (addresses : List ℕ) : Type 0 where
+  pub kept : KeptUnit
+  pub is_unit : IsUnit i unit kept
+  pub is_first : IsFirstLine (addresses_in kept file) asked line
+  pub addresses_are : addresses ≡ addresses_in kept file line
+
+-- those addresses in an array of the caller, and how many there are
+abbrev pub WritesAddresses : SectionIndex → ℕ → ℕ → ℕ → ℕ → List ℕ → List ℕ → ℕ → Type 0
+WritesAddresses i unit file asked line old new count =
+    (addresses : List ℕ) × GivesAddresses i unit file asked line addresses × (new ≡ written addresses old) × (count ≡ length addresses)
+
+-- the index has no such unit, or no line from the asked one on has an address
+abbrev pub HasNoAddress : SectionIndex → ℕ → ℕ → ℕ → Type 0
+HasNoAddress i unit file asked = (slice_get i.units unit ≡ None) ⊎ ((kept : KeptUnit) × IsUnit i unit kept × HasNoLine (addresses_in kept file) asked)

@@ -1,0 +1,21 @@
+//! What stands behind a handle.
+
+use gimli_core::{EndianSlice, RunTimeEndian};
+use gimli_lookup::SectionLookup;
+
+/// What an index keeps. It borrows nothing of a caller.
+#[derive(Drop)]
+pub struct SectionIndex {
+    /// The section `.debug_line`.
+    pub(crate) section: Vec<u8>,
+    /// The section `.debug_line_str`.
+    pub(crate) line_strings: Vec<u8>,
+    /// The section `.debug_str`.
+    pub(crate) strings: Vec<u8>,
+    /// Whether the most significant byte of a number comes first.
+    pub(crate) big: bool,
+    /// The number of bytes of an address up to version 4.
+    pub(crate) address_size: u8,
+    /// The units and their rows, without the headers.
+    pub(crate) units: SectionLookup<EndianSlice<'static, RunTimeEndian>>,
+}

@@ -1,0 +1,119 @@
+//! The whole path of a file.
+
+ghost use Rattle.std.specs.Prelude.{◌≡◌, ◌≢◌, Err, IfErr, IfOk, IfSome, None, Ok};
+ghost use Rattle.gimli_line.specs.header.File.{file_seen};
+ghost use Rattle.gimli_lookup.specs.Paths.{file_path};
+ghost use Rattle.gimli_lookup.specs.declared.path_error.PathError.{PathError};
+ghost use Rattle.gimli_lookup.specs.declared.path_error.PathError.TheVariants.{OutOfMemory};
+ghost use Rattle.gimli_c.specs.Indexed.{paths_in, GivesPath, HasNoPath, WritesPath};
+
+use crate::file::copy_bytes;
+use crate::index::handle::GimliLineIndex;
+use crate::index::kept::SectionIndex;
+use crate::place::{order, program_at};
+use crate::status::{CLOSED, NOT_FOUND, OK, OUT_OF_MEMORY, UNKNOWN_PATH};
+use gimli_core::{EndianSlice, RunTimeEndian};
+use gimli_line::{FileEntry, LineProgramHeader};
+use gimli_lookup::{PathError, Paths, StringSections};
+use std::alloc::Global;
+
+/// A reader of a section of an index.
+type Slice<'s> = EndianSlice<'s, RunTimeEndian>;
+
+/// The number of a refusal: `OUT_OF_MEMORY` or `UNKNOWN_PATH`.
+fn path_status(error: PathError) -> u32
+    ensures { result ≢ OUT_OF_MEMORY → (result ≡ UNKNOWN_PATH) × (error ≢ OutOfMemory) }
+{
+    match error {
+        PathError::OutOfMemory => OUT_OF_MEMORY,
+        _ => UNKNOWN_PATH,
+    }
+}
+
+/// The whole path of a file of a header, or `UNKNOWN_PATH` where it can't be told.
+fn path_in_header<'s>(
+    alloc: Global,
+    index: &'s SectionIndex,
+    header: &LineProgramHeader<Slice<'s>>,
+    file: &FileEntry<Slice<'s>>,
+    comp_dir: &[u8],
+) -> Result<Vec<u8>, u32>
+    ensures ok { IfOk result (λ path. file_path (paths_in index.now header.now.meaning comp_dir.now)
+        (file_seen (λ s. s.slice.now) (λ n. n) file.now) ≡ Ok path.items) }
+    ensures err { IfErr result (λ s. s ≢ OUT_OF_MEMORY → (s ≡ UNKNOWN_PATH) × ((e : PathError)
+        × (file_path (paths_in index.now header.now.meaning comp_dir.now)
+        (file_seen (λ s. s.slice.now) (λ n. n) file.now) ≡ Err e))) }
+{
+    let order = order(index.big);
+    let sections = StringSections {
+        debug_line_str: EndianSlice::new(&index.line_strings, order),
+        debug_str: EndianSlice::new(&index.strings, order),
+    };
+    match Paths::new(header, sections, Some(comp_dir)).of_file(alloc, file) {
+        Ok(path) => Ok(path),
+        Err(e) => Err(path_status(e)),
+    }
+}
+
+/// The whole path of the file of a unit.
+fn path_of(
+    alloc: Global,
+    index: &SectionIndex,
+    unit: u64,
+    file: u64,
+    comp_dir: &[u8],
+) -> Result<Vec<u8>, u32>
+    ensures ok { IfOk result (λ path. GivesPath index.now unit file comp_dir.now path.items) }
+    ensures err { IfErr result (λ s. s ≢ OUT_OF_MEMORY →
+        HasNoPath index.now unit file comp_dir.now s) }
+{
+    let offset = index.offset_of(unit)?;
+    let program = match program_at(alloc, &index.section, index.big, index.address_size, offset) {
+        Ok(program) => program,
+        Err(status) => return Err(status),
+    };
+    let header = program.header();
+    let entry = match header.file(file) {
+        Some(entry) => entry,
+        None => return Err(NOT_FOUND),
+    };
+    path_in_header(alloc, index, header, entry, comp_dir)
+}
+
+/// Tells the whole path of the file of a unit: its path, with the directories that it goes on from, up to the directory of the
+/// compilation. In version 5 the unit has that one; up to version 4 it is `comp_dir` (`DW_AT_comp_dir`), and without it the path
+/// stays relative. The bytes go into `path`, as far as there is room; `size` is how many there are. `NOT_FOUND` where there is no
+/// such unit, or its table has no such file, `UNKNOWN_PATH` where a string of the path can't be told, and `CLOSED` where the handle is; the number of
+/// the refusal where the unit can't be read. Where another number than 0 is answered, nothing is written.
+#[unsafe(no_mangle)]
+pub extern "C" fn gimli_line_index_path(
+    alloc: Global,
+    index: &mut GimliLineIndex,
+    unit: u64,
+    file: u64,
+    comp_dir: &[u8],
+    path: &mut [u8],
+    size: &mut u64,
+) -> u32
+    ensures found { result ≡ OK → IfSome index.old.index
+        (λ i. WritesPath i unit file comp_dir.now path.old path.new size.new) }
+    ensures closed { index.old.index ≡ None → result ≡ CLOSED }
+    ensures refused { result ≢ OK → result ≢ CLOSED → result ≢ OUT_OF_MEMORY → IfSome index.old.index
+        (λ i. HasNoPath i unit file comp_dir.now result) }
+    ensures kept { result ≢ OK → (path.new ≡ path.old) × (size.new ≡ size.old) }
+    ensures same { index.new.index ≡ index.old.index }
+{
+    let Some(kept) = index.swap(alloc, None) else {
+        return CLOSED;
+    };
+    let found = path_of(alloc, &kept, unit, file, comp_dir);
+    drop(index.swap(alloc, Some(kept)));
+    match found {
+        Ok(whole) => {
+            *size = whole.len() as u64;
+            copy_bytes(&whole, path);
+            OK
+        }
+        Err(status) => status,
+    }
+}

@@ -1,0 +1,191 @@
+//! The units of an index.
+
+ghost use Rattle.std.specs.Prelude.{◌≡◌, ◌≢◌, ◌⊎◌, ◌<◌, IfErr, IfOk, IfSome, None, length, slice_get};
+ghost use Rattle.gimli_c.specs.Indexed.{GivesAddresses, GivesIndexUnit, HasNoAddress, IsUnit, WritesAddresses};
+ghost use Rattle.gimli_c.specs.Written.{written};
+
+use crate::index::handle::GimliLineIndex;
+use crate::index::kept::SectionIndex;
+use crate::run::fault_status;
+use crate::status::{CLOSED, NOT_FOUND, OK, OUT_OF_MEMORY};
+use gimli_core::{EndianSlice, RunTimeEndian};
+use gimli_lookup::{Addresses, UnitLookup};
+use std::alloc::Global;
+
+impl SectionIndex {
+    ghost use Rattle.gimli_lookup.specs.Section.{KeptUnit};
+
+    /// The place of a unit, or `NOT_FOUND` where there is none.
+    fn unit_at(&self, unit: u64) -> Result<usize, u32>
+        ensures ok { IfOk result (λ place. (place ≡ unit) × (unit < length self.now.units)) }
+        ensures err { IfErr result (λ s. (s ≡ NOT_FOUND) × (slice_get self.now.units unit ≡ None)) }
+    {
+        if unit < self.units.units().len() as u64 {
+            Ok(unit as usize)
+        } else {
+            Err(NOT_FOUND)
+        }
+    }
+
+    /// A unit, or `NOT_FOUND` where there is none.
+    fn listed(&self, unit: u64) -> Result<&UnitLookup<EndianSlice<'static, RunTimeEndian>>, u32>
+        ensures ok { IfOk result (λ found. (kept : KeptUnit) × IsUnit self.now unit kept
+            × (found.now ≡ kept.unit)) }
+        ensures err { IfErr result (λ s. (s ≡ NOT_FOUND) × (slice_get self.now.units unit ≡ None)) }
+    {
+        let place = self.unit_at(unit)?;
+        Ok(&self.units.units()[place])
+    }
+
+    /// The offset of a unit in its section, or `NOT_FOUND` where there is none.
+    pub(crate) fn offset_of(&self, unit: u64) -> Result<usize, u32>
+        ensures ok { IfOk result (λ offset. (kept : KeptUnit) × IsUnit self.now unit kept
+            × (offset ≡ kept.unit.offset)) }
+        ensures err { IfErr result (λ s. (s ≡ NOT_FOUND) × (slice_get self.now.units unit ≡ None)) }
+    {
+        let found = self.listed(unit)?;
+        Ok(found.offset().0)
+    }
+}
+
+/// A unit of an index.
+#[repr(C)]
+#[derive(Clone, Copy, Debug, PartialEq, Eq)]
+pub struct GimliIndexUnit {
+    /// Its offset in the section.
+    pub offset: u64,
+    /// Why it can't be read, or the number of its program's first fault; 0 where it has none.
+    pub fault: u32,
+}
+
+/// Tells how many units an index has. `CLOSED` where the handle is; then nothing is written.
+#[unsafe(no_mangle)]
+pub extern "C" fn gimli_line_index_unit_count(
+    alloc: Global,
+    index: &mut GimliLineIndex,
+    count: &mut u64,
+) -> u32
+    ensures ok { IfSome index.old.index (λ i. (result ≡ OK) × (count.new ≡ length i.units)) }
+    ensures closed { index.old.index ≡ None → (result ≡ CLOSED) × (count.new ≡ count.old) }
+    ensures same { index.new.index ≡ index.old.index }
+{
+    let Some(kept) = index.swap(alloc, None) else {
+        return CLOSED;
+    };
+    *count = kept.units.units().len() as u64;
+    drop(index.swap(alloc, Some(kept)));
+    OK
+}
+
+/// A unit of an index, or `NOT_FOUND` where there is none.
+fn unit_in(index: &SectionIndex, unit: u64) -> Result<GimliIndexUnit, u32>
+    ensures ok { IfOk result (GivesIndexUnit index.now unit) }
+    ensures err { IfErr result (λ s. (s ≡ NOT_FOUND) × (slice_get index.now.units unit ≡ None)) }
+{
+    let found = index.listed(unit)?;
+    Ok(GimliIndexUnit {
+        offset: found.offset().0 as u64,
+        fault: fault_status(found.fault()),
+    })
+}
+
+/// Tells where a unit stands, and what is wrong with it. `NOT_FOUND` where there is no such unit, and `CLOSED` where the handle
+/// is; then nothing is written.
+#[unsafe(no_mangle)]
+pub extern "C" fn gimli_line_index_unit(
+    alloc: Global,
+    index: &mut GimliLineIndex,
+    unit: u64,
+    found: &mut GimliIndexUnit,
+) -> u32
+    ensures found { result ≡ OK → IfSome index.old.index (λ i. GivesIndexUnit i unit found.new) }
+    ensures none { result ≡ NOT_FOUND →
+        IfSome index.old.index (λ i. slice_get i.units unit ≡ None) }
+    ensures closed { index.old.index ≡ None → result ≡ CLOSED }
+    ensures kept { result ≢ OK → found.new ≡ found.old }
+    ensures same { index.new.index ≡ index.old.index }
+{
+    let Some(kept) = index.swap(alloc, None) else {
+        return CLOSED;
+    };
+    let answer = unit_in(&kept, unit);
+    drop(index.swap(alloc, Some(kept)));
+    match answer {
+        Ok(answer) => {
+            *found = answer;
+            OK
+        }
+        Err(status) => status,
+    }
+}
+
+/// Puts addresses into a place, as far as there is room.
+fn copy_addresses(addresses: &[u64], room: &mut [u64])
+    ensures { room.new ≡ written addresses.now room.old }
+{
+    for (place, address) in addresses.iter().enumerate() {
+        if place >= room.len() {
+            return;
+        }
+        room[place] = *address;
+    }
+}
+
+/// The addresses of a line of a file of a unit, or the number of a refusal.
+fn addresses_in(index: &SectionIndex, unit: u64, file: u64, line: u64) -> Result<Addresses, u32>
+    ensures ok { IfOk result (λ a. GivesAddresses index.now unit file line a.line a.addresses.items) }
+    ensures err { IfErr result (λ s. (s ≡ OUT_OF_MEMORY)
+        ⊎ ((s ≡ NOT_FOUND) × HasNoAddress index.now unit file line)) }
+{
+    let place = index.unit_at(unit)?;
+    let found = match index.units.addresses_of_file(place, file, line) {
+        Ok(found) => found,
+        Err(_) => return Err(OUT_OF_MEMORY),
+    };
+    match found {
+        Some(addresses) => Ok(addresses),
+        None => Err(NOT_FOUND),
+    }
+}
+
+/// Tells the addresses for a breakpoint at a line of a file of one unit: of each run of rows of that line that stand side by
+/// side in a sequence, that of the first with `IS_STMT`. Where the line has none, those of the next line that has; `found_line`
+/// is that line. The addresses go into `addresses`, as far as there is room; `count` is how many there are. `NOT_FOUND` where
+/// there is no such unit, or no line from it on has any; `CLOSED` where the handle is. Where another number than 0 is answered,
+/// nothing is written.
+#[unsafe(no_mangle)]
+pub extern "C" fn gimli_line_index_addresses(
+    alloc: Global,
+    index: &mut GimliLineIndex,
+    unit: u64,
+    file: u64,
+    line: u64,
+    found_line: &mut u64,
+    addresses: &mut [u64],
+    count: &mut u64,
+) -> u32
+    ensures found { result ≡ OK → IfSome index.old.index
+        (λ i. WritesAddresses i unit file line found_line.new addresses.old addresses.new count.new) }
+    ensures none { result ≡ NOT_FOUND →
+        IfSome index.old.index (λ i. HasNoAddress i unit file line) }
+    ensures closed { index.old.index ≡ None → result ≡ CLOSED }
+    ensures number { result ≢ OK → (result ≡ CLOSED) ⊎ (result ≡ NOT_FOUND) ⊎ (result ≡ OUT_OF_MEMORY) }
+    ensures kept { result ≢ OK → (found_line.new ≡ found_line.old) × (addresses.new ≡ addresses.old)
+        × (count.new ≡ count.old) }
+    ensures same { index.new.index ≡ index.old.index }
+{
+    let Some(kept) = index.swap(alloc, None) else {
+        return CLOSED;
+    };
+    let found = addresses_in(&kept, unit, file, line);
+    drop(index.swap(alloc, Some(kept)));
+    match found {
+        Ok(found) => {
+            *found_line = found.line;
+            *count = found.addresses.len() as u64;
+            copy_addresses(&found.addresses, addresses);
+            OK
+        }
+        Err(status) => status,
+    }
+}

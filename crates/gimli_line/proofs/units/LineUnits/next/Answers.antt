@@ -1,0 +1,31 @@
+use Rattle.std.proofs.Common.{◌≡◌, ◌≢◌, Result, Ok, Err, IfErr, sym, ap, ◌∙◌, rules}
+use Rattle.gimli_core.specs.declared.error.Error.{Error}
+use Rattle.gimli_core.specs.declared.error.Error.TheVariants.{OutOfMemory}
+use Rattle.gimli_line.proofs.UnitLaws.{offsets_none, offsets_step, rest_is_end}
+use Rattle.gimli_line.proofs.units.LineUnits.next.Goals as goal
+
+-- where memory isn't missing, a refusal is one of the unit
+refusal_is : {A : Type 0} (outcome : Result A Error) (IsRefusal : Error → Type 0) → (outcome ≡ Err OutOfMemory → ⊥)
+    → IfErr outcome (λ e. e ≢ OutOfMemory → IsRefusal e) → IfErr outcome IsRefusal
+refusal_is (Ok x) IsRefusal other refusal = refusal
+refusal_is (Err e) IsRefusal other refusal = refusal (λ is. other (ap Err is))
+
+pub offset_from-requires : goal.offset_from-requires
+offset_from-requires g c =
+    let after = rw (c.input_at-rest.ensures.bytes, c.input_at-rest.ensures.order) at c.skip_unit.ensures in
+    rw c.reader.ensures (rest_is_end _ _ _ _ after)
+
+pub returns-then-is_empty-clause-next : goal.returns-then-is_empty-clause-next
+returns-then-is_empty-clause-next g c =
+    let none = sym c.input_at-rest.ensures.bytes ∙ c.is_empty.ensures.0 c.if-is_empty.true in
+    rw (← c.self.view_is) (offsets_none _ _ _ none, offsets_none _ _ _ none)
+
+pub returns-clause-next : goal.returns-clause-next
+returns-clause-next g c =
+    let after = rw (c.input_at-rest.ensures.bytes, c.input_at-rest.ensures.order) at c.skip_unit.ensures in
+    let ends = rw c.reader.ensures at c.offset_from.ensures in
+    rw (← c.self.view_is) (offsets_step _ _ _ _ _ (λ none. let t = c.is_empty.ensures.1 (c.input_at-rest.ensures.bytes ∙ none) in absurd (search rules)) after ends)
+
+pub returns-clause-refusal : goal.returns-clause-refusal
+returns-clause-refusal g c =
+    refusal_is _ _ (λ is. let t = c.is_out_of_memory.ensures.1 is in absurd (search rules)) (rw (← c.self.view_is) c.program-program.ensures.refusal)

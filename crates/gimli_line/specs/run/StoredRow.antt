@@ -1,0 +1,38 @@
+-- A row as a list of rows keeps it.
+use Rattle.std.specs.Prelude.{◌<◌, ◌^◌}
+use Rattle.gimli_line.specs.declared.run.row.LineRow.{LineRow}
+use Rattle.gimli_line.specs.declared.run.row_list.NarrowRow.{NarrowRow}
+use Rattle.gimli_line.specs.declared.run.row_list.StoredRow.{StoredRow}
+use Rattle.gimli_line.specs.declared.run.row_list.StoredRow.TheVariants.{Narrow, Wide}
+
+-- each number of the row, but for the address, fits the narrow one
+pub record IsNarrow (row : LineRow) : Type 0 where
+  pub op_index : row.op_index < 2 ^ 8
+  pub file : row.file < 2 ^ 32
+  pub line : row.line < 2 ^ 32
+  pub column : row.column < 2 ^ 32
+  pub isa : row.isa < 2 ^ 32
+  pub discriminator : row.discriminator < 2 ^ 32
+
+-- the row that has these numbers
+abbrev pub row_of_narrow : NarrowRow → LineRow
+row_of_narrow narrow = record {
+  hidden = narrow.hidden;
+  address = narrow.address;
+  op_index = narrow.op_index;
+  file = narrow.file;
+  line = narrow.line;
+  column = narrow.column;
+  is_stmt = narrow.is_stmt;
+  basic_block = narrow.basic_block;
+  end_sequence = narrow.end_sequence;
+  prologue_end = narrow.prologue_end;
+  epilogue_begin = narrow.epilogue_begin;
+  isa = narrow.isa;
+  discriminator = narrow.discriminator;
+}
+
+-- the row that is kept
+abbrev pub row_of_stored : StoredRow → LineRow
+row_of_stored (Narrow narrow) = row_of_narrow narrow
+row_of_stored (Wide row) = row.value

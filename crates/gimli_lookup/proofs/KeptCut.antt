@@ -1,0 +1,99 @@
+-- The rows that a lookup keeps are those of the sequences of its program.
+use Rattle.std.proofs.Common.{◌≡◌, Bool, true, false, ◌||◌, List, [], ◌∷◌, ◌++◌, map, refl, sym, ap, ◌∙◌}
+use Rattle.std.specs.Prelude.{None}
+use Rattle.std.specs.List.{AllByRecursion, list_any, flat_map}
+use Rattle.std.proofs.lemmas.List.{map-append}
+use Rattle.gimli_core.specs.Notation.{Notation}
+use Rattle.gimli_line.specs.declared.run.row.LineRow.{LineRow}
+use Rattle.gimli_line.specs.header.Header.{Header}
+use Rattle.gimli_line.specs.run.Events.{Event, row, ends_sequence, through_last_end}
+use Rattle.gimli_line.specs.run.Sequences.{Part, resumed, IsSequence, AreSequences}
+use Rattle.gimli_lookup.specs.Cut.{HaveNoEnd, EndOnce}
+use Rattle.gimli_lookup.specs.Run.{AreRowsOfSequences}
+use Rattle.gimli_lookup.proofs.KeptRows.{joined_same}
+use Rattle.gimli_lookup.proofs.OneAnswer.{same_rows}
+
+-- ---- rows through the last end
+
+-- rows through the last end, and then rows without one
+record Through (rows : List LineRow) : Type 0 where
+  front : List LineRow
+  unended : List LineRow
+  parts : rows ≡ front ++ unended
+  given : map row front ≡ through_last_end (map row rows)
+  no_end : HaveNoEnd unended
+
+neither : (b c : Bool) → (b || c) ≡ false → (b ≡ false) × (c ≡ false)
+neither true c e = absurd cc
+neither false c e = (refl, e)
+
+none_end : (rows : List LineRow) → list_any ends_sequence (map row rows) ≡ false → HaveNoEnd rows
+none_end [] none = tt
+none_end (r ∷ rows) none =
+    let both = neither r.end_sequence (list_any ends_sequence (map row rows)) none in
+    (both.0, none_end rows both.1)
+
+through : (rows : List LineRow) → Through rows
+through [] = record { front = []; unended = []; parts = refl; given = refl; no_end = tt }
+through (r ∷ rows) = at_test (list_any ends_sequence (map row (r ∷ rows))) refl (through rows)
+  where
+    at_test : (b : Bool) → list_any ends_sequence (map row (r ∷ rows)) ≡ b → Through rows → Through (r ∷ rows)
+    at_test true some t = record {
+      front = r ∷ t.front;
+      unended = t.unended;
+      parts = ap (λ (rs : List LineRow). r ∷ rs) t.parts;
+      given = rw some (ap (λ (es : List Event). row r ∷ es) t.given);
+      no_end = t.no_end;
+    }
+    at_test false none t = record {
+      front = [];
+      unended = r ∷ rows;
+      parts = refl;
+      given = rw none refl;
+      no_end = none_end (r ∷ rows) none;
+    }
+
+-- ---- the rows of sequences
+
+same_cons : {X : Type 0} (x y : X) (xs ys : List X) → x ∷ xs ≡ y ∷ ys → (x ≡ y) × (xs ≡ ys)
+same_cons x y xs ys is = (cc, cc)
+
+-- each has one end row, the last
+each_once : (c : Header) (rows : List (List LineRow)) (parts : List Part) → AllByRecursion (λ s. IsSequence (resumed c s) s.start s.end) parts
+    → map (map row) rows ≡ map (resumed c) parts → AllByRecursion EndOnce rows
+each_once c [] parts each same = tt
+each_once c (x ∷ rows) [] each same = absurd cc
+each_once c (x ∷ rows) (s ∷ parts) each same =
+    let both = same_cons (map row x) (resumed c s) (map (map row) rows) (map (resumed c) parts) same in
+    let one = each.0 in (
+      record {
+        front = one.rows;
+        last = one.last;
+        parts = same_rows x (one.rows ++ one.last ∷ []) (both.0 ∙ one.given ∙ sym (map-append row one.rows (one.last ∷ [])));
+        unended = one.unended;
+        ended = one.ended;
+      },
+      each_once c rows parts each.1 both.1,
+    )
+
+map_joined : (rows : List (List LineRow)) → map row (flat_map (λ sequence. sequence) rows) ≡ flat_map (map row) rows
+map_joined [] = refl
+map_joined (x ∷ rows) =
+    map-append row x (flat_map (λ sequence. sequence) rows) ∙ ap (λ (es : List Event). map row x ++ es) (map_joined rows)
+
+pub are_cut : (notation : Notation) (h c : Header) (parts : List Part) (rows : List (List LineRow)) → AreSequences notation h c parts
+    → map (map row) rows ≡ map (resumed c) parts → AreRowsOfSequences notation h rows
+are_cut notation h c parts rows are same =
+    let t = through are.rows in
+    let joined : flat_map (λ sequence. sequence) rows ≡ t.front = same_rows (flat_map (λ sequence. sequence) rows) t.front
+    (map_joined rows ∙ joined_same c rows parts same ∙ are.joined ∙ ap through_last_end are.given ∙ sym t.given) in
+    record {
+      rows = are.rows;
+      given = record { list = are.list; end = None; decoding = are.decoding; given = sym are.given };
+      cut = record {
+        unended = t.unended;
+        joined = t.parts ∙ ap (λ (rs : List LineRow). rs ++ t.unended) (sym joined);
+        each = each_once c rows parts are.each same;
+        no_end = t.no_end;
+      };
+    }

@@ -1,0 +1,123 @@
+-- Two lists of steps, walked together by their addresses.
+use Rattle.std.proofs.Common.{◌≡◌, ℕ, ◌+◌, ◌<◌, ◌≤◌, List, [], ◌∷◌, ◌++◌, length, take, Option, None, refl, sym, ap, ◌∙◌, inl, inr, arith}
+use Rattle.std.specs.Prelude.{All, slice_index_or}
+use Rattle.std.specs.Option.{option_or}
+use Rattle.std.proofs.lemmas.Bool.{cases_lt}
+use Rattle.std.proofs.lemmas.List.{take_all, length_push, get_or_default}
+use Rattle.std.proofs.lemmas.List.Elements.{All-push, All-weaker}
+use Rattle.std.proofs.lemmas.List.Sums.{fold_push, fold_more}
+use Rattle.gimli_lookup.specs.declared.steps.Step.{Step}
+use Rattle.gimli_lookup.specs.Steps.{step_at, last_step, AreInOrder, AreJoined}
+use Rattle.gimli_lookup.proofs.StepLists.{push_from, push_before, more_from, more_before, in_order_push}
+
+-- so many steps of both lists are merged, of which the last has the address `from`
+pub record Walked (left right : List Step) (next_left next_right : ℕ) (by_left by_right : Option ℕ) (from : ℕ) (merged : List Step) : Type 0 where
+  pub left_within : next_left ≤ length left
+  pub right_within : next_right ≤ length right
+  pub size : length merged ≡ next_left + next_right
+  pub value : (a : ℕ) → step_at a merged ≡ option_or (step_at a (take next_left left)) (step_at a (take next_right right))
+  pub left_value : (a : ℕ) → from ≤ a → step_at a (take next_left left) ≡ by_left
+  pub right_value : (a : ℕ) → from ≤ a → step_at a (take next_right right) ≡ by_right
+  pub left_last : last_step (take next_left left) ≡ by_left
+  pub right_last : last_step (take next_right right) ≡ by_right
+  pub last : last_step merged ≡ option_or by_left by_right
+  pub in_order : AreInOrder merged
+  pub below : All (λ (s : Step). s.from ≤ from) merged
+  pub left_ahead : (k : ℕ) (d : Step) → next_left ≤ k → k < length left → from ≤ (slice_index_or left k d).from
+  pub right_ahead : (k : ℕ) (d : Step) → next_right ≤ k → k < length right → from ≤ (slice_index_or right k d).from
+
+pub walk_start : (left right : List Step) → Walked left right 0 0 None None 0 []
+walk_start left right = record {
+  left_within = omega arith;
+  right_within = omega arith;
+  size = refl;
+  value = λ a. refl;
+  left_value = λ a le. refl;
+  right_value = λ a le. refl;
+  left_last = refl;
+  right_last = refl;
+  last = refl;
+  in_order = λ i j d le lt. absurd (omega arith);
+  below = λ k d lt. absurd (omega arith);
+  left_ahead = λ k d le lt. omega arith;
+  right_ahead = λ k d le lt. omega arith;
+}
+
+module _ (left right merged : List Step) (next_left next_right : ℕ) (by_left by_right : Option ℕ) (from : ℕ) (walked : Walked left right next_left next_right by_left by_right from merged) where
+  lower : (s : Step) → from ≤ s.from → All (λ (t : Step). t.from ≤ s.from) merged
+  lower s le = All-weaker (λ (t : Step). t.from ≤ from) (λ (t : Step). t.from ≤ s.from) (λ t below. omega arith) merged walked.below
+
+  pub walk_left : (s : Step) → AreInOrder left → AreInOrder right → next_left < length left → slice_index_or left next_left s ≡ s
+      → (next_right < length right → (d : Step) → s.from ≤ (slice_index_or right next_right d).from)
+      → Walked left right (next_left + 1) next_right s.sequence by_right s.from (merged ++ record { from = s.from; sequence = option_or s.sequence by_right } ∷ [])
+  walk_left s left_order right_order lt item first =
+      let pushed : Step = record { from = s.from; sequence = option_or s.sequence by_right } in
+      let address = ap (λ (t : Step). t.from) item in
+      let ahead : from ≤ s.from = omega (arith, walked.left_ahead next_left s (omega arith) lt, address) in
+      record {
+        left_within = omega arith;
+        right_within = walked.right_within;
+        size = omega (arith, length_push merged pushed, walked.size);
+        value = λ a. elim (cases_lt a s.from) [
+          | inl above ↦
+              push_before a merged pushed above ∙ walked.value a
+              ∙ ap (λ (o : Option ℕ). option_or o (step_at a (take next_right right))) (sym (more_before a left next_left s lt item above))
+          | inr le ↦
+              push_from a merged pushed le
+              ∙ ap (option_or s.sequence) (sym (walked.right_value a (omega arith)))
+              ∙ ap (λ (o : Option ℕ). option_or o (step_at a (take next_right right))) (sym (more_from a left next_left s lt item le))
+        ];
+        left_value = λ a le. more_from a left next_left s lt item le;
+        right_value = λ a le. walked.right_value a (omega arith);
+        left_last = fold_more (λ (o : Option ℕ) (t : Step). t.sequence) None left next_left s lt ∙ ap (λ (t : Step). t.sequence) item;
+        right_last = walked.right_last;
+        last = fold_push (λ (o : Option ℕ) (t : Step). t.sequence) None merged pushed;
+        in_order = in_order_push merged pushed walked.in_order (lower s ahead);
+        below = All-push (λ (t : Step). t.from ≤ s.from) merged pushed (lower s ahead) (omega arith);
+        left_ahead = λ k d le within. omega (arith, ap (λ (t : Step). t.from) (get_or_default left next_left d s lt ∙ item), left_order next_left k d (omega arith) within);
+        right_ahead = λ k d le within. omega (arith, first (omega arith) d, right_order next_right k d le within);
+      }
+
+  pub walk_right : (s : Step) → AreInOrder left → AreInOrder right → next_right < length right → slice_index_or right next_right s ≡ s
+      → (next_left < length left → (d : Step) → s.from ≤ (slice_index_or left next_left d).from)
+      → Walked left right next_left (next_right + 1) by_left s.sequence s.from (merged ++ record { from = s.from; sequence = option_or by_left s.sequence } ∷ [])
+  walk_right s left_order right_order lt item first =
+      let pushed : Step = record { from = s.from; sequence = option_or by_left s.sequence } in
+      let address = ap (λ (t : Step). t.from) item in
+      let ahead : from ≤ s.from = omega (arith, walked.right_ahead next_right s (omega arith) lt, address) in
+      record {
+        left_within = walked.left_within;
+        right_within = omega arith;
+        size = omega (arith, length_push merged pushed, walked.size);
+        value = λ a. elim (cases_lt a s.from) [
+          | inl above ↦
+              push_before a merged pushed above ∙ walked.value a
+              ∙ ap (option_or (step_at a (take next_left left))) (sym (more_before a right next_right s lt item above))
+          | inr le ↦
+              push_from a merged pushed le
+              ∙ ap (λ (o : Option ℕ). option_or o s.sequence) (sym (walked.left_value a (omega arith)))
+              ∙ ap (option_or (step_at a (take next_left left))) (sym (more_from a right next_right s lt item le))
+        ];
+        left_value = λ a le. walked.left_value a (omega arith);
+        right_value = λ a le. more_from a right next_right s lt item le;
+        left_last = walked.left_last;
+        right_last = fold_more (λ (o : Option ℕ) (t : Step). t.sequence) None right next_right s lt ∙ ap (λ (t : Step). t.sequence) item;
+        last = fold_push (λ (o : Option ℕ) (t : Step). t.sequence) None merged pushed;
+        in_order = in_order_push merged pushed walked.in_order (lower s ahead);
+        below = All-push (λ (t : Step). t.from ≤ s.from) merged pushed (lower s ahead) (omega arith);
+        left_ahead = λ k d le within. omega (arith, first (omega arith) d, left_order next_left k d le within);
+        right_ahead = λ k d le within. omega (arith, ap (λ (t : Step). t.from) (get_or_default right next_right d s lt ∙ item), right_order next_right k d (omega arith) within);
+      }
+
+  pub walk_end : length left + length right ≤ next_left + next_right → last_step left ≡ None → last_step right ≡ None → AreJoined left right merged
+  walk_end all left_end right_end =
+      let left_all : take next_left left ≡ left = take_all next_left left (omega (arith, walked.left_within, walked.right_within)) in
+      let right_all : take next_right right ≡ right = take_all next_right right (omega (arith, walked.left_within, walked.right_within)) in
+      record {
+        in_order = walked.in_order;
+        value = λ a. walked.value a ∙ ap (λ (xs : List Step). option_or (step_at a xs) (step_at a (take next_right right))) left_all
+            ∙ ap (λ (xs : List Step). option_or (step_at a left) (step_at a xs)) right_all;
+        ended = walked.last ∙ ap (λ (o : Option ℕ). option_or o by_right) (sym walked.left_last ∙ ap last_step left_all ∙ left_end)
+            ∙ sym walked.right_last ∙ ap last_step right_all ∙ right_end;
+        size = omega (arith, walked.size, walked.left_within, walked.right_within);
+      }

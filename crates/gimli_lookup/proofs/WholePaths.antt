@@ -1,0 +1,87 @@
+-- What can be said of whole paths.
+use Rattle.std.proofs.Common.{◌≡◌, ℕ, Bool, true, false, ◌&&◌, ◌||◌, if◌then◌else◌, nat_eq, List, [], ◌∷◌, ◌++◌, Ok, Err, refl, sym, ap, ◌∙◌, append_assoc}
+use Rattle.std.specs.Prelude.{Result}
+use Rattle.std.specs.Char.{is_ascii_alphabetic}
+use Rattle.gimli_core.specs.Reading.{seen}
+use Rattle.gimli_line.specs.header.File.{File}
+use Rattle.gimli_lookup.specs.Strings.{Strings, string_of}
+use Rattle.gimli_lookup.specs.Paths.{Paths, is_separator, is_absolute, separator_after, path_in, path_from, ◌>>=◌, directory_string, directory_path, file_path, EndsWithOwnPath, HasAbsoluteRoot}
+use Rattle.gimli_lookup.specs.declared.path_error.PathError.{PathError}
+
+-- ---- absolute paths
+
+-- one byte alone, or two, begin with no drive
+one_byte : (x : Bool) → (x || false) ≡ true → x ≡ true
+one_byte true is = refl
+one_byte false is = is
+
+two_bytes : (x y z : Bool) → (x || ((y && z) && false)) ≡ true → x ≡ true
+two_bytes true y z is = refl
+two_bytes false true true is = is
+two_bytes false true false is = is
+two_bytes false false z is = is
+
+either : (x y : Bool) → x ≡ true → (x || y) ≡ true
+either true y is = refl
+either false y is = absurd cc
+
+-- what goes on from an absolute path is absolute
+absolute_more : (path more : List ℕ) → is_absolute path ≡ true → is_absolute (path ++ more) ≡ true
+absolute_more [] more is = absurd cc
+absolute_more (a ∷ []) more is = either (is_separator a) _ (one_byte (is_separator a) is)
+absolute_more (a ∷ b ∷ []) more is = either (is_separator a) _ (two_bytes (is_separator a) (is_ascii_alphabetic a) (nat_eq b 0x3a) is)
+absolute_more (a ∷ b ∷ c ∷ path) more is = is
+
+-- an answer, if there is one, is absolute
+abbrev IsAbsolute : Result (List ℕ) PathError → Type 0
+IsAbsolute r = (path : List ℕ) → r ≡ Ok path → is_absolute path ≡ true
+
+-- so is a path from a directory, if the directory is
+absolute_from : (directory : Result (List ℕ) PathError) (own : List ℕ) → IsAbsolute directory → IsAbsolute (path_from directory own)
+absolute_from directory own absolute = at_test (is_absolute own) refl directory absolute
+  where
+    at_test : (b : Bool) → is_absolute own ≡ b → (d : Result (List ℕ) PathError) → IsAbsolute d → IsAbsolute (if b then Ok own else seen (λ base. path_in base own) d)
+    at_test true test d all path is = let same : own ≡ path = cc in ap is_absolute (sym same) ∙ test
+    at_test false test (Ok base) all path is =
+        let same : path_in base own ≡ path = cc in
+        ap is_absolute (sym same ∙ append_assoc base (separator_after base) own) ∙ absolute_more base (separator_after base ++ own) (all base refl)
+    at_test false test (Err e) all path is = absurd cc
+
+absolute_next : (r : Result (List ℕ) PathError) (directory : Result (List ℕ) PathError) → IsAbsolute directory → IsAbsolute (r >>= path_from directory)
+absolute_next (Ok own) directory absolute path is = absolute_from directory own absolute path is
+absolute_next (Err e) directory absolute path is = absurd cc
+
+absolute_directory : (p : Paths) (i : ℕ) → IsAbsolute (directory_string p 0) → IsAbsolute (directory_path p i)
+absolute_directory p i absolute = at_test (nat_eq i 0)
+  where
+    at_test : (b : Bool) → IsAbsolute (if b then directory_string p 0 else (directory_string p i >>= path_from (directory_string p 0)))
+    at_test true = absolute
+    at_test false = absolute_next (directory_string p i) (directory_string p 0) absolute
+
+root_absolute : (r : Result (List ℕ) PathError) (root : List ℕ) → r ≡ Ok root → is_absolute root ≡ true → IsAbsolute r
+root_absolute r root is absolute path also = let same : root ≡ path = cc in ap is_absolute (sym same) ∙ absolute
+
+pub absolute_path : (p : Paths) (f : File) (path : List ℕ) → HasAbsoluteRoot p → file_path p f ≡ Ok path → is_absolute path ≡ true
+absolute_path p f path root is =
+    absolute_next (string_of p.sections f.path_name) (directory_path p f.directory_index)
+    (absolute_directory p f.directory_index (root_absolute (directory_string p 0) root.0 root.1 root.2)) path is
+
+-- ---- the end of a path
+
+own_last : (directory : Result (List ℕ) PathError) (own path : List ℕ) → path_from directory own ≡ Ok path → (front : List ℕ) × (path ≡ front ++ own)
+own_last directory own path is = at_test (is_absolute own) directory is
+  where
+    at_test : (b : Bool) (d : Result (List ℕ) PathError) → (if b then Ok own else seen (λ base. path_in base own) d) ≡ Ok path → (front : List ℕ) × (path ≡ front ++ own)
+    at_test true d is = ([], cc)
+    at_test false (Ok base) is = (base ++ separator_after base, cc)
+    at_test false (Err e) is = absurd cc
+
+ends_with : (sections : Strings) (f : File) (r : Result (List ℕ) PathError) (directory : Result (List ℕ) PathError) (path : List ℕ)
+    → string_of sections f.path_name ≡ r → (r >>= path_from directory) ≡ Ok path → EndsWithOwnPath sections f path
+ends_with sections f (Ok own) directory path read is =
+    let last = own_last directory own path is in
+    record { own = own; front = last.0; is_own = read; parts = last.1 }
+ends_with sections f (Err e) directory path read is = absurd cc
+
+pub own_at_end : (p : Paths) (f : File) (path : List ℕ) → file_path p f ≡ Ok path → EndsWithOwnPath p.sections f path
+own_at_end p f path is = ends_with p.sections f (string_of p.sections f.path_name) (directory_path p f.directory_index) path refl is

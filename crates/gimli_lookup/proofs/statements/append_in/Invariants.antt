@@ -1,0 +1,9 @@
+use Rattle.std.proofs.Common.{◌≡◌, ◌++◌, drop}
+use Rattle.gimli_lookup.specs.Statements.{addresses_in}
+use Rattle.gimli_lookup.proofs.StatementRuns.{addresses_on}
+use Rattle.gimli_lookup.specs.Statements.{is_among}
+use Rattle.gimli_lookup.proofs.statements.append_in.Given as goal
+
+abbrev pub invariant-loop-place : goal.invariant-loop-place
+invariant-loop-place l =
+    l.addresses.items ++ addresses_on (is_among l.files) l.line l.has_address (drop l.place l.rows) ≡ l.initial.addresses.items ++ addresses_in (is_among l.files) l.line l.rows

@@ -1,0 +1,79 @@
+-- What a lookup keeps of a section: its units, and the sequences of each.
+use Rattle.std.specs.Prelude.{◌≡◌, ◌≤◌, ◌-◌, ℕ, List, [], ◌∷◌, ◌++◌, length, take, drop, Option, Some, None, Result, Ok, Err, All, slice_get}
+use Rattle.std.specs.List.{flat_map}
+use Rattle.gimli_core.specs.Notation.{Notation}
+use Rattle.gimli_core.specs.declared.error.Error.{Error}
+use Rattle.gimli_line.specs.declared.run.row.LineRow.{LineRow}
+use Rattle.gimli_line.specs.header.Header.{Header, SeenHeader}
+use Rattle.gimli_line.specs.run.RunState.{RunState}
+use Rattle.gimli_lookup.specs.FirstPair.{HasNoPair, IsFirstPair}
+use Rattle.gimli_lookup.specs.RowsTaken.{header_of}
+use Rattle.gimli_lookup.specs.UnitRun.{IsKept}
+
+-- a header, with the files that are defined before the first fault, and the notation of its program
+pub record KeptHeader : Type 0 where
+  pub meaning : Header
+  pub notation : Notation
+
+-- that of a run, as it stands
+abbrev pub header_at : RunState → KeptHeader
+header_at a = record { meaning = header_of a; notation = a.notation }
+
+-- a unit as it is listed
+pub record ListedUnit : Type 0 where
+  -- its offset in the section
+  pub offset : ℕ
+  -- None where the unit was refused
+  pub header : Option KeptHeader
+  -- why it was refused, or the first fault of its run
+  pub fault : Option Error
+  -- the place of its first sequence among those of all units, and the place after its last one
+  pub first : ℕ
+  pub end : ℕ
+
+-- a unit without its header
+abbrev pub headless : ListedUnit → ListedUnit
+headless u = record u { header = None }
+
+-- a unit with its sequences
+pub record KeptUnit : Type 0 where
+  pub unit : ListedUnit
+  pub sequences : List (List LineRow)
+
+-- the sequences of all units, in order
+abbrev pub all_sequences : List KeptUnit → List (List LineRow)
+all_sequences units = flat_map (λ u. u.sequences) units
+
+-- a unit, with its part of the sequences of all units
+abbrev pub with_sequences : List (List LineRow) → ListedUnit → KeptUnit
+with_sequences sequences u = record { unit = u; sequences = take (u.end - u.first) (drop u.first sequences) }
+
+-- a unit without its header, with the same sequences
+abbrev pub unit_without_header : KeptUnit → KeptUnit
+unit_without_header u = record u { unit = headless u.unit }
+
+-- the units have the sequences of these places, one unit after the other
+abbrev pub AreAdjacent : ℕ → List ListedUnit → ℕ → Type 0
+AreAdjacent from [] end = from ≡ end
+AreAdjacent from (u ∷ units) end = (u.first ≡ from) × (u.first ≤ u.end) × AreAdjacent u.end units end
+
+-- x and y are the first adjacent rows round an address in the unit at a place, and no unit before it has any
+pub record IsFirstPairOfUnit (a : ℕ) (units : List KeptUnit) (place : ℕ) (x y : LineRow) : Type 0 where
+  pub unit : KeptUnit
+  pub there : slice_get units place ≡ Some unit
+  pub none_earlier : All (λ u. All (HasNoPair a) u.sequences) (take place units)
+  pub is_first : IsFirstPair a unit.sequences x y
+
+-- what is kept of a program, or of its refusal
+abbrev pub IsOutcome : {R Offset Endian : Type 0} → ℕ → Result (SeenHeader R Offset Endian) Error → ListedUnit → List (List LineRow) → Type 0
+IsOutcome lowest (Ok program) unit sequences =
+    (h : KeptHeader) × (unit.header ≡ Some h) × (h.notation ≡ program.notation) × IsKept program.notation lowest program.meaning h.meaning unit.fault sequences
+IsOutcome lowest (Err e) unit sequences = (unit.header ≡ None) × (unit.fault ≡ Some e) × (sequences ≡ [])
+
+-- what is kept of a program, or of its refusal: the sequences are added after others
+pub record IsAdded {R Offset Endian : Type 0} (lowest : ℕ) (program : Result (SeenHeader R Offset Endian) Error) (unit : ListedUnit) (old new : List (List LineRow)) : Type 0 where
+  pub sequences : List (List LineRow)
+  pub added : new ≡ old ++ sequences
+  pub first : unit.first ≡ length old
+  pub end : unit.end ≡ length new
+  pub outcome : IsOutcome lowest program unit sequences

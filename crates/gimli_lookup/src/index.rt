@@ -1,0 +1,193 @@
+//! An index of sequences: few stored addresses are looked at to find the first sequence that covers an address.
+
+ghost use Rattle.std.specs.Prelude.{◌≡◌, ◌≤◌, ◌<◌, ◌+◌, ◌*◌, ◌^◌, ℕ, true, false, length, slice_index_or, sum_by, take, All, Any, IfErr, IfOk, MatchOption};
+ghost use Rattle.gimli_line.specs.declared.run.row.LineRow.{LineRow};
+ghost use Rattle.gimli_lookup.specs.declared.steps.Step.{Step};
+ghost use Rattle.gimli_lookup.specs.FirstPair.{HasNoPair, IsFirstPairIn};
+ghost use Rattle.gimli_lookup.specs.Covering.{covering_probes, scan_probes, IsLookedInto};
+ghost use Rattle.gimli_lookup.specs.Probes.{binary_digits};
+ghost use Rattle.gimli_lookup.specs.Steps.{step_at, places_out_of_order, AreInOrder, HaveNoUnorderedPair, IsFirstUnorderedPair, IsIndexOf};
+
+use crate::kept_rows::KeptRows;
+use crate::search;
+use crate::steps::{Step, steps_of};
+use gimli_core::{Error, Result};
+use gimli_line::LineRow;
+use std::alloc::Global;
+
+/// Rows that cover an address, and the place of their sequence.
+#[derive(Clone, Copy, Debug)]
+pub(crate) struct Found {
+    pub(crate) sequence: usize,
+    pub(crate) row: LineRow,
+    pub(crate) next: LineRow,
+}
+
+/// Which of some sequences is the first that covers an address. Sequences whose addresses go down stand beside, and are
+/// searched row by row.
+#[derive(Debug, Drop)]
+pub(crate) struct Index {
+    steps: Vec<Step>,
+    unordered: Vec<usize>,
+}
+
+/// Whether the rows of all sequences can be counted, and more.
+fn are_countable(sequences: &[KeptRows]) -> bool
+    ensures { result ≡ true → 2 ^ 8 + sum_by length sequences.now < 2 ^ 64 }
+{
+    let mut count = 256u64;
+    for rows in sequences {
+        let Some(sum) = count.checked_add(rows.len() as u64) else {
+            return false;
+        };
+        count = sum;
+    }
+    true
+}
+
+/// The places of the sequences whose addresses go down. Fails only with `OutOfMemory`.
+fn unordered_places(alloc: Global, sequences: &[KeptRows]) -> Result<Vec<usize>>
+    ensures ok { IfOk result (λ places. places.items ≡ places_out_of_order 0 sequences.now) }
+    ensures err { IfErr result (λ e. e ≡ Error.OutOfMemory) }
+{
+    let mut places = Vec::new(alloc);
+    for place in 0..sequences.len() {
+        let rows = &sequences[place];
+        if !rows.never_go_down() && places.push(place).is_err() {
+            return Err(Error::OutOfMemory);
+        }
+    }
+    Ok(places)
+}
+
+/// The address of a step, which is a probe.
+fn address_of_step(steps: &[Step], place: usize, probes: &mut u64) -> u64
+    requires place { place < length steps.now }
+    requires count { probes.old + 1 < 2 ^ 64 }
+    ensures address { (d : Step) → result ≡ (slice_index_or steps.now place d).from }
+    ensures counted { probes.new ≡ probes.old + 1 }
+{
+    *probes += 1;
+    steps[place].from
+}
+
+/// The number of steps whose address is at most `a`, found by halves.
+fn steps_up_to(steps: &[Step], a: u64, probes: &mut u64) -> usize
+    requires order { AreInOrder steps.now }
+    requires count { probes.old + length steps.now < 2 ^ 64 }
+    ensures place { result ≤ length steps.now }
+    ensures before { (k : ℕ) (d : Step) → k < result → (slice_index_or steps.now k d).from ≤ a }
+    ensures after { (k : ℕ) (d : Step) → result ≤ k → k < length steps.now
+        → a < (slice_index_or steps.now k d).from }
+    ensures grows { probes.old ≤ probes.new }
+    ensures at_least { 0 < length steps.now → probes.old < probes.new }
+    ensures at_most { probes.new ≤ probes.old + binary_digits (length steps.now) }
+{
+    let mut low = 0;
+    let mut high = steps.len();
+    while low < high {
+        let middle = low + (high - low) / 2;
+        if address_of_step(steps, middle, probes) <= a {
+            low = middle + 1;
+        } else {
+            high = middle;
+        }
+    }
+    low
+}
+
+/// What the last of the steps says whose address is at most `a`.
+fn sequence_at(steps: &[Step], a: u64, probes: &mut u64) -> Option<usize>
+    requires order { AreInOrder steps.now }
+    requires count { probes.old + length steps.now < 2 ^ 64 }
+    ensures value { result ≡ step_at a steps.now }
+    ensures grows { probes.old ≤ probes.new }
+    ensures at_least { 0 < length steps.now → probes.old < probes.new }
+    ensures at_most { probes.new ≤ probes.old + binary_digits (length steps.now) }
+{
+    let count = steps_up_to(steps, a, probes);
+    if count == 0 {
+        return None;
+    }
+    steps[count - 1].sequence
+}
+
+/// The first rows that cover `a`, of the sequences whose addresses go down and that stand before `end`; None where there
+/// are none. Each is searched row by row.
+fn find_unordered(
+    places: &[usize],
+    sequences: &[KeptRows],
+    end: usize,
+    a: u64,
+    probes: &mut u64,
+) -> Option<Found>
+    requires places { places.now ≡ places_out_of_order 0 sequences.now }
+    requires end { end ≤ length sequences.now }
+    requires count { probes.old + sum_by length sequences.now < 2 ^ 64 }
+    ensures found { MatchOption result (HaveNoUnorderedPair a (take end sequences.now))
+        (λ found. IsFirstUnorderedPair a end sequences.now found.sequence found.row found.next) }
+    ensures grows { probes.old ≤ probes.new }
+    ensures at_least { end ≡ length sequences.now → 0 < sum_by scan_probes sequences.now
+        → probes.old < probes.new }
+    ensures at_most { probes.new ≤ probes.old + sum_by scan_probes sequences.now }
+{
+    for place in places {
+        if end <= *place {
+            return None;
+        }
+        if let Some((row, next)) = search::find_by_scan(&sequences[*place], a, probes) {
+            return Some(Found {
+                sequence: *place,
+                row,
+                next,
+            });
+        }
+    }
+    None
+}
+
+impl Index {
+    /// An index of these sequences. Fails only with `OutOfMemory`.
+    pub(crate) fn new(alloc: Global, sequences: &[KeptRows]) -> Result<Index>
+        ensures ok { IfOk result (λ index. IsIndexOf index sequences.now) }
+        ensures err { IfErr result (λ e. e ≡ Error.OutOfMemory) }
+    {
+        if !are_countable(sequences) {
+            return Err(Error::OutOfMemory);
+        }
+        let steps = steps_of(alloc, sequences, 0)?;
+        let unordered = unordered_places(alloc, sequences)?;
+        Ok(Index { steps, unordered })
+    }
+
+    /// The first rows that cover `a` of the first of these sequences that has some, with its place; None where no
+    /// sequence has any. And the number of probes: of stored addresses that were looked at, of steps and of rows.
+    /// Requires the sequences that the index was made of.
+    pub(crate) fn find(&self, sequences: &[KeptRows], a: u64) -> (Option<Found>, u64)
+        requires { IsIndexOf self.now sequences.now }
+        ensures found { MatchOption result.0 (All (HasNoPair a) sequences.now)
+            (λ found. IsFirstPairIn a sequences.now found.sequence found.row found.next) }
+        ensures at_least { Any IsLookedInto sequences.now → 1 ≤ result.1 }
+        ensures at_most { result.1 ≤ binary_digits (2 * length sequences.now)
+            + covering_probes a sequences.now + sum_by scan_probes sequences.now }
+    {
+        let unordered = self.unordered.as_slice();
+        let mut probes = 0;
+        let Some(sequence) = sequence_at(self.steps.as_slice(), a, &mut probes) else {
+            let found = find_unordered(unordered, sequences, sequences.len(), a, &mut probes);
+            return (found, probes);
+        };
+        if let Some(found) = find_unordered(unordered, sequences, sequence, a, &mut probes) {
+            return (Some(found), probes);
+        }
+        let Some((row, next)) = search::find_by_halves(&sequences[sequence], a, &mut probes) else {
+            return (None, probes);
+        };
+        let found = Found {
+            sequence,
+            row,
+            next,
+        };
+        (Some(found), probes)
+    }
+}

@@ -1,0 +1,69 @@
+//! Why a path isn't known.
+
+ghost use Rattle.std.specs.Prelude.{◌≡◌};
+ghost use Rattle.gimli_lookup.specs.declared.path_error.PathError.TheVariants.{OutOfMemory};
+
+use std::alloc::{AllocError, AllocFailed};
+use std::fmt;
+
+/// Why the path of a file can't be told.
+#[derive(Clone, Copy, Debug, PartialEq, Eq)]
+pub enum PathError {
+    /// A string by its index into the string offsets (`DW_FORM_strx` and its like), which aren't among the sections.
+    UnsupportedStringIndex,
+    /// A string of the supplementary file (`DW_FORM_strp_sup`), which isn't among the sections.
+    UnsupportedSupplementaryString,
+    /// The section of a string has no byte at the string's offset.
+    StringOffsetOutOfBounds,
+    /// The section of a string ends before a zero byte ends the string.
+    UnterminatedString,
+    /// A value that is no string.
+    ExpectedStringAttributeValue,
+    /// The header has no directory of this index.
+    InvalidDirectoryIndex(u64),
+    /// The header has no file of this index.
+    InvalidFileIndex(u64),
+    /// Not enough memory.
+    OutOfMemory,
+}
+
+impl fmt::Display for PathError {
+    fn fmt<W: fmt::Write>(&self, f: &mut fmt::Formatter<W>) -> fmt::Result {
+        match self {
+            PathError::UnsupportedStringIndex => {
+                write!(f, "a string is given by an index into the string offsets")
+            }
+            PathError::UnsupportedSupplementaryString => {
+                write!(f, "a string stands in the supplementary file")
+            }
+            PathError::StringOffsetOutOfBounds => {
+                write!(f, "the offset of a string is past the end of its section")
+            }
+            PathError::UnterminatedString => { write!(f, "a string has no zero byte at its end") }
+            PathError::ExpectedStringAttributeValue => write!(f, "the value is not a string"),
+            PathError::InvalidDirectoryIndex(index) => {
+                write!(f, "the header has no directory {index}")
+            }
+            PathError::InvalidFileIndex(index) => write!(f, "the header has no file {index}"),
+            PathError::OutOfMemory => write!(f, "not enough memory"),
+        }
+    }
+}
+
+impl std::error::Error for PathError {}
+
+impl<T: Drop> From<AllocFailed<T>> for PathError {
+    ghost from_gives = { λ _ e. e ≡ OutOfMemory };
+
+    fn from(_error: AllocFailed<T>) -> PathError {
+        PathError::OutOfMemory
+    }
+}
+
+impl From<AllocError> for PathError {
+    ghost from_gives = { λ _ e. e ≡ OutOfMemory };
+
+    fn from(_error: AllocError) -> PathError {
+        PathError::OutOfMemory
+    }
+}

@@ -1,0 +1,199 @@
+//! The paths of files, whole: each with the directories that it goes on from.
+
+ghost use Rattle.std.specs.Prelude.{◌≡◌, ◌≢◌, ◌++◌, IfOk, IfErr, OnOk, Ok, Err};
+ghost use Rattle.std.specs.Option.{option_copied};
+ghost use Rattle.gimli_core.specs.Values.{value_seen};
+ghost use Rattle.gimli_line.specs.header.File.{file_seen};
+ghost use Rattle.gimli_lookup.specs.declared.path_error.PathError.TheVariants.{OutOfMemory};
+ghost use Rattle.gimli_lookup.specs.Strings.{strings, string_of};
+ghost use Rattle.gimli_lookup.specs.Paths.{is_separator, begins_with_separator, begins_with_drive, is_absolute, separator_after, path_in};
+
+use crate::path_error::PathError;
+use crate::string_sections::StringSections;
+use gimli_core::{AttributeValue, Reader};
+use gimli_line::{FileEntry, LineProgramHeader, LineRow};
+use std::alloc::Global;
+use std::marker::Model;
+
+/// Whether a byte parts the components of a path: `/`, or as in Windows a backslash.
+fn is_separator(byte: u8) -> bool
+    ensures { result ≡ is_separator byte }
+{
+    byte == b'/' || byte == b'\\'
+}
+
+/// Whether a path begins with a separator.
+fn begins_with_separator(path: &[u8]) -> bool
+    ensures { result ≡ begins_with_separator path.now }
+{
+    match path {
+        [byte, ..] => is_separator(*byte),
+        [] => false,
+    }
+}
+
+/// Whether a path begins with a drive and a separator, as `C:\`.
+fn begins_with_drive(path: &[u8]) -> bool
+    ensures { result ≡ begins_with_drive path.now }
+{
+    match path {
+        [letter, b':', rest @ ..] => letter.is_ascii_alphabetic() && begins_with_separator(rest),
+        _ => false,
+    }
+}
+
+/// Whether a path goes on from no directory, by the rules of POSIX or of Windows.
+fn is_absolute(path: &[u8]) -> bool
+    ensures { result ≡ is_absolute path.now }
+{
+    begins_with_separator(path) || begins_with_drive(path)
+}
+
+/// Appends a separator where a path needs one after this directory. Fails only with `OutOfMemory`.
+fn push_separator(directory: &mut Vec<u8>) -> Result<(), PathError>
+    ensures ok { OnOk result (directory.new.items
+        ≡ directory.old.items ++ separator_after directory.old.items) }
+    ensures err { IfErr result (λ e. e ≡ OutOfMemory) }
+{
+    match directory.last() {
+        Some(byte) if !is_separator(*byte) => directory.push(b'/')?,
+        _ => {}
+    }
+    Ok(())
+}
+
+/// A path in a directory. Fails only with `OutOfMemory`.
+fn path_in(mut directory: Vec<u8>, path: &[u8]) -> Result<Vec<u8>, PathError>
+    ensures ok { IfOk result (λ whole. whole.items ≡ path_in directory.items path.now) }
+    ensures err { IfErr result (λ e. e ≡ OutOfMemory) }
+{
+    push_separator(&mut directory)?;
+    directory.extend_from_slice(path)?;
+    Ok(directory)
+}
+
+/// The bytes of the string that a value stands for.
+fn string_bytes<R: Reader>(
+    alloc: Global,
+    value: AttributeValue<R>,
+    sections: &StringSections<R>,
+) -> Result<Vec<u8>, PathError>
+    ensures ok { IfOk result (λ string. string_of (strings R.bytes sections.now)
+        (value_seen R.bytes R.Offset.number value) ≡ Ok string.items) }
+    ensures err { IfErr result (λ e. e ≢ OutOfMemory → string_of (strings R.bytes sections.now)
+        (value_seen R.bytes R.Offset.number value) ≡ Err e) }
+{
+    let string = sections.attr_line_string(value)?;
+    let Ok(bytes) = string.to_slice() else {
+        return Err(PathError::OutOfMemory);
+    };
+    Ok(Vec::from_slice(alloc, &bytes)?)
+}
+
+/// The whole paths of the files of a header (DWARF 5, section 6.2.4).
+///
+/// A path is absolute that begins with `/`, with a backslash, or with a drive and one of both, as `C:\`. One that isn't
+/// goes on from the directory of its file. A directory that isn't absolute goes on from the directory of the compilation,
+/// which is directory 0. Where nobody knows that one, the path stays relative.
+#[derive(Drop)]
+#[derive_where(Debug; R, R::Offset)]
+pub struct Paths<'a, R: Reader> {
+    header: &'a LineProgramHeader<R>,
+    sections: StringSections<R>,
+    comp_dir: Option<&'a [u8]>,
+}
+
+impl<'a, R: Reader> Model for Paths<'a, R> {
+    ghost use Rattle.std.specs.Option.{option_copied};
+    ghost use Rattle.gimli_lookup.specs.declared.path_error.PathError.TheVariants.{OutOfMemory};
+    ghost use Rattle.gimli_lookup.specs.Strings.{strings};
+    ghost use Rattle.gimli_lookup.specs.Paths.{Paths};
+
+    ghost Value = { Paths };
+
+    ghost view = { λ a. record {
+      sections = strings R.bytes a.sections;
+      header = a.header.now.meaning;
+      comp_dir = option_copied a.comp_dir;
+    } };
+}
+
+impl<'a, R: Reader> Paths<'a, R> {
+    ghost use Rattle.gimli_lookup.specs.Paths.{directory_string, directory_path, file_path, row_path};
+
+    /// The paths of this header. `comp_dir` is the directory of the compilation (`DW_AT_comp_dir`). It counts up to version
+    /// 4 alone, where none was handed over when the header was read; in version 5 the header has it.
+    pub fn new(
+        header: &'a LineProgramHeader<R>,
+        sections: StringSections<R>,
+        comp_dir: Option<&'a [u8]>,
+    ) -> Self
+        ensures { result ≡ record {
+          sections = strings R.bytes sections;
+          header = header.now.meaning;
+          comp_dir = option_copied comp_dir.entry;
+        } }
+    {
+        Paths {
+            header,
+            sections,
+            comp_dir,
+        }
+    }
+
+    /// The whole path of a file, as bytes of any kind. Refused as `PathError` says; a directory that the path doesn't go on
+    /// from isn't read, and so refuses nothing.
+    pub fn of_file(&self, alloc: Global, file: &FileEntry<R>) -> Result<Vec<u8>, PathError>
+        ensures ok { IfOk result (λ path.
+            file_path self.now (file_seen R.bytes R.Offset.number file.now) ≡ Ok path.items) }
+        ensures err { IfErr result (λ e. e ≢ OutOfMemory
+            → file_path self.now (file_seen R.bytes R.Offset.number file.now) ≡ Err e) }
+    {
+        let path = string_bytes(alloc, file.path_name(), &self.sections)?;
+        if is_absolute(&path) {
+            return Ok(path);
+        }
+        let directory = self.directory_path(alloc, file.directory_index())?;
+        path_in(directory, &path)
+    }
+
+    /// The whole path of a row's file. Refused as `of_file` is, and by `InvalidFileIndex` where the header has no such
+    /// file.
+    pub fn of_row(&self, alloc: Global, row: &LineRow) -> Result<Vec<u8>, PathError>
+        ensures ok { IfOk result (λ path. row_path self.now row.now ≡ Ok path.items) }
+        ensures err { IfErr result (λ e. e ≢ OutOfMemory → row_path self.now row.now ≡ Err e) }
+    {
+        match row.file(self.header) {
+            Some(file) => self.of_file(alloc, file),
+            None => Err(PathError::InvalidFileIndex(row.file_index())),
+        }
+    }
+
+    /// The whole path of a directory.
+    fn directory_path(&self, alloc: Global, index: u64) -> Result<Vec<u8>, PathError>
+        ensures ok { IfOk result (λ path. directory_path self.now index ≡ Ok path.items) }
+        ensures err { IfErr result (λ e. e ≢ OutOfMemory → directory_path self.now index ≡ Err e) }
+    {
+        let directory = self.directory_string(alloc, index)?;
+        if index == 0 || is_absolute(&directory) {
+            return Ok(directory);
+        }
+        let root = self.directory_string(alloc, 0)?;
+        path_in(root, &directory)
+    }
+
+    /// The directory of an index, as it is written. Up to version 4 that of index 0 may be the caller's.
+    fn directory_string(&self, alloc: Global, index: u64) -> Result<Vec<u8>, PathError>
+        ensures ok { IfOk result (λ path. directory_string self.now index ≡ Ok path.items) }
+        ensures err { IfErr result (λ e. e ≢ OutOfMemory
+            → directory_string self.now index ≡ Err e) }
+    {
+        match self.header.directory(index) {
+            Some(value) => string_bytes(alloc, value, &self.sections),
+            None if self.header.version() <= 4 && index == 0 => {
+                Ok(Vec::from_slice(alloc, self.comp_dir.unwrap_or(&[]))?)
+            }
+            None => Err(PathError::InvalidDirectoryIndex(index)),
+        }
+    }
+}

@@ -1,0 +1,93 @@
+//! From a line of a path to addresses, over the units of a section.
+
+ghost use Rattle.std.specs.Prelude.{◌≡◌, ◌<◌, ℕ, IfErr, IfOk, length, nat_eq, slice_index_or};
+ghost use Rattle.gimli_lookup.specs.Section.{KeptUnit};
+ghost use Rattle.gimli_lookup.specs.SectionAddresses.{unit_has_path, unit_addresses, addresses_of_path};
+ghost use Rattle.gimli_lookup.specs.Statements.{is_among, addresses_of, AreAddressesFrom};
+ghost use Rattle.gimli_lookup.specs.Strings.{strings};
+
+use crate::path_files::files_with_path;
+use crate::section_lookup::SectionLookup;
+use crate::section_unit::UnitLookup;
+use crate::statements::{Addresses, addresses_from, joined};
+use crate::string_sections::StringSections;
+use gimli_core::{Error, Reader, Result};
+use std::alloc::Global;
+
+/// The indices of the files of a unit that have a whole path. Fails only with `OutOfMemory`.
+fn unit_files<R: Reader>(
+    alloc: Global,
+    unit: &UnitLookup<R>,
+    sections: &StringSections<R>,
+    path: &[u8],
+) -> Result<Vec<u64>>
+    ensures ok { IfOk result (λ files. (i : ℕ) → is_among files.items i
+        ≡ unit_has_path (strings R.bytes sections.now) path.now unit.now i) }
+    ensures err { IfErr result (λ e. e ≡ Error.OutOfMemory) }
+{
+    match unit.header() {
+        Some(header) => files_with_path(alloc, header, sections, path),
+        None => Ok(Vec::new(alloc)),
+    }
+}
+
+impl<R: Reader> SectionLookup<R> {
+    /// The addresses for a breakpoint at a line of a file of one unit, by the file's index in the unit's header: of each
+    /// run of rows of that line that stand side by side in a sequence, that of the first with `is_stmt` (DWARF 5,
+    /// section 6.2.2). Where the line has none, those of the next line that has; None where no line from it on has any.
+    /// Fails only with `OutOfMemory`. Requires an index of a unit.
+    pub fn addresses_of_file(&self, unit: usize, file: u64, line: u64) -> Result<Option<Addresses>>
+        requires { unit < length self.now }
+        ensures ok { (d : KeptUnit) → IfOk result (AreAddressesFrom
+            (addresses_of (nat_eq file) (slice_index_or self.now unit d).sequences) line) }
+        ensures err { IfErr result (λ e. e ≡ Error.OutOfMemory) }
+    {
+        addresses_from(self.allocator(), self.sequences_of(unit), &[file], line)
+    }
+
+    /// The addresses for a breakpoint at a line of the files that have a whole path, over all units: as
+    /// `addresses_of_file` tells them, in the order of the units, their sequences and their rows. The line is the first
+    /// from the asked one on that has an address in any unit. A file whose path can't be told is passed over, and so is
+    /// a unit that was refused. Fails only with `OutOfMemory`.
+    pub fn addresses_of(
+        &self,
+        sections: &StringSections<R>,
+        path: &[u8],
+        line: u64,
+    ) -> Result<Option<Addresses>>
+        ensures ok { IfOk result (AreAddressesFrom
+            (addresses_of_path (strings R.bytes sections.now) path.now self.now) line) }
+        ensures err { IfErr result (λ e. e ≡ Error.OutOfMemory) }
+    {
+        let mut found = None;
+        for unit in 0..self.units().len() {
+            found = joined(found, self.unit_addresses(unit, sections, path, line)?)?;
+        }
+        Ok(found)
+    }
+
+    /// The unit at an index.
+    fn unit_at(&self, unit: usize) -> &UnitLookup<R>
+        requires { unit < length self.now }
+        ensures { (d : KeptUnit) → result.now ≡ (slice_index_or self.now unit d).unit }
+    {
+        &self.units()[unit]
+    }
+
+    /// The same in one unit.
+    fn unit_addresses(
+        &self,
+        unit: usize,
+        sections: &StringSections<R>,
+        path: &[u8],
+        line: u64,
+    ) -> Result<Option<Addresses>>
+        requires { unit < length self.now }
+        ensures ok { (d : KeptUnit) → IfOk result (AreAddressesFrom (unit_addresses
+            (strings R.bytes sections.now) path.now (slice_index_or self.now unit d)) line) }
+        ensures err { IfErr result (λ e. e ≡ Error.OutOfMemory) }
+    {
+        let files = unit_files(self.allocator(), self.unit_at(unit), sections, path)?;
+        addresses_from(self.allocator(), self.sequences_of(unit), &files, line)
+    }
+}

@@ -1,0 +1,225 @@
+//! The rows of all units of a section, kept so that those that cover an address are found.
+
+ghost use Rattle.std.specs.Prelude.{◌≡◌, ◌<◌, ◌≤◌, ◌+◌, ◌-◌, ◌*◌, ◌++◌, ◌∷◌, [], ℕ, length, map, drop, sum_by, take, slice_index_or, All, Any, IfErr, IfOk, IfSome, IsTrue, MatchOption, None};
+ghost use Rattle.gimli_core.specs.Notation.{noted};
+ghost use Rattle.gimli_core.specs.Numbers.{is_address_size};
+ghost use Rattle.gimli_line.specs.Units.{AreUnits};
+ghost use Rattle.gimli_line.specs.header.Header.{unit_entry};
+ghost use Rattle.gimli_line.specs.run.Unread.{unread};
+ghost use Rattle.gimli_lookup.specs.Covering.{covering_probes, scan_probes, IsLookedInto};
+ghost use Rattle.gimli_lookup.specs.FirstPair.{HasNoPair, IsFirstPair};
+ghost use Rattle.gimli_lookup.specs.Probes.{binary_digits};
+ghost use Rattle.gimli_lookup.specs.Section.{all_sequences, headless, unit_without_header, AreAdjacent, IsFirstPairOfUnit, KeptUnit, ListedUnit};
+ghost use Rattle.gimli_lookup.specs.SectionUnits.{IsUnitOf};
+
+use crate::index::Index;
+use crate::kept_rows::KeptRows;
+use crate::section_unit::UnitLookup;
+use gimli_core::{EndianSlice, Endianity, Error, Reader, ReaderOffset, Result};
+use gimli_line::{DebugLine, LineRow};
+use std::alloc::Global;
+use std::marker::Model;
+
+/// The sequences from a place up to another. Requires places in this order, up to the number of sequences.
+fn part(sequences: &[KeptRows], from: usize, end: usize) -> &[KeptRows]
+    requires order { from ≤ end }
+    requires end { end ≤ length sequences.now }
+    ensures { result.now ≡ take (end - from) (drop from sequences.now) }
+{
+    &sequences[from..end]
+}
+
+/// The index of the unit that has the sequence at a place, found by halves. Requires units that have the sequences up to
+/// some place after it.
+fn unit_of<R: Reader>(units: &[UnitLookup<R>], sequence: usize) -> usize
+    requires { (end : ℕ) × AreAdjacent 0 units.now end × (sequence < end) }
+    ensures unit { result < length units.now }
+    ensures first { (d : ListedUnit) → (slice_index_or units.now result d).first ≤ sequence }
+    ensures end { (d : ListedUnit) → sequence < (slice_index_or units.now result d).end }
+{
+    let mut low = 0;
+    let mut high = units.len();
+    'halves: while high - low > 1 {
+        let middle = low + (high - low) / 2;
+        if units[middle].places().start <= sequence {
+            low = middle;
+        } else {
+            high = middle;
+        }
+    }
+    low
+}
+
+/// Appends a unit. Fails only with `OutOfMemory`.
+fn push<R: Reader>(units: &mut Vec<UnitLookup<R>>, unit: UnitLookup<R>) -> Result<()>
+    ensures ok { IfOk result (λ _. units.new.items ≡ units.old.items ++ unit ∷ []) }
+    ensures err { IfErr result (λ e. e ≡ Error.OutOfMemory) }
+{
+    if units.push(unit).is_err() {
+        return Err(Error::OutOfMemory);
+    }
+    Ok(())
+}
+
+/// The units without their headers. Fails only with `OutOfMemory`.
+fn without_headers<E: Endianity>(
+    alloc: Global,
+    units: Vec<UnitLookup<EndianSlice<'_, E>>>,
+) -> Result<Vec<UnitLookup<EndianSlice<'static, E>>>>
+    ensures ok { IfOk result (λ bare. bare.items ≡ map headless units.entry.items) }
+    ensures err { IfErr result (λ e. e ≡ Error.OutOfMemory) }
+{
+    let mut bare = Vec::new(alloc);
+    for unit in units {
+        push(&mut bare, unit.without_header())?;
+    }
+    Ok(bare)
+}
+
+/// The rows that cover an address, and their unit.
+#[derive(Clone, Copy, Debug)]
+pub struct CoveringRows {
+    /// The index of the unit, from 0 on.
+    pub unit: usize,
+    /// The row that the address belongs to.
+    pub row: LineRow,
+    /// The row after it, whose address is above. It may be the end row of the sequence.
+    pub next: LineRow,
+}
+
+/// The units of a section and the rows of their sequences, kept so that those that cover an address are found.
+#[derive(Drop)]
+#[derive_where(Debug; R, R::Offset)]
+pub struct SectionLookup<R: Reader> {
+    units: Vec<UnitLookup<R>>,
+    /// The sequences of all units, one unit after the other.
+    sequences: Vec<KeptRows>,
+    index: Index,
+}
+
+impl<R: Reader> Model for SectionLookup<R> {
+    ghost use Rattle.std.specs.Prelude.{List, length, map};
+    ghost use Rattle.gimli_lookup.specs.Section.{KeptUnit, with_sequences, AreAdjacent};
+    ghost use Rattle.gimli_lookup.specs.Steps.{IsIndexOf};
+
+    ghost Value = { List KeptUnit };
+
+    ghost view = { λ a. map (with_sequences a.sequences.items) a.units.items };
+
+    ghost invariant = { λ a. AreAdjacent 0 a.units.items (length a.sequences.items)
+        × IsIndexOf a.index a.sequences.items };
+}
+
+impl<R: Reader> SectionLookup<R> {
+    /// Runs the program of each unit of a section, and keeps the sequences that end before its first fault. A unit that
+    /// is refused, or whose run has a fault, is listed with its error. Sequences that begin below the address `lowest`
+    /// are left out, since a linker leaves code that it drops at low addresses; 0 leaves none out. Fails only with
+    /// `OutOfMemory`. Requires an address size of 1, 2, 4 or 8 bytes, which counts up to version 4.
+    pub fn new(
+        section: &DebugLine<R>,
+        alloc: Global,
+        address_size: u8,
+        lowest: u64,
+    ) -> Result<SectionLookup<R>>
+        requires { IsTrue (is_address_size address_size) }
+        ensures offsets { IfOk result (λ units. AreUnits (noted (R.big section.now) R.Offset.limit) 0
+            (R.bytes section.now) (map (λ u. u.unit.offset) units)) }
+        ensures units { IfOk result (All (IsUnitOf (unread R.bytes R.big R.Offset.limit section.now)
+            (unit_entry R.bytes address_size None None) lowest)) }
+        ensures err { IfErr result (λ e. e ≡ Error.OutOfMemory) }
+    {
+        let mut units = Vec::new(alloc);
+        let mut sequences = Vec::new(alloc);
+        let mut walk = section.units(alloc, address_size);
+        'units: while let Some(next) = walk.next()? {
+            let unit = UnitLookup::new(alloc, next.offset, next.program, lowest, &mut sequences)?;
+            push(&mut units, unit)?;
+        }
+        let index = Index::new(alloc, sequences.as_slice())?;
+        Ok(SectionLookup {
+            units,
+            sequences,
+            index,
+        })
+    }
+
+    /// The units of the section, in order.
+    pub fn units(&self) -> &[UnitLookup<R>]
+        ensures { result.now ≡ map (λ u. u.unit) self.now }
+    {
+        self.units.as_slice()
+    }
+
+    /// The rows that cover the address `a`, with their unit: the first adjacent rows of one sequence of which the first
+    /// has an address at most `a`, and the second one above it, in the order of units and of their sequences. None where
+    /// there are none. Takes no memory.
+    pub fn find(&self, a: u64) -> Option<CoveringRows>
+        ensures pair { MatchOption result (All (HasNoPair a) (all_sequences self.now))
+            (λ found. IsFirstPair a (all_sequences self.now) found.row found.next) }
+        ensures unit { IfSome result
+            (λ found. IsFirstPairOfUnit a self.now found.unit found.row found.next) }
+    {
+        self.find_counted(a).0
+    }
+
+    /// What `find` answers, and the number of probes that it takes: of stored addresses that are looked at. Of the
+    /// sequences whose addresses never go down, the one that covers the address is found by halves, however many there
+    /// are, and then its rows by halves; the others are searched row by row.
+    pub fn find_counted(&self, a: u64) -> (Option<CoveringRows>, u64)
+        ensures pair { MatchOption result.0 (All (HasNoPair a) (all_sequences self.now))
+            (λ found. IsFirstPair a (all_sequences self.now) found.row found.next) }
+        ensures unit { IfSome result.0
+            (λ found. IsFirstPairOfUnit a self.now found.unit found.row found.next) }
+        ensures at_least { Any IsLookedInto (all_sequences self.now) → 1 ≤ result.1 }
+        ensures at_most { let sequences = all_sequences self.now in result.1
+            ≤ binary_digits (2 * length sequences) + covering_probes a sequences + sum_by scan_probes sequences }
+    {
+        let (found, probes) = self.index.find(self.sequences.as_slice(), a);
+        match found {
+            None => (None, probes),
+            Some(found) => {
+                let rows = CoveringRows {
+                    unit: unit_of(self.units.as_slice(), found.sequence),
+                    row: found.row,
+                    next: found.next,
+                };
+                (Some(rows), probes)
+            }
+        }
+    }
+
+    /// The allocator of what is kept.
+    pub(crate) fn allocator(&self) -> Global {
+        *self.sequences.allocator()
+    }
+
+    /// The sequences of the unit at an index. Requires an index of a unit.
+    pub(crate) fn sequences_of(&self, unit: usize) -> &[KeptRows]
+        requires { unit < length self.now }
+        ensures { (d : KeptUnit) → result.now ≡ (slice_index_or self.now unit d).sequences }
+    {
+        let places = self.units[unit].places();
+        part(self.sequences.as_slice(), places.start, places.end)
+    }
+}
+
+impl<'i, E: Endianity> SectionLookup<EndianSlice<'i, E>> {
+    /// The same rows, without the headers of the units: what is left borrows nothing of the section, which may go. Fails
+    /// only with `OutOfMemory`.
+    pub fn without_headers(self) -> Result<SectionLookup<EndianSlice<'static, E>>>
+        ensures ok { IfOk result (λ units. units ≡ map unit_without_header self.entry) }
+        ensures err { IfErr result (λ e. e ≡ Error.OutOfMemory) }
+    {
+        let alloc = self.allocator();
+        let SectionLookup {
+            units,
+            sequences,
+            index,
+        } = self;
+        Ok(SectionLookup {
+            units: without_headers(alloc, units)?,
+            sequences,
+            index,
+        })
+    }
+}

@@ -1,0 +1,160 @@
+//! A unit of a section, as a lookup lists it.
+
+ghost use Rattle.std.specs.Prelude.{◌≡◌, ◌++◌, None, Some, IfErr, IfOk, IfSome, MatchOption, OnOk};
+ghost use Rattle.gimli_line.specs.header.Header.{HasOneOrder};
+
+use crate::kept_rows::KeptRows;
+use crate::unit_run::run_unit;
+use gimli_core::{DebugLineOffset, EndianSlice, Endianity, Error, Reader, ReaderOffset, Result};
+use gimli_line::{IncompleteLineProgram, LineProgramHeader, OneShotLineRows};
+use std::alloc::Global;
+use std::marker::Model;
+use std::ops::Range;
+
+/// A unit of a section, as a [`SectionLookup`](crate::SectionLookup) lists it.
+#[derive(Drop)]
+#[derive_where(Debug; R, R::Offset)]
+pub struct UnitLookup<R: Reader> {
+    offset: DebugLineOffset<R::Offset>,
+    /// The run of the program, at its first fault or its end. None where the unit was refused.
+    run: Option<OneShotLineRows<R>>,
+    fault: Option<Error>,
+    /// The place of the first sequence among those of all units.
+    first: usize,
+    /// The place after the last one.
+    end: usize,
+}
+
+impl<R: Reader> Model for UnitLookup<R> {
+    ghost use Rattle.std.specs.Prelude.{◌≡◌, option_map, IfSome};
+    ghost use Rattle.gimli_line.specs.run.Rows.{IsOfOneOrder};
+    ghost use Rattle.gimli_lookup.specs.Section.{ListedUnit, header_at};
+
+    ghost Value = { ListedUnit };
+
+    ghost view = { λ a. record {
+      offset = R.Offset.number a.offset.0;
+      header = option_map header_at a.run;
+      fault = a.fault;
+      first = a.first;
+      end = a.end;
+    } };
+
+    ghost invariant = { λ a. IfSome a.run (λ run. IsOfOneOrder run × (run.offset ≡ R.Offset.number a.offset.0)) };
+}
+
+impl<R: Reader> UnitLookup<R> {
+    ghost use Rattle.gimli_lookup.specs.Section.{IsAdded};
+
+    /// What is kept of the program of a unit, or of its refusal: its sequences are put after those of the units before
+    /// it. Fails only with `OutOfMemory`.
+    pub(crate) fn new(
+        alloc: Global,
+        offset: DebugLineOffset<R::Offset>,
+        program: Result<IncompleteLineProgram<R>>,
+        lowest: u64,
+        sequences: &mut Vec<KeptRows>,
+    ) -> Result<Self>
+        requires order { IfOk program (HasOneOrder R.big) }
+        requires offset { IfOk program (λ program. program.offset ≡ offset) }
+        ensures kept { IfOk result (λ unit.
+            IsAdded lowest program unit sequences.old.items sequences.new.items) }
+        ensures offset { IfOk result (λ unit. unit.offset ≡ R.Offset.number offset.0) }
+        ensures err { IfErr result (λ e. e ≡ Error.OutOfMemory) }
+    {
+        let first = sequences.len();
+        let unit_run = match program {
+            Ok(program) => run_unit(alloc, program, lowest)?,
+            Err(e) => {
+                return Ok(UnitLookup {
+                    offset,
+                    run: None,
+                    fault: Some(e),
+                    first,
+                    end: first,
+                });
+            }
+        };
+        append(unit_run.sequences, sequences)?;
+        Ok(UnitLookup {
+            offset,
+            run: Some(unit_run.run),
+            fault: unit_run.fault,
+            first,
+            end: sequences.len(),
+        })
+    }
+
+    /// The offset of the unit in its section.
+    pub fn offset(&self) -> DebugLineOffset<R::Offset>
+        ensures { R.Offset.number result.0 ≡ self.now.offset }
+    {
+        self.offset
+    }
+
+    /// The header of the unit, with all files that are defined before the first fault. None where the unit was refused.
+    pub fn header(&self) -> Option<&LineProgramHeader<R>>
+        ensures header { MatchOption result (self.now.header ≡ None) (λ header. self.now.header
+            ≡ Some (record { meaning = header.now.meaning; notation = header.now.notation })) }
+        ensures offset { IfSome result (λ header. R.Offset.number header.now.offset.0 ≡ self.now.offset) }
+        ensures order { IfSome result (λ header. HasOneOrder R.big header.now) }
+    {
+        match &self.run {
+            Some(run) => Some(run.header()),
+            None => None,
+        }
+    }
+
+    /// The places of the sequences among those of all units.
+    pub(crate) fn places(&self) -> Range<usize>
+        ensures start { result.start ≡ self.now.first }
+        ensures end { result.end ≡ self.now.end }
+    {
+        self.first..self.end
+    }
+
+    /// Why the unit was refused, or the first fault of its run. None where it has none.
+    pub fn fault(&self) -> Option<Error>
+        ensures { result ≡ self.now.fault }
+    {
+        self.fault
+    }
+}
+
+impl<'i, E: Endianity> UnitLookup<EndianSlice<'i, E>> {
+    ghost use Rattle.gimli_lookup.specs.Section.{headless};
+
+    /// The unit without its header, which is what lends bytes of the section.
+    pub(crate) fn without_header(self) -> UnitLookup<EndianSlice<'static, E>>
+        ensures { result ≡ headless self.entry }
+    {
+        let UnitLookup {
+            offset,
+            run,
+            fault,
+            first,
+            end,
+        } = self;
+        drop(run);
+        UnitLookup {
+            offset,
+            run: None,
+            fault,
+            first,
+            end,
+        }
+    }
+}
+
+/// Puts sequences after others. Fails only with `OutOfMemory`.
+fn append(sequences: Vec<KeptRows>, to: &mut Vec<KeptRows>) -> Result<()>
+    ensures ok { OnOk result (to.new.items ≡ to.old.items ++ sequences.items) }
+    ensures err { IfErr result (λ e. e ≡ Error.OutOfMemory) }
+{
+    for rows in sequences {
+        if to.push(rows).is_err() {
+            return Err(Error::OutOfMemory);
+        }
+    }
+    Ok(())
+}

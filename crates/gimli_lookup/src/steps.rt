@@ -1,0 +1,165 @@
+//! The steps of an index: which sequence is the first that covers an address, from one address on up to the next.
+
+ghost use Rattle.std.specs.Prelude.{◌≡◌, ◌≤◌, ◌<◌, ◌+◌, ◌^◌, ◌++◌, ◌∷◌, [], ℕ, None, true, false, length, slice_index_or, IfErr, IfOk};
+ghost use Rattle.gimli_lookup.specs.declared.steps.Step.{Step};
+ghost use Rattle.gimli_lookup.specs.Steps.{last_step, AreInOrder, AreJoined, AreStepsOf};
+
+use crate::kept_rows::KeptRows;
+use gimli_core::{Error, Result};
+use std::alloc::Global;
+
+/// From an address on, the first sequence that covers it; None where there is none.
+#[derive(Clone, Copy, Debug)]
+pub(crate) struct Step {
+    pub(crate) from: u64,
+    pub(crate) sequence: Option<usize>,
+}
+
+/// The list with a step after its last. Fails only with `OutOfMemory`.
+fn push_step(steps: &mut Vec<Step>, step: Step) -> Result<()>
+    ensures ok { IfOk result (λ _. steps.new.items ≡ steps.old.items ++ step ∷ []) }
+    ensures err { IfErr result (λ e. e ≡ Error.OutOfMemory) }
+{
+    if steps.push(step).is_err() {
+        return Err(Error::OutOfMemory);
+    }
+    Ok(())
+}
+
+/// Whether the next step is the left one of two lists: the one with the lesser address, or of equal ones the left.
+/// Requires that some step is left.
+fn is_left_next(left: &[Step], of_left: usize, right: &[Step], of_right: usize) -> bool
+    requires left { of_left ≤ length left.now }
+    requires right { of_right ≤ length right.now }
+    requires some { of_left + of_right < length left.now + length right.now }
+    ensures left { result ≡ true → of_left < length left.now }
+    ensures left_first { result ≡ true → of_right < length right.now → (d : Step)
+        → (slice_index_or left.now of_left d).from ≤ (slice_index_or right.now of_right d).from }
+    ensures right { result ≡ false → of_right < length right.now }
+    ensures right_first { result ≡ false → of_left < length left.now → (d : Step)
+        → (slice_index_or right.now of_right d).from ≤ (slice_index_or left.now of_left d).from }
+{
+    if of_left == left.len() {
+        return false;
+    }
+    of_right == right.len() || left[of_left].from <= right[of_right].from
+}
+
+/// Two lists of steps, merged by their addresses. Fails only with `OutOfMemory`.
+fn merge(alloc: Global, left: &[Step], right: &[Step]) -> Result<Vec<Step>>
+    requires left_order { AreInOrder left.now }
+    requires right_order { AreInOrder right.now }
+    requires left_end { last_step left.now ≡ None }
+    requires right_end { last_step right.now ≡ None }
+    ensures ok { IfOk result (λ steps. AreJoined left.now right.now steps.items) }
+    ensures err { IfErr result (λ e. e ≡ Error.OutOfMemory) }
+{
+    let Ok(mut merged) = Vec::with_capacity(alloc, left.len() + right.len()) else {
+        return Err(Error::OutOfMemory);
+    };
+    let mut from = 0;
+    let (mut next_left, mut next_right) = (0, 0);
+    let (mut by_left, mut by_right) = (None, None);
+    for _ in 0..left.len() + right.len() {
+        if is_left_next(left, next_left, right, next_right) {
+            from = left[next_left].from;
+            by_left = left[next_left].sequence;
+            next_left += 1;
+        } else {
+            from = right[next_right].from;
+            by_right = right[next_right].sequence;
+            next_right += 1;
+        }
+        push_step(
+            &mut merged,
+            Step {
+                from,
+                sequence: by_left.or(by_right),
+            },
+        )?;
+    }
+    Ok(merged)
+}
+
+/// Whether no step of the right list has an address below that of a step of the left one.
+fn is_after(left: &[Step], right: &[Step]) -> bool
+    requires left_order { AreInOrder left.now }
+    requires right_order { AreInOrder right.now }
+    ensures { result ≡ true → (i j : ℕ) (d : Step) → i < length left.now → j < length right.now
+        → (slice_index_or left.now i d).from ≤ (slice_index_or right.now j d).from }
+{
+    match (left.last(), right.first()) {
+        (Some(last), Some(first)) => last.from <= first.from,
+        _ => true,
+    }
+}
+
+/// Two lists of steps as one; where the right one stands after the left one it is appended. Fails only with
+/// `OutOfMemory`.
+fn join(alloc: Global, mut left: Vec<Step>, mut right: Vec<Step>) -> Result<Vec<Step>>
+    requires left_order { AreInOrder left.items }
+    requires right_order { AreInOrder right.items }
+    requires left_end { last_step left.items ≡ None }
+    requires right_end { last_step right.items ≡ None }
+    ensures ok { IfOk result (λ steps. AreJoined left.items right.items steps.items) }
+    ensures err { IfErr result (λ e. e ≡ Error.OutOfMemory) }
+{
+    if !is_after(left.as_slice(), right.as_slice()) {
+        return merge(alloc, left.as_slice(), right.as_slice());
+    }
+    if left.append(&mut right).is_err() {
+        return Err(Error::OutOfMemory);
+    }
+    Ok(left)
+}
+
+/// The steps of one sequence: from its first address on it covers addresses, and from its last on none. It has no steps
+/// where it covers no address, or where its addresses go down. Fails only with `OutOfMemory`.
+fn steps_of_one(alloc: Global, rows: &KeptRows, place: usize) -> Result<Vec<Step>>
+    ensures ok { IfOk result (λ steps. AreStepsOf place (rows.now ∷ []) steps.items) }
+    ensures err { IfErr result (λ e. e ≡ Error.OutOfMemory) }
+{
+    let mut steps = Vec::new(alloc);
+    if !rows.never_go_down() {
+        return Ok(steps);
+    }
+    let Some((first, last)) = rows.range() else {
+        return Ok(steps);
+    };
+    if first < last {
+        push_step(
+            &mut steps,
+            Step {
+                from: first,
+                sequence: Some(place),
+            },
+        )?;
+        push_step(
+            &mut steps,
+            Step {
+                from: last,
+                sequence: None,
+            },
+        )?;
+    }
+    Ok(steps)
+}
+
+/// The steps of sequences, of which the first has the place `first`: those of both halves, joined. Fails only with
+/// `OutOfMemory`.
+pub(crate) fn steps_of(alloc: Global, sequences: &[KeptRows], first: usize) -> Result<Vec<Step>>
+    requires { first + length sequences.now < 2 ^ 64 }
+    ensures ok { IfOk result (λ steps. AreStepsOf first sequences.now steps.items) }
+    ensures err { IfErr result (λ e. e ≡ Error.OutOfMemory) }
+{
+    let middle = sequences.len() / 2;
+    match sequences {
+        [] => Ok(Vec::new(alloc)),
+        [rows] => steps_of_one(alloc, rows, first),
+        _ => {
+            let left = steps_of(alloc, &sequences[..middle], first)?;
+            let right = steps_of(alloc, &sequences[middle..], first + middle)?;
+            join(alloc, left, right)
+        }
+    }
+}

@@ -1,0 +1,50 @@
+//! The strings that values of a header stand for.
+
+ghost use Rattle.std.specs.Prelude.{◌≡◌};
+ghost use Rattle.gimli_core.specs.Reading.{seen};
+ghost use Rattle.gimli_core.specs.Values.{value_seen};
+ghost use Rattle.gimli_lookup.specs.Strings.{strings, string_at, string_of};
+
+use crate::path_error::PathError;
+use gimli_core::{AttributeValue, Reader};
+
+/// The sections that hold strings (DWARF 5, section 7.26). Where a program has no such section, it is a reader of no bytes.
+#[derive(Clone, Copy, Debug)]
+pub struct StringSections<R> {
+    /// The section `.debug_line_str`.
+    pub debug_line_str: R,
+    /// The section `.debug_str`.
+    pub debug_str: R,
+}
+
+impl<R: Reader> StringSections<R> {
+    /// The string that a value stands for, without its zero byte (DWARF 5, section 7.5.5). One that stands in the value
+    /// needs no section. Refused as `PathError` says. Takes no memory.
+    pub fn attr_line_string(&self, value: AttributeValue<R>) -> Result<R, PathError>
+        ensures { seen R.bytes result
+            ≡ string_of (strings R.bytes self.now) (value_seen R.bytes R.Offset.number value) }
+    {
+        match value {
+            AttributeValue::String(string) => Ok(string),
+            AttributeValue::DebugLineStrRef(offset) => string_at(self.debug_line_str, offset.0),
+            AttributeValue::DebugStrRef(offset) => string_at(self.debug_str, offset.0),
+            AttributeValue::DebugStrRefSup(_) => Err(PathError::UnsupportedSupplementaryString),
+            AttributeValue::DebugStrOffsetsIndex(_) => Err(PathError::UnsupportedStringIndex),
+            _ => Err(PathError::ExpectedStringAttributeValue),
+        }
+    }
+}
+
+/// The string of a section at an offset, up to its zero byte.
+fn string_at<R: Reader>(section: R, offset: R::Offset) -> Result<R, PathError>
+    ensures { seen R.bytes result ≡ string_at (R.bytes section) (R.Offset.number offset) }
+{
+    let mut bytes = section;
+    if bytes.skip(offset).is_err() || bytes.is_empty() {
+        return Err(PathError::StringOffsetOutOfBounds);
+    }
+    match bytes.read_null_terminated_slice() {
+        Ok(string) => Ok(string),
+        Err(_) => Err(PathError::UnterminatedString),
+    }
+}

@@ -1,0 +1,73 @@
+//! The run of a unit, up to its first fault.
+
+ghost use Rattle.std.specs.Prelude.{◌≡◌, ◌≢◌, IfErr, IfOk, Some};
+ghost use Rattle.gimli_line.specs.header.Header.{HasOneOrder};
+ghost use Rattle.gimli_line.specs.run.Rows.{IsOfOneOrder};
+ghost use Rattle.gimli_lookup.specs.UnitRun.{IsKept};
+ghost use Rattle.gimli_lookup.specs.RowsTaken.{AreTaken, header_of};
+
+use crate::kept_rows::KeptRows;
+use crate::sequence_cut::SequenceCut;
+use gimli_core::{Error, Reader, ReaderOffset, Result};
+use gimli_line::{IncompleteLineProgram, OneShotLineRows};
+use std::alloc::Global;
+
+/// What is kept of a run: where it stands after its last row before the first fault, this fault, and its sequences.
+#[derive(Drop)]
+pub(crate) struct UnitRun<R: Reader> {
+    pub(crate) run: OneShotLineRows<R>,
+    pub(crate) fault: Option<Error>,
+    pub(crate) sequences: Vec<KeptRows>,
+}
+
+/// A refusal of a run as its fault, unless memory was missing.
+fn as_fault(e: Error) -> Result<Option<Error>>
+    ensures ok { IfOk result (λ fault. (fault ≡ Some e) × (e ≢ Error.OutOfMemory)) }
+    ensures err { IfErr result (λ e. e ≡ Error.OutOfMemory) }
+{
+    match e {
+        Error::OutOfMemory => Err(e),
+        _ => Ok(Some(e)),
+    }
+}
+
+/// Takes in the rows to come up to the first fault, which is the answer. Fails only with `OutOfMemory`.
+fn take_rows<R: Reader>(
+    run: &mut OneShotLineRows<R>,
+    cut: &mut SequenceCut,
+) -> Result<Option<Error>>
+    ensures ok { IfOk result (λ fault. AreTaken run.old run.new fault cut.old cut.new) }
+    ensures err { IfErr result (λ e. e ≡ Error.OutOfMemory) }
+{
+    'rows: loop {
+        match run.next_row() {
+            Ok(Some((_, row))) => cut.row(row)?,
+            Ok(None) => return Ok(None),
+            Err(e) => return as_fault(e),
+        }
+    }
+}
+
+/// Runs a program up to its first fault, and keeps the sequences that have ended before it and don't begin below an
+/// address. Fails only with `OutOfMemory`.
+pub(crate) fn run_unit<R: Reader>(
+    alloc: Global,
+    program: IncompleteLineProgram<R>,
+    lowest: u64,
+) -> Result<UnitRun<R>>
+    ensures kept { IfOk result (λ unit. IsKept program.notation lowest program.meaning
+        (header_of unit.run) unit.fault unit.sequences.items) }
+    ensures notation { IfOk result (λ unit. unit.run.notation ≡ program.notation) }
+    ensures offset { IfOk result (λ unit. unit.run.offset ≡ R.Offset.number program.offset.0) }
+    ensures order { HasOneOrder R.big program → IfOk result (λ unit. IsOfOneOrder unit.run) }
+    ensures err { IfErr result (λ e. e ≡ Error.OutOfMemory) }
+{
+    let mut run = program.rows();
+    let mut cut = SequenceCut::new(alloc, lowest);
+    let fault = take_rows(&mut run, &mut cut)?;
+    Ok(UnitRun {
+        run,
+        fault,
+        sequences: cut.into_sequences(),
+    })
+}

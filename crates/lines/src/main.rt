@@ -1,0 +1,107 @@
+//! The program `lines`: what the line tables of a program say.
+#![tactic(auto)]
+
+use lines_commands::{Files, Request};
+use std::io::{BufReader, BufWriter, ErrorKind, Write};
+use std::process::ExitCode;
+use std::{env, fs, io};
+
+/// The status for words that are none of the program's.
+const USAGE: u8 = 2;
+
+/// The status where something was refused.
+const REFUSED: u8 = 1;
+
+fn main(rt: HostRuntime) -> ExitCode {
+    let status = match start(&rt) {
+        Ok(status) => status,
+        Err(error) => tell(&rt, &error),
+    };
+    ExitCode::from(status)
+}
+
+/// Tells an error, and answers the status of the program. Where standard output was closed, nothing
+/// is told.
+fn tell(rt: &HostRuntime, error: &io::Error) -> u8 {
+    if error.kind() != ErrorKind::BrokenPipe {
+        // Where standard error takes nothing, the status still tells.
+        let _ = writeln!(rt.stderr(), "lines: {error}");
+    }
+    REFUSED
+}
+
+/// Runs on the words of the program, and answers its status.
+fn start(rt: &HostRuntime) -> io::Result<u8> {
+    let alloc = rt.alloc();
+    let arguments: Vec<String> = env::args(rt)?.collect(alloc)?;
+    let mut words = Vec::with_capacity(alloc, arguments.len())?;
+    for word in &arguments {
+        words.push(word.as_str())?;
+    }
+    match lines_words::parse(alloc, &words) {
+        Ok(request) => run(rt, &request),
+        Err(error) => {
+            error.print(rt)?;
+            Ok(if error.use_stderr() { USAGE } else { 0 })
+        }
+    }
+}
+
+/// Reads the files that a request names, does what it asks for, and answers the status of the
+/// program.
+fn run(rt: &HostRuntime, request: &Request<'_>) -> io::Result<u8> {
+    let file = read(rt, request.file)?;
+    let line_str = read_named(rt, request.line_str)?;
+    let strings = read_named(rt, request.strings)?;
+    match (&file, &line_str, &strings) {
+        (Some(file), Some(line_str), Some(strings)) => {
+            perform(rt, request, file, line_str, strings)
+        }
+        _ => Ok(REFUSED),
+    }
+}
+
+/// Does what a request asks for, over the bytes of files.
+fn perform<'i>(
+    rt: &HostRuntime,
+    request: &Request<'_>,
+    file: &'i [u8],
+    line_str: &'i [u8],
+    strings: &'i [u8],
+) -> io::Result<u8> {
+    let files = Files {
+        file,
+        line_str,
+        strings,
+    };
+    let alloc = rt.alloc();
+    let mut input = BufReader::new(alloc, rt.stdin())?;
+    let mut out = BufWriter::new(alloc, rt.stdout())?;
+    lines_commands::run(
+        alloc,
+        request,
+        files,
+        &mut input,
+        &mut out,
+        &mut rt.stderr(),
+    )
+}
+
+/// The bytes of a file; None where it can't be read, which is told.
+fn read(rt: &HostRuntime, name: &str) -> io::Result<Option<Vec<u8>>> {
+    match fs::read(rt, name) {
+        Ok(bytes) => Ok(Some(bytes)),
+        Err(error) => {
+            let _ = writeln!(rt.stderr(), "lines: {name}: {error}");
+            Ok(None)
+        }
+    }
+}
+
+/// The bytes of a file that may be named; none where it isn't.
+fn read_named(rt: &HostRuntime, name: Option<&str>) -> io::Result<Option<Vec<u8>>> {
+    match name {
+        Some(name) => read(rt, name),
+        None => Ok(Some(Vec::new(rt.alloc()))),
+    }
+}

@@ -1,0 +1,220 @@
+//! The command `files`: the directories and files of units.
+
+use crate::error_text::{ErrorText, RowCount};
+use crate::input::Input;
+use crate::path_text::PathText;
+use crate::report::{UnitPlace, Verdict, out_of_memory};
+use crate::request::UnitChoice;
+use crate::row_list::tell_no_unit;
+use crate::walk::{fault, next_unit};
+use gimli_line::{FileEntry, IncompleteLineProgram, LineProgramHeader, LineUnit};
+use gimli_lookup::{PathError, Paths, StringSections};
+use row_text::Digits;
+use std::alloc::Global;
+use std::io::Write;
+use std::{fmt, io};
+use unit_text::Slice;
+
+/// Prints the directories and files of units. The fault of a unit is told, and the next unit
+/// follows.
+pub(crate) fn print_files<O: Write, E: Write>(
+    alloc: Global,
+    input: &Input<'_>,
+    choice: UnitChoice,
+    out: &mut O,
+    err: &mut E,
+) -> io::Result<Verdict> {
+    let mut verdict = Verdict::Clean;
+    let mut is_found = choice == UnitChoice::All;
+    let mut units = input.units(alloc);
+    for _ in 0..u64::MAX {
+        let Some(unit) = next_unit(&mut units)? else {
+            break;
+        };
+        let place = input.place(unit.offset.0);
+        if choice.includes(place.offset) {
+            is_found = true;
+            verdict = verdict.and(print_unit(alloc, unit, place, input.strings, out, err)?);
+        }
+    }
+    if is_found {
+        Ok(verdict)
+    } else {
+        Ok(tell_no_unit(input.name, choice, err))
+    }
+}
+
+/// Prints the directories and files of a unit, with those that its program defines before its first
+/// fault. The fault is told.
+fn print_unit<'i, O: Write, E: Write>(
+    alloc: Global,
+    unit: LineUnit<Slice<'i>>,
+    place: UnitPlace<'_>,
+    strings: StringSections<Slice<'i>>,
+    out: &mut O,
+    err: &mut E,
+) -> io::Result<Verdict> {
+    let program = match unit.program {
+        Ok(program) => program,
+        Err(e) => return Ok(place.tell(err, ErrorText(fault(e)?))),
+    };
+    let offset = place.offset;
+    let version = program.header().version();
+    writeln!(out, "unit at 0x{offset:x}, version {version}")?;
+    print_program(alloc, program, place, strings, out, err)
+}
+
+/// Prints the directories and files of a program.
+fn print_program<'i, O: Write, E: Write>(
+    alloc: Global,
+    program: IncompleteLineProgram<Slice<'i>>,
+    place: UnitPlace<'_>,
+    strings: StringSections<Slice<'i>>,
+    out: &mut O,
+    err: &mut E,
+) -> io::Result<Verdict> {
+    let mut rows = program.rows();
+    let mut verdict = Verdict::Clean;
+    for count in 0..u64::MAX {
+        match rows.next_row() {
+            Ok(Some(_)) => {}
+            Ok(None) => break,
+            Err(e) => {
+                let count = RowCount(count);
+                let fault = ErrorText(fault(e)?);
+                verdict = place.tell(err, format_args!("after {count}: {fault}"));
+                break;
+            }
+        }
+    }
+    let header = rows.header();
+    verdict = verdict.and(print_directories(header, place, strings, out, err)?);
+    Ok(verdict.and(print_each_file(alloc, header, place, strings, out, err)?))
+}
+
+/// Prints the directories of a header, as they are written.
+fn print_directories<'i, O: Write, E: Write>(
+    header: &LineProgramHeader<Slice<'i>>,
+    place: UnitPlace<'_>,
+    strings: StringSections<Slice<'i>>,
+    out: &mut O,
+    err: &mut E,
+) -> io::Result<Verdict> {
+    let mut verdict = Verdict::Clean;
+    let last = header.include_directories().len() as u64;
+    for index in 0..=last {
+        let Some(directory) = header.directory(index) else {
+            continue;
+        };
+        match strings.attr_line_string(directory) {
+            Ok(path) => {
+                let path = PathText(path.slice());
+                writeln!(out, "directory {index}  {path}")?;
+            }
+            Err(e) => {
+                writeln!(out, "directory {index}  ??")?;
+                verdict = place.tell(err, format_args!("directory {index}: {e}"));
+            }
+        }
+    }
+    Ok(verdict)
+}
+
+/// Prints the files of a header, with their whole paths.
+fn print_each_file<'i, O: Write, E: Write>(
+    alloc: Global,
+    header: &LineProgramHeader<Slice<'i>>,
+    place: UnitPlace<'_>,
+    strings: StringSections<Slice<'i>>,
+    out: &mut O,
+    err: &mut E,
+) -> io::Result<Verdict> {
+    let mut verdict = Verdict::Clean;
+    let paths = Paths::new(header, strings, None);
+    let last = header.file_names().len() as u64;
+    for index in 0..=last {
+        let Some(file) = header.file(index) else {
+            continue;
+        };
+        let details = Details::new(header, file, strings);
+        match paths.of_file(alloc, file) {
+            Ok(path) => {
+                let path = PathText(&path);
+                writeln!(out, "file {index}  {path}{details}")?;
+            }
+            Err(PathError::OutOfMemory) => return Err(out_of_memory()),
+            Err(e) => {
+                writeln!(out, "file {index}  ??{details}")?;
+                verdict = place.tell(err, format_args!("file {index}: {e}"));
+            }
+        }
+    }
+    Ok(verdict)
+}
+
+/// What a header says of a file beside its path.
+#[derive(Clone, Copy)]
+struct Details<'d> {
+    time: Option<u64>,
+    size: Option<u64>,
+    md5: Option<&'d [u8; 16]>,
+    /// The number of bytes of the source that is held with the file.
+    source: Option<usize>,
+}
+
+impl<'d> Details<'d> {
+    /// What stands in the header. A time and a size of 0 say nothing (DWARF 5, section 6.2.4).
+    fn new<'i>(
+        header: &LineProgramHeader<Slice<'i>>,
+        file: &'d FileEntry<Slice<'i>>,
+        strings: StringSections<Slice<'i>>,
+    ) -> Details<'d> {
+        Details {
+            time: known(file.timestamp()),
+            size: known(file.size()),
+            md5: if header.file_has_md5() {
+                Some(file.md5())
+            } else {
+                None
+            },
+            source: source_length(file, strings),
+        }
+    }
+}
+
+/// The number of bytes of the source that is held with a file. None where there is none, or it
+/// can't be told.
+fn source_length<'i>(
+    file: &FileEntry<Slice<'i>>,
+    strings: StringSections<Slice<'i>>,
+) -> Option<usize> {
+    let source = strings.attr_line_string(file.source()?).ok()?;
+    Some(source.slice().len())
+}
+
+/// A number that isn't 0.
+fn known(number: u64) -> Option<u64> {
+    match number {
+        0 => None,
+        _ => Some(number),
+    }
+}
+
+impl fmt::Display for Details<'_> {
+    fn fmt<W: fmt::Write>(&self, f: &mut fmt::Formatter<W>) -> fmt::Result {
+        if let Some(time) = self.time {
+            write!(f, "  time {time}")?;
+        }
+        if let Some(size) = self.size {
+            write!(f, "  size {size}")?;
+        }
+        if let Some(md5) = self.md5 {
+            let md5 = Digits(md5);
+            write!(f, "  md5 {md5}")?;
+        }
+        if let Some(source) = self.source {
+            write!(f, "  source of {source} bytes")?;
+        }
+        Ok(())
+    }
+}

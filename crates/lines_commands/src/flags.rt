@@ -1,0 +1,47 @@
+//! The flags of a row.
+
+use gimli_line::LineRow;
+use std::fmt;
+
+/// The flags of a row, as words in JSON.
+#[derive(Clone, Copy)]
+pub(crate) struct JsonFlags(pub(crate) LineRow);
+
+/// The flags of a row, as letters, each in a place of its own, with a stroke in the place of each
+/// that doesn't hold.
+#[derive(Clone, Copy)]
+pub(crate) struct FlagLetters(pub(crate) LineRow);
+
+/// Each flag of a row, with its name and its letter.
+fn flags(row: &LineRow) -> [(bool, &'static str, char); 5] {
+    [
+        (row.is_stmt(), "is_stmt", 's'),
+        (row.basic_block(), "basic_block", 'b'),
+        (row.end_sequence(), "end_sequence", 'e'),
+        (row.prologue_end(), "prologue_end", 'p'),
+        (row.epilogue_begin(), "epilogue_begin", 'q'),
+    ]
+}
+
+impl fmt::Display for JsonFlags {
+    fn fmt<W: fmt::Write>(&self, f: &mut fmt::Formatter<W>) -> fmt::Result {
+        let mut before = "";
+        f.write_char('[')?;
+        for (holds, name, _) in flags(&self.0) {
+            if holds {
+                write!(f, "{before}\"{name}\"")?;
+                before = ",";
+            }
+        }
+        f.write_char(']')
+    }
+}
+
+impl fmt::Display for FlagLetters {
+    fn fmt<W: fmt::Write>(&self, f: &mut fmt::Formatter<W>) -> fmt::Result {
+        for (holds, _, letter) in flags(&self.0) {
+            f.write_char(if holds { letter } else { '-' })?;
+        }
+        Ok(())
+    }
+}

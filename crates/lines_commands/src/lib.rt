@@ -1,0 +1,33 @@
+//! The commands of the program `lines`: over the bytes of files, what is printed on standard output
+//! and standard error.
+//!
+//! [`Request`] is what the words ask for, [`Files`] the bytes that it names, and [`run`] does it.
+#![tactic(auto)]
+
+mod addresses;
+mod check;
+mod check_unit;
+mod duplicates;
+mod error_text;
+mod file_list;
+mod finding;
+mod flags;
+mod input;
+mod json_text;
+mod locate;
+mod numbers;
+mod overlaps;
+mod path_text;
+mod paths_seen;
+mod perform;
+mod refusal;
+mod report;
+mod request;
+mod row_list;
+mod unit_list;
+mod walk;
+
+pub use input::{Files, Kind, Notation};
+pub use numbers::{parse_address, parse_offset, parse_size};
+pub use perform::run;
+pub use request::{Command, Form, Request, UnitChoice};

@@ -1,0 +1,55 @@
+//! Sequences that overlap.
+
+use crate::check::Findings;
+use crate::finding::Finding;
+use std::io;
+use std::io::Write;
+
+/// The addresses of a sequence, by its rows that are not left out.
+#[derive(Clone, Copy, Debug, PartialEq, Eq, PartialOrd, Ord)]
+pub(crate) struct Sequence {
+    /// The least address of its rows.
+    pub(crate) start: u64,
+    /// The address of its end.
+    pub(crate) end: u64,
+    /// The offset of its unit.
+    pub(crate) unit: u64,
+}
+
+/// Prints each sequence that begins before the end of one that begins no later than it. They are
+/// sorted for this.
+pub(crate) fn print_overlaps<O: Write>(
+    sequences: &mut Vec<Sequence>,
+    findings: &mut Findings<'_, O>,
+) -> io::Result<()> {
+    sequences.sort()?;
+    let mut furthest: Option<Sequence> = None;
+    for sequence in sequences.iter() {
+        match furthest {
+            Some(other) if sequence.start < other.end => {
+                print_overlap(*sequence, other, findings)?;
+                if sequence.end > other.end {
+                    furthest = Some(*sequence);
+                }
+            }
+            _ => furthest = Some(*sequence),
+        }
+    }
+    Ok(())
+}
+
+/// Prints that a sequence overlaps another.
+fn print_overlap<O: Write>(
+    sequence: Sequence,
+    other: Sequence,
+    findings: &mut Findings<'_, O>,
+) -> io::Result<()> {
+    findings.unit = sequence.unit;
+    findings.print(Finding::Overlap {
+        start: sequence.start,
+        end: sequence.end,
+        other_unit: other.unit,
+        other_start: other.start,
+        other_end: other.end,
+    })
+}

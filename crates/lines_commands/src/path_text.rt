@@ -1,0 +1,73 @@
+//! Paths as they are printed.
+
+use std::fmt;
+
+/// A path as text. What could change a terminal stands as `\x` and two hexadecimal digits: a
+/// control character, and in a path that isn't UTF-8 each byte that isn't ASCII.
+#[derive(Clone, Copy)]
+pub(crate) struct PathText<'p>(pub(crate) &'p [u8]);
+
+impl fmt::Display for PathText<'_> {
+    fn fmt<W: fmt::Write>(&self, f: &mut fmt::Formatter<W>) -> fmt::Result {
+        match str::from_utf8(self.0) {
+            Ok(text) if self.0.iter().all(|byte| is_plain(*byte)) => f.write_str(text),
+            Ok(text) => write_characters(text, f),
+            Err(_) => write_bytes(self.0, f),
+        }
+    }
+}
+
+/// Whether a byte is printable ASCII.
+fn is_plain(byte: u8) -> bool {
+    (b' '..=b'~').contains(&byte)
+}
+
+/// Writes characters, a control character by its number.
+fn write_characters<W: fmt::Write>(text: &str, f: &mut fmt::Formatter<W>) -> fmt::Result {
+    for character in text.chars() {
+        if character.is_control() {
+            let number = u32::from(character);
+            write!(f, "\\x{number:02x}")?;
+        } else {
+            f.write_char(character)?;
+        }
+    }
+    Ok(())
+}
+
+/// Writes bytes, one that isn't printable ASCII by its number.
+fn write_bytes<W: fmt::Write>(bytes: &[u8], f: &mut fmt::Formatter<W>) -> fmt::Result {
+    for byte in bytes {
+        if is_plain(*byte) {
+            f.write_char(char::from(*byte))?;
+        } else {
+            write!(f, "\\x{byte:02x}")?;
+        }
+    }
+    Ok(())
+}
+
+/// The last part of a path: what stands after its last `/` or backslash.
+pub(crate) fn last_part(path: &[u8]) -> &[u8] {
+    match path.iter().rposition(|byte| is_separator(*byte)) {
+        Some(place) => path.get(place.saturating_add(1)..).unwrap_or(path),
+        None => path,
+    }
+}
+
+/// Whether a path ends with whole parts that are another path.
+pub(crate) fn ends_with_parts(path: &[u8], end: &[u8]) -> bool {
+    let Some(before) = path.strip_suffix(end) else {
+        return false;
+    };
+    match (before.last(), end.first()) {
+        (None, _) => true,
+        (Some(byte), Some(first)) => is_separator(*byte) || is_separator(*first),
+        (Some(_), None) => false,
+    }
+}
+
+/// Whether a byte parts the components of a path: `/`, or as in Windows a backslash.
+fn is_separator(byte: u8) -> bool {
+    byte == b'/' || byte == b'\\'
+}

@@ -1,0 +1,38 @@
+//! Paths that were seen, each by a digest, so that they take no more memory than the file does.
+
+use sha2::{Digest, Sha256};
+use std::alloc::{AllocError, Global};
+use std::collections::BTreeSet;
+
+/// The digest of a path (SHA-256).
+pub(crate) type PathDigest = [u8; 32];
+
+/// The digest of a path.
+pub(crate) fn digest_of(path: &[u8]) -> PathDigest {
+    Sha256::digest(path)
+}
+
+/// Paths that were seen.
+#[derive(Drop)]
+pub(crate) struct PathsSeen {
+    digests: BTreeSet<PathDigest>,
+}
+
+impl PathsSeen {
+    /// No path.
+    pub(crate) fn new(alloc: Global) -> PathsSeen {
+        PathsSeen {
+            digests: BTreeSet::new(alloc),
+        }
+    }
+
+    /// Whether no path was seen.
+    pub(crate) fn is_empty(&self) -> bool {
+        self.digests.is_empty()
+    }
+
+    /// Adds a path, and says whether it wasn't seen before.
+    pub(crate) fn add(&mut self, path: &[u8]) -> Result<bool, AllocError> {
+        Ok(self.digests.insert(digest_of(path))?)
+    }
+}

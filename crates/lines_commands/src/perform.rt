@@ -1,0 +1,90 @@
+//! What the program does, over what its words ask for, the bytes of files, a reader in the place of
+//! standard input, and writers in the place of standard output and standard error.
+
+ghost use Rattle.std.specs.Prelude.{◌≤◌, IfOk};
+
+use crate::addresses::{Target, print_addresses};
+use crate::check::print_check;
+use crate::file_list::print_files;
+use crate::input::{Files, Input};
+use crate::locate::Places;
+use crate::report::{Verdict, tell};
+use crate::request::{Command, Form, Request};
+use crate::row_list::print_rows;
+use crate::unit_list::print_units;
+use std::alloc::Global;
+use std::io;
+use std::io::{BufRead, Write};
+
+/// Does what a request asks for, and answers the status of the program: 0, or 1 where something was
+/// refused, and told on standard error, or found by a check. Fails where memory is missing, where
+/// standard input can't be read, and where standard output takes no more; what was printed before
+/// stands.
+pub fn run<I: BufRead, O: Write, E: Write>(
+    alloc: Global,
+    request: &Request<'_>,
+    files: Files<'_>,
+    input: &mut I,
+    out: &mut O,
+    err: &mut E,
+) -> io::Result<u8>
+    ensures status { IfOk result (λ status. status ≤ 1) }
+{
+    let sections = match Input::new(request.file, request.kind, files) {
+        Ok(sections) => sections,
+        Err(refusal) => {
+            tell(request.file, err, refusal);
+            return Ok(1);
+        }
+    };
+    let verdict = perform(alloc, &request.command, sections, input, out, err)?;
+    out.flush()?;
+    Ok(verdict.status())
+}
+
+/// Does what a command asks for.
+fn perform<I: BufRead, O: Write, E: Write>(
+    alloc: Global,
+    command: &Command<'_>,
+    sections: Input<'_>,
+    input: &mut I,
+    out: &mut O,
+    err: &mut E,
+) -> io::Result<Verdict> {
+    match command {
+        Command::Where { addresses, form } => {
+            print_places(alloc, addresses, *form, sections, input, out, err)
+        }
+        Command::At { path, line } => {
+            let target = Target {
+                path: *path,
+                line: *line,
+            };
+            print_addresses(alloc, &sections, target, out, err)
+        }
+        Command::Units => print_units(alloc, &sections, out, err),
+        Command::Files(units) => print_files(alloc, &sections, *units, out, err),
+        Command::Rows { units, form } => print_rows(alloc, &sections, *units, *form, out, err),
+        Command::Check => print_check(alloc, &sections, out),
+    }
+}
+
+/// Prints the places of addresses, or of those of standard input where there are none.
+fn print_places<I: BufRead, O: Write, E: Write>(
+    alloc: Global,
+    addresses: &[u64],
+    form: Form,
+    sections: Input<'_>,
+    input: &mut I,
+    out: &mut O,
+    err: &mut E,
+) -> io::Result<Verdict> {
+    let places = Places::new(alloc, sections, form)?;
+    let faults = places.tell_faults(err);
+    let verdict = if addresses.is_empty() {
+        places.print_as_they_come(alloc, input, out, err)?
+    } else {
+        places.print_each(alloc, addresses, out, err)?
+    };
+    Ok(faults.and(verdict))
+}

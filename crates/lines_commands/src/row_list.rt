@@ -1,0 +1,246 @@
+//! The command `rows`: the rows of units.
+
+use crate::error_text::{ErrorText, RowCount};
+use crate::flags::{FlagLetters, JsonFlags};
+use crate::input::Input;
+use crate::locate::{JsonPath, column_of, line_of};
+use crate::path_text::{PathText, last_part};
+use crate::report::{UnitPlace, Verdict, out_of_memory, tell};
+use crate::request::{Form, UnitChoice};
+use crate::walk::{fault, next_unit};
+use gimli_line::{IncompleteLineProgram, LineProgramHeader, LineRow, LineUnit};
+use gimli_lookup::{PathError, Paths, StringSections};
+use std::alloc::Global;
+use std::io::Write;
+use std::{fmt, io};
+use unit_text::Slice;
+
+/// Prints the rows of units. The fault of a unit is told, and the next unit follows.
+pub(crate) fn print_rows<O: Write, E: Write>(
+    alloc: Global,
+    input: &Input<'_>,
+    choice: UnitChoice,
+    form: Form,
+    out: &mut O,
+    err: &mut E,
+) -> io::Result<Verdict> {
+    let mut verdict = Verdict::Clean;
+    let mut is_found = choice == UnitChoice::All;
+    let mut units = input.units(alloc);
+    for _ in 0..u64::MAX {
+        let Some(unit) = next_unit(&mut units)? else {
+            break;
+        };
+        let place = input.place(unit.offset.0);
+        if choice.includes(place.offset) {
+            is_found = true;
+            verdict = verdict.and(print_unit(alloc, unit, place, input.strings, form, out, err)?);
+        }
+    }
+    if is_found {
+        Ok(verdict)
+    } else {
+        Ok(tell_no_unit(input.name, choice, err))
+    }
+}
+
+/// Tells that no unit begins at the chosen offset.
+pub(crate) fn tell_no_unit<E: Write>(name: &str, choice: UnitChoice, err: &mut E) -> Verdict {
+    match choice {
+        UnitChoice::At(offset) => tell(
+            name,
+            err,
+            format_args!("no unit begins at 0x{offset:x}; the command units prints where they do"),
+        ),
+        UnitChoice::All => Verdict::Clean,
+    }
+}
+
+/// Prints the rows of a unit up to its end or its first fault, which is told.
+fn print_unit<'i, O: Write, E: Write>(
+    alloc: Global,
+    unit: LineUnit<Slice<'i>>,
+    place: UnitPlace<'_>,
+    strings: StringSections<Slice<'i>>,
+    form: Form,
+    out: &mut O,
+    err: &mut E,
+) -> io::Result<Verdict> {
+    let program = match unit.program {
+        Ok(program) => program,
+        Err(e) => return Ok(place.tell(err, ErrorText(fault(e)?))),
+    };
+    if form != Form::Json {
+        print_headings(place.offset, program.header().version(), out)?;
+    }
+    let printer = RowPrinter {
+        offset: place.offset,
+        form,
+        strings,
+        file: 0,
+        path: Ok(Vec::new(alloc)),
+        is_known: false,
+        rows: 0,
+    };
+    print_program(alloc, program, printer, place, out, err)
+}
+
+/// Prints the headings of a unit.
+fn print_headings<O: Write>(offset: u64, version: u16, out: &mut O) -> io::Result<()> {
+    writeln!(out, "unit at 0x{offset:x}, version {version}")?;
+    writeln!(
+        out,
+        "           address     line  column  discr  isa  flags  file"
+    )
+}
+
+/// Prints the rows of a program.
+fn print_program<'i, O: Write, E: Write>(
+    alloc: Global,
+    program: IncompleteLineProgram<Slice<'i>>,
+    mut printer: RowPrinter<'i>,
+    place: UnitPlace<'_>,
+    out: &mut O,
+    err: &mut E,
+) -> io::Result<Verdict> {
+    let mut rows = program.rows();
+    let mut verdict = Verdict::Clean;
+    for _ in 0..u64::MAX {
+        match rows.next_row() {
+            Ok(Some((header, row))) => {
+                let row = *row;
+                verdict = verdict.and(printer.look_up(alloc, header, &row, place, err)?);
+                printer.print(&row, out)?;
+            }
+            Ok(None) => break,
+            Err(e) => {
+                let count = RowCount(printer.rows);
+                let fault = ErrorText(fault(e)?);
+                return Ok(place.tell(err, format_args!("after {count}: {fault}")));
+            }
+        }
+    }
+    Ok(verdict)
+}
+
+/// What prints rows one after the other, and keeps the path of the last one's file.
+#[derive(Drop)]
+struct RowPrinter<'i> {
+    offset: u64,
+    form: Form,
+    strings: StringSections<Slice<'i>>,
+    /// The file whose path is kept, where one is.
+    file: u64,
+    path: Result<Vec<u8>, PathError>,
+    is_known: bool,
+    /// How many rows were printed.
+    rows: u64,
+}
+
+impl<'i> RowPrinter<'i> {
+    /// Keeps the path of a row's file. Where it can't be told, that is told once for rows of one
+    /// file that follow each other.
+    fn look_up<E: Write>(
+        &mut self,
+        alloc: Global,
+        header: &LineProgramHeader<Slice<'i>>,
+        row: &LineRow,
+        place: UnitPlace<'_>,
+        err: &mut E,
+    ) -> io::Result<Verdict> {
+        if self.is_known && self.file == row.file_index() {
+            return Ok(Verdict::Clean);
+        }
+        self.file = row.file_index();
+        self.is_known = true;
+        self.path = Paths::new(header, self.strings, None).of_row(alloc, row);
+        match &self.path {
+            Ok(_) => Ok(Verdict::Clean),
+            Err(PathError::OutOfMemory) => Err(out_of_memory()),
+            Err(e) => {
+                let count = RowCount(self.rows);
+                Ok(place.tell(err, format_args!("after {count}: {e}")))
+            }
+        }
+    }
+
+    /// Prints a row.
+    fn print<O: Write>(&mut self, row: &LineRow, out: &mut O) -> io::Result<()> {
+        self.rows = self.rows.saturating_add(1);
+        let path = match &self.path {
+            Ok(path) => Some(path.as_slice()),
+            Err(_) => None,
+        };
+        let line = RowLine {
+            offset: self.offset,
+            row: *row,
+            path,
+        };
+        match self.form {
+            Form::Json => {
+                let line = JsonRow(line);
+                writeln!(out, "{line}")
+            }
+            Form::Text => {
+                let line = RowLine {
+                    path: path.map(last_part),
+                    offset: line.offset,
+                    row: line.row,
+                };
+                writeln!(out, "{line}")
+            }
+            Form::WholePaths => writeln!(out, "{line}"),
+        }
+    }
+}
+
+/// The line of a row.
+#[derive(Clone, Copy)]
+struct RowLine<'p> {
+    /// The offset of the unit.
+    offset: u64,
+    row: LineRow,
+    /// None where the path can't be told.
+    path: Option<&'p [u8]>,
+}
+
+/// A row as a JSON object.
+#[derive(Clone, Copy)]
+struct JsonRow<'p>(RowLine<'p>);
+
+impl fmt::Display for RowLine<'_> {
+    fn fmt<W: fmt::Write>(&self, f: &mut fmt::Formatter<W>) -> fmt::Result {
+        let address = self.row.address();
+        let line = line_of(&self.row);
+        let column = column_of(&self.row);
+        let discriminator = self.row.discriminator();
+        let isa = self.row.isa();
+        let path = PathText(self.path.unwrap_or(b"??"));
+        write!(
+            f,
+            "0x{address:016x}  {line:>7}  {column:>6}  {discriminator:>5}  {isa:>3}  "
+        )?;
+        FlagLetters(self.row).fmt(f)?;
+        write!(f, "  {path}")
+    }
+}
+
+impl fmt::Display for JsonRow<'_> {
+    fn fmt<W: fmt::Write>(&self, f: &mut fmt::Formatter<W>) -> fmt::Result {
+        let row = &self.0.row;
+        let offset = self.0.offset;
+        let address = row.address();
+        let op_index = row.op_index();
+        let path = JsonPath(self.0.path);
+        let file = row.file_index();
+        let line = line_of(row);
+        let column = column_of(row);
+        let discriminator = row.discriminator();
+        let isa = row.isa();
+        let flags = JsonFlags(*row);
+        write!(
+            f,
+            "{{\"unit\":\"0x{offset:x}\",\"address\":\"0x{address:x}\",\"op_index\":{op_index},\"path\":{path},\"file\":{file},\"line\":{line},\"column\":{column},\"discriminator\":{discriminator},\"isa\":{isa},\"flags\":{flags}}}"
+        )
+    }
+}

@@ -1,0 +1,42 @@
+//! The units of a section, one after the other.
+
+use crate::input::Input;
+use crate::report::{UnitPlace, out_of_memory};
+use gimli_core::Error;
+use gimli_line::{LineUnit, LineUnits};
+use std::alloc::Global;
+use std::io;
+use unit_text::Slice;
+
+impl<'i> Input<'i> {
+    /// The units of the section.
+    pub(crate) fn units(&self, alloc: Global) -> LineUnits<Slice<'i>> {
+        self.lines.units(alloc, self.address_size.bytes())
+    }
+
+    /// The place of a unit.
+    pub(crate) fn place(&self, offset: usize) -> UnitPlace<'i> {
+        UnitPlace {
+            name: self.name,
+            offset: offset as u64,
+        }
+    }
+}
+
+/// The next unit; None at the end of the section. Fails only for memory.
+pub(crate) fn next_unit<'i>(
+    units: &mut LineUnits<Slice<'i>>,
+) -> io::Result<Option<LineUnit<Slice<'i>>>> {
+    match units.next() {
+        Ok(unit) => Ok(unit),
+        Err(_) => Err(out_of_memory()),
+    }
+}
+
+/// A fault of reading that isn't missing memory, or the failure.
+pub(crate) fn fault(error: Error) -> io::Result<Error> {
+    match error {
+        Error::OutOfMemory => Err(out_of_memory()),
+        fault => Ok(fault),
+    }
+}

@@ -1,0 +1,147 @@
+//! What the words ask for.
+
+use crate::grammar::program;
+use clap::error::ErrorKind;
+use clap::{ArgMatches, Error};
+use lines_commands::{
+    Command, Form, Kind, Notation, Request, UnitChoice, parse_address, parse_offset, parse_size,
+};
+use std::alloc::{AllocError, Global};
+use unit_text::{AddressSize, parse_order};
+
+/// What words ask for, of which the first is the program's name.
+pub fn parse<'w>(alloc: Global, words: &'w [&'w str]) -> Result<Request<'w>, Error> {
+    let mut grammar = program(alloc)?;
+    let matches = grammar.try_get_matches_from_mut(words)?;
+    let mistake = match request_of(alloc, &matches) {
+        Ok(request) => return Ok(request),
+        Err(Mistake::Memory) => return Err(Error::from(AllocError)),
+        Err(Mistake::Word(word, wanted)) => format!(in alloc; "'{word}' is not {wanted}")?,
+    };
+    Err(grammar.error(ErrorKind::ValueValidation, &mistake)?)
+}
+
+/// Why words that the grammar takes ask for nothing.
+#[derive(Clone, Copy)]
+enum Mistake<'w> {
+    /// A word, and what must stand in its place.
+    Word(&'w str, &'static str),
+    /// Memory is missing.
+    Memory,
+}
+
+impl From<AllocError> for Mistake<'_> {
+    fn from(_: AllocError) -> Self {
+        Mistake::Memory
+    }
+}
+
+/// What words ask for that the grammar takes.
+fn request_of<'w>(alloc: Global, matches: &ArgMatches<'w>) -> Result<Request<'w>, Mistake<'w>> {
+    let Some((name, matches)) = matches.subcommand() else {
+        return Err(Mistake::Word("", "a command"));
+    };
+    Ok(Request {
+        file: matches.get_str("FILE").unwrap_or(""),
+        kind: kind_of(matches)?,
+        line_str: matches.get_str("line-str"),
+        strings: matches.get_str("str"),
+        command: command_of(alloc, name, matches)?,
+    })
+}
+
+/// How the file is read.
+fn kind_of<'w>(matches: &ArgMatches<'w>) -> Result<Kind, Mistake<'w>> {
+    let Some(order) = matches.get_str("raw") else {
+        return Ok(Kind::Elf);
+    };
+    let Some(order) = parse_order(order) else {
+        return Err(Mistake::Word(order, "an order of bytes, little or big"));
+    };
+    let address_size = match matches.get_str("address-size") {
+        None => AddressSize::Eight,
+        Some(size) => match parse_size(size) {
+            Some(size) => size,
+            None => return Err(Mistake::Word(size, "an address size: 1, 2, 4 or 8")),
+        },
+    };
+    Ok(Kind::Raw(Notation {
+        order,
+        address_size,
+    }))
+}
+
+/// The command of a name.
+fn command_of<'w>(
+    alloc: Global,
+    name: &'w str,
+    matches: &ArgMatches<'w>,
+) -> Result<Command<'w>, Mistake<'w>> {
+    match name {
+        "where" => Ok(Command::Where {
+            addresses: addresses_of(alloc, matches)?,
+            form: form_of(matches),
+        }),
+        "at" => target_of(matches),
+        "units" => Ok(Command::Units),
+        "files" => Ok(Command::Files(units_of(matches)?)),
+        "rows" => Ok(Command::Rows {
+            units: units_of(matches)?,
+            form: form_of(matches),
+        }),
+        "check" => Ok(Command::Check),
+        _ => Err(Mistake::Word(name, "a command")),
+    }
+}
+
+/// The addresses that are named.
+fn addresses_of<'w>(alloc: Global, matches: &ArgMatches<'w>) -> Result<Vec<u64>, Mistake<'w>> {
+    let mut addresses = Vec::new(alloc);
+    for word in matches.get_strs("ADDRESS").unwrap_or(&[]) {
+        match parse_address(word) {
+            Some(address) => addresses.push(address).map_err(AllocError::from)?,
+            None => {
+                return Err(Mistake::Word(
+                    word,
+                    "an address, up to 16 hexadecimal digits with or without 0x",
+                ));
+            }
+        }
+    }
+    Ok(addresses)
+}
+
+/// The line of a path that is named.
+fn target_of<'w>(matches: &ArgMatches<'w>) -> Result<Command<'w>, Mistake<'w>> {
+    let word = matches.get_str("PATH:LINE").unwrap_or("");
+    let mistake = Mistake::Word(word, "a path, a colon and a line");
+    let Some((path, line)) = word.rsplit_once(':') else {
+        return Err(mistake);
+    };
+    match line.parse::<u64>() {
+        Ok(line) if !path.is_empty() => Ok(Command::At { path, line }),
+        _ => Err(mistake),
+    }
+}
+
+/// The unit that is named, or all of them.
+fn units_of<'w>(matches: &ArgMatches<'w>) -> Result<UnitChoice, Mistake<'w>> {
+    let Some(word) = matches.get_str("UNIT") else {
+        return Ok(UnitChoice::All);
+    };
+    match parse_offset(word) {
+        Some(offset) => Ok(UnitChoice::At(offset)),
+        None => Err(Mistake::Word(word, "an offset, decimal or hexadecimal after 0x")),
+    }
+}
+
+/// How the output is written. Only the command `rows` has whole paths.
+fn form_of(matches: &ArgMatches<'_>) -> Form {
+    if matches.get_flag("json") {
+        Form::Json
+    } else if matches.get_flag("whole-paths") {
+        Form::WholePaths
+    } else {
+        Form::Text
+    }
+}

@@ -1,0 +1,63 @@
+//! The program `lines`, as a command of a row.
+
+use crate::run::print_errors;
+use clap::Error;
+use lines_commands::{Files, run};
+use std::alloc::{AllocError, Global};
+use std::io::Write;
+
+/// Runs the program `lines`, by its words, of which the first is its name. Its file is the input of the row, and a file of
+/// texts is a part that a word names by `@`. Standard input is empty. Answers the status of the program.
+pub fn run_lines<'r>(
+    alloc: Global,
+    words: &[&str],
+    section: &'r [u8],
+    named: &'r [Vec<u8>],
+    out: &mut Vec<u8>,
+) -> Result<u8, AllocError> {
+    let mut err = Vec::new(alloc);
+    let status = match lines_words::parse(alloc, words) {
+        Ok(request) => {
+            let files = Files {
+                file: section,
+                line_str: part_of(words, named, request.line_str),
+                strings: part_of(words, named, request.strings),
+            };
+            let mut input: &[u8] = &[];
+            match run(alloc, &request, files, &mut input, out, &mut err) {
+                Ok(status) => status,
+                Err(_) => return Err(AllocError),
+            }
+        }
+        Err(error) if error.use_stderr() => {
+            print(&error, &mut err)?;
+            2
+        }
+        Err(error) => {
+            print(&error, out)?;
+            0
+        }
+    };
+    print_errors(&err, out)?;
+    Ok(status)
+}
+
+/// Prints what is said of words that ask for nothing, or of help.
+fn print(error: &Error, out: &mut Vec<u8>) -> Result<(), AllocError> {
+    match write!(out, "{error}") {
+        Ok(()) => Ok(()),
+        Err(_) => Err(AllocError),
+    }
+}
+
+/// The part that a word names: parts stand in the order of the words that name them.
+fn part_of<'n>(words: &[&str], named: &'n [Vec<u8>], name: Option<&str>) -> &'n [u8] {
+    let Some(name) = name else {
+        return &[];
+    };
+    let mut parts = words.iter().filter(|word| word.starts_with('@'));
+    match parts.position(|word| *word == name) {
+        Some(place) => named.get(place).map_or(&[], |part| part.as_slice()),
+        None => &[],
+    }
+}
