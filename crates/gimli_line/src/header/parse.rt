@@ -1,4 +1,4 @@
-//! The header of a unit, part by part.
+//! The header of a unit, part by part, in the order of its fields (DWARF 5, 6.2.4; DWARF 2 to 4, 6.2.4).
 
 ghost use Rattle.std.specs.Prelude.{◌≡◌, ◌<◌, IfOk, IsTrue, option_map};
 ghost use Rattle.gimli_core.specs.Notation.{noted};
@@ -30,7 +30,8 @@ fn parse_positive<R: Reader>(input: &mut R, error: Error) -> Result<u8>
     Ok(n)
 }
 
-/// Takes a version, from 2 to 5. Refused by `UnknownVersion` at any other.
+/// Takes a version, from 2 to 5: the versions of the line table, which are those of DWARF (DWARF 5, appendix F).
+/// Refused by `UnknownVersion` at any other.
 #[tactic(auto, unfolding(crate::specs::header::HeaderReading::version_at))]
 fn parse_version<R: Reader>(input: &mut R) -> Result<u16>
     ensures read { (result, R.bytes input.new) ≡ version_at (R.big input.old) (R.bytes input.old) }
@@ -84,7 +85,8 @@ fn parse_line_encoding<R: Reader>(input: &mut R, version: u16) -> Result<LineEnc
     })
 }
 
-/// The maximum of operations of an instruction.
+/// The maximum of operations of an instruction: there from version 4 on, for machines whose instructions are bundles
+/// of operations.
 fn parse_operations<R: Reader>(input: &mut R, version: u16) -> Result<u8>
     ensures read { (result, R.bytes input.new) ≡ operations_at version (R.bytes input.old) }
     ensures order { R.big input.new ≡ R.big input.old }
@@ -166,7 +168,8 @@ where
     ghost use Rattle.gimli_line.specs.header.Opening.{opening_seen};
     ghost use Rattle.gimli_line.specs.header.File.{file_seen};
 
-    /// Takes the header of a unit, and its program.
+    /// Takes the header of a unit, and its program. The unit length says where the unit ends, and the header length
+    /// where the program begins: what a later version appends to a header is passed over so.
     #[tactic(auto, unfolding(crate::specs::header::HeaderReading::header_at))]
     pub(crate) fn parse(
         alloc: Global,

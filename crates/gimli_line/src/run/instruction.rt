@@ -1,4 +1,4 @@
-//! The instructions of a line program, one by one.
+//! The instructions of a line program, one by one (DWARF 5, 6.2.3 and 6.2.5).
 
 ghost use Rattle.std.specs.Prelude.{◌≡◌, ◌-◌, IfOk, IfSome, slice_index};
 ghost use Rattle.gimli_core.specs.Reading.{seen, times_at, unsigned_at};
@@ -17,7 +17,7 @@ where
     R: Reader<Offset = Offset>,
     Offset: ReaderOffset,
 {
-    /// An opcode from the opcode base on: advances address, op_index and line together, and makes a row.
+    /// An opcode from the opcode base on: advances address, op_index and line together, and makes a row (6.2.5.1).
     Special(u8),
     /// Makes a row.
     Copy,
@@ -29,7 +29,7 @@ where
     SetFile(u64),
     /// Sets the column; 0 is the left edge of the line.
     SetColumn(u64),
-    /// Turns whether rows begin a statement.
+    /// Toggles is_stmt.
     NegateStatement,
     /// The next row begins a basic block.
     SetBasicBlock,
@@ -43,7 +43,8 @@ where
     SetEpilogueBegin,
     /// Sets the instruction set.
     SetIsa(u64),
-    /// A standard opcode that isn't known, without operands.
+    /// A standard opcode that isn't known, without operands. The header counts the operands of each, so that a
+    /// reader can go past those of a later version (6.2.4, standard_opcode_lengths).
     UnknownStandard0(DwLns),
     /// A standard opcode that isn't known, with one operand.
     UnknownStandard1(DwLns, u64),
@@ -105,8 +106,8 @@ where
         Self::parse_standard(header, DwLns(opcode), input)
     }
 
-    /// Takes what stands after the zero byte of an extended instruction. Surplus bytes within its length are
-    /// skipped.
+    /// Takes what stands after the zero byte of an extended instruction (DWARF 5, 6.2.5.3): a length, the opcode, and
+    /// its operands. Surplus bytes within its length are skipped.
     #[tactic(auto, unfolding(crate::specs::run::InstructionReading::extended_at))]
     fn parse_extended(header: &LineProgramHeader<R, Offset>, input: &mut R) -> Result<Self>
         ensures read { (seen (ins_seen R.bytes Offset.number) result, R.bytes input.new)
@@ -284,7 +285,7 @@ impl<R: Reader> LineInstructions<R> {
         LineInstructions { input: self.input }
     }
 
-    /// Lets all instructions go.
+    /// Discards the remaining instructions.
     pub(crate) fn clear(&mut self)
         ensures { self.new ≡ record self.old { bytes = [] } }
     {

@@ -1,4 +1,4 @@
-//! Rows, and what each instruction does to the registers.
+//! Rows, and what each instruction does to the registers: the state machine of DWARF 5, 6.2.2.
 
 ghost use Rattle.std.specs.Prelude.{◌≡◌, ◌<◌, ◌≤◌, ◌+◌, Bool, true, false, IfErr, IfOk, IfSome, IsNone, MatchOption, OnErr, OnOk, option_map};
 ghost use Rattle.std.specs.Int.NonZero.{non_zero_u64_get};
@@ -12,7 +12,7 @@ use crate::run::program::LineProgram;
 use gimli_core::{DwLns, Error, Reader, ReaderAddress, ReaderOffset, Result, constants};
 use std::num::NonZeroU64;
 
-/// A row, or the registers on the way to one.
+/// A row, or the registers on the way to one (DWARF 5, 6.2.2).
 #[derive(Clone, Copy, Debug, PartialEq, Eq)]
 pub struct LineRow {
     /// The last set address hides what follows it.
@@ -53,7 +53,8 @@ impl LineRow {
     ghost use Rattle.gimli_line.specs.run.Row.{column_number};
     ghost use Rattle.gimli_line.specs.run.Registers.{advanced_line};
 
-    /// The registers at the start of a sequence.
+    /// The registers at the start of a sequence (DWARF 5, 6.2.2, table 6.4): file and line are 1, is_stmt is the
+    /// default of the header, all others are 0 or false.
     pub fn new<R: Reader>(header: &LineProgramHeader<R>) -> Self
         ensures { result ≡ initial header.now.meaning.parameters }
     {
@@ -328,8 +329,9 @@ impl LineRow {
         Some(false)
     }
 
-    /// Makes the registers ready for what follows a row: those of a row alone are cleared, and after an end all
-    /// start anew.
+    /// Makes the registers ready for what follows a row: discriminator, basic_block, prologue_end and epilogue_begin
+    /// are cleared (DWARF 5, 6.2.5.1 and `DW_LNS_copy` in 6.2.5.2), and after an end all start anew
+    /// (`DW_LNE_end_sequence` in 6.2.5.3).
     pub fn reset<R: Reader>(&mut self, header: &LineProgramHeader<R>)
         ensures { self.new ≡ reset_row header.now.meaning.parameters self.old }
     {
@@ -353,7 +355,8 @@ impl LineRow {
         self.op_index = 0;
     }
 
-    /// Moves the line; one that would go below 0 stops there.
+    /// Advances the line; one that would go below 0 stops there. The standard says nothing of such a line: gimli
+    /// and this port keep the row, and line 0 stands for no line.
     fn apply_line_advance(&mut self, line_advance: i64)
         ensures { self.new ≡ record self.old { line = advanced_line line_advance self.old.line } }
     {
@@ -364,7 +367,8 @@ impl LineRow {
         }
     }
 
-    /// Moves the address and op_index by so many operations.
+    /// Advances address and op_index by so many operations: the operation advance of DWARF 5, 6.2.5.1. Without
+    /// several operations in an instruction op_index is 0 and the address moves by whole instructions.
     pub(super) fn apply_operation_advance(
         &mut self,
         operation_advance: u64,
@@ -409,7 +413,8 @@ impl LineRow {
         Ok(())
     }
 
-    /// Adds bytes to the address, from operation 0 on.
+    /// Adds bytes to the address, from operation 0 on (`DW_LNS_fixed_advance_pc` in DWARF 5, 6.2.5.2). The minimum
+    /// instruction length has no part in it: it is for assemblers that can't know the lengths of instructions.
     fn exec_fixed_add_pc(&mut self, advance: u16, parameters: &Parameters) -> Result<()>
         ensures step { self.new ≡ stepped parameters.now (LineInstruction.FixedAddPc advance) self.old }
         ensures fits { OnOk result (is_refused parameters.now (LineInstruction.FixedAddPc advance) self.old ≡ false) }
@@ -424,7 +429,7 @@ impl LineRow {
         Ok(())
     }
 
-    /// Moves on as special opcode 255 does, but for the line.
+    /// Advances address and op_index as special opcode 255 does (`DW_LNS_const_add_pc` in DWARF 5, 6.2.5.2).
     pub(super) fn exec_const_add_pc(&mut self, parameters: &Parameters) -> Result<()>
         ensures step { self.new ≡ stepped parameters.now LineInstruction.ConstAddPc self.old }
         ensures fits { OnOk result (is_refused parameters.now LineInstruction.ConstAddPc self.old ≡ false) }
@@ -436,7 +441,8 @@ impl LineRow {
         self.apply_operation_advance(u64::from(operation_advance), parameters)
     }
 
-    /// Moves the line, the address and op_index at once.
+    /// Advances line, address and op_index at once, by the formula of DWARF 5, 6.2.5.1: the opcode above the opcode
+    /// base counts lines from line_base on, and an operation for each line_range of it.
     #[inline(always)]
     pub(crate) fn exec_special_opcode(&mut self, opcode: u8, parameters: &Parameters) -> Result<()>
         requires { parameters.now.opcode_base ≤ opcode }
@@ -454,7 +460,10 @@ impl LineRow {
     }
 
     /// Sets the address, from operation 0 on; or hides what follows, where the address is below the one before it,
-    /// or stands for nothing.
+    /// or stands for nothing (a tombstone). A linker that drops a function leaves its rows, and puts a value in the
+    /// place of their address: all ones, as LLVM's does and DWARF 6 asks; all ones less one, where all ones has a
+    /// meaning of its own; or 0 and what was added to it, as older ones do. Addresses of a sequence only grow
+    /// (DWARF 5, 6.2.5), so one that is below the last within a sequence is of a dropped function too.
     pub(super) fn exec_set_address(&mut self, address: u64, parameters: &Parameters)
         ensures { self.new ≡ stepped parameters.now (LineInstruction.SetAddress address) self.old }
     {
