@@ -258,7 +258,7 @@ fn of_write(error: Error) -> ConvertResult<()> {
     Ok(())
 }
 
-/// A refusal of reading or writing is the converter's own variant of it, and want of memory the error's own.
+/// A refusal of reading or writing is the converter's own variant of it, and `OutOfMemory` the error's own.
 #[test]
 fn errors_turned_into_others(rt: HostRuntime) {
     let read = ReadError::LineRangeZero;

@@ -83,7 +83,7 @@ impl Writer for ArraySection {
     }
 }
 
-/// Puts bytes over those that are there from an offset on.
+/// Writes bytes over those that are there from an offset on.
 fn overwrite(section: &mut [u8], offset: usize, bytes: &[u8])
     requires { offset + length bytes.now ≤ length section.old }
     ensures { section.new ≡ take offset section.old ++ bytes.now

@@ -138,9 +138,10 @@ pub fn items_define_no_file()
         All (λ i. defines_file i ≡ false) (written_items here items) }
 {}
 
-/// So the rows of a written unit take no memory: where the program of a header is the instructions of a built one, as
-/// `ReadsBack` has it, nothing of it defines a file at its start; nor does what is left once the run has gone on; and
-/// `next_row` is refused by `AddressOverflow` alone then, never for want of memory.
+/// So the rows of a written unit take no memory: where the program of a header is the instructions
+/// of a built one, as `ReadsBack` has it, nothing of it defines a file at its start; nor does what
+/// is left once the run has gone on; and `next_row` is refused by `AddressOverflow` alone then,
+/// never by `OutOfMemory`.
 pub fn written_rows_take_no_memory()
     ensures start { (notation : Notation) (h : Header) (p : Built) → DecodesAs notation h p →
         (appends : Bool) (offset : ℕ) (orders : HeaderOrders)

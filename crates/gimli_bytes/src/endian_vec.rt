@@ -71,7 +71,7 @@ impl<E: Endianity> EndianVec<E> {
         Ok(())
     }
 
-    /// A copy, which is equal to the section. Refused for want of memory alone.
+    /// A copy, which is equal to the section. Fails only with `OutOfMemory`.
     pub fn clone(&self) -> Result<EndianVec<E>>
         ensures ok { IfOk result (λ copy. copy ≡ self.now) }
         ensures memory { IfErr result (λ e. e ≡ Error.OutOfMemory) }

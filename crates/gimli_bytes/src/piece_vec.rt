@@ -61,7 +61,7 @@ fn new_pieces(alloc: Global, count: usize, size: usize) -> Result<Vec<Piece>>
     Ok(pieces)
 }
 
-// Puts bytes over those that stand from a place on, in as many pieces as they reach.
+// Writes bytes over those that stand from a place on, in as many pieces as they reach.
 fn put(pieces: &mut Vec<Piece>, size: usize, at: usize, bytes: &[u8])
     requires size { 1 ≤ size }
     requires sizes { All (λ piece. length piece ≡ size) pieces.old.items }
@@ -137,8 +137,9 @@ impl<E: Endianity, const N: usize> PieceVec<E, N> {
         }
     }
 
-    /// Appends bytes, as the writer's call does. Refused for want of memory alone, and then nothing is changed; a length past the
-    /// greatest `usize` counts as a refused growth. Bytes for which the last piece has room are not refused, nor is an empty slice.
+    /// Appends bytes, as the writer's call does. Fails only with `OutOfMemory`, and then nothing is
+    /// changed; a length past the greatest `usize` counts as a refused growth. Bytes for which the
+    /// last piece has room are not refused, nor is an empty slice.
     pub fn write(&mut self, bytes: &[u8]) -> Result<()>
         ensures ok { OnOk result
             (self.new ≡ record self.old { bytes = self.old.bytes ++ bytes.now }) }
@@ -159,7 +160,7 @@ impl<E: Endianity, const N: usize> PieceVec<E, N> {
         Ok(())
     }
 
-    /// The bytes of all pieces, joined. Refused for want of memory alone.
+    /// The bytes of all pieces, joined. Fails only with `OutOfMemory`.
     pub fn into_vec(self) -> Result<Vec<u8>>
         ensures ok { IfOk result (λ vec. vec.items ≡ self.bytes) }
         ensures memory { IfErr result (λ e. e ≡ Error.OutOfMemory) }

@@ -139,9 +139,9 @@ impl StringTable {
         }
     }
 
-    /// Puts a text last, and answers its id; a text that is there has its old id, nothing changes, and it is
-    /// never refused. Others are refused for want of memory alone, as is a table of more bytes than `usize`
-    /// can count; then the table is as it was. Requires a text without zero bytes.
+    /// Appends a text, and returns its id; a text that is there has its old id, nothing changes,
+    /// and it is never refused. Others fail only with `OutOfMemory`, as is a table of more bytes
+    /// than `usize` can count; then the table is as it was. Requires a text without zero bytes.
     pub fn add(&mut self, text: &[u8]) -> Result<StringId>
         requires { All (λ b. b ≢ 0) text.now }
         ensures ok { OnOk result (self.new ≡ with_text self.old text.now) }
@@ -232,9 +232,9 @@ impl LineStringTable {
         self.texts.strings.allocator()
     }
 
-    /// Puts a text last, and answers its id; a text that is there has its old id, nothing changes, and it is
-    /// never refused. Others are refused for want of memory alone, as is a table of more bytes than `usize`
-    /// can count; then the table is as it was. Requires a text without zero bytes.
+    /// Appends a text, and returns its id; a text that is there has its old id, nothing changes,
+    /// and it is never refused. Others fail only with `OutOfMemory`, as is a table of more bytes
+    /// than `usize` can count; then the table is as it was. Requires a text without zero bytes.
     pub fn add(&mut self, text: &[u8]) -> Result<LineStringId>
         requires { All (λ b. b ≢ 0) text.now }
         ensures ok { OnOk result (self.new ≡ with_text self.old text.now) }

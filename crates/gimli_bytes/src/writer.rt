@@ -27,7 +27,7 @@ pub trait Writer {
     /// Whether a writer of this type keeps exactly the bytes given to it.
     ghost keeps_bytes: { Bool };
 
-    /// Whether a writer of this type refuses a `write` for want of memory alone, a `write_at` for
+    /// Whether a writer of this type refuses a `write` only with `OutOfMemory`, a `write_at` for
     /// its two bounds alone, and any other call for what is said there, or as the `write` or
     /// `write_at` under it.
     ghost fails_for_memory_alone: { Bool };

@@ -74,7 +74,7 @@ pub trait Endianity: Copy + Eq {
         }
     }
 
-    /// Puts a number into the first two bytes. Requires a slice of two bytes at least.
+    /// Writes a number over the first two bytes. Requires a slice of two bytes at least.
     fn write_u16(self, buf: &mut [u8], n: u16)
         requires { 2 ≤ length buf.old }
         ensures { buf.new ≡ number_bytes (big self) 2 n ++ drop 2 buf.old }
@@ -86,7 +86,7 @@ pub trait Endianity: Copy + Eq {
         }
     }
 
-    /// Puts a number into the first four bytes. Requires a slice of four bytes at least.
+    /// Writes a number over the first four bytes. Requires a slice of four bytes at least.
     fn write_u32(self, buf: &mut [u8], n: u32)
         requires { 4 ≤ length buf.old }
         ensures { buf.new ≡ number_bytes (big self) 4 n ++ drop 4 buf.old }
@@ -98,7 +98,7 @@ pub trait Endianity: Copy + Eq {
         }
     }
 
-    /// Puts a number into the first eight bytes. Requires a slice of eight bytes at least.
+    /// Writes a number over the first eight bytes. Requires a slice of eight bytes at least.
     fn write_u64(self, buf: &mut [u8], n: u64)
         requires { 8 ≤ length buf.old }
         ensures { buf.new ≡ number_bytes (big self) 8 n ++ drop 8 buf.old }
@@ -110,7 +110,7 @@ pub trait Endianity: Copy + Eq {
         }
     }
 
-    /// Puts a number into the first sixteen bytes. Requires a slice of sixteen bytes at least.
+    /// Writes a number over the first sixteen bytes. Requires a slice of sixteen bytes at least.
     fn write_u128(self, buf: &mut [u8], n: u128)
         requires { 16 ≤ length buf.old }
         ensures { buf.new ≡ number_bytes (big self) 16 n ++ drop 16 buf.old }

@@ -166,8 +166,8 @@ pub trait Reader: Copy {
         Ok(self.endian().read_u64(&buf))
     }
 
-    /// Takes the bytes before the first zero byte, as a reader of their own, and lets the zero byte go. Refused by
-    /// `UnexpectedEof` where there is none.
+    /// Takes the bytes before the first zero byte, as a reader of their own, and discards the zero
+    /// byte. Refused by `UnexpectedEof` where there is none.
     fn read_null_terminated_slice(&mut self) -> Result<Self>
         ensures read { (seen bytes result, bytes self.new) ≡ text_at (bytes self.old) }
         ensures order { big self.new ≡ big self.old }

@@ -98,7 +98,7 @@ impl From<AllocError> for ConvertError {
     }
 }
 
-/// A refusal of reading. Want of memory has one name, whoever met it.
+/// A refusal of reading. `OutOfMemory` has one name, whoever met it.
 pub(crate) fn from_read(error: ReadError) -> ConvertError
     ensures memory { error ≡ ReadError.OutOfMemory → result ≡ ConvertError.OutOfMemory }
     ensures other { error ≢ ReadError.OutOfMemory → result ≡ ConvertError.Read error }
@@ -109,7 +109,7 @@ pub(crate) fn from_read(error: ReadError) -> ConvertError
     }
 }
 
-/// A refusal of writing. Want of memory has one name, whoever met it.
+/// A refusal of writing. `OutOfMemory` has one name, whoever met it.
 pub(crate) fn from_write(error: Error) -> ConvertError
     ensures memory { error ≡ Error.OutOfMemory → result ≡ ConvertError.OutOfMemory }
     ensures other { error ≢ Error.OutOfMemory → result ≡ ConvertError.Write error }

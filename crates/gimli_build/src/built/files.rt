@@ -162,7 +162,7 @@ impl FileTable {
         }
     }
 
-    /// The tables of a new program. Refused for want of memory alone.
+    /// The tables of a new program. Fails only with `OutOfMemory`.
     pub(crate) fn start(
         alloc: Global,
         version: u16,
@@ -189,7 +189,7 @@ impl FileTable {
         Ok(tables)
     }
 
-    /// Puts what a new program is handed into empty tables. Refused for want of memory alone.
+    /// Adds what a new program is handed to empty tables. Fails only with `OutOfMemory`.
     fn add_first(
         &mut self,
         version: u16,
@@ -218,8 +218,8 @@ impl FileTable {
         Ok(())
     }
 
-    /// Puts a directory last, and answers its id; one that is there has its old id, and nothing changes.
-    /// Refused for want of memory alone; then nothing changes either.
+    /// Appends a directory, and returns its id; one that is there has its old id, and nothing
+    /// changes. Fails only with `OutOfMemory`; then nothing changes either.
     pub(crate) fn add_directory(&mut self, directory: LineString) -> Result<DirectoryId>
         requires { HasNoZero (line_text directory) }
         ensures ok { OnOk result (self.new ≡ record self.old {
@@ -248,8 +248,8 @@ impl FileTable {
         self.directories.get_index(id.0).unwrap()
     }
 
-    /// Puts a file last, with what is known of it, and answers its id; one that is there has its old id,
-    /// and takes what is known now. Refused for want of memory alone; then nothing changes.
+    /// Appends a file with what is known of it, and returns its id; one that is there has its old
+    /// id, and takes what is known now. Fails only with `OutOfMemory`; then nothing changes.
     fn set_file(
         &mut self,
         path: LineString,
@@ -270,8 +270,8 @@ impl FileTable {
         Ok(FileId(index))
     }
 
-    /// Puts a file last, and answers its id; one that is there has its old id, and nothing changes.
-    /// Refused for want of memory alone; then nothing changes either.
+    /// Appends a file, and returns its id; one that is there has its old id, and nothing changes.
+    /// Fails only with `OutOfMemory`; then nothing changes either.
     fn keep_file(&mut self, path: LineString, directory: DirectoryId) -> Result<FileId>
         requires text { HasNoZero (line_text path) }
         requires within { directory < length self.old.directories }
@@ -291,8 +291,8 @@ impl FileTable {
         Ok(FileId(index))
     }
 
-    /// Puts a file last, and answers its id; one that is there has its old id, and takes what is handed of
-    /// it. Refused for want of memory alone; then nothing changes.
+    /// Appends a file, and returns its id; one that is there has its old id, and takes what is
+    /// handed of it. Fails only with `OutOfMemory`; then nothing changes.
     pub(crate) fn add_file(
         &mut self,
         path: LineString,

@@ -61,10 +61,10 @@ impl LineProgram {
         is_address_size(encoding.address_size) && can_encode(line_encoding)
     }
 
-    /// A program without a row. The working directory is directory 0. From version 5 on the source file is
-    /// file 0, in the directory that is handed for it, else in the working directory; up to version 4 it is
-    /// not used. Requires encodings that `accepts` answers with true, and texts without a zero byte. Refused for
-    /// want of memory alone.
+    /// A program without a row. The working directory is directory 0. From version 5 on the source
+    /// file is file 0, in the directory that is handed for it, else in the working directory; up to
+    /// version 4 it is not used. Requires encodings that `accepts` answers with true, and texts
+    /// without a zero byte. Fails only with `OutOfMemory`.
     pub fn new(
         alloc: Global,
         encoding: Encoding,
@@ -106,7 +106,7 @@ impl LineProgram {
         })
     }
 
-    /// A program that is none: it isn't to be built, nor written.
+    /// A placeholder where no program is wanted: no call may build on it, and it can't be written.
     pub fn none(alloc: Global) -> LineProgram
         ensures { result ≡ no_program }
     {
@@ -192,9 +192,9 @@ impl LineProgram {
         DirectoryId::working()
     }
 
-    /// Puts a directory last, and answers its id; one that is there has its old id, and nothing changes.
-    /// Requires a program that isn't none, a text without a zero byte, and up to version 4 one that isn't
-    /// empty. Refused for want of memory alone; then nothing changes either.
+    /// Appends a directory, and returns its id; one that is there has its old id, and nothing
+    /// changes. Requires a program that isn't a placeholder, a text without a zero byte, and up to
+    /// version 4 one that isn't empty. Fails only with `OutOfMemory`; then nothing changes either.
     pub fn add_directory(&mut self, directory: LineString) -> Result<DirectoryId>
         requires program { self.old.is_none ≡ false }
         requires text { HasNoZero (line_text directory) }
@@ -229,10 +229,10 @@ impl LineProgram {
         self.tables.get_directory(id)
     }
 
-    /// Puts a file last, and answers its id; one that is there has its old id, and takes what is handed of
-    /// it, if anything is. No other file changes. Requires a program that isn't none, a text without a zero byte,
-    /// up to version 4 one that isn't empty, and the id of a directory that is there. Refused for want of
-    /// memory alone; then nothing changes.
+    /// Appends a file, and returns its id; one that is there has its old id, and takes what is
+    /// handed of it, if anything is. No other file changes. Requires a program that isn't a
+    /// placeholder, a text without a zero byte, up to version 4 one that isn't empty, and the id of
+    /// a directory that is there. Fails only with `OutOfMemory`; then nothing changes.
     pub fn add_file(
         &mut self,
         file: LineString,
@@ -304,8 +304,9 @@ impl LineProgram {
     ghost use Rattle.gimli_build.specs.Tables.{keys_of, AreTables};
     ghost use Rattle.gimli_build.specs.LentRow.{lends_row};
 
-    /// Begins a sequence, and sets its address, if one is given. The current row stays. Requires a program that
-    /// isn't none, and that no sequence has begun. Refused for want of memory alone; then nothing changes.
+    /// Begins a sequence, and sets its address, if one is given. The current row stays. Requires a
+    /// program that isn't a placeholder, and that no sequence has begun. Fails only with
+    /// `OutOfMemory`; then nothing changes.
     pub fn begin_sequence(&mut self, address: Option<Address>) -> Result<()>
         requires program { self.old.is_none ≡ false }
         requires outside { self.old.in_sequence ≡ false }
@@ -322,10 +323,10 @@ impl LineProgram {
         }
     }
 
-    /// Sets the address that offsets count from. In a sequence the offset and op_index of the current row
-    /// become 0, and so do those that the next row is compared with; otherwise a sequence begins, and the
-    /// current row stays. Requires a program that isn't none. Refused for want of memory alone; then nothing
-    /// changes.
+    /// Sets the address that offsets count from. In a sequence the offset and op_index of the
+    /// current row become 0, and so do those that the next row is compared with; otherwise a
+    /// sequence begins, and the current row stays. Requires a program that isn't a placeholder.
+    /// Fails only with `OutOfMemory`; then nothing changes.
     pub fn set_address(&mut self, address: Address) -> Result<()>
         requires { self.old.is_none ≡ false }
         ensures ok { OnOk result (self.new ≡ after_address address self.old) }
@@ -373,9 +374,10 @@ impl LineProgram {
         ) && row.line <= i64::MAX as u64
     }
 
-    /// Builds the current row, and begins a sequence if none has. Then its discriminator, `basic_block`,
-    /// `prologue_end` and `epilogue_begin` are cleared. Requires a program that isn't none, and what
-    /// `can_generate_row` tells. Refused for want of memory alone; then nothing changes.
+    /// Builds the current row, and begins a sequence if none has. Then its discriminator,
+    /// `basic_block`, `prologue_end` and `epilogue_begin` are cleared. Requires a program that
+    /// isn't a placeholder, and what `can_generate_row` tells. Fails only with `OutOfMemory`; then
+    /// nothing changes.
     pub fn generate_row(&mut self) -> Result<()>
         requires program { self.old.is_none ≡ false }
         requires can { CanGenerateRow self.old }
@@ -405,9 +407,9 @@ impl LineProgram {
         )
     }
 
-    /// Ends a sequence at this offset, in bytes, and the current op_index; the current row becomes the
-    /// initial one. Requires a program that isn't none, and what `can_end_sequence` tells. Refused for want of
-    /// memory alone; then nothing changes.
+    /// Ends a sequence at this offset, in bytes, and the current op_index; the current row becomes
+    /// the initial one. Requires a program that isn't a placeholder, and what `can_end_sequence`
+    /// tells. Fails only with `OutOfMemory`; then nothing changes.
     pub fn end_sequence(&mut self, address_offset: u64) -> Result<()>
         requires program { self.old.is_none ≡ false }
         requires can { CanEndSequence self.old address_offset }

@@ -20,9 +20,10 @@ impl LineString {
     ghost use Rattle.gimli_bytes.specs.Texts.{KeepsTexts};
     ghost use Rattle.gimli_build.specs.Version5Tables.{text_form};
 
-    /// Makes a text of bytes, in the form that is usual for programs of this encoding: up to version 4 a copy
-    /// of the bytes, in the later ones a text of the table, to which it is added. Requires bytes without a zero
-    /// byte. Refused for want of memory alone; then the table is as it was.
+    /// Makes a text of bytes, in the form that is usual for programs of this encoding: up to
+    /// version 4 a copy of the bytes, in the later ones a text of the table, to which it is added.
+    /// Requires bytes without a zero byte. Fails only with `OutOfMemory`; then the table is as it
+    /// was.
     pub fn new(
         text: &[u8],
         encoding: Encoding,

@@ -22,9 +22,9 @@ use crate::bytes::{write_byte, write_section_offset, write_text};
 use gimli_bytes::{Error, LineStringTable, Result, StringTable, Writer};
 use gimli_core::{DwForm, DwLnct, Format, SectionId, constants};
 
-/// Makes the empty text that stands for the source of a file that has none, where sources are written and a file
-/// has none: in the form of the other sources, in whose table it is then. Refused for want of memory alone; then the
-/// tables are as they were.
+/// Makes the empty text that stands for the source of a file that has none, where sources are
+/// written and a file has none: in the form of the other sources, in whose table it is then. Fails
+/// only with `OutOfMemory`; then the tables are as they were.
 pub(crate) fn add_empty_source(
     program: &LineProgram,
     line_strings: &mut LineStringTable,

@@ -23,20 +23,23 @@ use gimli_core::{DebugLineOffset, Encoding};
 use header::write_header;
 
 impl LineProgram {
-    /// Appends the program's unit, in the program's own version and format, and answers its offset: the length of
-    /// the section before. Requires a program that isn't none, texts that are in these tables, and sources without a
-    /// zero byte. From version 5 on the empty text stands for the source of a file that has none, where sources are
-    /// written; the table of their form has it then.
+    /// Appends the program's unit, in the program's own version and format, and answers its offset:
+    /// the length of the section before. Requires a program that isn't a placeholder, texts that
+    /// are in these tables, and sources without a zero byte. From version 5 on the empty text
+    /// stands for the source of a file that has none, where sources are written; the table of their
+    /// form has it then.
     ///
-    /// Refused by `IncompatibleLineProgramEncoding` where the encoding of the unit that the program is for has
-    /// another address size, or a version below 5 where the program's is 5 or more; nothing is appended then, and
-    /// both tables stay as they are. Refused by `UnsupportedVersion` below version 2 and above version 5, by
-    /// `NeedVersion(4)` where an earlier version has more than one operation in an instruction, by
-    /// `LineStringFormMismatch` for a text of another form than the first directory, path or source from version 5 on,
-    /// and up to version 4 for a path or a directory that isn't in the program itself, but for the working directory,
-    /// which isn't written there; by `ValueTooLarge` for a length or an offset that its word can't hold and an address
-    /// that is too wide, by `InvalidAddress` for a symbol, and by `InitialLengthOverflow` for a unit length that is
-    /// reserved; for want of memory; or as the writer refuses. The old bytes stay a beginning of the section then.
+    /// Refused by `IncompatibleLineProgramEncoding` where the encoding of the unit that the program
+    /// is for has another address size, or a version below 5 where the program's is 5 or more;
+    /// nothing is appended then, and both tables stay as they are. Refused by `UnsupportedVersion`
+    /// below version 2 and above version 5, by `NeedVersion(4)` where an earlier version has more
+    /// than one operation in an instruction, by `LineStringFormMismatch` for a text of another form
+    /// than the first directory, path or source from version 5 on, and up to version 4 for a path
+    /// or a directory that isn't in the program itself, but for the working directory, which isn't
+    /// written there; by `ValueTooLarge` for a length or an offset that its word can't hold and an
+    /// address that is too wide, by `InvalidAddress` for a symbol, and by `InitialLengthOverflow`
+    /// for a unit length that is reserved; by `OutOfMemory`; or as the writer refuses. The old
+    /// bytes stay a beginning of the section then.
     pub fn write<W: Writer>(
         &self,
         w: &mut DebugLine<W>,

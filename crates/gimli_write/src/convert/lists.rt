@@ -23,7 +23,8 @@ use gimli_line::FileEntry;
 use std::alloc::Global;
 use std::marker::Model;
 
-/// The program that is built, and where it has the directories and files of its source. It isn't none.
+/// The program that is built, and where it has the directories and files of its source. It isn't a
+/// placeholder.
 #[derive(Debug, Drop)]
 pub(crate) struct Lists {
     pub(crate) program: LineProgram,
