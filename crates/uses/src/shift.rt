@@ -1,0 +1,119 @@
+//! A unit up to version 4, written in version 5 with each address moved.
+#![tactic(auto)]
+
+ghost use Rattle.std.specs.Prelude.{◌+◌, ◌<◌, ◌^◌, IfOk};
+ghost use Rattle.std.specs.Option.{SomeIff};
+ghost use Rattle.gimli_write.specs.Conditions.{CanWrite};
+
+use anyhow::{Result, bail};
+use gimli_core::{DebugLineOffset, Encoding, EndianSlice, LittleEndian, Reader};
+use gimli_line::{DebugLine, IncompleteLineProgram};
+use gimli_write::{
+    Address, ConvertLineProgram, ConvertResult, EndianVec, LineProgram, LineStringTable, RoundTrip,
+    StringTable, round_trip,
+};
+use std::alloc::Global;
+use std::fmt::Write;
+use std::fs;
+
+/// The unit at an offset of a section, and what its entry in `.debug_info` says.
+#[derive(Clone, Copy)]
+pub struct Unit<'i> {
+    /// The section `.debug_line`.
+    pub section: &'i [u8],
+    /// `DW_AT_stmt_list`.
+    pub offset: usize,
+    /// `DW_AT_comp_dir`.
+    pub directory: Option<&'i [u8]>,
+    /// `DW_AT_name`.
+    pub name: Option<&'i [u8]>,
+}
+
+/// Reads a section from a file, and prints the rows that are read of a unit after it was moved.
+pub fn start(rt: &HostRuntime, words: &[String]) -> Result<()> {
+    let [lines, offset, by, known @ ..] = words else {
+        bail!("usage: shift LINES OFFSET BY [DIRECTORY [NAME]]");
+    };
+    let section = fs::read(rt, lines.as_str())?;
+    let unit = Unit {
+        section: &section,
+        offset: offset.parse::<usize>()?,
+        directory: known.first().map(|text| text.as_bytes()),
+        name: known.get(1).map(|text| text.as_bytes()),
+    };
+    let digits = by.strip_prefix("0x").unwrap_or(by.as_str());
+    let shifted = shift(rt.alloc(), unit, u64::from_str_radix(digits, 16)?)?;
+    let mut text = String::new(rt.alloc());
+    for row in &shifted.rows {
+        let address = row.address();
+        let file = row.file_index();
+        let line = row.line().map_or(0, |line| line.get());
+        let end = if row.end_sequence() { " end" } else { "" };
+        writeln!(text, "{address:#x} file {file} line {line}{end}")?;
+    }
+    print!(rt; "{text}")?;
+    Ok(())
+}
+
+/// What is read of the unit after it was moved and written. From version 5 on the tables of a unit
+/// have its directory and its source file: without a directory it is refused by
+/// `MissingCompilationDirectory`, and without a name by `MissingCompilationName`. An address that
+/// 64 bits don't hold is refused by `InvalidAddress`.
+pub fn shift<'i>(alloc: Global, unit: Unit<'i>, by: u64) -> ConvertResult<RoundTrip> {
+    let directory = unit
+        .directory
+        .map(|text| EndianSlice::new(text, LittleEndian));
+    let name = unit.name.map(|text| EndianSlice::new(text, LittleEndian));
+    let section = DebugLine::new(unit.section, LittleEndian);
+    let source = section.program(alloc, DebugLineOffset(unit.offset), 8, directory, None)?;
+    let no_texts = EndianSlice::new(b"", LittleEndian);
+    let mut strings = StringTable::default(alloc);
+    let mut line_strings = LineStringTable::default(alloc);
+    let program = moved(source, name, no_texts, by, &mut line_strings, &mut strings)?;
+    let mut lines = gimli_write::DebugLine::from(EndianVec::new(alloc, LittleEndian));
+    let encoding = program.encoding();
+    round_trip(
+        &program,
+        &mut lines,
+        encoding,
+        &mut line_strings,
+        &mut strings,
+    )
+}
+
+/// A program in version 5, with each address moved. `no_texts` is a reader of no bytes: up to
+/// version 4 all texts stand in the header.
+fn moved<R: Reader>(
+    source: IncompleteLineProgram<R>,
+    name: Option<R>,
+    no_texts: R,
+    by: u64,
+    line_strings: &mut LineStringTable,
+    strings: &mut StringTable,
+) -> ConvertResult<LineProgram>
+    ensures { IfOk result (λ program. CanWrite program strings.new line_strings.new) }
+{
+    let encoding = Encoding {
+        version: 5,
+        ..source.header().encoding()
+    };
+    let conversion = ConvertLineProgram::new(
+        no_texts,
+        no_texts,
+        source,
+        name,
+        Some(encoding),
+        None,
+        line_strings,
+        strings,
+    )?;
+    let (program, _files) = conversion.convert(|address| address_after(address, by))?;
+    Ok(program)
+}
+
+/// The address so many bytes further on. None where 64 bits don't hold it.
+fn address_after(address: u64, by: u64) -> Option<Address>
+    ensures { SomeIff result (address + by < 2 ^ 64) (Address.Constant (address + by)) }
+{
+    Some(Address::Constant(address.checked_add(by)?))
+}
