@@ -1,4 +1,5 @@
 //! What the line programs of an ELF file are read from.
+#![tactic(auto)]
 
 ghost use Rattle.std.specs.Prelude.{◌≡◌, Err, MatchOption, [], IfOk, IfErr};
 ghost use Rattle.elf_sections.specs.File.{file_at, code_addresses, IsLeast};
