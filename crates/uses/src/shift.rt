@@ -3,7 +3,7 @@
 
 ghost use Rattle.std.specs.Prelude.{◌+◌, ◌<◌, ◌^◌, IfOk};
 ghost use Rattle.std.specs.Option.{SomeIff};
-ghost use Rattle.gimli_write.specs.Conditions.{CanWrite};
+ghost use Rattle.gimli_write.specs.convert.KeptLists.{IsWritable};
 
 use anyhow::{Result, bail};
 use gimli_core::{DebugLineOffset, Encoding, EndianSlice, LittleEndian, Reader};
@@ -91,7 +91,7 @@ fn moved<R: Reader>(
     line_strings: &mut LineStringTable,
     strings: &mut StringTable,
 ) -> ConvertResult<LineProgram>
-    ensures { IfOk result (λ program. CanWrite program strings.new line_strings.new) }
+    ensures { IfOk result (λ program. IsWritable program line_strings.new) }
 {
     let encoding = Encoding {
         version: 5,
@@ -107,6 +107,17 @@ fn moved<R: Reader>(
         line_strings,
         strings,
     )?;
+    converted(conversion, by)
+}
+
+/// What a conversion builds, with each address moved.
+fn converted<R: Reader>(
+    conversion: ConvertLineProgram<'_, '_, R>,
+    by: u64,
+) -> ConvertResult<LineProgram>
+    requires { IsWritable conversion.conversion.lists.program conversion.line_strings.now }
+    ensures { IfOk result (λ program. IsWritable program conversion.exit.0.now) }
+{
     let (program, _files) = conversion.convert(|address| address_after(address, by))?;
     Ok(program)
 }
