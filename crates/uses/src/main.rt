@@ -20,7 +20,6 @@ mod lookup;
 mod make_unit;
 mod numbers;
 mod reading;
-mod sections;
 mod shift;
 mod where_is;
 
