@@ -13,6 +13,13 @@ use gimli_write::{
 use std::alloc::Global;
 use std::fmt::Write;
 
+/// Version 5, with addresses of 8 bytes.
+const ENCODING: Encoding = Encoding {
+    address_size: 8,
+    format: Format::Dwarf32,
+    version: 5,
+};
+
 /// Prints the bytes of a unit, and those of its texts.
 pub fn start(rt: &HostRuntime, words: &[String]) -> Result<()> {
     let [] = words else {
@@ -33,8 +40,7 @@ pub fn make_unit(alloc: Global) -> Result<(EndianVec<LittleEndian>, EndianVec<Li
     let mut line_strings = LineStringTable::default(alloc);
     let program = build(alloc, &mut line_strings)?;
     let mut lines = DebugLine::from(EndianVec::new(alloc, LittleEndian));
-    let encoding = program.encoding();
-    program.write(&mut lines, encoding, &mut line_strings, &mut strings)?;
+    program.write(&mut lines, ENCODING, &mut line_strings, &mut strings)?;
     let mut texts = DebugLineStr::from(EndianVec::new(alloc, LittleEndian));
     line_strings.write(&mut texts)?;
     Ok((lines.0, texts.0))
@@ -44,18 +50,11 @@ pub fn make_unit(alloc: Global) -> Result<(EndianVec<LittleEndian>, EndianVec<Li
 fn build(alloc: Global, line_strings: &mut LineStringTable) -> Result<LineProgram>
     ensures { IfOk result (λ program. CanWrite program [] line_strings.new) }
 {
-    let encoding = Encoding {
-        address_size: 8,
-        format: Format::Dwarf32,
-        version: 5,
+    let mut program = without_rows(alloc, line_strings)?;
+    let Some((file, _, _)) = program.files().next() else {
+        bail!("the program has no file");
     };
-    let directory = LineString::new(b"/w", encoding, line_strings)?;
-    let path = LineString::new(b"a.c", encoding, line_strings)?;
-    let same_path = path.clone()?;
-    let lines = LineEncoding::default();
-    let mut program = LineProgram::new(alloc, encoding, lines, directory, None, path, None)?;
-    let file = program.add_file(same_path, program.default_directory(), None)?;
-    program.begin_sequence(Some(Address::Constant(0x1000)))?;
+    program.set_address(Address::Constant(0x1000))?;
     for (offset, line) in [(0, 3), (4, 4)] {
         let row = program.row();
         row.file = file;
@@ -70,6 +69,17 @@ fn build(alloc: Global, line_strings: &mut LineStringTable) -> Result<LineProgra
         bail!("the sequence can't end here");
     }
     program.end_sequence(9)?;
+    Ok(program)
+}
+
+/// A program whose directory and file are texts of the table.
+fn without_rows(alloc: Global, line_strings: &mut LineStringTable) -> Result<LineProgram>
+    ensures { IfOk result (λ program. CanWrite program [] line_strings.new) }
+{
+    let directory = LineString::new(b"/w", ENCODING, line_strings)?;
+    let path = LineString::new(b"a.c", ENCODING, line_strings)?;
+    let lines = LineEncoding::default();
+    let program = LineProgram::new(alloc, ENCODING, lines, directory, None, path, None)?;
     Ok(program)
 }
 
