@@ -21,10 +21,7 @@ const ENCODING: Encoding = Encoding {
 };
 
 /// Prints the bytes of a unit, and those of its texts.
-pub fn start(rt: &HostRuntime, words: &[String]) -> Result<()> {
-    let [] = words else {
-        bail!("usage: make_unit");
-    };
+pub fn start(rt: &HostRuntime, _words: &[String]) -> Result<()> {
     let (lines, line_strings) = make_unit(rt.alloc())?;
     let mut text = String::new(rt.alloc());
     print_bytes(".debug_line", lines.slice(), &mut text)?;
