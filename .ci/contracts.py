@@ -3,13 +3,17 @@
 
   .ci/contracts.py CRATE     prints the functions of a crate with their clauses
   .ci/contracts.py --write   puts them into each CALLING page, in the place of the text block under `## Contracts`,
-                             and writes docs/API.md
-  .ci/contracts.py --check   says which page differs from its crate, with status 1 if one does
+                             writes docs/API.md, and puts the files that the pages quote whole into them
+  .ci/contracts.py --check   says which page differs from its crate, or from a file that it quotes (`.ci/quotes.py`),
+                             with status 1 if one does
 """
 import glob
 import os
 import re
 import sys
+
+sys.dont_write_bytecode = True
+import quotes
 
 TOP = os.path.join(os.path.dirname(os.path.abspath(__file__)), "..")
 
@@ -226,6 +230,8 @@ def api_differs(write):
 if sys.argv[1] == "--write":
     pages(True)
     api_differs(True)
+    for told in quotes.stale(TOP, True):
+        print(told)
 elif sys.argv[1] == "--check":
     stale = pages(False)
     for crate in stale:
@@ -233,6 +239,9 @@ elif sys.argv[1] == "--check":
     listed = not api_differs(False)
     if not listed:
         print("docs/API.md lists other types and calls than the crates have")
-    sys.exit(0 if listed and not stale else 1)
+    unlike = quotes.stale(TOP, False)
+    for told in unlike:
+        print(told)
+    sys.exit(0 if listed and not stale and not unlike else 1)
 else:
     print(functions(sys.argv[1]))

@@ -1,4 +1,5 @@
 //! From builder calls to bytes.
+#![tactic(auto)]
 
 ghost use Rattle.std.specs.Prelude.{◌≡◌, [], false, IfErr, IfOk};
 ghost use Rattle.gimli_bytes.specs.Written.{Appends};

@@ -1,4 +1,5 @@
 //! All units of a section, their sequences, and where these end.
+#![tactic(auto)]
 
 use anyhow::{Result, bail};
 use gimli_core::{EndianSlice, LittleEndian};

@@ -5,6 +5,8 @@
 //! |---|---|
 //! | `where_is LINES LINE_STRINGS ADDRESS..` | `path:line:column` of each address |
 //! | `ends LINES` | all units of a section, and their sequences |
+//! | `make_unit` | the bytes of a unit of version 5 that it builds, and the rows that are read of them |
+//! | `shift LINES OFFSET BY [DIRECTORY [NAME]]` | the rows of a unit up to version 4 in version 5, each address moved |
 //!
 //! After the word `then` another command may follow. A command that is refused says why, and the
 //! next one is run.
@@ -15,8 +17,10 @@ mod comparing;
 mod converting;
 mod ends;
 mod lookup;
+mod make_unit;
 mod numbers;
 mod reading;
+mod shift;
 mod where_is;
 
 use anyhow::{Result, bail};
@@ -40,6 +44,8 @@ fn run(rt: &HostRuntime, command: &[String]) -> Result<()> {
     match program.as_str() {
         "where_is" => where_is::start(rt, words),
         "ends" => ends::start(rt, words),
+        "make_unit" => make_unit::start(rt, words),
+        "shift" => shift::start(rt, words),
         _ => bail!("no command {program}"),
     }
 }

@@ -1,4 +1,5 @@
 //! Numbers of bytes.
+#![tactic(auto)]
 
 ghost use Rattle.std.specs.Prelude.{◌≡◌, IfOk, length};
 ghost use Rattle.gimli_core.specs.Reading.{seen, unsigned_at};

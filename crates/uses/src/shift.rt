@@ -1,8 +1,9 @@
 //! A unit up to version 4, written in version 5 with each address moved.
+#![tactic(auto)]
 
 ghost use Rattle.std.specs.Prelude.{◌+◌, ◌<◌, ◌^◌, IfOk};
 ghost use Rattle.std.specs.Option.{SomeIff};
-ghost use Rattle.gimli_write.specs.Conditions.{CanWrite};
+ghost use Rattle.gimli_write.specs.convert.KeptLists.{IsWritable};
 
 use anyhow::{Result, bail};
 use gimli_core::{DebugLineOffset, Encoding, EndianSlice, LittleEndian, Reader};
@@ -40,13 +41,15 @@ pub fn start(rt: &HostRuntime, words: &[String]) -> Result<()> {
         directory: known.first().map(|text| text.as_bytes()),
         name: known.get(1).map(|text| text.as_bytes()),
     };
-    let shifted = shift(rt.alloc(), unit, by.parse::<u64>()?)?;
+    let digits = by.strip_prefix("0x").unwrap_or(by.as_str());
+    let shifted = shift(rt.alloc(), unit, u64::from_str_radix(digits, 16)?)?;
     let mut text = String::new(rt.alloc());
     for row in &shifted.rows {
         let address = row.address();
         let file = row.file_index();
         let line = row.line().map_or(0, |line| line.get());
-        writeln!(text, "{address:#x} file {file} line {line}")?;
+        let end = if row.end_sequence() { " end" } else { "" };
+        writeln!(text, "{address:#x} file {file} line {line}{end}")?;
     }
     print!(rt; "{text}")?;
     Ok(())
@@ -88,7 +91,7 @@ fn moved<R: Reader>(
     line_strings: &mut LineStringTable,
     strings: &mut StringTable,
 ) -> ConvertResult<LineProgram>
-    ensures { IfOk result (λ program. CanWrite program strings.new line_strings.new) }
+    ensures { IfOk result (λ program. IsWritable program line_strings.new) }
 {
     let encoding = Encoding {
         version: 5,
@@ -104,6 +107,17 @@ fn moved<R: Reader>(
         line_strings,
         strings,
     )?;
+    converted(conversion, by)
+}
+
+/// What a conversion builds, with each address moved.
+fn converted<R: Reader>(
+    conversion: ConvertLineProgram<'_, '_, R>,
+    by: u64,
+) -> ConvertResult<LineProgram>
+    requires { IsWritable conversion.conversion.lists.program conversion.line_strings.now }
+    ensures { IfOk result (λ program. IsWritable program conversion.exit.0.now) }
+{
     let (program, _files) = conversion.convert(|address| address_after(address, by))?;
     Ok(program)
 }

@@ -1,0 +1,71 @@
+"""Says whether each quote of the pages is the text of its source.
+
+The line before a block of code names the source, as a comment that a reader of the page doesn't see:
+
+  <!-- crates/uses/src/ends.rt -->           the block is the whole file
+  <!-- part of crates/uses/src/main.rt -->   the block stands in the file, line by line, with nothing between
+  <!-- lines of crates.txt -->               each line stands in the file, but one that begins with `my_program`
+
+Before ` -->` may stand ` with NEW for OLD`: the page has NEW where the source has OLD. Code in Rattle, in antt and in C has to
+name its source; a script, a picture and an output needn't.
+"""
+import glob
+import os
+import re
+
+PAGES = ("*.md", "docs/*.md", "crates/*/CALLING.md", "crates/*/data/*.md", "tried/*/README.md")
+CODE = ("rust", "antt", "c", "cpp")
+MARK = re.compile(r"<!-- (part of |lines of |)(\S+)(?: with (\S+) for (\S+))? -->")
+
+
+def blocks(lines):
+    """The blocks of code of a page: where each begins and ends, its language, and its mark."""
+    start = None
+    for i, line in enumerate(lines):
+        if not line.startswith("```"):
+            continue
+        if start is None:
+            start = i + 1
+            continue
+        yield start, i, lines[start - 1][3:].strip(), MARK.fullmatch(lines[start - 2]) if start > 1 else None
+        start = None
+
+
+def is_part(block, source):
+    return bool(block) and any(source[i : i + len(block)] == block for i in range(len(source)))
+
+
+def difference(top, lines, start, end, language, mark):
+    """What is wrong with a quote: a sentence and the lines that belong there, where they are known; None where it is right."""
+    if not mark:
+        return ("names no source", None) if language in CODE else None
+    how, path, new, old = mark.groups()
+    try:
+        text = open(os.path.join(top, path)).read()
+    except OSError:
+        return f"names {path}, which isn't there", None
+    source = (text.replace(old, new) if new else text).rstrip("\n").split("\n")
+    block = lines[start:end]
+    if how == "part of ":
+        return None if is_part(block, source) else (f"is no part of {path}", None)
+    if how == "lines of ":
+        lost = [line for line in block if line not in source and not line.startswith("my_program")]
+        return (f"has lines that {path} lacks: {lost[0]}", None) if lost else None
+    return None if block == source else (f"differs from {path}", source)
+
+
+def stale(top, write):
+    """A sentence for each quote that differs from its source. Where it quotes a whole file, `write` puts the text in."""
+    told = []
+    for path in sorted(page for pattern in PAGES for page in glob.glob(os.path.join(top, pattern))):
+        lines = open(path).read().split("\n")
+        kept = list(lines)
+        for start, end, language, mark in reversed(list(blocks(lines))):
+            wrong = difference(top, lines, start, end, language, mark)
+            if wrong and write and wrong[1]:
+                kept[start:end] = wrong[1]
+            elif wrong:
+                told.append(f"{os.path.relpath(path, top)}:{start}: the block {wrong[0]}")
+        if kept != lines:
+            open(path, "w").write("\n".join(kept))
+    return told

@@ -1,0 +1,7 @@
+-- What can be written stays so.
+use Rattle.std.proofs.Common.{[]}
+use Rattle.gimli_write.specs.Conditions.{CanWrite}
+use Rattle.uses.proofs.make_unit.build.Given as goal
+
+abbrev pub invariant-loop-offset : goal.invariant-loop-offset
+invariant-loop-offset l = CanWrite l.program [] l.line_strings.now

@@ -1,0 +1,91 @@
+//! A unit of version 5 whose texts stand in `.debug_line_str`: built, and written.
+#![tactic(auto)]
+
+ghost use Rattle.std.specs.Prelude.{[], IfOk};
+ghost use Rattle.gimli_write.specs.Conditions.{CanWrite};
+
+use anyhow::{Result, bail};
+use gimli_core::{Encoding, Format, LineEncoding, LittleEndian};
+use gimli_write::{
+    Address, DebugLine, DebugLineStr, EndianVec, LineProgram, LineString, LineStringTable,
+    StringTable,
+};
+use std::alloc::Global;
+use std::fmt::Write;
+
+/// Version 5, with addresses of 8 bytes.
+const ENCODING: Encoding = Encoding {
+    address_size: 8,
+    format: Format::Dwarf32,
+    version: 5,
+};
+
+/// Prints the bytes of a unit, and those of its texts.
+pub fn start(rt: &HostRuntime, _words: &[String]) -> Result<()> {
+    let (lines, line_strings) = make_unit(rt.alloc())?;
+    let mut text = String::new(rt.alloc());
+    print_bytes(".debug_line", lines.slice(), &mut text)?;
+    print_bytes(".debug_line_str", line_strings.slice(), &mut text)?;
+    print!(rt; "{text}")?;
+    Ok(())
+}
+
+/// The sections `.debug_line` and `.debug_line_str`. The texts are written last, since `write`
+/// may add one.
+pub fn make_unit(alloc: Global) -> Result<(EndianVec<LittleEndian>, EndianVec<LittleEndian>)> {
+    let mut strings = StringTable::default(alloc);
+    let mut line_strings = LineStringTable::default(alloc);
+    let program = build(alloc, &mut line_strings)?;
+    let mut lines = DebugLine::from(EndianVec::new(alloc, LittleEndian));
+    program.write(&mut lines, ENCODING, &mut line_strings, &mut strings)?;
+    let mut texts = DebugLineStr::from(EndianVec::new(alloc, LittleEndian));
+    line_strings.write(&mut texts)?;
+    Ok((lines.0, texts.0))
+}
+
+/// Lines 3 and 4 of `a.c` in `/w`: the first at 0x1000, the second from 0x1004 up to 0x1009.
+fn build(alloc: Global, line_strings: &mut LineStringTable) -> Result<LineProgram>
+    ensures { IfOk result (λ program. CanWrite program [] line_strings.new) }
+{
+    let mut program = without_rows(alloc, line_strings)?;
+    let Some((file, _, _)) = program.files().next() else {
+        bail!("the program has no file");
+    };
+    program.set_address(Address::Constant(0x1000))?;
+    for (offset, line) in [(0, 3), (4, 4)] {
+        let row = program.row();
+        row.file = file;
+        row.address_offset = offset;
+        row.line = line;
+        if !program.can_generate_row() {
+            bail!("line {line} can't be built");
+        }
+        program.generate_row()?;
+    }
+    if !program.can_end_sequence(9) {
+        bail!("the sequence can't end here");
+    }
+    program.end_sequence(9)?;
+    Ok(program)
+}
+
+/// A program whose directory and file are texts of the table.
+fn without_rows(alloc: Global, line_strings: &mut LineStringTable) -> Result<LineProgram>
+    ensures { IfOk result (λ program. CanWrite program [] line_strings.new) }
+{
+    let directory = LineString::new(b"/w", ENCODING, line_strings)?;
+    let path = LineString::new(b"a.c", ENCODING, line_strings)?;
+    let lines = LineEncoding::default();
+    let program = LineProgram::new(alloc, ENCODING, lines, directory, None, path, None)?;
+    Ok(program)
+}
+
+/// Adds a line with the name of a section and its bytes, in hexadecimal digits.
+fn print_bytes(name: &str, bytes: &[u8], text: &mut String) -> Result<()> {
+    write!(text, "{name} ")?;
+    for byte in bytes {
+        write!(text, "{byte:02x}")?;
+    }
+    writeln!(text)?;
+    Ok(())
+}
