@@ -13,13 +13,6 @@ use gimli_write::{
 use std::alloc::Global;
 use std::fmt::Write;
 
-/// Version 5, with addresses of 8 bytes.
-const ENCODING: Encoding = Encoding {
-    address_size: 8,
-    format: Format::Dwarf32,
-    version: 5,
-};
-
 /// Prints the bytes of a unit, and those of its texts.
 pub fn start(rt: &HostRuntime, _words: &[String]) -> Result<()> {
     let (lines, line_strings) = make_unit(rt.alloc())?;
@@ -37,7 +30,8 @@ pub fn make_unit(alloc: Global) -> Result<(EndianVec<LittleEndian>, EndianVec<Li
     let mut line_strings = LineStringTable::default(alloc);
     let program = build(alloc, &mut line_strings)?;
     let mut lines = DebugLine::from(EndianVec::new(alloc, LittleEndian));
-    program.write(&mut lines, ENCODING, &mut line_strings, &mut strings)?;
+    let encoding = program.encoding();
+    program.write(&mut lines, encoding, &mut line_strings, &mut strings)?;
     let mut texts = DebugLineStr::from(EndianVec::new(alloc, LittleEndian));
     line_strings.write(&mut texts)?;
     Ok((lines.0, texts.0))
@@ -73,10 +67,15 @@ fn build(alloc: Global, line_strings: &mut LineStringTable) -> Result<LineProgra
 fn without_rows(alloc: Global, line_strings: &mut LineStringTable) -> Result<LineProgram>
     ensures { IfOk result (λ program. CanWrite program [] line_strings.new) }
 {
-    let directory = LineString::new(b"/w", ENCODING, line_strings)?;
-    let path = LineString::new(b"a.c", ENCODING, line_strings)?;
+    let encoding = Encoding {
+        address_size: 8,
+        format: Format::Dwarf32,
+        version: 5,
+    };
+    let directory = LineString::new(b"/w", encoding, line_strings)?;
+    let path = LineString::new(b"a.c", encoding, line_strings)?;
     let lines = LineEncoding::default();
-    let program = LineProgram::new(alloc, ENCODING, lines, directory, None, path, None)?;
+    let program = LineProgram::new(alloc, encoding, lines, directory, None, path, None)?;
     Ok(program)
 }
 
