@@ -179,11 +179,9 @@ fn rows_as_they_come_are_those_of_linetool() {
     }
 }
 
-#[test]
-fn fault_comes_after_the_rows_before_it() {
-    // Version 2, minimum instruction length 1, line base 0, line range 1, opcode base 10, no tables; then the address 0x10, a row,
-    // and half of an instruction (DWARF 2, section 6.2).
-    let program = [0, 9, 2, 0x10, 0, 0, 0, 0, 0, 0, 0, 1, 2];
+/// A unit of version 2 with this program: minimum instruction length 1, line base 0, line range 1, opcode base 10, and no tables
+/// (DWARF 2, section 6.2).
+fn unit_of(program: &[u8]) -> Vec<u8> {
     let tables = [1, 1, 0, 1, 10, 0, 1, 1, 1, 1, 0, 0, 0, 1, 0, 0];
     let mut section = Vec::new();
     section.extend((2 + 4 + tables.len() as u32 + program.len() as u32).to_le_bytes());
@@ -191,18 +189,41 @@ fn fault_comes_after_the_rows_before_it() {
     section.extend((tables.len() as u32).to_le_bytes());
     section.extend(tables);
     section.extend(program);
-    let sections = Sections {
-        debug_line: &section,
+    section
+}
+
+fn sections_of(section: &[u8]) -> Sections<'_> {
+    Sections {
+        debug_line: section,
         debug_line_str: &[],
         debug_str: &[],
         big_endian: false,
         address_size: 8,
-    };
-    let mut rows = Rows::open(&sections, 0).expect("the unit is read");
+    }
+}
+
+#[test]
+fn fault_comes_after_the_rows_before_it() {
+    // The address 0x10, a row, and half of an instruction.
+    let section = unit_of(&[0, 9, 2, 0x10, 0, 0, 0, 0, 0, 0, 0, 1, 2]);
+    let mut rows = Rows::open(&sections_of(&section), 0).expect("the unit is read");
     assert_eq!(rows.next().map(|row| row.map(|row| row.address())), Some(Ok(0x10)));
     assert_eq!(rows.next().map(|row| row.map(|_| ()).map_err(Error::number)), Some(Err(1)));
     assert!(rows.next().is_none());
-    assert!(Rows::open(&sections, section.len()).is_err());
+    assert!(Rows::open(&sections_of(&section), section.len()).is_err());
+}
+
+#[test]
+fn file_that_a_program_defines_has_a_path() {
+    // The file d.c of directory 0; the address 0x10, a row of file 1; four bytes on, the end.
+    let section = unit_of(&[
+        0, 8, 3, b'd', b'.', b'c', 0, 0, 0, 0, 0, 9, 2, 0x10, 0, 0, 0, 0, 0, 0, 0, 1, 2, 4, 0, 1, 1,
+    ]);
+    let mut index = Index::open(&sections_of(&section), 0).expect("the index is made");
+    let place = index.find(0x13).expect("the row covers it");
+    assert_eq!((place.unit, place.row.file_index(), place.end), (0, 1, 0x14));
+    assert_eq!(index.path(0, 1, b"/comp"), Ok(b"/comp/d.c".to_vec()));
+    assert_eq!(index.path(0, 2, b"/comp"), Err(Error::NOT_FOUND));
 }
 
 #[test]
