@@ -47,6 +47,11 @@ pub struct Index {
     pub at: *mut u8,
 }
 
+#[repr(C)]
+pub struct RowReader {
+    pub at: *mut u8,
+}
+
 extern "C" {
     pub fn gimli_version() -> u32;
     pub fn gimli_line_unit(
@@ -82,6 +87,13 @@ extern "C" {
     ) -> u32;
     pub fn gimli_line_index_close(index: *mut Index) -> u32;
     pub fn gimli_line_index_find(index: *mut Index, address: u64, place: *mut Place) -> u32;
+    pub fn gimli_line_index_find_all(
+        index: *mut Index,
+        addresses: *const u64,
+        count: usize,
+        places: *mut Place,
+        room: usize,
+    ) -> u32;
     pub fn gimli_line_index_path(
         index: *mut Index,
         unit: u64,
@@ -104,4 +116,25 @@ extern "C" {
         room: usize,
         count: *mut u64,
     ) -> u32;
+    pub fn gimli_line_index_addresses_of(
+        index: *mut Index,
+        path: *const u8,
+        path_length: usize,
+        line: u64,
+        found_line: *mut u64,
+        addresses: *mut u64,
+        room: usize,
+        count: *mut u64,
+    ) -> u32;
+    pub fn gimli_line_rows_open(
+        section: *const u8,
+        length: usize,
+        big: bool,
+        address_size: u8,
+        offset: usize,
+        reader: *mut RowReader,
+    ) -> u32;
+    pub fn gimli_line_index_rows_open(index: *mut Index, unit: u64, reader: *mut RowReader) -> u32;
+    pub fn gimli_line_rows_next(reader: *mut RowReader, rows: *mut Row, room: usize, count: *mut u64) -> u32;
+    pub fn gimli_line_rows_close(reader: *mut RowReader) -> u32;
 }

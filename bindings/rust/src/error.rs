@@ -72,7 +72,7 @@ const SENTENCES: [&str; 34] = [
     "several operations in an instruction, before version 4",
     "a length or the first address of a sequence doesn't fit its word",
     "the unit is longer than the room for it",
-    "the handle of the index is closed",
+    "the handle is closed",
     "a string of a path can't be told",
 ];
 

@@ -3,6 +3,7 @@
 use crate::calls;
 use crate::error::Error;
 use crate::row::LineRow;
+use crate::rows::Rows;
 use crate::Sections;
 use std::ptr::null_mut;
 
@@ -15,6 +16,16 @@ pub struct Place {
     pub end: u64,
     /// The index of the unit, from 0 on.
     pub unit: u64,
+}
+
+impl Place {
+    fn new(place: &calls::Place) -> Place {
+        Place {
+            row: LineRow::new(&place.row),
+            end: place.end,
+            unit: place.unit,
+        }
+    }
 }
 
 /// The addresses for a breakpoint.
@@ -63,11 +74,28 @@ impl Index {
         let mut place = calls::Place::default();
         // The handle is an open one, which no other call uses.
         let status = unsafe { calls::gimli_line_index_find(&mut self.handle, address, &mut place) };
-        (status == 0).then(|| Place {
-            row: LineRow::new(&place.row),
-            end: place.end,
-            unit: place.unit,
-        })
+        (status == 0).then(|| Place::new(&place))
+    }
+
+    /// Looks many addresses up: the place of each, none where no row covers it.
+    pub fn find_all(&mut self, addresses: &[u64]) -> Vec<Option<Place>> {
+        let mut places = vec![calls::Place::default(); addresses.len()];
+        // The pointers are those of slices.
+        let _ok = unsafe {
+            calls::gimli_line_index_find_all(
+                &mut self.handle,
+                addresses.as_ptr(),
+                addresses.len(),
+                places.as_mut_ptr(),
+                places.len(),
+            )
+        };
+        places.iter().map(|place| (place.end != 0).then(|| Place::new(place))).collect()
+    }
+
+    /// All rows of a unit, one after the other.
+    pub fn rows(&mut self, unit: u64) -> Result<Rows, Error> {
+        Rows::of_index(&mut self.handle, unit)
     }
 
     /// The whole path of the file of a unit. `comp_dir` is the directory of the compilation (`DW_AT_comp_dir`), which counts up
@@ -112,33 +140,54 @@ impl Index {
 
     /// The addresses for a breakpoint at a line of a file of one unit, or at the next line that has any.
     pub fn addresses_of(&mut self, unit: u64, file: u64, line: u64) -> Result<Option<Addresses>, Error> {
-        let mut addresses = vec![0; 16];
-        loop {
-            let (mut found_line, mut count) = (0, 0);
-            let answer = Error::of(unsafe {
-                calls::gimli_line_index_addresses(
-                    &mut self.handle,
-                    unit,
-                    file,
-                    line,
-                    &mut found_line,
-                    addresses.as_mut_ptr(),
-                    addresses.len(),
-                    &mut count,
-                )
-            });
-            if answer == Err(Error::NOT_FOUND) {
-                return Ok(None);
-            }
-            answer?;
-            let fits = count as usize <= addresses.len();
-            addresses.resize(count as usize, 0);
-            if fits {
-                return Ok(Some(Addresses {
-                    line: found_line,
-                    addresses,
-                }));
-            }
+        all_addresses(|room, found_line, count| unsafe {
+            calls::gimli_line_index_addresses(
+                &mut self.handle,
+                unit,
+                file,
+                line,
+                found_line,
+                room.as_mut_ptr(),
+                room.len(),
+                count,
+            )
+        })
+    }
+
+    /// The same at a line of a path, over all units: of the files that have this whole path, without the directory of the
+    /// compilation up to version 4. The programs of all units are run for each call.
+    pub fn addresses_of_path(&mut self, path: &[u8], line: u64) -> Result<Option<Addresses>, Error> {
+        all_addresses(|room, found_line, count| unsafe {
+            calls::gimli_line_index_addresses_of(
+                &mut self.handle,
+                path.as_ptr(),
+                path.len(),
+                line,
+                found_line,
+                room.as_mut_ptr(),
+                room.len(),
+                count,
+            )
+        })
+    }
+}
+
+/// What a call answers that writes addresses: it is made again where there are more than it had room for.
+fn all_addresses(
+    mut call: impl FnMut(&mut [u64], &mut u64, &mut u64) -> u32,
+) -> Result<Option<Addresses>, Error> {
+    let mut addresses = vec![0; 16];
+    loop {
+        let (mut line, mut count) = (0, 0);
+        let answer = Error::of(call(&mut addresses, &mut line, &mut count));
+        if answer == Err(Error::NOT_FOUND) {
+            return Ok(None);
+        }
+        answer?;
+        let fits = count as usize <= addresses.len();
+        addresses.resize(count as usize, 0);
+        if fits {
+            return Ok(Some(Addresses { line, addresses }));
         }
     }
 }

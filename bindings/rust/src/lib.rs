@@ -1,16 +1,18 @@
 //! Line number programs of DWARF, versions 2 to 5, over the library `libgimli_line.a`, whose calls are proved.
 //!
-//! [`Index`] looks addresses up in all units of a program; [`Units`] gives the units of a section with their rows. The names are
-//! gimli's where they fit.
+//! [`Index`] looks addresses up in all units of a program; [`Units`] gives the units of a section with their rows, and [`Rows`] the
+//! rows of one as they come. The names are gimli's where they fit.
 
 mod calls;
 mod error;
 mod index;
 mod row;
+mod rows;
 
 pub use error::Error;
 pub use index::{Addresses, Index, Place};
 pub use row::{ColumnType, LineRow, Unit, Units};
+pub use rows::Rows;
 
 /// The sections of a linked program that lines are read from. One that a program lacks is of no bytes.
 #[derive(Clone, Copy, Debug)]

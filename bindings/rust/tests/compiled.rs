@@ -1,7 +1,7 @@
 //! The index and the rows of a program that the C compiler makes, against addr2line of binutils. Where a tool is missing the test
 //! says so, and ends well.
 
-use gimli_line_proved::{version, Error, Index, Sections};
+use gimli_line_proved::{version, ColumnType, Error, Index, LineRow, Rows, Sections};
 use std::collections::BTreeSet;
 use std::fs;
 use std::path::{Path, PathBuf};
@@ -110,6 +110,123 @@ fn places_are_those_of_addr2line() {
 }
 
 #[test]
+fn many_addresses_are_found_as_one_is() {
+    for built in built() {
+        let mut index = Index::open(&built.sections(), 0).expect("the index is made");
+        let mut addresses: Vec<u64> = built.addresses().into_iter().flat_map(|address| [address, address + 1]).collect();
+        addresses.extend([0, u64::MAX]);
+        let each: Vec<_> = addresses.iter().map(|address| index.find(*address)).collect();
+        assert!(each.iter().any(Option::is_some) && each.iter().any(Option::is_none));
+        assert_eq!(index.find_all(&addresses), each);
+        assert_eq!(index.find_all(&[]), []);
+    }
+}
+
+/// What linetool prints of a row.
+fn printed(row: &LineRow) -> String {
+    let flags: String = [
+        (row.is_stmt(), 's'),
+        (row.basic_block(), 'b'),
+        (row.end_sequence(), 'e'),
+        (row.prologue_end(), 'p'),
+        (row.epilogue_begin(), 'q'),
+    ]
+    .iter()
+    .filter(|(holds, _)| *holds)
+    .map(|(_, letter)| *letter)
+    .collect();
+    let flags = if flags.is_empty() { "-" } else { &flags };
+    let line = row.line().map_or(0, |line| line.get());
+    let column = match row.column() {
+        ColumnType::LeftEdge => 0,
+        ColumnType::Column(column) => column.get(),
+    };
+    format!(
+        "{:016x} {} {} {line} {column} {} {} {flags}",
+        row.address(),
+        row.op_index(),
+        row.file_index(),
+        row.isa(),
+        row.discriminator(),
+    )
+}
+
+#[test]
+fn rows_as_they_come_are_those_of_linetool() {
+    let linetool = sources().join("../crates/linetool/out/linetool");
+    if !linetool.exists() {
+        eprintln!("not tried: {} isn't built", linetool.display());
+        return;
+    }
+    for built in built() {
+        let section = built.program.with_extension("debug_line");
+        let mut index = Index::open(&built.sections(), 0).expect("the index is made");
+        for (place, unit) in built.sections().units().enumerate() {
+            let unit = unit.expect("the unit is read");
+            let output = Command::new(&linetool)
+                .arg("rows")
+                .arg(&section)
+                .args(["little", "8", &unit.offset.to_string()])
+                .output()
+                .expect("linetool runs");
+            let expected = String::from_utf8(output.stdout).expect("its answer is text");
+            let rows = Rows::open(&built.sections(), unit.offset).expect("the unit is read");
+            let lines: Vec<String> = rows.map(|row| printed(&row.expect("there is no fault"))).collect();
+            assert_eq!(lines, expected.lines().collect::<Vec<_>>());
+            let again: Vec<_> = index.rows(place as u64).expect("the unit is there").map(|row| row.expect("there is no fault")).collect();
+            assert!(again.iter().eq(unit.rows()));
+        }
+    }
+}
+
+/// A unit of version 2 with this program: minimum instruction length 1, line base 0, line range 1, opcode base 10, and no tables
+/// (DWARF 2, section 6.2).
+fn unit_of(program: &[u8]) -> Vec<u8> {
+    let tables = [1, 1, 0, 1, 10, 0, 1, 1, 1, 1, 0, 0, 0, 1, 0, 0];
+    let mut section = Vec::new();
+    section.extend((2 + 4 + tables.len() as u32 + program.len() as u32).to_le_bytes());
+    section.extend(2u16.to_le_bytes());
+    section.extend((tables.len() as u32).to_le_bytes());
+    section.extend(tables);
+    section.extend(program);
+    section
+}
+
+fn sections_of(section: &[u8]) -> Sections<'_> {
+    Sections {
+        debug_line: section,
+        debug_line_str: &[],
+        debug_str: &[],
+        big_endian: false,
+        address_size: 8,
+    }
+}
+
+#[test]
+fn fault_comes_after_the_rows_before_it() {
+    // The address 0x10, a row, and half of an instruction.
+    let section = unit_of(&[0, 9, 2, 0x10, 0, 0, 0, 0, 0, 0, 0, 1, 2]);
+    let mut rows = Rows::open(&sections_of(&section), 0).expect("the unit is read");
+    assert_eq!(rows.next().map(|row| row.map(|row| row.address())), Some(Ok(0x10)));
+    assert_eq!(rows.next().map(|row| row.map(|_| ()).map_err(Error::number)), Some(Err(1)));
+    assert!(rows.next().is_none());
+    assert!(Rows::open(&sections_of(&section), section.len()).is_err());
+}
+
+#[test]
+fn file_that_a_program_defines_has_a_path() {
+    // The file d.c of directory 0; the address 0x10, a row of file 1; four bytes on, the end.
+    let section = unit_of(&[
+        0, 8, 3, b'd', b'.', b'c', 0, 0, 0, 0, 0, 9, 2, 0x10, 0, 0, 0, 0, 0, 0, 0, 1, 2, 4, 0, 1, 1,
+    ]);
+    let mut index = Index::open(&sections_of(&section), 0).expect("the index is made");
+    let place = index.find(0x13).expect("the row covers it");
+    assert_eq!((place.unit, place.row.file_index(), place.end), (0, 1, 0x14));
+    assert_eq!(index.path(0, 1, b"/comp"), Ok(b"/comp/d.c".to_vec()));
+    assert_eq!(index.path(0, 2, b"/comp"), Err(Error::NOT_FOUND));
+}
+
+#[test]
 fn index_outlives_sections() {
     for built in built() {
         let address = *built.addresses().first().expect("there is a row");
@@ -149,6 +266,15 @@ fn addresses_of_a_line_have_that_line() {
             }
         }
         assert_eq!(index.addresses_of(0, 1, u64::MAX), Ok(None));
+        let address = *built.addresses().first().expect("there is a row");
+        let place = index.find(address).expect("a row covers it");
+        let line = place.row.line().map_or(0, |line| line.get());
+        let path = index.path(place.unit, place.row.file_index(), &[]).expect("the path is told");
+        let one = index.addresses_of(place.unit, place.row.file_index(), line).expect("memory is there").expect("it has code");
+        let all = index.addresses_of_path(&path, line).expect("memory is there").expect("it has code");
+        assert_eq!(all.line, one.line);
+        assert!(one.addresses.iter().all(|address| all.addresses.contains(address)));
+        assert_eq!(index.addresses_of_path(b"no such file", 1), Ok(None));
     }
 }
 

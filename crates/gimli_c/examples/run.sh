@@ -1,9 +1,9 @@
 #!/usr/bin/env bash
-# Builds a small program, takes its line information as raw bytes, builds both examples over libgimli_c.a, and compares what
-# they print with what linetool prints: every row of every unit, and the rows round some addresses. A third example writes what
-# it reads as a new unit, reads that, and compares the two itself. Two more, in C and in C++, print paths and lines by an index,
-# which are compared with those of addr2line of binutils. It needs a C compiler, objcopy and addr2line; rustc for the second
-# example, and a C++ compiler for the last. Where one is missing it says so, and ends well.
+# Builds a small program, takes its line information as raw bytes, builds the examples over libgimli_c.a, and compares what one
+# prints with what linetool prints: every row of every unit, and the rows round some addresses. Another writes what it reads as a
+# new unit, reads that, and compares the two itself. Two more, in C and in C++, print paths and lines by an index, which are
+# compared with those of addr2line of binutils. It needs a C compiler, objcopy and addr2line, and a C++ compiler for the last.
+# Where one is missing it says so, and ends well. The examples in Rust are those of bindings/rust.
 #
 # The library is built by (cd crates/gimli_c && rt lib), and linetool by (cd crates/linetool && rt run -- demo); both are
 # built here where they aren't there.
@@ -30,9 +30,10 @@ kit=$(dirname "$(rt doc)")/c
 work=$(mktemp -d)
 trap 'rm -rf "$work"' EXIT
 
-cc -std=c11 -Wall -Wextra -Werror -O2 -I "$crate/include" "$here/c/addr2line.c" "$library" "$kit/liblibc_c.a" -o "$work/c"
+cc -std=c11 -Wall -Wextra -Werror -O2 -I "$crate/include" "$here/c/addr2line.c" "$library" "$kit/liblibc_c.a" -o "$work/addr2line"
 cc -std=c11 -Wall -Wextra -Werror -O2 -I "$crate/include" "$here/c/rewrite.c" "$library" "$kit/liblibc_c.a" -o "$work/rewrite"
 cc -std=c11 -Wall -Wextra -Werror -O2 -I "$crate/include" "$here/c/where_is.c" "$library" "$kit/liblibc_c.a" -o "$work/where_is"
+cc -std=c11 -Wall -Wextra -Werror -O2 -I "$crate/include" "$here/c/first.c" "$library" "$kit/liblibc_c.a" -o "$work/first"
 indexed=where_is
 if command -v c++ >/dev/null; then
     c++ -std=c++11 -Wall -Wextra -Werror -O2 -I "$crate/include" "$here/cpp/where_is.cc" "$library" "$kit/liblibc_c.a" -o "$work/where_is_cpp"
@@ -40,15 +41,6 @@ if command -v c++ >/dev/null; then
 else
     echo "gimli_c: the C++ example isn't tried, since c++ is missing"
 fi
-examples=c
-if command -v rustc >/dev/null; then
-    rustc --edition 2024 -O "$here/rust/addr2line.rs" -L "native=$crate/out" -l static=gimli_c -L "native=$kit" -l static=libc_c \
-        -o "$work/rust"
-    examples="c rust"
-else
-    echo "gimli_c: the Rust example isn't tried, since rustc is missing"
-fi
-
 # What linetool prints of all units, or of the units in turn until one has the address.
 expected() {
     local answer=none
@@ -85,18 +77,24 @@ for version in 2 3 4 5; do
         cmp "$work/places" "$work/answer"
         places=$((places + $(wc -l <"$work/places")))
     done
+    # The example of the page: the place of one address, and how many rows its unit has.
+    address=$(head -n 1 <<<"$covered")
+    count=0
+    while read -r _ offset _; do
+        [ "$("$program" find "$work/line.bin" little 8 "$offset" "$address")" = none ] && continue
+        count=$("$program" rows "$work/line.bin" little 8 "$offset" | wc -l)
+        break
+    done < <("$program" units "$work/line.bin" little 8)
+    printf '%s\n%s rows\n' "$(head -n 1 "$work/places")" "$count" >"$work/first_place"
+    "$work/first" "$work/built" "$address" | sed -E "s,^([^/].*:),$top/compare/\\1," | cmp "$work/first_place" -
     echo "$covered" | "$work/where_is" "$work/built" | sed -E "s,:[0-9]+\$,,; s,^([^/]),$top/compare/\\1," | cmp "$work/places" -
     [ "$("$work/where_is" "$work/built" 0 ffffffffffffffff)" = "none
 none" ]
-    for example in $examples; do
-        "$work/$example" "$work/line.bin" >"$work/answer"
-        cmp "$work/rows" "$work/answer"
-        # shellcheck disable=SC2086
-        "$work/$example" "$work/line.bin" $addresses 0 ffffffffffffffff >"$work/answer"
-        cmp "$work/pairs" "$work/answer"
-        compared=$((compared + $(cat "$work/rows" "$work/pairs" | wc -l)))
-    done
+    "$work/addr2line" "$work/line.bin" | cmp "$work/rows" -
+    # shellcheck disable=SC2086
+    "$work/addr2line" "$work/line.bin" $addresses 0 ffffffffffffffff | cmp "$work/pairs" -
+    compared=$((compared + $(cat "$work/rows" "$work/pairs" | wc -l)))
 done
 echo "gimli_c: $rewritten rows were written as they were read"
 echo "gimli_c: $places paths and lines of the examples ($indexed) are addr2line's"
-echo "gimli_c: $compared lines of the examples ($examples) are linetool's"
+echo "gimli_c: $compared lines of the example addr2line are linetool's"

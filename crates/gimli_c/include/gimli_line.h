@@ -6,10 +6,14 @@
  *
  *   cc program.c $(pkg-config --cflags --libs gimli_line)
  *
- * For the path, line and column of many addresses: gimli_line_index_open once, gimli_line_index_find for each address, and
- * gimli_line_index_path for the path of the row's file. examples/c/where_is.c does this.
+ * For the path, line and column of many addresses: gimli_line_index_open once, gimli_line_index_find for each address or
+ * gimli_line_index_find_all for an array of them, and gimli_line_index_path for the path of the row's file. examples/c/where_is.c
+ * does this.
  *
- * For one unit, without an index: gimli_line_unit gives the units one after the other, gimli_line_rows the rows of one,
+ * For all rows of a unit, some at a time: gimli_line_rows_open once, gimli_line_rows_next until there are no more, and
+ * gimli_line_rows_close. examples/c/addr2line.c does this.
+ *
+ * For one unit, without a handle: gimli_line_unit gives the units one after the other, gimli_line_rows the rows of one,
  * gimli_line_find the row of an address, and gimli_line_file and gimli_line_directory what a path is made of.
  *
  * `objcopy --dump-section .debug_line=line.bin --dump-section .debug_line_str=line_str.bin program copy` takes the sections out
@@ -20,8 +24,9 @@
  * - A pointer is never null, also where its length is 0: hand in any place then.
  * - What a call writes to overlaps neither the section nor anything else that it writes to.
  * - No call is made from a signal handler, or in the forked child of a process with threads.
- * - A handle is used by one call at a time. Threads that share one take a lock, or open one each.
- * - A handle is as GIMLI_LINE_INDEX_CLOSED, or as the last call on it left it: it isn't copied, and its field isn't touched.
+ * - A handle is as GIMLI_LINE_INDEX_CLOSED or GIMLI_ROW_READER_CLOSED, or as the last call on it left it: it isn't copied, and
+ *   its field isn't touched.
+ * - A handle stays on the thread that opened it: threads open one each.
  * Nothing of the caller is kept after a call. Calls may run in several threads at once. */
 #ifndef GIMLI_LINE_H
 #define GIMLI_LINE_H
@@ -78,7 +83,7 @@ enum gimli_status {
     GIMLI_NEED_VERSION_4 = 29,                         /* several operations in an instruction, before version 4 */
     GIMLI_UNIT_TOO_LONG = 30,                          /* a length, or the first address of a sequence, doesn't fit its word */
     GIMLI_NO_ROOM = 31,                                /* the unit is longer than the room for it */
-    GIMLI_CLOSED = 32,                                 /* the handle of an index is closed */
+    GIMLI_CLOSED = 32,                                 /* the handle is closed */
     GIMLI_UNKNOWN_PATH = 33                            /* a string of a path can't be told */
 };
 
@@ -169,8 +174,8 @@ uint32_t gimli_line_unit(const uint8_t *section, size_t length, bool big, uint8_
 uint32_t gimli_line_rows(const uint8_t *section, size_t length, bool big, uint8_t address_size, size_t offset,
                          uint64_t skip, gimli_row *rows, size_t room, uint64_t *count);
 
-/* Reads the file of an index, as rows have it: up to version 4 from 1 on, in version 5 from 0 on. The program is run to its
- * end, past its faults, for the files that it defines. The bytes of the path and of the directory go into `path` and
+/* Reads the file of an index, as rows have it: up to version 4 from 1 on, in version 5 from 0 on. Where the unit's table has no
+ * such file, the program is run to its end, past its faults, for the files that it defines. The bytes of the path and of the directory go into `path` and
  * `directory`, as far as they stand in the section itself and there is room; file->path.size and file->directory.size say
  * how many there are. Too little room is no refusal, and no zero byte is added. GIMLI_NOT_FOUND where there is no such file.
  * Where another number than 0 is answered, nothing is written. */
@@ -225,13 +230,19 @@ typedef struct gimli_place {
  * GIMLI_NOT_FOUND where there are none, and GIMLI_CLOSED where the handle is: then *place stays as it was. Takes no memory. */
 uint32_t gimli_line_index_find(gimli_line_index *index, uint64_t address, gimli_place *place);
 
+/* Looks `count` addresses up, each as gimli_line_index_find does. The place of addresses[0] goes into places[0] and so on, as far
+ * as there is room. Where no row covers an address, all numbers of its place are 0; else `end` of the place is above the address,
+ * and so isn't 0. GIMLI_CLOSED where the handle is: then no place is written. Takes no memory. */
+uint32_t gimli_line_index_find_all(gimli_line_index *index, const uint64_t *addresses, size_t count, gimli_place *places,
+                                   size_t room);
+
 /* Tells the whole path of the file of a unit: its path, with the directories that it goes on from, up to the directory of the
  * compilation. In version 5 the unit has that one; up to version 4 it is `comp_dir` (DW_AT_comp_dir), and without it the path
  * stays relative. The bytes go into path[0] and so on, as far as there is room, without a zero byte; *size is how many there
- * are. GIMLI_NOT_FOUND where there is no such unit, or its table has no such file (a file that the program itself defines is told
- * by gimli_line_file), GIMLI_UNKNOWN_PATH where a string of the path can't be told, and
- * GIMLI_CLOSED where the handle is; the number of the refusal where the unit can't be read. Where another number than 0 is
- * answered, nothing is written. The header of the unit is read for each call: keep the paths of files that come often. */
+ * are. GIMLI_NOT_FOUND where there is no such unit, or the unit has no such file, GIMLI_UNKNOWN_PATH where a string of the path
+ * can't be told, and GIMLI_CLOSED where the handle is; the number of the refusal where the unit can't be read. Where another number
+ * than 0 is answered, nothing is written. The header of the unit is read for each call, and the program is run where only that
+ * defines the file (DW_LNE_define_file, up to version 4): keep the paths of files that come often. */
 uint32_t gimli_line_index_path(gimli_line_index *index, uint64_t unit, uint64_t file, const uint8_t *comp_dir,
                                size_t comp_dir_length, uint8_t *path, size_t room, uint64_t *size);
 
@@ -255,6 +266,48 @@ uint32_t gimli_line_index_unit(gimli_line_index *index, uint64_t unit, gimli_ind
  * number than 0 is answered, nothing is written. */
 uint32_t gimli_line_index_addresses(gimli_line_index *index, uint64_t unit, uint64_t file, uint64_t line,
                                     uint64_t *found_line, uint64_t *addresses, size_t room, uint64_t *count);
+
+/* The same at a line of a path, over all units: of the files that have this whole path. Up to version 4 a unit doesn't have the
+ * directory of the compilation, so a path that goes on from there is given without it. The headers of all units are read and their
+ * programs are run for each call. GIMLI_NOT_FOUND where no line from it on has any; GIMLI_CLOSED where the handle is. Where another
+ * number than 0 is answered, nothing is written. */
+uint32_t gimli_line_index_addresses_of(gimli_line_index *index, const uint8_t *path, size_t path_length, uint64_t line,
+                                       uint64_t *found_line, uint64_t *addresses, size_t room, uint64_t *count);
+
+/* Do what gimli_line_file and gimli_line_directory do, for a unit of an index. GIMLI_NOT_FOUND where there is no such unit, or the
+ * unit has no such file or directory, and GIMLI_CLOSED where the handle is. Where another number than 0 is answered, nothing is
+ * written. */
+uint32_t gimli_line_index_file(gimli_line_index *index, uint64_t unit, uint64_t number, gimli_file *file, uint8_t *path,
+                               size_t path_room, uint8_t *directory, size_t directory_room);
+uint32_t gimli_line_index_directory(gimli_line_index *index, uint64_t unit, uint64_t number, gimli_text *directory,
+                                    uint8_t *bytes, size_t room);
+
+/* The handle of a reader of rows. It owns the rows of a unit; a closed one owns nothing. */
+typedef struct gimli_row_reader {
+    void *at; /* null where it is closed */
+} gimli_row_reader;
+
+/* What a reader begins with. */
+#define GIMLI_ROW_READER_CLOSED {0}
+
+/* Runs the program of the unit at an offset, and puts its rows behind the handle; what stood there is given back. The rows are the
+ * handle's own: the section may go. A fault of the program is no refusal: it comes after the rows before it. Where another number
+ * than 0 is answered, the handle has what it had. */
+uint32_t gimli_line_rows_open(const uint8_t *section, size_t length, bool big, uint8_t address_size, size_t offset,
+                              gimli_row_reader *reader);
+
+/* Does the same for a unit of an index. All rows of the unit come, those of sequences that the index leaves out too.
+ * GIMLI_NOT_FOUND where there is no such unit, and GIMLI_CLOSED where the handle of the index is. */
+uint32_t gimli_line_index_rows_open(gimli_line_index *index, uint64_t unit, gimli_row_reader *reader);
+
+/* Gives the next rows, from the first on: into rows[0] and so on, as far as there is room; *count is how many they are. Where
+ * *count is less than `room`, the rows are at their end, and the answer is the number of the program's first fault, 0 where it has
+ * none; such a call may come again. Before the end the answer is 0. GIMLI_CLOSED where the handle is: then nothing is written.
+ * Takes no memory. */
+uint32_t gimli_line_rows_next(gimli_row_reader *reader, gimli_row *rows, size_t room, uint64_t *count);
+
+/* Closes a handle: all memory of its rows is given back. A closed one stays closed. The answer is 0. */
+uint32_t gimli_line_rows_close(gimli_row_reader *reader);
 
 /* What a unit that is written is encoded by. */
 typedef struct gimli_encoding {
@@ -388,7 +441,7 @@ static inline const char *gimli_status_sentence(uint32_t status) {
     case GIMLI_NEED_VERSION_4: return "several operations in an instruction, before version 4";
     case GIMLI_UNIT_TOO_LONG: return "a length or the first address of a sequence doesn't fit its word";
     case GIMLI_NO_ROOM: return "the unit is longer than the room for it";
-    case GIMLI_CLOSED: return "the handle of the index is closed";
+    case GIMLI_CLOSED: return "the handle is closed";
     case GIMLI_UNKNOWN_PATH: return "a string of a path can't be told";
     default: return "the number is none that a call answers";
     }

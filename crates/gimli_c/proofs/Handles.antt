@@ -1,4 +1,4 @@
--- The machine values of a `Loose` and of a `Handle`. Assumes `Logic`.
+-- The machine values of a `Loose`, and what stands at a handle. Assumes `Logic`.
 use Rattle.std.proofs.Common.{◌≡◌, ℕ, List, [], ◌∷◌, ◌++◌, refl, subst}
 use mathlib.Core.Bool.{Bool, true, false, ◌&&◌}
 use lib.Dec.{T}
@@ -23,9 +23,7 @@ use Rattle.core.proofs.alloc.Calls.{Al, handle_tells}
 use Rattle.core.proofs.cell.Inside.{Good, one}
 use Rattle.std_alloc.specs.Box.Ownership.{box_owns}
 use Rattle.std_alloc.proofs.ResultValues.{and_tt}
-use Rattle.gimli_c.specs.contracts.index.loose.Loose as loose
-use Rattle.gimli_c.specs.contracts.index.handle.GimliLineIndex as handle
-use Rattle.gimli_c.specs.contracts.index.kept.SectionIndex as kept
+use Rattle.gimli_c.specs.contracts.loose.Loose as loose
 use Rattle.gimli_c.specs.Owned.{owned_at, the_heap}
 use Rattle.std.specs.Prelude.{Option, Some, None}
 use Rattle.std.specs.declared.alloc.Global.{Global}
@@ -74,17 +72,11 @@ module _ (R Z : RattleType) (L : Laws Z) (g : Ghosts Z.Denot) where
         nothing t $ move t (2 ∷ 0 ∷ []) $ fjoin t $ feq_i t (List Val) (vptr b o ∷ []) (vptr b o ∷ []) refl $ fjoin t $ feq_i t (List Val) (v ∷ []) (v ∷ []) refl $ fjoin t $
         fpack t (Valss (RawPtr ∷ Z ∷ [])) (within (shape (loose.the_type R Z g)) (block_ptr b o, (a, tt)) (v ∷ [])) (vptr b o ∷ [], (h ∷ [], tt)) $ fjoin t $ s)
 
-abbrev pub R : RattleType
-R = kept.the_row
-
 abbrev pub Z : RattleType
 Z = heap.the_row
 
 abbrev pub LZ : Laws Z
 LZ = heap_laws.the_row_laws
-
-abbrev pub Handle : RattleType
-Handle = handle.the_row
 
 abbrev pub heap_al : Al
 heap_al = record { row = Z; laws = LZ; g = ghosts; d = impl [] tnil dnil; drops = impl [] tnil dnil }
@@ -96,26 +88,12 @@ pub null_good : T (has_ty ty_ptr (ptr_val null_ptr)) × WT (ptr_val null_ptr)
 null_good = (tt, record { fits = lit< tt })
 
 -- a box's pointer may be compared with null
-pub tested : {M : Type 1} {𝓤 : Ura M} (𝓛 : Logic 𝓤) (a : Global) (p : Ptr) (x : R.Denot)
+pub tested : (R : RattleType) {M : Type 1} {𝓤 : Ura M} (𝓛 : Logic 𝓤) (a : Global) (p : Ptr) (x : R.Denot)
     → ent 𝓤 (sem 𝓛 (box_owns (ghosts.dealloc_token a) R p x)) (guard 𝓤 (Testable p) (sem 𝓛 (box_owns (ghosts.dealloc_token a) R p x)))
-tested {𝓤 = 𝓤} 𝓛 a p x = fact_use 𝓤 (Testable p) (via 𝓤 _ (snd∗ 𝓤 (sem 𝓛 (lies_at R full_share p x)) (sem 𝓛 (ghosts.dealloc_token a (bare (lone R.mir)) p)))
+tested R {𝓤 = 𝓤} 𝓛 a p x = fact_use 𝓤 (Testable p) (via 𝓤 _ (snd∗ 𝓤 (sem 𝓛 (lies_at R full_share p x)) (sem 𝓛 (ghosts.dealloc_token a (bare (lone R.mir)) p)))
     (dealloc_token-Testable 𝓛 a (bare (lone R.mir)) p)) (guard_i 𝓤 (Testable p) (sem 𝓛 (box_owns (ghosts.dealloc_token a) R p x)))
 
-module _ {M : Type 1} {𝓤 : Ura M} {𝓛 : Logic 𝓤} {K : Type 0} {Γ : List (Item 𝓤)} {G : Goal 𝓤 𝓛.H} where
-  pub handle_in : K → (p : Ptr) (x : Option R.Denot)
-      → Step K 𝓛 (‵ (Handle.own_val (record { at = p; index = x }) (lone_word (ptr_val p) ∷ [])) ∷ Γ) G (‵ (owned_at R p x) ∷ Γ) G
-  handle_in t p x = step (λ s. let v : Val = lone_word (ptr_val p) in
-      nothing t $ feq_i t (List Val) (ptr_val p ∷ []) (ptr_val p ∷ []) refl $ fjoin t $ feq_i t (List Val) (v ∷ []) (v ∷ []) refl $ fjoin t $
-      fpack t (Valss (RawPtr ∷ [])) (within (shape handle.the_type) (p, tt) (v ∷ [])) (ptr_val p ∷ [], tt) $ fjoin t $ s)
-
-  -- a handle by value is what stands at it
-  pub handle_out : K → (p : Ptr) (x : Option R.Denot) (vs : List Val)
-      → (vs ≡ lone_word (ptr_val p) ∷ [] → Seq K 𝓛 (‵ (owned_at R p x) ∷ Γ) G)
-      → Seq K 𝓛 (‵ (Handle.own_val (record { at = p; index = x }) vs) ∷ Γ) G
-  handle_out t p x vs k =
-      fsplit t $ fpick t (λ vss. fsplit t $ feq_l t (λ ev. fsplit t $ feq_l t (λ ep. drop t $
-      k (subst (λ (ps : List Val). vs ≡ vstruct (of_list (ps ++ [])) ∷ []) ep ev))))
-
+module _ (R : RattleType) {M : Type 1} {𝓤 : Ura M} {𝓛 : Logic 𝓤} {K : Type 0} {Γ : List (Item 𝓤)} {G : Goal 𝓤 𝓛.H} where
   -- nothing stands at a closed one, which is null, and at an open one a box, whose pointer may be compared with null
   pub either : K → (p : Ptr) (x : Option R.Denot)
       → (p ≡ null_ptr → x ≡ None → Seq K 𝓛 Γ G)
@@ -124,4 +102,4 @@ module _ {M : Type 1} {𝓤 : Ura M} {𝓛 : Logic 𝓤} {K : Type 0} {Γ : List
   either t p None none one = feq_l t (λ e. none e refl)
   either t p (Some y) none one =
       in_a_block t p (λ q. box_owns (ghosts.dealloc_token the_heap) R q y) (fst∗ 𝓤 (never 𝓤) (sem 𝓛 (ghosts.dealloc_token the_heap (bare (lone R.mir)) null_ptr))) (λ b o e.
-      use1 𝓛 (given (Testable (block_ptr b o)) (‵ (box_owns (ghosts.dealloc_token the_heap) R (block_ptr b o) y))) (tested 𝓛 the_heap (block_ptr b o) y) $ learn t (λ test. one b o y e refl test))
+      use1 𝓛 (given (Testable (block_ptr b o)) (‵ (box_owns (ghosts.dealloc_token the_heap) R (block_ptr b o) y))) (tested R 𝓛 the_heap (block_ptr b o) y) $ learn t (λ test. one b o y e refl test))

@@ -5,14 +5,19 @@ use Rattle.gimli_core.specs.Notation.{noted}
 use Rattle.gimli_line.specs.Units.{AreUnits}
 use Rattle.gimli_lookup.specs.Section.{ListedUnit, KeptUnit, unit_without_header}
 use Rattle.gimli_lookup.specs.SectionUnits.{IsUnitOf}
+use Rattle.gimli_line.specs.header.File.{File}
 use Rattle.gimli_line.specs.header.Header.{Header}
-use Rattle.gimli_lookup.specs.Paths.{Paths}
+use Rattle.gimli_line.specs.run.Rows.{files_at_end}
+use Rattle.gimli_line.specs.run.RunState.{RunState}
+use Rattle.gimli_lookup.specs.Paths.{Paths, file_path}
 use Rattle.gimli_c.specs.declared.index.kept.SectionIndex.{SectionIndex}
-use Rattle.gimli_c.specs.Indexed.{section_read, entry_of, unit_place, paths_in, AreUnitsOf, HasNoPath, UnitRefused}
+use Rattle.gimli_lookup.specs.Strings.{Strings}
+use Rattle.gimli_c.specs.Indexed.{section_read, entry_of, strings_in, unit_place, paths_in, AreUnitsIn, AreUnitsOf, HasNoPath, UnitRefused}
 use Rattle.gimli_c.specs.Status.{error_status}
 use Rattle.gimli_core.specs.declared.error.Error.{Error}
 use Rattle.gimli_core.specs.declared.error.Error.TheVariants.{UnexpectedEof, BadUnsignedLeb128, BadSignedLeb128, UnknownReservedLength, UnknownVersion, UnsupportedAddressSize, UnsupportedSegmentSize, MinimumInstructionLengthZero, MaximumOperationsPerInstructionZero, LineRangeZero, OpcodeBaseZero, MissingFileEntryFormatPath, UnknownForm, AddressOverflow, UnsupportedOffset, ExpectedStringAttributeValue, OutOfMemory}
 use Rattle.gimli_c.specs.Place.{Place, place, HasUnit, HasNoUnit}
+use Rattle.gimli_c.proofs.Files.{complete, IsLookedUp}
 use Rattle.gimli_c.proofs.Places.{Unit_at, same_unit}
 
 -- the unit of a place below their number
@@ -96,7 +101,7 @@ error_not_ok UnsupportedOffset p = omega (arith, p)
 error_not_ok ExpectedStringAttributeValue p = omega (arith, p)
 error_not_ok OutOfMemory p = omega (arith, p)
 
-unit_not_ok : (p : Place) → HasNoUnit p 0 → ⊥
+pub unit_not_ok : (p : Place) → HasNoUnit p 0 → ⊥
 unit_not_ok p (inl q) = let z : 0 ≡ 6 = q.1 in omega (arith, z)
 unit_not_ok p (inr q) = error_not_ok q.1 q.3
 
@@ -104,3 +109,37 @@ pub path_not_ok : (i : SectionIndex) (unit file : ℕ) (comp_dir : List ℕ) →
 path_not_ok i unit file comp_dir (inl p) = let z : 0 ≡ 18 = p.0 in omega (arith, z)
 path_not_ok i unit file comp_dir (inr (inl p)) = let z : 0 ≡ 33 = p.0 in omega (arith, z)
 path_not_ok i unit file comp_dir (inr (inr r)) = unit_not_ok (unit_place i r.kept) r.refused
+
+-- the path of a file that is looked up where it is known
+pub same_path : (i : SectionIndex) (start now : RunState) (h : Header) (index : ℕ) (comp_dir : List ℕ) (f : File) → IsLookedUp start now h index
+    → file_path (paths_in i h comp_dir) f ≡ file_path (paths_in i (complete start) comp_dir) f
+same_path i start now h index comp_dir f l =
+    ap (λ (k : Header). file_path (paths_in i k comp_dir) f) l.header
+    ∙ ap (λ (k : Header). file_path (paths_in i (record k { files = files_at_end start }) comp_dir) f) l.fixed
+
+-- what stands at a place, by other names of the bytes of its section and of its offset
+pub place_here : (P : Place → Type 0) (i : SectionIndex) (kept : KeptUnit) (section : List ℕ) (offset : ℕ) → section ≡ i.section.items → offset ≡ kept.unit.offset
+    → P (place section i.big i.address_size offset) → P (unit_place i kept)
+place_here P i kept section offset s o p =
+    subst (λ (n : ℕ). P (place i.section.items i.big i.address_size n)) o (subst (λ (x : List ℕ). P (place x i.big i.address_size offset)) s p)
+
+-- the units of an index, by other names of its bytes and its order
+record UnitsOf (section : List ℕ) (big : Bool) (size lowest : ℕ) (units : List KeptUnit) : Type 0 where
+  offsets : AreUnits (noted big (2 ^ 64)) 0 section (map (λ (u : KeptUnit). u.unit.offset) units)
+  each : All (IsUnitOf (section_read section big) (entry_of size) lowest) units
+
+pub same_units_in : (i : SectionIndex) (section : List ℕ) (big : Bool) (units : List KeptUnit) → section ≡ i.section.items → big ≡ i.big
+    → AreUnits (noted big (2 ^ 64)) 0 section (map (λ (u : KeptUnit). u.unit.offset) units)
+    → All (IsUnitOf (section_read section big) (entry_of i.address_size) i.lowest) units → AreUnitsIn i units
+same_units_in i section big units s b offsets each =
+    let here : UnitsOf i.section.items i.big i.address_size i.lowest units =
+    subst (λ (x : List ℕ). UnitsOf x i.big i.address_size i.lowest units) s
+    (subst (λ (y : Bool). UnitsOf section y i.address_size i.lowest units) b (record { offsets = offsets; each = each })) in
+    record { offsets = here.offsets; each = here.each }
+
+-- the sections of strings of an index, by other names of their bytes
+pub same_strings : (i : SectionIndex) (line_strings strings : List ℕ) → line_strings ≡ i.line_strings.items → strings ≡ i.strings.items
+    → (let s : Strings = record { debug_line_str = line_strings; debug_str = strings } in s) ≡ strings_in i
+same_strings i line_strings strings l s =
+    ap (λ (xs : List ℕ). let q : Strings = record { debug_line_str = xs; debug_str = strings } in q) l
+    ∙ ap (λ (xs : List ℕ). let q : Strings = record { debug_line_str = i.line_strings.items; debug_str = xs } in q) s

@@ -7,4 +7,7 @@ pub mod Handings
 pub mod CauseLemmas
 pub mod SamePrograms
 pub mod Handles
+pub mod IndexHandles
+pub mod ReaderHandles
 pub mod Indexes
+pub mod Readers

@@ -1,5 +1,6 @@
 -- What an index keeps, and what it answers.
-use Rattle.std.specs.Prelude.{◌≡◌, ◌^◌, ◌⊎◌, ℕ, Bool, true, List, length, map, All, Some, None, Ok, Err, nat_eq, slice_get}
+use Rattle.std.specs.Prelude.{◌≡◌, ◌^◌, ◌⊎◌, ℕ, Bool, true, List, length, map, take, All, Some, None, Ok, Err, nat_eq, slice_get}
+use Rattle.std.specs.List.{AllZip}
 use Rattle.gimli_core.specs.Notation.{noted}
 use Rattle.gimli_core.specs.Numbers.{is_address_size}
 use Rattle.gimli_line.specs.Units.{AreUnits}
@@ -7,16 +8,23 @@ use Rattle.gimli_line.specs.declared.run.row.LineRow.{LineRow}
 use Rattle.gimli_line.specs.header.File.{File}
 use Rattle.gimli_line.specs.header.Header.{Header, UnitEntry, file_of}
 use Rattle.gimli_line.specs.run.Unread.{Unread}
+use Rattle.gimli_lookup.specs.FirstPair.{HasNoPair}
 use Rattle.gimli_lookup.specs.Paths.{Paths, file_path}
-use Rattle.gimli_lookup.specs.Section.{IsFirstPairOfUnit, KeptUnit, unit_without_header}
+use Rattle.gimli_lookup.specs.Section.{all_sequences, unit_without_header, IsFirstPairOfUnit, KeptUnit}
+use Rattle.gimli_lookup.specs.SectionAddresses.{addresses_of_path}
 use Rattle.gimli_lookup.specs.SectionUnits.{IsUnitOf}
 use Rattle.gimli_lookup.specs.Statements.{addresses_of, HasNoLine, IsFirstLine}
+use Rattle.gimli_lookup.specs.Strings.{Strings}
 use Rattle.gimli_lookup.specs.declared.path_error.PathError.{PathError}
+use Rattle.gimli_c.specs.declared.file.GimliFile.{GimliFile}
+use Rattle.gimli_c.specs.declared.file.GimliText.{GimliText}
 use Rattle.gimli_c.specs.declared.index.find.GimliPlace.{GimliPlace}
 use Rattle.gimli_c.specs.declared.index.units.GimliIndexUnit.{GimliIndexUnit}
 use Rattle.gimli_c.specs.declared.index.kept.SectionIndex.{SectionIndex}
+use Rattle.gimli_c.specs.declared.row.GimliRow.{GimliRow}
 use Rattle.gimli_c.specs.declared.status.TheConstants.{NOT_FOUND, UNKNOWN_PATH}
-use Rattle.gimli_c.specs.Place.{Place, place, HasNoUnit, HasUnit}
+use Rattle.gimli_c.specs.FileSeen.{GivesDirectory, GivesFile, GivesNoDirectory, GivesNoFile, HasFiles}
+use Rattle.gimli_c.specs.Place.{Place, place, HasNoUnit}
 use Rattle.gimli_c.specs.Seen.{row_seen}
 use Rattle.gimli_c.specs.Status.{fault_status}
 use Rattle.gimli_c.specs.Written.{written}
@@ -65,6 +73,7 @@ pub record IsIndexOf (p : Program) (i : SectionIndex) : Type 0 where
   pub big : i.big ≡ p.big
   pub address_size : i.address_size ≡ p.address_size
   pub is_size : is_address_size p.address_size ≡ true
+  pub lowest : i.lowest ≡ p.lowest
   pub units : AreUnitsOf p.section p.big p.address_size p.lowest i.units
 
 -- ---- what it answers
@@ -76,6 +85,22 @@ pub record GivesPlace (units : List KeptUnit) (address : ℕ) (seen : GimliPlace
   pub is_first : IsFirstPairOfUnit address units seen.unit x y
   pub row_is : seen.row ≡ row_seen x
   pub end_is : seen.end ≡ y.address
+
+-- what stands in the place of a row, and of a place, where there is none: all numbers are 0
+abbrev pub no_row : GimliRow
+no_row = record { address = 0; op_index = 0; file = 0; line = 0; column = 0; isa = 0; discriminator = 0; flags = 0 }
+
+abbrev pub no_place : GimliPlace
+no_place = record { row = no_row; end = 0; unit = 0 }
+
+-- the answer to an address: its place, which ends above it, or where no row covers it the one of zeros
+abbrev pub IsAnswer : List KeptUnit → ℕ → GimliPlace → Type 0
+IsAnswer units address seen = GivesPlace units address seen ⊎ ((seen ≡ no_place) × All (HasNoPair address) (all_sequences units))
+
+-- the answers to the addresses, one for each as far as there is room, in an array of the caller that held others
+abbrev pub WritesAnswers : SectionIndex → List ℕ → List GimliPlace → List GimliPlace → Type 0
+WritesAnswers i addresses old new =
+    (answers : List GimliPlace) × AllZip (IsAnswer i.units) (take (length old) addresses) answers × (new ≡ written answers old)
 
 -- where the unit of an index stands
 abbrev pub unit_place : SectionIndex → KeptUnit → Place
@@ -89,11 +114,11 @@ paths_in i h comp_dir = record {
   comp_dir = Some comp_dir;
 }
 
--- the file of an index in the table of a unit
+-- the file of an index of a unit, whose header has the files that its program defines too
 pub record IsFileOf (i : SectionIndex) (unit file : ℕ) (h : Header) (entry : File) : Type 0 where
   pub kept : KeptUnit
   pub is_unit : slice_get i.units unit ≡ Some kept
-  pub has_unit : HasUnit (unit_place i kept) h
+  pub has_files : HasFiles (unit_place i kept) h
   pub is_file : file_of h file ≡ Some entry
 
 -- the whole path of the file of a unit
@@ -120,11 +145,25 @@ pub record CantTellPath (i : SectionIndex) (unit file : ℕ) (comp_dir : List �
 abbrev pub IsUnit : SectionIndex → ℕ → KeptUnit → Type 0
 IsUnit i unit kept = slice_get i.units unit ≡ Some kept
 
--- the index has no such unit, or the unit's table no such file
+-- the index has no such unit, or the unit no such file
 abbrev pub HasNoFile : SectionIndex → ℕ → ℕ → Type 0
-HasNoFile i unit file =
-    (slice_get i.units unit ≡ None)
-    ⊎ ((kept : KeptUnit) × IsUnit i unit kept × (h : Header) × HasUnit (unit_place i kept) h × (file_of h file ≡ None))
+HasNoFile i unit file = (slice_get i.units unit ≡ None) ⊎ ((kept : KeptUnit) × IsUnit i unit kept × GivesNoFile (unit_place i kept) file)
+
+-- the index has no such unit, or the unit no such directory
+abbrev pub HasNoDirectory : SectionIndex → ℕ → ℕ → Type 0
+HasNoDirectory i unit directory = (slice_get i.units unit ≡ None) ⊎ ((kept : KeptUnit) × IsUnit i unit kept × GivesNoDirectory (unit_place i kept) directory)
+
+-- the file of an index of a unit, and the bytes of its path and directory where they stand in the section itself
+pub record GivesFileOf (i : SectionIndex) (unit file : ℕ) (seen : GimliFile) (path_old path_new directory_old directory_new : List ℕ) : Type 0 where
+  pub kept : KeptUnit
+  pub is_unit : IsUnit i unit kept
+  pub gives : GivesFile (unit_place i kept) file seen path_old path_new directory_old directory_new
+
+-- the directory of an index of a unit, and its bytes where they stand in the section itself
+pub record GivesDirectoryOf (i : SectionIndex) (unit directory : ℕ) (seen : GimliText) (bytes_old bytes_new : List ℕ) : Type 0 where
+  pub kept : KeptUnit
+  pub is_unit : IsUnit i unit kept
+  pub gives : GivesDirectory (unit_place i kept) directory seen bytes_old bytes_new
 
 -- a unit can't be read, and this is the number of the refusal
 pub record UnitRefused (i : SectionIndex) (unit status : ℕ) : Type 0 where
@@ -164,3 +203,32 @@ WritesAddresses i unit file asked line old new count =
 -- the index has no such unit, or no line from the asked one on has an address
 abbrev pub HasNoAddress : SectionIndex → ℕ → ℕ → ℕ → Type 0
 HasNoAddress i unit file asked = (slice_get i.units unit ≡ None) ⊎ ((kept : KeptUnit) × IsUnit i unit kept × HasNoLine (addresses_in kept file) asked)
+
+-- ---- by a path
+
+-- all units of the section of an index, with their headers
+pub record AreUnitsIn (i : SectionIndex) (units : List KeptUnit) : Type 0 where
+  pub offsets : AreUnits (noted i.big (2 ^ 64)) 0 i.section.items (map (λ u. u.unit.offset) units)
+  pub each : All (IsUnitOf (section_read i.section.items i.big) (entry_of i.address_size) i.lowest) units
+
+-- the sections of strings of an index
+abbrev pub strings_in : SectionIndex → Strings
+strings_in i = record { debug_line_str = i.line_strings.items; debug_str = i.strings.items }
+
+-- the addresses of the first line of a path from the asked one on that has any, over all units
+pub record GivesAddressesOf (i : SectionIndex) (path : List ℕ) (asked line : ℕ) (addresses : List ℕ) : Type 0 where
+  pub units : List KeptUnit
+  pub are_units : AreUnitsIn i units
+  pub is_first : IsFirstLine (addresses_of_path (strings_in i) path units) asked line
+  pub addresses_are : addresses ≡ addresses_of_path (strings_in i) path units line
+
+-- those addresses in an array of the caller, and how many there are
+abbrev pub WritesAddressesOf : SectionIndex → List ℕ → ℕ → ℕ → List ℕ → List ℕ → ℕ → Type 0
+WritesAddressesOf i path asked line old new count =
+    (addresses : List ℕ) × GivesAddressesOf i path asked line addresses × (new ≡ written addresses old) × (count ≡ length addresses)
+
+-- no line of the path from the asked one on has an address
+pub record HasNoAddressOf (i : SectionIndex) (path : List ℕ) (asked : ℕ) : Type 0 where
+  pub units : List KeptUnit
+  pub are_units : AreUnitsIn i units
+  pub none : HasNoLine (addresses_of_path (strings_in i) path units) asked

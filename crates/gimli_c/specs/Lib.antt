@@ -14,3 +14,4 @@ pub mod Refused
 pub mod Causes
 pub mod Owned
 pub mod Indexed
+pub mod Reader

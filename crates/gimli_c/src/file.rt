@@ -10,7 +10,7 @@ ghost use Rattle.gimli_c.specs.Written.{written};
 
 use crate::place::program_at;
 use crate::row::flag;
-use crate::run::run_on;
+use crate::run::run_to_file;
 use crate::status::{NOT_FOUND, OK, OUT_OF_MEMORY, UNSUPPORTED_ADDRESS_SIZE, error_status};
 use gimli_core::{AttributeValue, Reader, ReaderOffset};
 use gimli_line::{FileEntry, LineProgramHeader};
@@ -72,8 +72,8 @@ pub const HAS_MD5: u64 = 4;
 /// The files have a source text.
 pub const HAS_SOURCE: u64 = 8;
 
-/// Reads the file of an index, as rows have it: up to version 4 from 1 on, in version 5 from 0 on. The program is run to
-/// its end, past its faults, for the files that it defines. The bytes of the path and of the directory go into `path` and
+/// Reads the file of an index, as rows have it: up to version 4 from 1 on, in version 5 from 0 on. Where the unit's table has no
+/// such file, the program is run to its end, past its faults, for the files that it defines. The bytes of the path and of the directory go into `path` and
 /// `directory`, as far as they stand in the section itself, and there is room. `NOT_FOUND` where there is no such file.
 /// Where another number than 0 is answered, nothing is written. For `address_size` and the order see `gimli_line_unit`.
 #[unsafe(no_mangle)]
@@ -103,7 +103,7 @@ pub extern "C" fn gimli_line_file(
         Err(status) => return status,
     };
     let mut rows = program.rows();
-    match run_on(&mut rows) {
+    match run_to_file(&mut rows, index) {
         Ok(()) => {}
         Err(e) => return error_status(e),
     }

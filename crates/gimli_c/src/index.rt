@@ -4,17 +4,20 @@ mod close;
 mod find;
 mod handle;
 mod kept;
-mod loose;
+mod lines;
 mod open;
 mod path;
+mod tables;
 mod units;
 
 pub use close::gimli_line_index_close;
-pub use find::{GimliPlace, gimli_line_index_find};
+pub use find::{GimliPlace, gimli_line_index_find, gimli_line_index_find_all};
 pub use handle::GimliLineIndex;
 pub use kept::SectionIndex;
+pub use lines::gimli_line_index_addresses_of;
 pub use open::gimli_line_index_open;
 pub use path::gimli_line_index_path;
+pub use tables::{gimli_line_index_directory, gimli_line_index_file};
 pub use units::{
     GimliIndexUnit, gimli_line_index_addresses, gimli_line_index_unit, gimli_line_index_unit_count,
 };

@@ -11,8 +11,10 @@ mod find;
 mod index;
 mod items;
 pub mod laws;
+mod loose;
 mod place;
 mod row;
+mod row_reader;
 mod rows;
 mod run;
 pub mod status;
@@ -31,10 +33,15 @@ pub use file::{
 pub use find::gimli_line_find;
 pub use index::{
     GimliIndexUnit, GimliLineIndex, GimliPlace, SectionIndex, gimli_line_index_addresses,
-    gimli_line_index_close, gimli_line_index_find, gimli_line_index_open, gimli_line_index_path,
-    gimli_line_index_unit, gimli_line_index_unit_count,
+    gimli_line_index_addresses_of, gimli_line_index_close, gimli_line_index_directory,
+    gimli_line_index_file, gimli_line_index_find, gimli_line_index_find_all, gimli_line_index_open,
+    gimli_line_index_path, gimli_line_index_unit, gimli_line_index_unit_count,
 };
 pub use row::{BASIC_BLOCK, END_SEQUENCE, EPILOGUE_BEGIN, GimliRow, IS_STMT, PROLOGUE_END};
+pub use row_reader::{
+    GimliRowReader, UnitRows, gimli_line_index_rows_open, gimli_line_rows_close,
+    gimli_line_rows_next, gimli_line_rows_open,
+};
 pub use rows::gimli_line_rows;
 pub use tables::GimliFileName;
 pub use text::GimliName;

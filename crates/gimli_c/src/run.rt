@@ -3,9 +3,10 @@
 ghost use Rattle.std.specs.Prelude.{List, true, false, ◌≡◌, ◌≢◌, ◌<◌, ◌≤◌, ◌^◌, ◌-◌, ◌∷◌, [], Some, IfErr, IfNone, IfOk, IfSome, OnErr, OnOk, length, set};
 ghost use Rattle.gimli_line.specs.run.Events.{row, fault};
 ghost use Rattle.gimli_line.specs.run.Rows.{events_left, files_at_end};
+ghost use Rattle.gimli_line.specs.header.Header.{file_of};
 ghost use Rattle.gimli_line.specs.run.Sequences.{events_of};
 ghost use Rattle.gimli_line.specs.run.EventsWithFiles.{EventWithFiles, EventsWithFiles};
-ghost use Rattle.gimli_c.specs.Run.{rows_of, Begun, Copied};
+ghost use Rattle.gimli_c.specs.Run.{header_with, rows_of, Begun, Copied};
 ghost use Rattle.gimli_c.specs.Seen.{row_seen};
 ghost use Rattle.gimli_c.specs.Status.{fault_status};
 
@@ -76,7 +77,7 @@ pub(crate) fn copy_rows<R: Reader>(
 }
 
 /// Whether memory was refused.
-fn is_memory(error: Error) -> bool
+pub(crate) fn is_memory(error: Error) -> bool
     ensures memory { result ≡ true → error ≡ Error.OutOfMemory }
     ensures other { result ≡ false → error ≢ Error.OutOfMemory }
 {
@@ -134,4 +135,18 @@ pub(crate) fn fault_status(fault: Option<Error>) -> u32
         None => OK,
         Some(e) => error_status(e),
     }
+}
+
+/// Goes on until the file of an index is among the files: no further where it is, else to the end of the program, past its faults.
+/// Refused by `OutOfMemory` alone.
+pub(crate) fn run_to_file<R: Reader>(rows: &mut OneShotLineRows<R>, index: u64) -> Result<()>
+    ensures file { OnOk result (file_of (header_with rows.new rows.new.files) index
+        ≡ file_of (header_with rows.new (files_at_end rows.old)) index) }
+    ensures fixed { rows.new.fixed ≡ rows.old.fixed }
+    ensures err { IfErr result (λ e. e ≡ Error.OutOfMemory) }
+{
+    if let Some(_) = rows.header().file(index) {
+        return Ok(());
+    }
+    run_on(rows)
 }

@@ -72,7 +72,7 @@ pub const UNIT_TOO_LONG: u32 = 30;
 /// The unit is longer than the room for it.
 pub const NO_ROOM: u32 = 31;
 
-/// The handle of an index is closed.
+/// A handle is closed.
 pub const CLOSED: u32 = 32;
 /// A string of a path can't be told: it is given by an index, stands in the supplementary file or outside its section, or has
 /// no zero byte at its end; or a file's directory isn't there.

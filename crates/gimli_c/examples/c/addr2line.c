@@ -34,15 +34,17 @@ static void print_row(const gimli_row *row) {
     putchar('\n');
 }
 
-/* All rows of a unit, a few at a time. */
+/* All rows of a unit, a few at a time. The status is that of the program's first fault, which comes after the rows before it. */
 static uint32_t print_rows(const uint8_t *section, size_t length, size_t offset) {
-    gimli_row rows[ROOM];
-    uint64_t count = 0;
-    uint32_t status = GIMLI_OK;
-    for (uint64_t skip = 0; skip == 0 || skip < count; skip += ROOM) {
-        status = gimli_line_rows(section, length, false, 8, offset, skip, rows, ROOM, &count);
-        for (uint64_t i = 0; i < ROOM && skip + i < count; i++) print_row(&rows[i]);
+    gimli_row_reader reader = GIMLI_ROW_READER_CLOSED;
+    uint32_t status = gimli_line_rows_open(section, length, false, 8, offset, &reader);
+    uint64_t count = ROOM;
+    while (status == GIMLI_OK && count == ROOM) {
+        gimli_row rows[ROOM];
+        status = gimli_line_rows_next(&reader, rows, ROOM, &count);
+        for (uint64_t i = 0; i < count; i++) print_row(&rows[i]);
     }
+    gimli_line_rows_close(&reader);
     return status;
 }
 

@@ -13,8 +13,9 @@
 #include "elf_sections.h"
 #include "gimli_line.h"
 
-/* The paths that were asked for, by unit and file: a later one takes the place of an earlier one. */
-enum { PATHS = 1024 };
+/* The paths that were asked for, by unit and file: a later one takes the place of an earlier one. And the addresses that are looked
+ * up at once. */
+enum { PATHS = 1024, BATCH = 256 };
 
 typedef struct path {
     uint64_t unit, file, size;
@@ -68,6 +69,23 @@ static void look_up(gimli_line_index *index, path *paths, uint64_t address) {
     print_place(index, paths, &place);
 }
 
+/* The addresses of the input, many at once: the place of one that no row covers has the end 0. */
+static void look_input_up(gimli_line_index *index, path *paths) {
+    static uint64_t addresses[BATCH];
+    static gimli_place places[BATCH];
+    char line[64];
+    for (size_t count = BATCH; count == BATCH;) {
+        for (count = 0; count < BATCH && fgets(line, sizeof line, stdin) != NULL; count++) addresses[count] = strtoull(line, NULL, 16);
+        stop_if(gimli_line_index_find_all(index, addresses, count, places, BATCH), "gimli_line_index_find_all");
+        for (size_t i = 0; i < count; i++) {
+            if (places[i].end == 0)
+                puts("none");
+            else
+                print_place(index, paths, &places[i]);
+        }
+    }
+}
+
 int main(int argc, char **argv) {
     if (argc < 2) {
         fprintf(stderr, "usage: where_is PROGRAM ADDRESS..\n");
@@ -84,9 +102,8 @@ int main(int argc, char **argv) {
             "gimli_line_index_open");
     elf_free(&program); /* the index has what it needs */
     static path paths[PATHS];
-    char line[64];
     for (int i = 2; i < argc; i++) look_up(&index, paths, strtoull(argv[i], NULL, 16));
-    while (argc == 2 && fgets(line, sizeof line, stdin) != NULL) look_up(&index, paths, strtoull(line, NULL, 16));
+    if (argc == 2) look_input_up(&index, paths);
     for (int i = 0; i < PATHS; i++) free(paths[i].bytes);
     stop_if(gimli_line_index_close(&index), "gimli_line_index_close");
     return 0;

@@ -3,10 +3,11 @@
 ghost use Rattle.std.specs.Prelude.{◌≡◌, ◌≢◌, ◌⊎◌, All, IfSome, IsSome, MatchOption, None};
 ghost use Rattle.gimli_lookup.specs.FirstPair.{HasNoPair};
 ghost use Rattle.gimli_lookup.specs.Section.{all_sequences};
-ghost use Rattle.gimli_c.specs.Indexed.{GivesPlace};
+ghost use Rattle.gimli_c.specs.Indexed.{no_place, GivesPlace, IsAnswer, WritesAnswers};
 
 use crate::index::handle::GimliLineIndex;
 use crate::index::kept::SectionIndex;
+use crate::place::lesser;
 use crate::row::GimliRow;
 use crate::status::{CLOSED, NOT_FOUND, OK};
 use std::alloc::Global;
@@ -22,6 +23,22 @@ pub struct GimliPlace {
     /// The index of the unit, from 0 on.
     pub unit: u64,
 }
+
+/// The place of an address that no row covers: all its numbers are 0. That of one that is covered ends above the address.
+const NO_PLACE: GimliPlace = GimliPlace {
+    row: GimliRow {
+        address: 0,
+        op_index: 0,
+        file: 0,
+        line: 0,
+        column: 0,
+        isa: 0,
+        discriminator: 0,
+        flags: 0,
+    },
+    end: 0,
+    unit: 0,
+};
 
 /// The place of an address; none where no row covers it.
 fn place_in(index: &SectionIndex, address: u64) -> Option<GimliPlace>
@@ -68,4 +85,48 @@ pub extern "C" fn gimli_line_index_find(
         }
         None => NOT_FOUND,
     }
+}
+
+/// What is answered to an address.
+fn answer_in(index: &SectionIndex, address: u64) -> GimliPlace
+    ensures { IsAnswer index.now.units address result }
+{
+    match place_in(index, address) {
+        Some(place) => place,
+        None => NO_PLACE,
+    }
+}
+
+/// Puts what is answered to addresses into places, as far as there is room.
+fn answer_all(index: &SectionIndex, addresses: &[u64], places: &mut [GimliPlace])
+    ensures { WritesAnswers index.now addresses.now places.old places.new }
+{
+    let count = lesser(addresses.len(), places.len());
+    for place in 0..count {
+        places[place] = answer_in(index, addresses[place]);
+    }
+}
+
+/// Looks many addresses up, each as `gimli_line_index_find` does. The place of the first goes into `places[0]` and so on, as far as
+/// there is room. Where no row covers an address, all numbers of its place are 0; else the `end` of a place is above the address,
+/// and so isn't 0. `CLOSED` where the handle is; then `places` stays as it was. Takes no memory.
+#[unsafe(no_mangle)]
+pub extern "C" fn gimli_line_index_find_all(
+    alloc: Global,
+    index: &mut GimliLineIndex,
+    addresses: &[u64],
+    places: &mut [GimliPlace],
+) -> u32
+    ensures found { IfSome index.old.index
+        (λ i. WritesAnswers i addresses.now places.old places.new) }
+    ensures ok { IsSome index.old.index → result ≡ OK }
+    ensures closed { index.old.index ≡ None → (result ≡ CLOSED) × (places.new ≡ places.old) }
+    ensures same { index.new.index ≡ index.old.index }
+{
+    let Some(kept) = index.swap(alloc, None) else {
+        return CLOSED;
+    };
+    answer_all(&kept, addresses, places);
+    drop(index.swap(alloc, Some(kept)));
+    OK
 }

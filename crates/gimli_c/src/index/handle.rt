@@ -4,7 +4,7 @@ ghost use Rattle.std.specs.Prelude.{◌≡◌, Option, Some, None, option_map};
 ghost use Rattle.gimli_c.specs.declared.index.kept.SectionIndex.{SectionIndex};
 
 use crate::index::kept::SectionIndex;
-use crate::index::loose::Loose;
+use crate::loose::Loose;
 use std::alloc::Global;
 use std::marker::Model;
 use std::mem::replace;

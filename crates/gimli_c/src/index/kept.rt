@@ -16,6 +16,8 @@ pub struct SectionIndex {
     pub(crate) big: bool,
     /// The number of bytes of an address up to version 4.
     pub(crate) address_size: u8,
+    /// The address below which there is no code.
+    pub(crate) lowest: u64,
     /// The units and their rows, without the headers.
     pub(crate) units: SectionLookup<EndianSlice<'static, RunTimeEndian>>,
 }

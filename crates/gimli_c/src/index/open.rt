@@ -71,6 +71,7 @@ fn index_of(
         strings: copy(alloc, strings)?,
         big,
         address_size,
+        lowest,
         units: units_of(alloc, section, big, address_size, lowest)?,
     };
     match Box::new(alloc, index) {

@@ -11,7 +11,8 @@ use crate::file::copy_bytes;
 use crate::index::handle::GimliLineIndex;
 use crate::index::kept::SectionIndex;
 use crate::place::{order, program_at};
-use crate::status::{CLOSED, NOT_FOUND, OK, OUT_OF_MEMORY, UNKNOWN_PATH};
+use crate::run::run_to_file;
+use crate::status::{CLOSED, NOT_FOUND, OK, OUT_OF_MEMORY, UNKNOWN_PATH, error_status};
 use gimli_core::{EndianSlice, RunTimeEndian};
 use gimli_line::{FileEntry, LineProgramHeader};
 use gimli_lookup::{PathError, Paths, StringSections};
@@ -72,7 +73,12 @@ fn path_of(
         Ok(program) => program,
         Err(status) => return Err(status),
     };
-    let header = program.header();
+    let mut rows = program.rows();
+    match run_to_file(&mut rows, file) {
+        Ok(()) => {}
+        Err(e) => return Err(error_status(e)),
+    }
+    let header = rows.header();
     let entry = match header.file(file) {
         Some(entry) => entry,
         None => return Err(NOT_FOUND),

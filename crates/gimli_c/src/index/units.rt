@@ -120,7 +120,7 @@ pub extern "C" fn gimli_line_index_unit(
 }
 
 /// Puts addresses into a place, as far as there is room.
-fn copy_addresses(addresses: &[u64], room: &mut [u64])
+pub(crate) fn copy_addresses(addresses: &[u64], room: &mut [u64])
     ensures { room.new ≡ written addresses.now room.old }
 {
     for (place, address) in addresses.iter().enumerate() {

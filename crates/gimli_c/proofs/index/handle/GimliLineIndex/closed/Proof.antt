@@ -14,7 +14,8 @@ use denote.Steps.{nothing}
 use denote.Triple.Walked.{Stays, walk_of}
 use Rattle.std.specs.Prelude.{Option, None}
 use Rattle.std.proofs.raw_atomic.Walks.{proved_at, leaves}
-use Rattle.gimli_c.proofs.Handles.{lone_word, R, null_good, handle_in}
+use Rattle.gimli_c.proofs.Handles.{lone_word, null_good}
+use Rattle.gimli_c.proofs.IndexHandles.{R, handle_in}
 use Rattle.gimli_c.specs.contracts.index.handle.GimliLineIndex.closed.{ended, clauses}
 use Rattle.gimli_c.specs.contracts.index.handle.GimliLineIndex.closed.Key.{name as #self}
 use Rattle.gimli_c.proofs.index.handle.GimliLineIndex.closed.Statement.{statement}

@@ -26,7 +26,8 @@ use Rattle.core.proofs.cell.Inside.{Good}
 use Rattle.core.proofs.option.Made.{Some-of, none_of}
 use Rattle.std_alloc.proofs.ResultValues.{and_tt}
 use Rattle.std.proofs.raw_atomic.Walks.{proved_at, leaves}
-use Rattle.gimli_c.proofs.Handles.{both, lone_word, R, Z, LZ, heap_al, null_good, Loose, loose_good, loose_in, Handle, handle_out, either}
+use Rattle.gimli_c.proofs.Handles.{both, lone_word, Z, LZ, heap_al, null_good, Loose, loose_good, loose_in, either}
+use Rattle.gimli_c.proofs.IndexHandles.{R, Handle, handle_out}
 use Rattle.gimli_c.specs.contracts.index.handle.GimliLineIndex.into_loose.{ended, clauses}
 use Rattle.gimli_c.specs.contracts.index.handle.GimliLineIndex.into_loose.Key.{name as #self}
 use Rattle.gimli_c.proofs.index.handle.GimliLineIndex.into_loose.Statement.{statement}
@@ -43,7 +44,7 @@ into_loose_spec 𝓤 𝓛 𝓜 𝓡 wired =
     qed 𝓛 ((‵ ftrue ⊛ ‵ (owns (types_at ended.signature.params z.0.0) z.0.3 z.0.4)) ∷ raw ((c z.0.0 z.0.3).requires z.1) ∷ []) ∵ split ! $ drop ! $ fsplit ! $
     handle_out ! d.at d.index z.0.4.0 (λ ws. move ! (1 ∷ []) $ fsplit ! $ handle_tells heap_al ! a z.0.4.1.0 (λ h eh fits. move ! (2 ∷ []) $
     -- [what stands at the handle; the allocator; ..]
-    either ! d.at d.index
+    either R ! d.at d.index
     (λ is none. let w : Val = lone_word (ptr_val null_ptr) in let told : z.0.4.0 ≡ w ∷ [] = ws ∙ ap (λ (p : Ptr). lone_word (ptr_val p) ∷ []) is in
     suffices ! (Run (w ∷ h ∷ [])) (subst (λ (us : List Val). ent 𝓤 (Run (w ∷ h ∷ [])) (Run us)) (sym (λ i. told i ++ (eh i ++ []))) (id⊢ 𝓤 (Run (w ∷ h ∷ [])))) $
     enter ! 𝓣.C 𝓣.Λ fn (w ∷ h ∷ []) Post $ alloc_all ! (λ l. pass_all ! refl ((tt, (null_good.1, tt)), (fits, tt)) $ let Ev = env fn.locals l in

@@ -20,7 +20,8 @@ use Rattle.core.proofs.alloc.Calls.{Goes-blank}
 use Rattle.std.specs.Prelude.{Option, Some}
 use Rattle.std.specs.contracts.impls.GlobalAllocator.TheImpl.{ghosts}
 use Rattle.std.proofs.raw_atomic.Walks.{proved_at, leaves}
-use Rattle.gimli_c.proofs.Handles.{both, lone_word, R, Z, LZ, Loose, loose_good, loose_out, handle_in}
+use Rattle.gimli_c.proofs.Handles.{both, lone_word, Z, LZ, Loose, loose_good, loose_out}
+use Rattle.gimli_c.proofs.IndexHandles.{R, handle_in}
 use Rattle.gimli_c.specs.contracts.index.handle.GimliLineIndex.of.{ended, clauses}
 use Rattle.gimli_c.specs.contracts.index.handle.GimliLineIndex.of.Key.{name as #self}
 use Rattle.gimli_c.proofs.index.handle.GimliLineIndex.of.Statement.{statement}

@@ -34,10 +34,10 @@ use Rattle.std.proofs.raw_atomic.Walks.{proved_at, leaves}
 use Rattle.gimli_c.proofs.Handles.{both, Loose, loose_good, loose_out}
 use Rattle.std_alloc.specs.contracts.boxed.Box.from_raw as callee
 use Rattle.std_alloc.proofs.boxed.Box.from_raw.Met.{met}
-use Rattle.gimli_c.specs.contracts.index.loose.Loose.into_box.{ended, clauses}
-use Rattle.gimli_c.specs.contracts.index.loose.Loose.into_box.Key.{name as #self}
-use Rattle.gimli_c.proofs.index.loose.Loose.into_box.Statement.{statement}
-use Rattle.gimli_c.proofs.index.loose.Loose.into_box.Code as code
+use Rattle.gimli_c.specs.contracts.loose.Loose.into_box.{ended, clauses}
+use Rattle.gimli_c.specs.contracts.loose.Loose.into_box.Key.{name as #self}
+use Rattle.gimli_c.proofs.loose.Loose.into_box.Statement.{statement}
+use Rattle.gimli_c.proofs.loose.Loose.into_box.Code as code
 
 pub into_box_spec : {M : Type 1} → statement M
 into_box_spec 𝓤 𝓛 𝓜 𝓡 wired T A L LA g d dx dd allocator glue glued =

@@ -1,0 +1,43 @@
+/* Where an address of a program comes from, and how many rows its unit has: first PROGRAM ADDRESS, in hexadecimal. */
+#include <inttypes.h>
+#include <stdio.h>
+#include <stdlib.h>
+
+#include "elf_sections.h"
+#include "gimli_line.h"
+
+static void stop_if(uint32_t status) {
+    if (status == GIMLI_OK) return;
+    fprintf(stderr, "first: %s\n", gimli_status_sentence(status));
+    exit(1);
+}
+
+int main(int argc, char **argv) {
+    elf_sections program;
+    if (argc != 3 || !elf_read(argv[1], &program)) return 2;
+    gimli_line_index index = GIMLI_LINE_INDEX_CLOSED;
+    uint64_t lowest = 1; /* of code: linkers leave functions that they drop at 0 */
+    stop_if(gimli_line_index_open(program.line.bytes, program.line.length, program.big, program.address_size, lowest,
+                                  program.line_str.bytes, program.line_str.length, program.str.bytes, program.str.length, &index));
+    elf_free(&program); /* the index has copies */
+
+    gimli_place place;
+    stop_if(gimli_line_index_find(&index, strtoull(argv[2], NULL, 16), &place)); /* GIMLI_NOT_FOUND where no row covers it */
+    uint8_t path[4096];
+    uint64_t size; /* of the whole path, which may be more than there is room for */
+    stop_if(gimli_line_index_path(&index, place.unit, place.row.file, (const uint8_t *)"", 0, path, sizeof path, &size));
+    printf("%.*s:%" PRIu64 "\n", (int)(size < sizeof path ? size : sizeof path), (const char *)path, place.row.line);
+
+    gimli_row_reader reader = GIMLI_ROW_READER_CLOSED;
+    stop_if(gimli_line_index_rows_open(&index, place.unit, &reader));
+    gimli_row rows[64];
+    uint64_t all = 0, count = 64;
+    while (count == 64) { /* fewer: the rows are at their end */
+        stop_if(gimli_line_rows_next(&reader, rows, 64, &count));
+        all += count;
+    }
+    printf("%" PRIu64 " rows\n", all);
+    gimli_line_rows_close(&reader);
+    gimli_line_index_close(&index);
+    return 0;
+}

@@ -1,0 +1,136 @@
+/* A target for libFuzzer: any bytes are a section, and each reading call is made over it. What two calls say of one thing has to be
+ * the same; every answer is a number of the header. See fuzz.sh.
+ *
+ * The library is no part of what the fuzzer counts, since it is built by another compiler. So the target counts for it: each number
+ * that is answered, and how many rows, files and units there are. */
+#include <stdint.h>
+#include <stdlib.h>
+#include <string.h>
+
+#include "gimli_line.h"
+
+enum { ROOM = 32, MOST_ROWS = 4096, COUNTERS = 4096 };
+
+__attribute__((section("__libfuzzer_extra_counters"))) static uint8_t counters[COUNTERS];
+
+/* Counts that something was so. */
+static void count(unsigned kind, uint64_t value) {
+    unsigned bits = 0;
+    while (value >> bits != 0 && bits < 16) bits++;
+    counters[(kind * 64 + (value < 40 ? (unsigned)value : 40 + bits)) % COUNTERS] = 1;
+}
+
+static uint32_t answered(unsigned call, uint32_t status) {
+    if (status > GIMLI_UNKNOWN_PATH) abort();
+    count(call, status);
+    return status;
+}
+
+static void same(bool holds) {
+    if (!holds) abort();
+}
+
+/* The rows of a unit by one run, and by a reader. */
+static void read_rows(const uint8_t *data, size_t size, bool big, uint8_t address_size, size_t offset, gimli_line_index *index,
+                      uint64_t unit) {
+    static gimli_row all[MOST_ROWS], some[ROOM];
+    uint64_t rows = 0, given = ROOM, skip = 0;
+    gimli_row_reader reader = GIMLI_ROW_READER_CLOSED;
+    uint32_t status = answered(1, gimli_line_rows(data, size, big, address_size, offset, 0, all, MOST_ROWS, &rows));
+    uint32_t opened = answered(2, gimli_line_index_rows_open(index, unit, &reader));
+    if (opened != GIMLI_OK) {
+        same(opened == status && reader.at == NULL);
+        return;
+    }
+    count(3, rows);
+    while (given == ROOM) {
+        uint32_t end = answered(4, gimli_line_rows_next(&reader, some, ROOM, &given));
+        for (uint64_t i = 0; i < given && skip + i < MOST_ROWS; i++) same(memcmp(&all[skip + i], &some[i], sizeof *all) == 0);
+        skip += given;
+        same(end == (given < ROOM ? status : (uint32_t)GIMLI_OK));
+    }
+    same(skip == rows);
+    for (uint64_t i = 0; i < rows && i < MOST_ROWS; i++) {
+        count(5, all[i].flags);
+        count(6, all[i].line);
+        count(7, all[i].op_index);
+    }
+    gimli_line_rows_close(&reader);
+    same(reader.at == NULL);
+    uint64_t addresses[ROOM];
+    gimli_place places[ROOM];
+    uint64_t asked = rows < ROOM ? rows : ROOM;
+    for (uint64_t i = 0; i < asked; i++) addresses[i] = all[i].address + i % 3;
+    same(gimli_line_index_find_all(index, addresses, asked, places, ROOM) == GIMLI_OK);
+    for (uint64_t i = 0; i < asked; i++) {
+        gimli_place place;
+        memset(&place, 0, sizeof place);
+        uint32_t found = answered(8, gimli_line_index_find(index, addresses[i], &place));
+        same(memcmp(&place, &places[i], sizeof place) == 0 && (found == GIMLI_OK) == (place.end > addresses[i]));
+        if (found == GIMLI_OK) same(place.row.address <= addresses[i]);
+    }
+}
+
+/* Some files and directories of a unit, by its offset and by the index. */
+static void read_tables(const uint8_t *data, size_t size, bool big, uint8_t address_size, size_t offset, gimli_line_index *index,
+                        uint64_t unit, uint64_t files) {
+    for (uint64_t number = 0; number <= files && number < 6; number++) {
+        uint8_t path[64] = {0}, directory[64] = {0}, other[64] = {0}, another[64] = {0};
+        gimli_file file, again;
+        gimli_text text;
+        uint32_t status = answered(9, gimli_line_file(data, size, big, address_size, offset, number, &file, path, 64, directory, 64));
+        same(gimli_line_index_file(index, unit, number, &again, other, 64, another, 64) == status);
+        if (status == GIMLI_OK) {
+            same(memcmp(&file, &again, sizeof file) == 0 && memcmp(path, other, 64) == 0 && memcmp(directory, another, 64) == 0);
+            count(10, file.path.kind);
+            count(11, file.details);
+        }
+        status = answered(12, gimli_line_directory(data, size, big, address_size, offset, number, &text, directory, 64));
+        same(gimli_line_index_directory(index, unit, number, &text, directory, 64) == status);
+        uint64_t length = 0, found = 0, line = 0, addresses[4];
+        status = answered(13, gimli_line_index_path(index, unit, number, (const uint8_t *)"/comp", 5, path, 64, &length));
+        if (status == GIMLI_OK) {
+            count(14, length);
+            answered(15, gimli_line_index_addresses_of(index, path, length < 64 ? length : 64, 1, &line, addresses, 4, &found));
+        }
+        answered(16, gimli_line_index_addresses(index, unit, number, 1, &line, addresses, 4, &found));
+    }
+}
+
+int LLVMFuzzerTestOneInput(const uint8_t *data, size_t size);
+
+/* The first byte has the order of bytes and the address size; the next one says how many of the last bytes are .debug_line_str. */
+int LLVMFuzzerTestOneInput(const uint8_t *data, size_t size) {
+    if (size < 2) return 0;
+    bool big = data[0] & 1;
+    uint8_t address_size = (uint8_t)(data[0] >> 1 & 15);
+    size_t strings = data[1] < size - 2 ? data[1] : size - 2;
+    data += 2;
+    size -= 2 + strings;
+    gimli_line_index index = GIMLI_LINE_INDEX_CLOSED;
+    uint64_t units = 0;
+    if (answered(17, gimli_line_index_open(data, size, big, address_size, 0, data + size, strings, data + size, strings, &index)) !=
+        GIMLI_OK) {
+        same(index.at == NULL);
+        return 0;
+    }
+    same(gimli_line_index_unit_count(&index, &units) == GIMLI_OK);
+    count(18, units);
+    for (uint64_t number = 0; number < units && number < 8; number++) {
+        gimli_index_unit listed;
+        gimli_unit unit = {0};
+        same(gimli_line_index_unit(&index, number, &listed) == GIMLI_OK);
+        uint32_t status = answered(19, gimli_line_unit(data, size, big, address_size, listed.offset, &unit));
+        if (status == GIMLI_OK) {
+            answered(20, unit.fault);
+            count(21, unit.version);
+            count(22, unit.files);
+        }
+        same(listed.fault == (status == GIMLI_OK ? unit.fault : status));
+        read_rows(data, size, big, address_size, listed.offset, &index, number);
+        read_tables(data, size, big, address_size, listed.offset, &index, number, unit.files);
+    }
+    gimli_line_index_close(&index);
+    same(index.at == NULL);
+    return 0;
+}

@@ -1,0 +1,72 @@
+#!/usr/bin/env bash
+# Looks for misused memory: the example where_is under valgrind; all examples built with the address sanitiser; each call over buffers
+# that end at a page that can't be read (guarded.c); and many threads, each with an index of its own (threads.c), also under helgrind
+# of valgrind. Over compiled programs of versions 2 to 5. What a machine lacks is said, and passed over. The library is that of
+# `make`, or of `rt lib`.
+set -eu
+here=$(cd "$(dirname "$0")" && pwd)
+crate=$(dirname "$here")
+top=$(cd "$crate/../.." && pwd)
+have() { command -v "$1" >/dev/null || { echo "gimli_c: $1 is missing: $2 isn't tried"; false; }; }
+have cc "memory" && have objcopy "memory" || exit 0
+library=$crate/build/libgimli_line.a
+[ -f "$library" ] || library="$crate/out/libgimli_c.a $(dirname "$(rt doc)")/c/liblibc_c.a"
+work=$(mktemp -d)
+trap 'rm -rf "$work"' EXIT
+
+# Builds an example into the name that is given, with further words for the compiler.
+build() {
+    local name=$1 source=$2
+    shift 2
+    # shellcheck disable=SC2086
+    cc -std=c11 -g -O1 -Wall -Wextra -Werror -I "$crate/include" "$@" "$here/c/$source.c" $library -lpthread -o "$work/$name"
+}
+
+for version in 2 3 4 5; do
+    (cd "$top/compare" && cc -g "-gdwarf-$version" -O1 sources/main.c sources/sums.c -o "$work/built$version")
+    : >"$work/line_str$version"
+    objcopy --dump-section ".debug_line=$work/line$version" "$work/built$version" "$work/copy"
+    objcopy --dump-section ".debug_line_str=$work/line_str$version" "$work/built$version" "$work/copy" 2>/dev/null || true
+done
+addresses="0 ffffffffffffffff $(nm "$work/built5" | awk '$2 == "T" {print $1}')"
+
+build guarded guarded
+calls=0
+for version in 2 3 4 5; do
+    calls=$((calls + $("$work/guarded" "$work/line$version" "$work/line_str$version")))
+done
+echo "gimli_c: $calls answers over buffers that end at a page that can't be read"
+
+build threads threads
+for version in 2 3 4 5; do "$work/threads" "$work/line$version" 16 >/dev/null; done
+echo "gimli_c: 16 threads, each with an index of its own, find what one finds"
+
+# Some machines have the compiler's word, and no library for it.
+if build sanitised where_is -fsanitize=address,undefined 2>/dev/null; then
+    build sanitised_rows addr2line -fsanitize=address,undefined
+    build sanitised_rewrite rewrite -fsanitize=address,undefined
+    for version in 2 3 4 5; do
+        # shellcheck disable=SC2086
+        "$work/sanitised" "$work/built$version" $addresses >/dev/null
+        # shellcheck disable=SC2086
+        echo $addresses | tr ' ' '\n' | "$work/sanitised" "$work/built$version" >/dev/null
+        "$work/sanitised_rows" "$work/line$version" >/dev/null
+        # It gives no memory of its own back before it ends.
+        ASAN_OPTIONS=detect_leaks=0 "$work/sanitised_rewrite" "$work/line$version" "$work/line_str$version" >/dev/null
+    done
+    echo "gimli_c: the address sanitiser finds nothing in the examples"
+else
+    echo "gimli_c: the compiler has no address sanitiser: it isn't tried"
+fi
+
+if have valgrind "memory by it"; then
+    build plain where_is
+    build plain_rows addr2line
+    for version in 2 5; do
+        # shellcheck disable=SC2086
+        valgrind -q --error-exitcode=9 --leak-check=full --errors-for-leak-kinds=all "$work/plain" "$work/built$version" $addresses >/dev/null
+        valgrind -q --error-exitcode=9 --leak-check=full --errors-for-leak-kinds=all "$work/plain_rows" "$work/line$version" >/dev/null
+        valgrind -q --error-exitcode=9 --tool=helgrind "$work/threads" "$work/line$version" 4 >/dev/null
+    done
+    echo "gimli_c: valgrind finds no memory that is misused or lost, and no thread that meets another"
+fi
