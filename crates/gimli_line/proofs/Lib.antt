@@ -1,4 +1,5 @@
 pub mod Pointers
+pub mod AddressSizes
 pub mod Backwards
 pub mod ShortLeb
 pub mod Steps

@@ -6,6 +6,7 @@ ghost use Rattle.gimli_core.specs.Values.{value_seen};
 ghost use Rattle.gimli_core.specs.declared.attribute_value.AttributeValue.TheVariants.{String};
 ghost use Rattle.gimli_line.specs.header.HeaderGrammar.{digest};
 
+use crate::run::leb128::read_uleb128;
 use gimli_core::{AttributeValue, DwForm, DwLnct, Reader, ReaderOffset, Result, constants};
 
 /// What a table of version 5 holds of each entry: a kind of value, and the form that it has.
@@ -61,6 +62,7 @@ where
     }
 
     /// Takes what stands after the path of a file up to version 4.
+    #[inline(always)]
     #[tactic(auto, unfolding(crate::specs::header::HeaderReading::plain_file_at))]
     pub(crate) fn parse(input: &mut R, path_name: R) -> Result<Self>
         ensures read { (seen (file_seen R.bytes Offset.number) result, R.bytes input.new)
@@ -68,9 +70,9 @@ where
         ensures order { R.big input.new ≡ R.big input.old }
         ensures file { IfOk result (FileHasOrder R.big (R.big path_name)) }
     {
-        let directory_index = input.read_uleb128()?;
-        let timestamp = input.read_uleb128()?;
-        let size = input.read_uleb128()?;
+        let directory_index = read_uleb128(input)?;
+        let timestamp = read_uleb128(input)?;
+        let size = read_uleb128(input)?;
         Ok(FileEntry {
             path_name: AttributeValue::String(path_name),
             directory_index,

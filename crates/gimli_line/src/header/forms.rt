@@ -6,6 +6,7 @@ ghost use Rattle.gimli_core.specs.Notation.{noted};
 ghost use Rattle.gimli_core.specs.Values.{value_seen, ValueHasOrder};
 ghost use Rattle.gimli_line.specs.header.FormReading.{form_at, number_form_at, word_form_at, index_form_at, block_at, offset_at};
 
+use crate::run::leb128::read_uleb128;
 use gimli_core::{
     AttributeValue, DebugLineStrOffset, DebugStrOffset, DebugStrOffsetsIndex, DwForm, Error,
     Format, Reader, ReaderOffset, Result, constants,
@@ -136,6 +137,6 @@ pub(crate) fn parse_offset<R: Reader>(input: &mut R) -> Result<R::Offset>
         ≡ offset_at R.Offset.limit unsigned_at (R.bytes input.old) }
     ensures order { R.big input.new ≡ R.big input.old }
 {
-    let number = input.read_uleb128()?;
+    let number = read_uleb128(input)?;
     R::Offset::from_u64(number)
 }

@@ -3,7 +3,21 @@
 ghost use Rattle.std.specs.Prelude.{◌≡◌, ◌<◌, ◌-ℤ◌, pos, nat_le, if◌then◌else◌, IfSome, Ok};
 ghost use Rattle.gimli_core.specs.Reading.{signed_at, unsigned_at};
 
-use gimli_core::Reader;
+use gimli_core::{Reader, Result};
+
+/// Takes an unsigned LEB128 number, as `Reader::read_uleb128` does; one of one or two bytes, as most are, in line.
+#[inline(always)]
+pub(crate) fn read_uleb128<R: Reader>(input: &mut R) -> Result<u64>
+    ensures read { (result, R.bytes input.new) ≡ unsigned_at (R.bytes input.old) }
+    ensures order { R.big input.new ≡ R.big input.old }
+{
+    let mut short = *input;
+    let Some(number) = read_short_uleb128(&mut short) else {
+        return input.read_uleb128();
+    };
+    *input = short;
+    Ok(number)
+}
 
 /// Takes an unsigned LEB128 number of one or two bytes. None where it is longer, or isn't there as a whole.
 #[inline(always)]

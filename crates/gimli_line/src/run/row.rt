@@ -1,7 +1,9 @@
 //! Rows, and what each instruction does to the registers: the state machine of DWARF 5, 6.2.2.
 
-ghost use Rattle.std.specs.Prelude.{◌≡◌, ◌<◌, ◌≤◌, ◌+◌, Bool, true, false, IfErr, IfOk, IfSome, IsNone, MatchOption, OnErr, OnOk, option_map};
+ghost use Rattle.std.specs.Prelude.{◌≡◌, ◌<◌, ◌≤◌, ◌+◌, Bool, true, false, IfErr, IfOk, IfSome, IsNone, IsTrue, MatchOption, OnErr, OnOk, option_map};
 ghost use Rattle.std.specs.Int.NonZero.{non_zero_u64_get};
+ghost use Rattle.gimli_core.specs.Numbers.{is_address_size};
+ghost use Rattle.gimli_core.specs.Reading.{seen, sized_sum};
 
 use crate::header::file_entry::FileEntry;
 use crate::header::parameters::Parameters;
@@ -38,6 +40,19 @@ pub enum ColumnType {
     LeftEdge,
     /// A column, from 1 on.
     Column(NonZeroU64),
+}
+
+/// The sum as an address of a size, as `add_sized` gives it; where the size is 8, nothing more is asked than that it fits.
+#[inline(always)]
+fn sum_of_size(address: u64, length: u64, size: u8) -> Result<u64>
+    requires { IsTrue (is_address_size size) }
+    ensures { seen (λ sum. sum) result ≡ sized_sum address length size }
+{
+    let sum = address.wrapping_add(length);
+    if address <= sum && size > 4 {
+        return Ok(sum);
+    }
+    address.add_sized(length, size)
 }
 
 impl LineRow {
@@ -345,6 +360,14 @@ impl LineRow {
         }
     }
 
+    /// Does what `reset` does, out of line, for rows that are hidden: so the loop over common instructions is short.
+    #[inline(never)]
+    pub(crate) fn reset_apart<R: Reader>(&mut self, header: &LineProgramHeader<R>)
+        ensures { self.new ≡ reset_row header.now.meaning.parameters self.old }
+    {
+        self.reset(header);
+    }
+
     /// Sets the address and op_index to 0, and hides nothing from here on, so that addresses count from a set
     /// address. Nothing else changes.
     pub fn rebase(&mut self)
@@ -407,9 +430,7 @@ impl LineRow {
             (record { address = self.old.address + length; op_index = self.old.op_index }) ≡ true)
             × (self.new ≡ self.old)) }
     {
-        self.address = self
-            .address
-            .add_sized(length, parameters.encoding.address_size)?;
+        self.address = sum_of_size(self.address, length, parameters.encoding.address_size)?;
         Ok(())
     }
 

@@ -221,7 +221,7 @@ impl<R: Reader, P: LineProgram<R>> LineRows<R, P> {
         }
     }
 
-    /// Executes instructions that are met most, from their bytes, up to the first that makes a row,
+    /// Executes instructions that are met most, from their bytes, up to the first row that isn't hidden,
     /// or up to one of another kind, and that one too. What is read from stands in a variable of its
     /// own over the loop, so that it stays in the processor's registers.
     #[inline(always)]
@@ -246,16 +246,31 @@ impl<R: Reader, P: LineProgram<R>> LineRows<R, P> {
                 Ok(None) => break,
                 Ok(Some(false)) => {}
                 Ok(Some(true)) => {
-                    self.instructions = instructions;
                     if !self.row.is_hidden() {
+                        self.instructions = instructions;
                         return Ok(Step::Made);
                     }
-                    self.row.reset(self.program.header());
-                    return Ok(Step::More);
+                    self.row.reset_apart(self.program.header());
                 }
             }
         }
         self.instructions = instructions;
+        self.step_apart()
+    }
+
+    /// Does what `step_rarer` does. Its answer has memory of its own, which is cleared here alone and
+    /// not in front of the loop above.
+    #[inline(always)]
+    fn step_apart(&mut self) -> Result<Step>
+        ensures ok { IfOk result (StepIs self.old self.new) }
+        ensures err { IfErr result (FaultIs self.old self.new) }
+        ensures fixed { self.new.fixed ≡ self.old.fixed }
+        ensures appends { self.new.appends ≡ self.old.appends }
+        ensures notation { self.new.notation ≡ self.old.notation }
+        ensures offset { self.new.offset ≡ self.old.offset }
+        ensures order { IsOfOneOrder self.old → IsOfOneOrder self.new }
+        ensures handed { self.new.orders.handed ≡ self.old.orders.handed }
+    {
         self.step_rarer()
     }
 

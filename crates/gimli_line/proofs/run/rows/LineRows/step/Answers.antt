@@ -56,14 +56,25 @@ returns-then-not-is_hidden-clause-ok g c =
     step_behind c.args.self.now (at c.common.self-inside.row c.common.instructions) (at c.execute_common.new.row c.execute_common.new.self) c.common.invariant.events c.common.invariant.passes Made
     (executed_seen g.P.LineProgram.appends _ _ c.header-header.ensures.meaning (g.P.LineProgram.notation p) (g.P.LineProgram.offset p) (g.P.LineProgram.orders p) _ _ _ _ c.in-Ok-Some-true.ensures.notation x.0 (sym c.in-Ok-Some-true.field-0-0-test ∙ x.1) (sym c.is_hidden.ensures ∙ c.if-not-is_hidden.true))
 
-pub returns-in-Ok-Some-true-clause-ok : goal.returns-in-Ok-Some-true-clause-ok
-returns-in-Ok-Some-true-clause-ok g c =
+pub common-smaller-in-Ok-Some-true : goal.common-smaller-in-Ok-Some-true
+common-smaller-in-Ok-Some-true g c =
+    let p = c.common.self-inside.program in
+    let x = rw c.in-Ok-Some-true.field-0-is at c.in-Ok-Some-true.ensures.ok in
+    let again = c.reset_apart.ensures ∙ ap (λ (h : Header). reset_row h.parameters c.execute_common.new.row) c.header.ensures.meaning in
+    (executed_hidden g.P.LineProgram.appends _ _ c.header-header.ensures.meaning (g.P.LineProgram.notation p) (g.P.LineProgram.offset p) (g.P.LineProgram.orders p) _ _ _ _ c.in-Ok-Some-true.ensures.notation x.0 (sym c.in-Ok-Some-true.field-0-0-test ∙ x.1) (sym c.is_hidden.ensures ∙ c.if-not-is_hidden.false) _ again).1
+
+pub common-preserved-in-Ok-Some-true : goal.common-preserved-in-Ok-Some-true
+common-preserved-in-Ok-Some-true g c =
     let p = c.common.self-inside.program in
     let at = λ (r : LineRow) (s : Unread). state g.P.LineProgram.appends (g.P.LineProgram.meaning p) (g.P.LineProgram.notation p) (g.P.LineProgram.offset p) (g.P.LineProgram.orders p) r s in
     let x = rw c.in-Ok-Some-true.field-0-is at c.in-Ok-Some-true.ensures.ok in
-    let again = c.reset.ensures ∙ ap (λ (h : Header). reset_row h.parameters c.execute_common.new.row) c.header.ensures.meaning in
-    step_behind c.args.self.now (at c.common.self-inside.row c.common.instructions) (at c.reset.new.self c.execute_common.new.self) c.common.invariant.events c.common.invariant.passes More
-    (executed_hidden g.P.LineProgram.appends _ _ c.header-header.ensures.meaning (g.P.LineProgram.notation p) (g.P.LineProgram.offset p) (g.P.LineProgram.orders p) _ _ _ _ c.in-Ok-Some-true.ensures.notation x.0 (sym c.in-Ok-Some-true.field-0-0-test ∙ x.1) (sym c.is_hidden.ensures ∙ c.if-not-is_hidden.false) _ again)
+    let again = c.reset_apart.ensures ∙ ap (λ (h : Header). reset_row h.parameters c.execute_common.new.row) c.header.ensures.meaning in
+    let q = executed_hidden g.P.LineProgram.appends _ _ c.header-header.ensures.meaning (g.P.LineProgram.notation p) (g.P.LineProgram.offset p) (g.P.LineProgram.orders p) _ _ _ _ c.in-Ok-Some-true.ensures.notation x.0 (sym c.in-Ok-Some-true.field-0-0-test ∙ x.1) (sym c.is_hidden.ensures ∙ c.if-not-is_hidden.false) _ again in
+    record {
+      program = c.common.invariant.program;
+      events = c.common.invariant.events ∙ q.0;
+      passes = passes_both c.args.self.now (at c.common.self-inside.row c.common.instructions) (at c.reset_apart.new.self c.execute_common.new.self) [] [] c.common.invariant.passes q.2;
+    }
 
 pub returns-clause-ok : goal.returns-clause-ok
 returns-clause-ok g c =
@@ -73,8 +84,8 @@ returns-clause-ok g c =
     let before = at c.common.self-inside.row c.common.instructions in
     let here = at c.execute_common.new.row c.execute_common.new.self in
     let same : here ≡ before = ap (λ (r : LineRow). at r c.execute_common.new.self) kept.1 ∙ ap (λ (s : Unread). at c.common.self-inside.row s) kept.0 in
-    answer_behind c.args.self.now here c.step_rarer.new.self (c.common.invariant.events ∙ ap live_events (sym same))
-    (passes_both c.args.self.now before here [] [] c.common.invariant.passes (passes_none before here same)) _ c.step_rarer.ensures.ok
+    answer_behind c.args.self.now here c.step_apart.new.self (c.common.invariant.events ∙ ap live_events (sym same))
+    (passes_both c.args.self.now before here [] [] c.common.invariant.passes (passes_none before here same)) _ c.step_apart.ensures.ok
 
 pub returns-clause-err : goal.returns-clause-err
 returns-clause-err g c =
@@ -84,5 +95,5 @@ returns-clause-err g c =
     let before = at c.common.self-inside.row c.common.instructions in
     let here = at c.execute_common.new.row c.execute_common.new.self in
     let same : here ≡ before = ap (λ (r : LineRow). at r c.execute_common.new.self) kept.1 ∙ ap (λ (s : Unread). at c.common.self-inside.row s) kept.0 in
-    refusal_behind c.args.self.now here c.step_rarer.new.self (c.common.invariant.events ∙ ap live_events (sym same))
-    (passes_both c.args.self.now before here [] [] c.common.invariant.passes (passes_none before here same)) _ c.step_rarer.ensures.err
+    refusal_behind c.args.self.now here c.step_apart.new.self (c.common.invariant.events ∙ ap live_events (sym same))
+    (passes_both c.args.self.now before here [] [] c.common.invariant.passes (passes_none before here same)) _ c.step_apart.ensures.err
