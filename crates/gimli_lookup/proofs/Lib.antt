@@ -19,6 +19,7 @@ pub mod Headless
 pub mod SectionPairs
 pub mod StepLists
 pub mod Merging
+pub mod StepsInTurn
 pub mod CoveringPairs
 pub mod Unordered
 pub mod Indexed

@@ -1,6 +1,6 @@
 //! The steps of an index: which sequence is the first that covers an address, from one address on up to the next.
 
-ghost use Rattle.std.specs.Prelude.{◌≡◌, ◌≤◌, ◌<◌, ◌+◌, ◌^◌, ◌++◌, ◌∷◌, [], ℕ, None, true, false, length, slice_index_or, IfErr, IfOk};
+ghost use Rattle.std.specs.Prelude.{◌≡◌, ◌≤◌, ◌<◌, ◌+◌, ◌^◌, ◌++◌, ◌∷◌, [], ℕ, None, true, false, length, slice_index_or, IfErr, IfOk, MatchOption};
 ghost use Rattle.gimli_lookup.specs.declared.steps.Step.{Step};
 ghost use Rattle.gimli_lookup.specs.Steps.{last_step, AreInOrder, AreJoined, AreStepsOf};
 
@@ -114,52 +114,66 @@ fn join(alloc: Global, mut left: Vec<Step>, mut right: Vec<Step>) -> Result<Vec<
 }
 
 /// The steps of one sequence: from its first address on it covers addresses, and from its last on none. It has no steps
-/// where it covers no address, or where its addresses go down. Fails only with `OutOfMemory`.
-fn steps_of_one(alloc: Global, rows: &KeptRows, place: usize) -> Result<Vec<Step>>
-    ensures ok { IfOk result (λ steps. AreStepsOf place (rows.now ∷ []) steps.items) }
-    ensures err { IfErr result (λ e. e ≡ Error.OutOfMemory) }
+/// where it covers no address, or where its addresses go down.
+fn steps_of_one(rows: &KeptRows, place: usize) -> Option<(Step, Step)>
+    ensures { MatchOption result (AreStepsOf place (rows.now ∷ []) [])
+        (λ steps. AreStepsOf place (rows.now ∷ []) (steps.0 ∷ steps.1 ∷ [])) }
 {
-    let mut steps = Vec::new(alloc);
     if !rows.never_go_down() {
-        return Ok(steps);
+        return None;
     }
-    let Some((first, last)) = rows.range() else {
-        return Ok(steps);
+    let (first, last) = rows.range()?;
+    if last <= first {
+        return None;
+    }
+    let covered = Step {
+        from: first,
+        sequence: Some(place),
     };
-    if first < last {
-        push_step(
-            &mut steps,
-            Step {
-                from: first,
-                sequence: Some(place),
-            },
-        )?;
-        push_step(
-            &mut steps,
-            Step {
-                from: last,
-                sequence: None,
-            },
-        )?;
-    }
-    Ok(steps)
+    let uncovered = Step {
+        from: last,
+        sequence: None,
+    };
+    Some((covered, uncovered))
 }
 
-/// The steps of sequences, of which the first has the place `first`: those of both halves, joined. Fails only with
-/// `OutOfMemory`.
+/// The steps of sequences, of which the first has the place `first`, one after the other; None where the steps of one
+/// begin below the end of those before it, which takes two sequences. Fails only with `OutOfMemory`.
+fn steps_in_turn(alloc: Global, sequences: &[KeptRows], first: usize) -> Result<Option<Vec<Step>>>
+    requires { first + length sequences.now < 2 ^ 64 }
+    ensures ok { IfOk result (λ found. MatchOption found (2 ≤ length sequences.now)
+        (λ steps. AreStepsOf first sequences.now steps.items)) }
+    ensures err { IfErr result (λ e. e ≡ Error.OutOfMemory) }
+{
+    let Ok(mut steps) = Vec::with_capacity(alloc, sequences.len() * 2) else {
+        return Err(Error::OutOfMemory);
+    };
+    let mut end = 0;
+    for index in 0..sequences.len() {
+        if let Some((covered, uncovered)) = steps_of_one(&sequences[index], first + index) {
+            if covered.from < end {
+                return Ok(None);
+            }
+            end = uncovered.from;
+            push_step(&mut steps, covered)?;
+            push_step(&mut steps, uncovered)?;
+        }
+    }
+    Ok(Some(steps))
+}
+
+/// The steps of sequences, of which the first has the place `first`: one after the other where they stand so, else those
+/// of both halves, joined. Fails only with `OutOfMemory`.
 pub(crate) fn steps_of(alloc: Global, sequences: &[KeptRows], first: usize) -> Result<Vec<Step>>
     requires { first + length sequences.now < 2 ^ 64 }
     ensures ok { IfOk result (λ steps. AreStepsOf first sequences.now steps.items) }
     ensures err { IfErr result (λ e. e ≡ Error.OutOfMemory) }
 {
-    let middle = sequences.len() / 2;
-    match sequences {
-        [] => Ok(Vec::new(alloc)),
-        [rows] => steps_of_one(alloc, rows, first),
-        _ => {
-            let left = steps_of(alloc, &sequences[..middle], first)?;
-            let right = steps_of(alloc, &sequences[middle..], first + middle)?;
-            join(alloc, left, right)
-        }
+    if let Some(steps) = steps_in_turn(alloc, sequences, first)? {
+        return Ok(steps);
     }
+    let middle = sequences.len() / 2;
+    let left = steps_of(alloc, &sequences[..middle], first)?;
+    let right = steps_of(alloc, &sequences[middle..], first + middle)?;
+    join(alloc, left, right)
 }

@@ -1,7 +1,7 @@
 use Rattle.std.proofs.Common.{[], sym, ap, refl, ◌≡◌, ◌∙◌}
 use Rattle.gimli_core.specs.declared.error.Error.TheVariants.{AddressOverflow}
 use Rattle.gimli_line.specs.declared.run.row.LineRow.{LineRow}
-use Rattle.gimli_line.specs.declared.run.rows.Step.TheVariants.{Made, More}
+use Rattle.gimli_line.specs.declared.run.rows.Step.TheVariants.{Made}
 use Rattle.gimli_line.specs.header.Header.{Header}
 use Rattle.gimli_line.specs.run.Machine.{reset_row}
 use Rattle.gimli_line.specs.run.Rows.{live_events}
