@@ -168,6 +168,35 @@ ITEM = re.compile(
 )
 
 
+def split_at_commas(body):
+    """The parts of a body between the commas that stand in no brackets."""
+    parts, depth = [""], 0
+    for i, c in enumerate(body):
+        depth += (c in "([{<") - (c in ")]}" or c == ">" and body[i - 1] not in "-=")
+        if c == "," and depth == 0:
+            parts.append("")
+        else:
+            parts[-1] += c
+    parts = [re.sub(r"#\[[^\]]*\]", "", squeezed(part)).strip() for part in parts]
+    parts = [re.sub(r"([({]) +(?=\()|(?<=\() +|,(?= \})", r"\1", part) for part in parts]
+    return [part for part in parts if part]
+
+
+def told_parts(bare, start, kind):
+    """A sentence on the public fields of a struct, or the variants of an enum, that begins there; nothing where it has none."""
+    opening = re.compile(r"[{(;]").search(bare, start)
+    if kind not in ("struct", "enum") or not opening or opening[0] == ";":
+        return ""
+    pair = opening[0] + {"{": "}", "(": ")"}[opening[0]]
+    parts = split_at_commas(bare[opening.start() + 1 : end_of(bare, opening.start(), *pair) - 1])
+    if kind == "enum":
+        names = [re.sub(r"\s*\{(.*)\}", r" { \1 }", part).replace("{  ", "{ ").replace("  }", " }") for part in parts]
+        return " Variants: " + ", ".join(f"`{name}`" for name in names) + "."
+    open_ones = [(at, part) for at, part in enumerate(parts) if re.match(r"pub (?!ghost )", part)]
+    names = [re.match(r"pub (\w+):", part)[1] if pair == "{}" else str(at) for at, part in open_ones]
+    return f" Field{'s' * (len(names) > 1)}: " + ", ".join(f"`{name}`" for name in names) + "." if names else ""
+
+
 def items(crate):
     """The public types and calls of a crate: a list of (module, type or None, kind, name, first sentence)."""
     base = os.path.join(TOP, "crates", crate, "src")
@@ -194,7 +223,8 @@ def items(crate):
                     continue
                 found.append((module, owner, kind, name, first_sentence(text, m.start())))
             elif not indent and public and (name in names or is_open):
-                found.append((module, None, kind, name, first_sentence(text, m.start())))
+                told = first_sentence(text, m.start()) + told_parts(bare, m.end(), kind)
+                found.append((module, None, kind, name, told))
     return found
 
 

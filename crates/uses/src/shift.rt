@@ -58,7 +58,8 @@ pub fn start(rt: &HostRuntime, words: &[String]) -> Result<()> {
 /// What is read of the unit after it was moved and written. From version 5 on the tables of a unit
 /// have its directory and its source file: without a directory it is refused by
 /// `MissingCompilationDirectory`, and without a name by `MissingCompilationName`. An address that
-/// 64 bits don't hold is refused by `InvalidAddress`.
+/// can't be moved so far is refused by `InvalidAddress`, and a row that lies too far behind one by
+/// `AddressOverflow`, when it is read.
 pub fn shift<'i>(alloc: Global, unit: Unit<'i>, by: u64) -> ConvertResult<RoundTrip> {
     let directory = unit
         .directory
@@ -122,9 +123,14 @@ fn converted<R: Reader>(
     Ok(program)
 }
 
-/// The address so many bytes further on. None where 64 bits don't hold it.
+/// The address so many bytes further on. None from the two greatest on: they stand for code that
+/// a linker dropped, so that no reader would show the rows.
 fn address_after(address: u64, by: u64) -> Option<Address>
-    ensures { SomeIff result (address + by < 2 ^ 64) (Address.Constant (address + by)) }
+    ensures { SomeIff result (address + by + 2 < 2 ^ 64) (Address.Constant (address + by)) }
 {
-    Some(Address::Constant(address.checked_add(by)?))
+    let moved = address.checked_add(by)?;
+    if moved >= u64::MAX - 1 {
+        return None;
+    }
+    Some(Address::Constant(moved))
 }

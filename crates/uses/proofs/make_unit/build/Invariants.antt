@@ -4,4 +4,4 @@ use Rattle.gimli_write.specs.Conditions.{CanWrite}
 use Rattle.uses.proofs.make_unit.build.Given as goal
 
 abbrev pub invariant-loop-offset : goal.invariant-loop-offset
-invariant-loop-offset l = CanWrite l.program [] l.line_strings.now
+invariant-loop-offset l = CanWrite l.program [] l.line_strings
