@@ -139,7 +139,7 @@ impl Index {
     }
 
     /// The addresses for a breakpoint at a line of a file of one unit, or at the next line that has any.
-    pub fn addresses_of(&mut self, unit: u64, file: u64, line: u64) -> Result<Option<Addresses>, Error> {
+    pub fn addresses(&mut self, unit: u64, file: u64, line: u64) -> Result<Option<Addresses>, Error> {
         all_addresses(|room, found_line, count| unsafe {
             calls::gimli_line_index_addresses(
                 &mut self.handle,
@@ -156,7 +156,7 @@ impl Index {
 
     /// The same at a line of a path, over all units: of the files that have this whole path, without the directory of the
     /// compilation up to version 4. The programs of all units are run for each call.
-    pub fn addresses_of_path(&mut self, path: &[u8], line: u64) -> Result<Option<Addresses>, Error> {
+    pub fn addresses_of(&mut self, path: &[u8], line: u64) -> Result<Option<Addresses>, Error> {
         all_addresses(|room, found_line, count| unsafe {
             calls::gimli_line_index_addresses_of(
                 &mut self.handle,

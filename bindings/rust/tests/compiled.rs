@@ -257,7 +257,7 @@ fn addresses_of_a_line_have_that_line() {
         for address in built.addresses() {
             let place = index.find(address).expect("a row covers it");
             let Some(line) = place.row.line() else { continue };
-            if let Some(found) = index.addresses_of(place.unit, place.row.file_index(), line.get()).expect("memory is there") {
+            if let Some(found) = index.addresses(place.unit, place.row.file_index(), line.get()).expect("memory is there") {
                 assert!(found.line >= line.get());
                 for at in found.addresses {
                     let row = index.find(at).expect("a row covers it").row;
@@ -265,16 +265,16 @@ fn addresses_of_a_line_have_that_line() {
                 }
             }
         }
-        assert_eq!(index.addresses_of(0, 1, u64::MAX), Ok(None));
+        assert_eq!(index.addresses(0, 1, u64::MAX), Ok(None));
         let address = *built.addresses().first().expect("there is a row");
         let place = index.find(address).expect("a row covers it");
         let line = place.row.line().map_or(0, |line| line.get());
         let path = index.path(place.unit, place.row.file_index(), &[]).expect("the path is told");
-        let one = index.addresses_of(place.unit, place.row.file_index(), line).expect("memory is there").expect("it has code");
-        let all = index.addresses_of_path(&path, line).expect("memory is there").expect("it has code");
+        let one = index.addresses(place.unit, place.row.file_index(), line).expect("memory is there").expect("it has code");
+        let all = index.addresses_of(&path, line).expect("memory is there").expect("it has code");
         assert_eq!(all.line, one.line);
         assert!(one.addresses.iter().all(|address| all.addresses.contains(address)));
-        assert_eq!(index.addresses_of_path(b"no such file", 1), Ok(None));
+        assert_eq!(index.addresses_of(b"no such file", 1), Ok(None));
     }
 }
 

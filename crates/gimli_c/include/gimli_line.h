@@ -16,18 +16,20 @@
  * For one unit, without a handle: gimli_line_unit gives the units one after the other, gimli_line_rows the rows of one,
  * gimli_line_find the row of an address, and gimli_line_file and gimli_line_directory what a path is made of.
  *
- * `objcopy --dump-section .debug_line=line.bin --dump-section .debug_line_str=line_str.bin program copy` takes the sections out
- * of a program. Where there is no .debug_line_str, as up to version 4, objcopy says so and goes on: hand in no bytes then. The
- * sections are those of a linked program: the relocations of an object file aren't applied.
+ * `objcopy --dump-section .debug_line=line.bin --dump-section .debug_line_str=line_str.bin --dump-section .debug_str=str.bin
+ * program copy` takes the sections out of a program. Where one isn't there, as .debug_line_str up to version 4, objcopy says so and
+ * goes on: hand in no bytes then. The sections are those of a linked program, not compressed: the relocations of an object file
+ * aren't applied. Addresses are those of the file: of an address of a process take off the base at which the program was loaded.
  *
  * What a caller has to keep:
- * - A pointer is never null, also where its length is 0: hand in any place then.
+ * - A pointer is never null, also where its length is 0: hand in any place then. (In C++ data() of what is empty may be null.)
  * - What a call writes to overlaps neither the section nor anything else that it writes to.
  * - No call is made from a signal handler, or in the forked child of a process with threads.
- * - A handle is as GIMLI_LINE_INDEX_CLOSED or GIMLI_ROW_READER_CLOSED, or as the last call on it left it: it isn't copied, and
- *   its field isn't touched.
- * - A handle stays on the thread that opened it: threads open one each.
- * Nothing of the caller is kept after a call. Calls may run in several threads at once. */
+ * - A handle is as GIMLI_LINE_INDEX_CLOSED or GIMLI_ROW_READER_CLOSED, or as the last call on it left it: its field isn't
+ *   touched, and of a copy and its original only one is used on. So a class may move it, and leave a closed one.
+ * - A handle stays on the thread that opened it: threads open one each, and may share the sections. (That it may go to another
+ *   thread isn't proved.)
+ * Nothing of the caller is kept after a call. Calls with handles of their own, or without any, may run in several threads at once. */
 #ifndef GIMLI_LINE_H
 #define GIMLI_LINE_H
 
@@ -163,7 +165,8 @@ typedef struct gimli_file {
  * as long as it is below `length`. */
 
 /* Reads the unit at an offset, and runs its program. A fault of the program is no refusal: unit->fault has its number. Where
- * another number than 0 is answered, *unit stays as it was, and where the next unit is isn't known. */
+ * another number than 0 is answered, *unit stays as it was, and where the next unit is isn't known; an index goes on after a unit
+ * whose length can be read (gimli_line_index_unit). */
 uint32_t gimli_line_unit(const uint8_t *section, size_t length, bool big, uint8_t address_size, size_t offset,
                          gimli_unit *unit);
 
@@ -208,7 +211,8 @@ typedef struct gimli_line_index {
 /* Makes an index over all units of the section .debug_line, and puts it behind the handle; an index that stood there is closed.
  * `line_strings` and `strings` are the sections .debug_line_str and .debug_str, or no bytes. The index has copies of all three:
  * the caller's may go. A unit that can't be read has no rows; of one whose run has a fault it has the sequences that end before
- * that. Sequences that begin below the address `lowest` are left out, since a linker leaves code that it drops at low addresses;
+ * that. Rows that no end row follows are in no sequence, and that is no fault. Bytes behind the last unit count as one that can't
+ * be read. Sequences that begin below the address `lowest` are left out, since a linker leaves code that it drops at low addresses;
  * 0 leaves none out. Where another number than 0 is answered, GIMLI_OUT_OF_MEMORY or GIMLI_UNSUPPORTED_ADDRESS_SIZE, the handle
  * has what it had. */
 uint32_t gimli_line_index_open(const uint8_t *section, size_t length, bool big, uint8_t address_size, uint64_t lowest,
@@ -251,7 +255,7 @@ uint32_t gimli_line_index_unit_count(gimli_line_index *index, uint64_t *count);
 
 /* A unit of an index. */
 typedef struct gimli_index_unit {
-    uint64_t offset; /* in the section */
+    uint64_t offset; /* in the section: DW_AT_stmt_list of its compilation unit, which has its DW_AT_comp_dir too */
     uint32_t fault;  /* why it can't be read, or the number of its program's first fault; 0 where it has none */
 } gimli_index_unit;
 
@@ -302,7 +306,7 @@ uint32_t gimli_line_index_rows_open(gimli_line_index *index, uint64_t unit, giml
 
 /* Gives the next rows, from the first on: into rows[0] and so on, as far as there is room; *count is how many they are. Where
  * *count is less than `room`, the rows are at their end, and the answer is the number of the program's first fault, 0 where it has
- * none; such a call may come again. Before the end the answer is 0. GIMLI_CLOSED where the handle is: then nothing is written.
+ * none; such a call may come again. Before the end the answer is 0. `room` is above 0: with none, none come, and it never ends. GIMLI_CLOSED where the handle is: then nothing is written.
  * Takes no memory. */
 uint32_t gimli_line_rows_next(gimli_row_reader *reader, gimli_row *rows, size_t room, uint64_t *count);
 
@@ -321,7 +325,7 @@ typedef struct gimli_encoding {
     uint8_t line_range;                          /* at most 127, and more than -line_base */
 } gimli_encoding;
 
-/* The usual encoding of a machine with addresses of 8 bytes. */
+/* The usual encoding of a machine with addresses of 8 bytes. The version is a constant, or a uint16_t. */
 #define GIMLI_ENCODING(version) {(version), 8, 4, 1, 1, 1, -5, 14}
 
 /* A text among the bytes of texts that are handed over. */
@@ -346,12 +350,14 @@ typedef struct gimli_file_name {
  *
  * The names of directories and files stand among the `text_length` bytes of `texts`. Both have the indices that gimli_file and
  * gimli_row have: up to version 4 from 1 on, in version 5 from 0 on. A directory or a file that comes twice is there once, and
- * in version 5 the directory of the first file comes after the first; so indices in the unit may be others.
+ * in version 5 the directory of the first file comes right after directory 0; so indices in the unit may be others:
+ * gimli_line_directory and gimli_line_file read them back.
  * `details` is the sum of GIMLI_HAS_TIMESTAMP, GIMLI_HAS_SIZE and GIMLI_HAS_MD5, for what version 5 has of files; up to
  * version 4 it is always the first two. Sources of files aren't written, and other bits of `details` are ignored.
  *
  * Rows are as gimli_line_rows gives them. A sequence begins with the first row, and after each with GIMLI_END_SEQUENCE; of such
- * a row address and op_index count. In a sequence addresses don't go down, and are a whole number of shortest instructions
+ * a row only address and op_index are read. Without one after the last row the unit is written, but the addresses of its last
+ * sequence aren't found. In a sequence addresses don't go down, and are a whole number of shortest instructions
  * after the first. op_index is below maximum_operations_per_instruction, and doesn't go down from one row to the next at the same
  * address. 64 bits hold the number of operations from the address of one row to the next row. The line of a row that isn't an end
  * is below 2^63. Where one of these doesn't hold the answer is GIMLI_ROW_OUT_OF_ORDER.
