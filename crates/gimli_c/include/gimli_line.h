@@ -93,8 +93,8 @@ enum gimli_status {
 typedef struct gimli_unit {
     uint64_t length;       /* in bytes, without the length itself */
     uint64_t next;         /* the offset of what follows it in the section */
-    uint64_t directories;  /* how many its table has */
-    uint64_t files;        /* how many it has, those that its program defines included */
+    uint64_t directories;  /* how many its table has: indices from 1 on up to version 4, and from 0 on in version 5 */
+    uint64_t files;        /* how many it has, those that its program defines included; indices as those of directories */
     uint64_t rows;         /* how many its program gives before its first fault */
     uint32_t version;      /* 2 to 5 */
     uint32_t address_size; /* in bytes: 1, 2, 4 or 8 */
@@ -256,7 +256,8 @@ uint32_t gimli_line_index_unit_count(gimli_line_index *index, uint64_t *count);
 /* A unit of an index. */
 typedef struct gimli_index_unit {
     uint64_t offset; /* in the section: DW_AT_stmt_list of its compilation unit, which has its DW_AT_comp_dir too */
-    uint32_t fault;  /* why it can't be read, or the number of its program's first fault; 0 where it has none */
+    uint32_t fault;  /* why it can't be read, or the number of its program's first fault; 0 where it has none. Only a unit that
+                      * can be read is opened by gimli_line_index_rows_open */
 } gimli_index_unit;
 
 /* Tells where a unit stands, and what is wrong with it. GIMLI_NOT_FOUND where there is no such unit, and GIMLI_CLOSED where the
@@ -264,22 +265,25 @@ typedef struct gimli_index_unit {
 uint32_t gimli_line_index_unit(gimli_line_index *index, uint64_t unit, gimli_index_unit *found);
 
 /* Tells the addresses for a breakpoint at a line of a file of one unit: of each run of rows of that line that stand side by side
- * in a sequence, that of the first with GIMLI_IS_STMT. Where the line has none, those of the next line that has; *found_line is
+ * in a sequence, that of the first with GIMLI_IS_STMT. They come in the order of the sequences and rows; one address may come
+ * more than once. Sequences that the index leaves out give none. Where the line has none, those of the next line that has; *found_line is
  * that line. The addresses go into addresses[0] and so on, as far as there is room; *count is how many there are.
  * GIMLI_NOT_FOUND where there is no such unit, or no line from it on has any; GIMLI_CLOSED where the handle is. Where another
  * number than 0 is answered, nothing is written. */
 uint32_t gimli_line_index_addresses(gimli_line_index *index, uint64_t unit, uint64_t file, uint64_t line,
                                     uint64_t *found_line, uint64_t *addresses, size_t room, uint64_t *count);
 
-/* The same at a line of a path, over all units: of the files that have this whole path. Up to version 4 a unit doesn't have the
+/* The same at a line of a path, over all units: of the files that have this whole path, byte by byte as gimli_line_index_path tells
+ * it without a comp_dir. Up to version 4 a unit doesn't have the
  * directory of the compilation, so a path that goes on from there is given without it. The headers of all units are read and their
  * programs are run for each call. GIMLI_NOT_FOUND where no line from it on has any; GIMLI_CLOSED where the handle is. Where another
  * number than 0 is answered, nothing is written. */
 uint32_t gimli_line_index_addresses_of(gimli_line_index *index, const uint8_t *path, size_t path_length, uint64_t line,
                                        uint64_t *found_line, uint64_t *addresses, size_t room, uint64_t *count);
 
-/* Do what gimli_line_file and gimli_line_directory do, for a unit of an index. GIMLI_NOT_FOUND where there is no such unit, or the
- * unit has no such file or directory, and GIMLI_CLOSED where the handle is. Where another number than 0 is answered, nothing is
+/* Do what gimli_line_file and gimli_line_directory do, for a unit of an index: the header is read again for each call.
+ * GIMLI_NOT_FOUND where there is no such unit, or the unit has no such file or directory, GIMLI_CLOSED where the handle is, and the
+ * number of the refusal where the unit can't be read. Where another number than 0 is answered, nothing is
  * written. */
 uint32_t gimli_line_index_file(gimli_line_index *index, uint64_t unit, uint64_t number, gimli_file *file, uint8_t *path,
                                size_t path_room, uint8_t *directory, size_t directory_room);
@@ -301,7 +305,8 @@ uint32_t gimli_line_rows_open(const uint8_t *section, size_t length, bool big, u
                               gimli_row_reader *reader);
 
 /* Does the same for a unit of an index. All rows of the unit come, those of sequences that the index leaves out too.
- * GIMLI_NOT_FOUND where there is no such unit, and GIMLI_CLOSED where the handle of the index is. */
+ * GIMLI_NOT_FOUND where there is no such unit, GIMLI_CLOSED where the handle of the index is, and the number of the refusal where
+ * the unit can't be read. */
 uint32_t gimli_line_index_rows_open(gimli_line_index *index, uint64_t unit, gimli_row_reader *reader);
 
 /* Gives the next rows, from the first on: into rows[0] and so on, as far as there is room; *count is how many they are. Where
@@ -325,8 +330,9 @@ typedef struct gimli_encoding {
     uint8_t line_range;                          /* at most 127, and more than -line_base */
 } gimli_encoding;
 
-/* The usual encoding of a machine with addresses of 8 bytes. The version is a constant, or a uint16_t. */
-#define GIMLI_ENCODING(version) {(version), 8, 4, 1, 1, 1, -5, 14}
+/* The usual encoding of a machine with addresses of 8 bytes. A unit that was read has the first three in gimli_unit; the rows of any
+ * unit whose op_index is always 0 can be written by it. */
+#define GIMLI_ENCODING(version) {(uint16_t)(version), 8, 4, 1, 1, 1, -5, 14}
 
 /* A text among the bytes of texts that are handed over. */
 typedef struct gimli_name {
@@ -349,9 +355,10 @@ typedef struct gimli_file_name {
  * wrong with what was handed over; where several things are, it is the number of one of them.
  *
  * The names of directories and files stand among the `text_length` bytes of `texts`. Both have the indices that gimli_file and
- * gimli_row have: up to version 4 from 1 on, in version 5 from 0 on. A directory or a file that comes twice is there once, and
+ * gimli_row have: up to version 4 from 1 on, in version 5 from 0 on. A directory or a file (the same path in the same directory: the
+ * last details count) that comes twice is there once, and
  * in version 5 the directory of the first file comes right after directory 0; so indices in the unit may be others:
- * gimli_line_directory and gimli_line_file read them back.
+ * gimli_line_directory and gimli_line_file read them back. The numbers that are handed over are those of the arrays.
  * `details` is the sum of GIMLI_HAS_TIMESTAMP, GIMLI_HAS_SIZE and GIMLI_HAS_MD5, for what version 5 has of files; up to
  * version 4 it is always the first two. Sources of files aren't written, and other bits of `details` are ignored.
  *
