@@ -178,10 +178,10 @@ uint32_t gimli_line_rows(const uint8_t *section, size_t length, bool big, uint8_
                          uint64_t skip, gimli_row *rows, size_t room, uint64_t *count);
 
 /* Reads the file of an index, as rows have it: up to version 4 from 1 on, in version 5 from 0 on. Where the unit's table has no
- * such file, the program is run to its end, past its faults, for the files that it defines. The bytes of the path and of the directory go into `path` and
- * `directory`, as far as they stand in the section itself and there is room; file->path.size and file->directory.size say
- * how many there are. Too little room is no refusal, and no zero byte is added. GIMLI_NOT_FOUND where there is no such file.
- * Where another number than 0 is answered, nothing is written. */
+ * such file, the program is run to its end, past its faults, for the files that it defines. The bytes of the path and of the
+ * directory go into `path` and `directory`, as far as they stand in the section itself and there is room; file->path.size and
+ * file->directory.size say how many there are. Too little room is no refusal, and no zero byte is added. GIMLI_NOT_FOUND where
+ * there is no such file. Where another number than 0 is answered, nothing is written. */
 uint32_t gimli_line_file(const uint8_t *section, size_t length, bool big, uint8_t address_size, size_t offset,
                          uint64_t index, gimli_file *file, uint8_t *path, size_t path_room, uint8_t *directory,
                          size_t directory_room);
@@ -212,9 +212,9 @@ typedef struct gimli_line_index {
  * `line_strings` and `strings` are the sections .debug_line_str and .debug_str, or no bytes. The index has copies of all three:
  * the caller's may go. A unit that can't be read has no rows; of one whose run has a fault it has the sequences that end before
  * that. Rows that no end row follows are in no sequence, and that is no fault. Bytes behind the last unit count as one that can't
- * be read. Sequences that begin below the address `lowest` are left out, since a linker leaves code that it drops at low addresses;
- * 0 leaves none out. Where another number than 0 is answered, GIMLI_OUT_OF_MEMORY or GIMLI_UNSUPPORTED_ADDRESS_SIZE, the handle
- * has what it had. */
+ * be read. Sequences that begin below the address `lowest` are left out, since a linker leaves code that it drops at low
+ * addresses; 0 leaves none out. Where another number than 0 is answered, GIMLI_OUT_OF_MEMORY or GIMLI_UNSUPPORTED_ADDRESS_SIZE,
+ * the handle has what it had. */
 uint32_t gimli_line_index_open(const uint8_t *section, size_t length, bool big, uint8_t address_size, uint64_t lowest,
                                const uint8_t *line_strings, size_t line_strings_length, const uint8_t *strings,
                                size_t strings_length, gimli_line_index *index);
@@ -242,11 +242,11 @@ uint32_t gimli_line_index_find_all(gimli_line_index *index, const uint64_t *addr
 
 /* Tells the whole path of the file of a unit: its path, with the directories that it goes on from, up to the directory of the
  * compilation. In version 5 the unit has that one; up to version 4 it is `comp_dir` (DW_AT_comp_dir), and without it the path
- * stays relative. The bytes go into path[0] and so on, as far as there is room, without a zero byte; *size is how many there
- * are. GIMLI_NOT_FOUND where there is no such unit, or the unit has no such file, GIMLI_UNKNOWN_PATH where a string of the path
- * can't be told, and GIMLI_CLOSED where the handle is; the number of the refusal where the unit can't be read. Where another number
- * than 0 is answered, nothing is written. The header of the unit is read for each call, and the program is run where only that
- * defines the file (DW_LNE_define_file, up to version 4): keep the paths of files that come often. */
+ * stays relative. The bytes go into path[0] and so on, as far as there is room, without a zero byte; *size is how many there are.
+ * GIMLI_NOT_FOUND where there is no such unit, or the unit has no such file, GIMLI_UNKNOWN_PATH where a string of the path can't
+ * be told, and GIMLI_CLOSED where the handle is; the number of the refusal where the unit can't be read. Where another number than
+ * 0 is answered, nothing is written. The header of the unit is read for each call, and the program is run where only that defines
+ * the file (DW_LNE_define_file, up to version 4): keep the paths of files that come often. */
 uint32_t gimli_line_index_path(gimli_line_index *index, uint64_t unit, uint64_t file, const uint8_t *comp_dir,
                                size_t comp_dir_length, uint8_t *path, size_t room, uint64_t *size);
 
@@ -265,26 +265,24 @@ typedef struct gimli_index_unit {
 uint32_t gimli_line_index_unit(gimli_line_index *index, uint64_t unit, gimli_index_unit *found);
 
 /* Tells the addresses for a breakpoint at a line of a file of one unit: of each run of rows of that line that stand side by side
- * in a sequence, that of the first with GIMLI_IS_STMT. They come in the order of the sequences and rows; one address may come
- * more than once. Sequences that the index leaves out give none. Where the line has none, those of the next line that has; *found_line is
- * that line. The addresses go into addresses[0] and so on, as far as there is room; *count is how many there are.
+ * in a sequence, that of the first with GIMLI_IS_STMT. They come in the order of the sequences and rows; one address may come more
+ * than once. Sequences that the index leaves out give none. Where the line has none, those of the next line that has; *found_line
+ * is that line. The addresses go into addresses[0] and so on, as far as there is room; *count is how many there are.
  * GIMLI_NOT_FOUND where there is no such unit, or no line from it on has any; GIMLI_CLOSED where the handle is. Where another
  * number than 0 is answered, nothing is written. */
 uint32_t gimli_line_index_addresses(gimli_line_index *index, uint64_t unit, uint64_t file, uint64_t line,
                                     uint64_t *found_line, uint64_t *addresses, size_t room, uint64_t *count);
 
-/* The same at a line of a path, over all units: of the files that have this whole path, byte by byte as gimli_line_index_path tells
- * it without a comp_dir. Up to version 4 a unit doesn't have the
- * directory of the compilation, so a path that goes on from there is given without it. The headers of all units are read and their
- * programs are run for each call. GIMLI_NOT_FOUND where no line from it on has any; GIMLI_CLOSED where the handle is. Where another
- * number than 0 is answered, nothing is written. */
+/* The same at a line of a path, over all units: of the files that have this whole path, byte by byte as gimli_line_index_path
+ * tells it without a comp_dir. Up to version 4 a unit doesn't have the directory of the compilation, so a path that goes on from
+ * there is given without it. The headers of all units are read and their programs are run for each call. GIMLI_NOT_FOUND where no
+ * line from it on has any; GIMLI_CLOSED where the handle is. Where another number than 0 is answered, nothing is written. */
 uint32_t gimli_line_index_addresses_of(gimli_line_index *index, const uint8_t *path, size_t path_length, uint64_t line,
                                        uint64_t *found_line, uint64_t *addresses, size_t room, uint64_t *count);
 
 /* Do what gimli_line_file and gimli_line_directory do, for a unit of an index: the header is read again for each call.
- * GIMLI_NOT_FOUND where there is no such unit, or the unit has no such file or directory, GIMLI_CLOSED where the handle is, and the
- * number of the refusal where the unit can't be read. Where another number than 0 is answered, nothing is
- * written. */
+ * GIMLI_NOT_FOUND where there is no such unit, or the unit has no such file or directory, GIMLI_CLOSED where the handle is, and
+ * the number of the refusal where the unit can't be read. Where another number than 0 is answered, nothing is written. */
 uint32_t gimli_line_index_file(gimli_line_index *index, uint64_t unit, uint64_t number, gimli_file *file, uint8_t *path,
                                size_t path_room, uint8_t *directory, size_t directory_room);
 uint32_t gimli_line_index_directory(gimli_line_index *index, uint64_t unit, uint64_t number, gimli_text *directory,
@@ -311,8 +309,8 @@ uint32_t gimli_line_index_rows_open(gimli_line_index *index, uint64_t unit, giml
 
 /* Gives the next rows, from the first on: into rows[0] and so on, as far as there is room; *count is how many they are. Where
  * *count is less than `room`, the rows are at their end, and the answer is the number of the program's first fault, 0 where it has
- * none; such a call may come again. Before the end the answer is 0. `room` is above 0: with none, none come, and it never ends. GIMLI_CLOSED where the handle is: then nothing is written.
- * Takes no memory. */
+ * none; such a call may come again. Before the end the answer is 0. `room` is above 0: with none, none come, and it never ends.
+ * GIMLI_CLOSED where the handle is: then nothing is written. Takes no memory. */
 uint32_t gimli_line_rows_next(gimli_row_reader *reader, gimli_row *rows, size_t room, uint64_t *count);
 
 /* Closes a handle: all memory of its rows is given back. A closed one stays closed. The answer is 0. */
@@ -330,8 +328,8 @@ typedef struct gimli_encoding {
     uint8_t line_range;                          /* at most 127, and more than -line_base */
 } gimli_encoding;
 
-/* The usual encoding of a machine with addresses of 8 bytes. A unit that was read has the first three in gimli_unit; the rows of any
- * unit whose op_index is always 0 can be written by it. */
+/* The usual encoding of a machine with addresses of 8 bytes. A unit that was read has the first three in gimli_unit; the rows of
+ * any unit whose op_index is always 0 can be written by it. */
 #define GIMLI_ENCODING(version) {(uint16_t)(version), 8, 4, 1, 1, 1, -5, 14}
 
 /* A text among the bytes of texts that are handed over. */
