@@ -24,10 +24,9 @@ pub(crate) fn print_check<O: Write, E: Write>(
         unit: 0,
         count: 0,
         style: input.screen.heading(),
-        progress: Progress::new(input, Printing::Rare),
         out,
-        err,
     };
+    let mut progress = Progress::new(input, Printing::Rare);
     let mut units = input.units(alloc);
     let mut count = 0u64;
     for _ in 0..u64::MAX {
@@ -35,43 +34,44 @@ pub(crate) fn print_check<O: Write, E: Write>(
             break;
         };
         count = count.saturating_add(1);
-        findings.begin_unit(unit.offset.0 as u64)?;
+        findings.unit = unit.offset.0 as u64;
+        if progress.is_due(findings.unit) {
+            findings.flush()?;
+            progress.show(findings.unit, err);
+        }
         check_unit(alloc, input, unit, &mut sequences, &mut findings)?;
     }
     print_overlaps(&mut sequences, &mut findings)?;
+    findings.flush()?;
+    progress.clear(err);
     let found = findings.count;
-    findings.progress.clear(findings.err);
     writeln!(findings.out, "units: {count}, findings: {found}")?;
     Ok(Verdict::of_findings(found))
 }
 
 /// What prints and counts what is found.
 #[derive(Drop)]
-pub(crate) struct Findings<'o, 'e, O, E> {
+pub(crate) struct Findings<'o, O> {
     /// The offset of the unit.
     pub(crate) unit: u64,
     count: u64,
     /// How the place of what is found is set off.
     style: Style,
-    progress: Progress,
     out: &'o mut O,
-    err: &'e mut E,
 }
 
-impl<O: Write, E: Write> Findings<'_, '_, O, E> {
-    /// Begins with the unit at an offset, and tells how far the check is.
-    fn begin_unit(&mut self, offset: u64) -> io::Result<()> {
-        self.unit = offset;
-        self.progress.show(offset, self.out, self.err)
-    }
-
+impl<O: Write> Findings<'_, O> {
     /// Prints what was found in the unit.
     pub(crate) fn print(&mut self, finding: Finding) -> io::Result<()> {
         self.count = self.count.saturating_add(1);
-        self.progress.clear(self.err);
         let unit = self.unit;
         let begin = self.style.begin();
         let end = self.style.end();
         writeln!(self.out, "{begin}unit at 0x{unit:x}:{end} {finding}")
+    }
+
+    /// Hands on what was printed, in whole lines.
+    fn flush(&mut self) -> io::Result<()> {
+        self.out.flush()
     }
 }

@@ -13,12 +13,12 @@ use std::io::Write;
 use unit_text::Slice;
 
 /// Prints what is found in a unit, and adds its sequences to others.
-pub(crate) fn check_unit<O: Write, E: Write>(
+pub(crate) fn check_unit<O: Write>(
     alloc: Global,
     input: &Input<'_>,
     unit: LineUnit<Slice<'_>>,
     sequences: &mut Vec<Sequence>,
-    findings: &mut Findings<'_, '_, O, E>,
+    findings: &mut Findings<'_, O>,
 ) -> io::Result<()> {
     let mut program = match unit.program {
         Ok(program) => program,
@@ -52,11 +52,11 @@ struct RowCheck {
 
 impl RowCheck {
     /// Runs a program up to its end or its first fault.
-    fn run<O: Write, E: Write>(
+    fn run<O: Write>(
         &mut self,
         program: &mut IncompleteLineProgram<Slice<'_>>,
         sequences: &mut Vec<Sequence>,
-        findings: &mut Findings<'_, '_, O, E>,
+        findings: &mut Findings<'_, O>,
     ) -> io::Result<()> {
         let mut instructions = program.header().instructions();
         let mut row = LineRow::new(program.header());
@@ -91,12 +91,12 @@ impl RowCheck {
 
     /// Looks at an address that was set. It hides the rows that follow where the address of the row
     /// isn't it.
-    fn look_at_address<O: Write, E: Write>(
+    fn look_at_address<O: Write>(
         &mut self,
         set: Option<u64>,
         before: u64,
         after: u64,
-        findings: &mut Findings<'_, '_, O, E>,
+        findings: &mut Findings<'_, O>,
     ) -> io::Result<()> {
         let Some(address) = set else {
             return Ok(());
@@ -118,12 +118,12 @@ impl RowCheck {
     }
 
     /// Looks at a row, and at the sequence that it ends.
-    fn take_row<O: Write, E: Write>(
+    fn take_row<O: Write>(
         &mut self,
         header: &LineProgramHeader<Slice<'_>>,
         row: &LineRow,
         sequences: &mut Vec<Sequence>,
-        findings: &mut Findings<'_, '_, O, E>,
+        findings: &mut Findings<'_, O>,
     ) -> io::Result<()> {
         if self.is_left_out {
             self.is_left_out = !row.end_sequence();
@@ -147,10 +147,10 @@ impl RowCheck {
     }
 
     /// Keeps the least address of the rows of a sequence, and looks at the first one.
-    fn begin_at<O: Write, E: Write>(
+    fn begin_at<O: Write>(
         &mut self,
         address: u64,
-        findings: &mut Findings<'_, '_, O, E>,
+        findings: &mut Findings<'_, O>,
     ) -> io::Result<()> {
         let Some(start) = self.start else {
             self.start = Some(address);
@@ -169,11 +169,11 @@ impl RowCheck {
 
     /// Keeps the addresses of a sequence that ends here. One that begins below the lowest address
     /// of code is dead, and one without an address between overlaps nothing.
-    fn end_sequence<O: Write, E: Write>(
+    fn end_sequence<O: Write>(
         &mut self,
         end: u64,
         sequences: &mut Vec<Sequence>,
-        findings: &Findings<'_, '_, O, E>,
+        findings: &Findings<'_, O>,
     ) -> io::Result<()> {
         self.rows_since_end = 0;
         if let Some(start) = self.start.take() {
@@ -189,7 +189,7 @@ impl RowCheck {
     }
 
     /// Looks at the end of the program.
-    fn finish<O: Write, E: Write>(&self, findings: &mut Findings<'_, '_, O, E>) -> io::Result<()> {
+    fn finish<O: Write>(&self, findings: &mut Findings<'_, O>) -> io::Result<()> {
         match self.rows_since_end {
             0 => Ok(()),
             rows => findings.print(Finding::NoEnd { rows }),

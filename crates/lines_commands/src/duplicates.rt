@@ -19,11 +19,11 @@ struct DigestedFile {
 }
 
 /// Prints each file whose path can't be told, and each that has the path of a file before it.
-pub(crate) fn check_files<'i, O: Write, E: Write>(
+pub(crate) fn check_files<'i, O: Write>(
     alloc: Global,
     header: &LineProgramHeader<Slice<'i>>,
     strings: StringSections<Slice<'i>>,
-    findings: &mut Findings<'_, '_, O, E>,
+    findings: &mut Findings<'_, O>,
 ) -> io::Result<()> {
     let paths = Paths::new(header, strings, None);
     let mut files = Vec::new(alloc);
@@ -48,10 +48,10 @@ pub(crate) fn check_files<'i, O: Write, E: Write>(
 /// Prints each file whose path is that of the file before it, where files are sorted by their
 /// paths. Files 0 and 1 of version 5 may be one: the file of the compilation is file 0, and rows
 /// begin with file 1.
-fn print_duplicates<O: Write, E: Write>(
+fn print_duplicates<O: Write>(
     files: &[DigestedFile],
     version: u16,
-    findings: &mut Findings<'_, '_, O, E>,
+    findings: &mut Findings<'_, O>,
 ) -> io::Result<()> {
     let mut before: Option<DigestedFile> = None;
     for file in files {

@@ -35,7 +35,7 @@ pub(crate) fn print_files<O: Write, E: Write>(
             break;
         };
         let place = input.place(unit.offset.0);
-        progress.show(place.offset, out, err)?;
+        progress.show(place.offset, err);
         if choice.includes(place.offset) {
             is_found = true;
             verdict = verdict.and(print_unit(alloc, input, unit, place, out, err)?);

@@ -18,9 +18,9 @@ pub(crate) struct Sequence {
 
 /// Prints each sequence that begins before the end of one that begins no later than it. They are
 /// sorted for this.
-pub(crate) fn print_overlaps<O: Write, E: Write>(
+pub(crate) fn print_overlaps<O: Write>(
     sequences: &mut Vec<Sequence>,
-    findings: &mut Findings<'_, '_, O, E>,
+    findings: &mut Findings<'_, O>,
 ) -> io::Result<()> {
     sequences.sort()?;
     let mut furthest: Option<Sequence> = None;
@@ -39,10 +39,10 @@ pub(crate) fn print_overlaps<O: Write, E: Write>(
 }
 
 /// Prints that a sequence overlaps another.
-fn print_overlap<O: Write, E: Write>(
+fn print_overlap<O: Write>(
     sequence: Sequence,
     other: Sequence,
-    findings: &mut Findings<'_, '_, O, E>,
+    findings: &mut Findings<'_, O>,
 ) -> io::Result<()> {
     findings.unit = sequence.unit;
     findings.print(Finding::Overlap {

@@ -1,7 +1,6 @@
 //! How far a long command is, on standard error where that is a terminal.
 
 use crate::input::Input;
-use std::io;
 use std::io::Write;
 
 /// The length of a section from which on a person waits for it, in bytes.
@@ -40,24 +39,26 @@ impl Progress {
         }
     }
 
-    /// Tells how far a command is that begins with the unit at an offset. What was printed before
-    /// comes first.
-    pub(crate) fn show<O: Write, E: Write>(
-        &mut self,
-        offset: u64,
-        out: &mut O,
-        err: &mut E,
-    ) -> io::Result<()> {
-        let hundredth = (self.whole / 100).max(1);
-        let percent = (offset / hundredth).min(99);
-        if self.is_told && self.shown != Some(percent) {
-            out.flush()?;
+    /// Whether there is something new to tell, at the unit at an offset.
+    pub(crate) fn is_due(self, offset: u64) -> bool {
+        self.is_told && self.shown != Some(self.percent(offset))
+    }
+
+    /// Tells how far a command is that begins with the unit at an offset.
+    pub(crate) fn show<E: Write>(&mut self, offset: u64, err: &mut E) {
+        if self.is_due(offset) {
+            let percent = self.percent(offset);
             let megabytes = self.whole >> 20;
             // Where standard error takes nothing, the command goes on.
             let _ = write!(err, "lines: {percent}% of {megabytes} MB\r");
             self.shown = Some(percent);
         }
-        Ok(())
+    }
+
+    /// The hundredths of the section that stand before an offset.
+    fn percent(self, offset: u64) -> u64 {
+        let hundredth = (self.whole / 100).max(1);
+        (offset / hundredth).min(99)
     }
 
     /// Tells that a command reads the whole section before it prints anything.

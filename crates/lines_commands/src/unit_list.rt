@@ -35,7 +35,7 @@ pub(crate) fn print_units<O: Write, E: Write>(
             break;
         };
         let place = input.place(unit.offset.0);
-        progress.show(place.offset, out, err)?;
+        progress.show(place.offset, err);
         verdict = verdict.and(print_unit(unit, place, out, err)?);
     }
     progress.clear(err);
