@@ -1,4 +1,4 @@
-use Rattle.std.proofs.Common.{rules, arith, ◌≡◌, ◌≢◌, ◌<◌, ℕ, List, Some, None, Option, MatchOption, [], ◌∷◌, drop, Bor, sym, ap, ◌∙◌, ⊎_elim, inr}
+use Rattle.std.proofs.Common.{arith, ◌≡◌, ◌≢◌, ℕ, List, Some, None, Option, MatchOption, [], ◌∷◌, drop, Bor, sym, ap, ◌∙◌, ⊎_elim, inr}
 use Rattle.std.proofs.lemmas.Str.Pattern.{strip_prefix_char}
 use Rattle.lines_commands.specs.Words.{HasPrefix}
 use Rattle.lines_commands.proofs.numbers.without_prefix.Goals as goal
@@ -10,13 +10,13 @@ after_first : (word rest digits : List ℕ) (r : Option (Bor (List ℕ))) → wo
 after_first word rest digits None e small capital = λ digits h. ⊎_elim (λ w. small digits (ap (drop 1) (sym e ∙ w))) (λ w. capital digits (ap (drop 1) (sym e ∙ w))) h
 after_first word rest digits (Some x) e small capital = inr (e ∙ ap (λ l. 48 ∷ l) capital)
 
-pub returns-in_err-rest-clause-cases : goal.returns-in_err-rest-clause-cases
-returns-in_err-rest-clause-cases c =
+pub returns-in_err-rest : goal.returns-in_err-rest
+returns-in_err-rest c =
     let none : (rest : List ℕ) → c.args.word.now ≢ 48 ∷ rest = strip_prefix_char 48 c.args.word.now None c.in_err-rest.ensures.cases (omega arith) in
     λ digits h. ⊎_elim (λ e. none (120 ∷ digits) e) (λ e. none (88 ∷ digits) e) h
 
-pub returns-in-None-clause-cases : goal.returns-in-None-clause-cases
-returns-in-None-clause-cases c =
+pub returns-in-None : goal.returns-in-None
+returns-in-None c =
     let rest = c.in_ok-rest.rest in
     let whole : c.args.word.now ≡ 48 ∷ rest.now = strip_prefix_char 48 c.args.word.now (Some rest) c.in_ok-rest.ensures.cases (omega arith) in
     after_first c.args.word.now rest.now [] c.strip_prefix-in-None.result whole
