@@ -1,8 +1,8 @@
-use Rattle.std.proofs.Common.{rules, arith, ◌≡◌, ◌≢◌, ◌++◌, ℕ, List, Some, None, Option, IsNone, [], ◌∷◌, length, refl, sym, ap, ◌∙◌, subst}
+use Rattle.std.proofs.Common.{rules, ◌≡◌, ◌++◌, ℕ, List, Some, None, IsNone, [], ◌∷◌, refl, sym, ap, ◌∙◌, subst}
 use mathlib.Core.Bool.{true≢false}
 use Rattle.std.specs.Str.Parse.{digits_value}
 use Rattle.lines_commands.specs.Words.{NamesNumber, NamesTarget}
-use Rattle.lines_commands.proofs.Colons.{HasNoColon, SplitsAtLast, last_parts, digits_no_colon, has_colon, same_parts}
+use Rattle.lines_commands.proofs.Colons.{HasNoColon, last_parts, digits_no_colon, has_colon, same_parts}
 use Rattle.lines_commands.proofs.numbers.parse_target.Goals as goal
 
 none_some : {A : Type 0} (x : A) → None ≡ Some x → ⊥
