@@ -1,5 +1,5 @@
 -- What words say: addresses, offsets, and lines of paths.
-use Rattle.std.specs.Prelude.{◌≡◌, ◌≢◌, ◌<◌, ◌^◌, ◌++◌, ◌∷◌, ◌⊎◌, ℕ, List, [], codes}
+use Rattle.std.specs.Prelude.{◌≡◌, ◌≢◌, ◌<◌, ◌^◌, ◌++◌, ◌⊎◌, ℕ, List, [], codes}
 use Rattle.std.specs.Str.Parse.{IsNumeral, digits_value}
 
 -- the word is 0x or 0X, and then these bytes

@@ -26,6 +26,8 @@ pub returns-in-None : goal.returns-in-None
 returns-in-None c =
     let rest = c.in_ok-rest.rest in
     let whole : c.args.word.now ≡ 48 ∷ rest.now = strip_prefix_char 48 c.args.word.now (Some rest) c.in_ok-rest.ensures.cases (omega arith) in
-    record { cases = after_first c.args.word.now rest.now [] c.strip_prefix-in-None.result whole
-    (strip_prefix_char 120 rest.now None c.in-None.ensures.cases (omega arith))
-    (strip_prefix_char 88 rest.now c.strip_prefix-in-None.result c.strip_prefix-in-None.ensures.cases (omega arith)) }
+    record {
+      cases = after_first c.args.word.now rest.now [] c.strip_prefix-in-None.result whole
+          (strip_prefix_char 120 rest.now None c.in-None.ensures.cases (omega arith))
+          (strip_prefix_char 88 rest.now c.strip_prefix-in-None.result c.strip_prefix-in-None.ensures.cases (omega arith));
+    }
