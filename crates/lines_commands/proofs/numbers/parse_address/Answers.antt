@@ -1,4 +1,4 @@
-use Rattle.std.proofs.Common.{◌≡◌, ℕ, List, sym, subst, ⊎_elim}
+use Rattle.std.proofs.Common.{sym, subst, ⊎_elim}
 use Rattle.lines_commands.specs.Words.{NamesNumber}
 use Rattle.lines_commands.proofs.numbers.parse_address.Goals as goal
 
