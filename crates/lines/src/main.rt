@@ -1,8 +1,8 @@
 //! The program `lines`: what the line tables of a program say.
 #![tactic(auto)]
 
-use lines_commands::{Files, Request};
-use std::io::{BufReader, BufWriter, ErrorKind, Write};
+use lines_commands::{Files, Request, Screen};
+use std::io::{BufReader, BufWriter, ErrorKind, IsTerminal, Write};
 use std::process::ExitCode;
 use std::{env, fs, io};
 
@@ -77,14 +77,33 @@ fn perform<'i>(
     let alloc = rt.alloc();
     let mut input = BufReader::new(alloc, rt.stdin())?;
     let mut out = BufWriter::new(alloc, rt.stdout())?;
-    lines_commands::run(
+    lines_commands::run_on(
         alloc,
+        screen(rt),
         request,
         files,
         &mut input,
         &mut out,
         &mut rt.stderr(),
     )
+}
+
+/// What the outputs are shown on. A terminal is shown colours, unless the variable `NO_COLOR` has a
+/// text, or `TERM` says that it knows none.
+fn screen(rt: &HostRuntime) -> Screen {
+    let is_refused = match env::var(rt, "NO_COLOR") {
+        Ok(text) => !text.is_empty(),
+        Err(_) => false,
+    };
+    let is_dumb = match env::var(rt, "TERM") {
+        Ok(name) => name.as_str() == "dumb",
+        Err(_) => false,
+    };
+    Screen {
+        is_out: rt.stdout().is_terminal(),
+        is_err: rt.stderr().is_terminal(),
+        is_coloured: !is_refused && !is_dumb,
+    }
 }
 
 /// The bytes of a file; None where it can't be read, which is told.

@@ -4,7 +4,8 @@ use crate::input::Input;
 use crate::locate::tell_faults;
 use crate::path_text::{PathText, ends_with_parts};
 use crate::paths_seen::PathsSeen;
-use crate::report::{Verdict, out_of_memory, tell};
+use crate::progress::{Printing, Progress};
+use crate::report::{Verdict, out_of_memory};
 use gimli_core::Reader;
 use gimli_line::LineProgramHeader;
 use gimli_lookup::{Addresses, PathError, Paths, SectionLookup, StringSections};
@@ -32,9 +33,12 @@ pub(crate) fn print_addresses<O: Write, E: Write>(
     err: &mut E,
 ) -> io::Result<Verdict> {
     let size = input.address_size.bytes();
+    let mut progress = Progress::new(input, Printing::Rare);
+    progress.show_whole(err);
     let Ok(lookup) = SectionLookup::new(&input.lines, alloc, size, input.lowest) else {
         return Err(out_of_memory());
     };
+    progress.clear(err);
     let mut verdict = tell_faults(input, &lookup, err);
     let mut seen = PathsSeen::new(alloc);
     for unit in lookup.units() {
@@ -47,11 +51,8 @@ pub(crate) fn print_addresses<O: Write, E: Write>(
     }
     if seen.is_empty() {
         let end = PathText(target.path.as_bytes());
-        return Ok(tell(
-            input.name,
-            err,
-            format_args!("no file's path ends with {end}"),
-        ));
+        let sentence = format_args!("no file's path ends with {end}");
+        return Ok(input.file.tell(err, sentence));
     }
     Ok(verdict)
 }
@@ -107,11 +108,10 @@ fn print_of_path<'i, O: Write, E: Write>(
             }
             Ok(Verdict::Clean)
         }
-        None => Ok(tell(
-            input.name,
-            err,
-            format_args!("no code from line {line} on in {text}"),
-        )),
+        None => {
+            let sentence = format_args!("no code from line {line} on in {text}");
+            Ok(input.file.tell(err, sentence))
+        }
     }
 }
 

@@ -1,11 +1,13 @@
 //! The command `files`: the directories and files of units.
 
-use crate::error_text::{ErrorText, RowCount};
 use crate::input::Input;
 use crate::path_text::PathText;
+use crate::progress::{Printing, Progress};
 use crate::report::{UnitPlace, Verdict, out_of_memory};
 use crate::request::UnitChoice;
+use crate::row_count::RowCount;
 use crate::row_list::tell_no_unit;
+use crate::screen::Screen;
 use crate::walk::{fault, next_unit};
 use gimli_line::{FileEntry, IncompleteLineProgram, LineProgramHeader, LineUnit};
 use gimli_lookup::{PathError, Paths, StringSections};
@@ -26,21 +28,24 @@ pub(crate) fn print_files<O: Write, E: Write>(
 ) -> io::Result<Verdict> {
     let mut verdict = Verdict::Clean;
     let mut is_found = choice == UnitChoice::All;
+    let mut progress = Progress::new(input, Printing::Steady);
     let mut units = input.units(alloc);
     for _ in 0..u64::MAX {
         let Some(unit) = next_unit(&mut units)? else {
             break;
         };
         let place = input.place(unit.offset.0);
+        progress.show(place.offset, err);
         if choice.includes(place.offset) {
             is_found = true;
-            verdict = verdict.and(print_unit(alloc, unit, place, input.strings, out, err)?);
+            verdict = verdict.and(print_unit(alloc, input, unit, place, out, err)?);
         }
     }
+    progress.clear(err);
     if is_found {
         Ok(verdict)
     } else {
-        Ok(tell_no_unit(input.name, choice, err))
+        Ok(tell_no_unit(input.file, choice, err))
     }
 }
 
@@ -48,20 +53,31 @@ pub(crate) fn print_files<O: Write, E: Write>(
 /// fault. The fault is told.
 fn print_unit<'i, O: Write, E: Write>(
     alloc: Global,
+    input: &Input<'i>,
     unit: LineUnit<Slice<'i>>,
     place: UnitPlace<'_>,
-    strings: StringSections<Slice<'i>>,
     out: &mut O,
     err: &mut E,
 ) -> io::Result<Verdict> {
     let program = match unit.program {
         Ok(program) => program,
-        Err(e) => return Ok(place.tell(err, ErrorText(fault(e)?))),
+        Err(e) => return Ok(place.tell(err, fault(e)?)),
     };
-    let offset = place.offset;
-    let version = program.header().version();
-    writeln!(out, "unit at 0x{offset:x}, version {version}")?;
-    print_program(alloc, program, place, strings, out, err)
+    print_heading(input.screen, place.offset, program.header().version(), out)?;
+    print_program(alloc, program, place, input.strings, out, err)
+}
+
+/// Prints the heading of a unit.
+pub(crate) fn print_heading<O: Write>(
+    screen: Screen,
+    offset: u64,
+    version: u16,
+    out: &mut O,
+) -> io::Result<()> {
+    let style = screen.heading();
+    let begin = style.begin();
+    let end = style.end();
+    writeln!(out, "{begin}unit at 0x{offset:x}, version {version}{end}")
 }
 
 /// Prints the directories and files of a program.
@@ -81,7 +97,7 @@ fn print_program<'i, O: Write, E: Write>(
             Ok(None) => break,
             Err(e) => {
                 let count = RowCount(count);
-                let fault = ErrorText(fault(e)?);
+                let fault = fault(e)?;
                 verdict = place.tell(err, format_args!("after {count}: {fault}"));
                 break;
             }

@@ -1,6 +1,6 @@
 //! What a check finds, as sentences.
 
-use crate::error_text::{ErrorText, RowCount};
+use crate::row_count::RowCount;
 use gimli_core::Error;
 use gimli_lookup::PathError;
 use std::fmt;
@@ -66,10 +66,9 @@ pub(crate) enum Finding {
 impl fmt::Display for Finding {
     fn fmt<W: fmt::Write>(&self, f: &mut fmt::Formatter<W>) -> fmt::Result {
         match *self {
-            Finding::Header(error) => ErrorText(error).fmt(f),
+            Finding::Header(error) => error.fmt(f),
             Finding::Program { rows, error } => {
                 let rows = RowCount(rows);
-                let error = ErrorText(error);
                 write!(f, "after {rows}: {error}")
             }
             Finding::NoPath { file, error } => write!(f, "file {file}: {error}"),

@@ -1,6 +1,13 @@
 //! The sections that a command reads, from the bytes of files.
 
+ghost use Rattle.std.specs.Prelude.{◌≡◌, IfOk, OnOk, Ok, Some, codes};
+ghost use Rattle.elf_sections.specs.File.{section_at};
+ghost use Rattle.elf_sections.specs.Elf.{file_of};
+ghost use Rattle.lines_commands.specs.Lines.{HasLines};
+
 use crate::refusal::Refusal;
+use crate::report::FilePlace;
+use crate::screen::Screen;
 use elf_sections::{Elf, ElfError};
 use gimli_core::{EndianSlice, RunTimeEndian};
 use gimli_line::DebugLine;
@@ -39,8 +46,12 @@ pub struct Files<'i> {
 /// The sections of a program that a command reads.
 #[derive(Clone, Copy)]
 pub(crate) struct Input<'i> {
-    /// The name of the file, for messages.
-    pub(crate) name: &'i str,
+    /// The file, as faults name it.
+    pub(crate) file: FilePlace<'i>,
+    /// What the outputs are shown on.
+    pub(crate) screen: Screen,
+    /// The length of the section of line programs in bytes.
+    pub(crate) length: usize,
     /// The line programs.
     pub(crate) lines: DebugLine<Slice<'i>>,
     /// The sections of texts.
@@ -53,16 +64,69 @@ pub(crate) struct Input<'i> {
 
 impl<'i> Input<'i> {
     /// The sections of files. Refused as `Refusal` says.
-    pub(crate) fn new(name: &'i str, kind: Kind, files: Files<'i>) -> Result<Input<'i>, Refusal> {
+    pub(crate) fn new(
+        file: FilePlace<'i>,
+        screen: Screen,
+        kind: Kind,
+        files: Files<'i>,
+    ) -> Result<Input<'i>, Refusal>
+        ensures elf { kind ≡ Kind.Elf → OnOk result (HasLines files.entry.file.now) }
+    {
         match kind {
-            Kind::Elf => Input::of_elf(name, files),
-            Kind::Raw(notation) => Ok(Input::of_sections(name, notation, files, 0)),
+            Kind::Elf => {
+                let program = Program::of_elf(files)?;
+                Ok(Input::of_program(file, screen, program))
+            }
+            Kind::Raw(notation) => {
+                let program = Program {
+                    notation,
+                    sections: files,
+                    lowest: 0,
+                };
+                Ok(Input::of_program(file, screen, program))
+            }
         }
     }
 
+    /// The sections by their bytes.
+    fn of_program(file: FilePlace<'i>, screen: Screen, program: Program<'i>) -> Input<'i> {
+        let Program {
+            notation,
+            sections,
+            lowest,
+        } = program;
+        let order = notation.order;
+        Input {
+            file,
+            screen,
+            length: sections.file.len(),
+            lines: DebugLine::new(sections.file, order),
+            strings: StringSections {
+                debug_line_str: EndianSlice::new(sections.line_str, order),
+                debug_str: EndianSlice::new(sections.strings, order),
+            },
+            address_size: notation.address_size,
+            lowest,
+        }
+    }
+}
+
+/// The sections of a program by their bytes, and how they are read.
+#[derive(Clone, Copy)]
+struct Program<'i> {
+    notation: Notation,
+    /// The line programs, in the place of a file, and the texts.
+    sections: Files<'i>,
+    /// An address below which there is no code, 0 where none is known.
+    lowest: u64,
+}
+
+impl<'i> Program<'i> {
     /// The sections of an ELF file. A section of texts that is named apart from it takes the place
     /// of its own.
-    fn of_elf(name: &'i str, files: Files<'i>) -> Result<Input<'i>, Refusal> {
+    fn of_elf(files: Files<'i>) -> Result<Program<'i>, Refusal>
+        ensures { OnOk result (HasLines files.entry.file.now) }
+    {
         let elf = Elf::parse(files.file)?;
         if elf.is_relocatable() {
             return Err(Refusal::NotLinked);
@@ -72,23 +136,11 @@ impl<'i> Input<'i> {
             line_str: section_or(&elf, b".debug_line_str", files.line_str)?,
             strings: section_or(&elf, b".debug_str", files.strings)?,
         };
-        let lowest = elf.lowest_code_address().unwrap_or(0);
-        Ok(Input::of_sections(name, notation_of(&elf), sections, lowest))
-    }
-
-    /// The sections by their bytes.
-    fn of_sections(name: &'i str, notation: Notation, files: Files<'i>, lowest: u64) -> Input<'i> {
-        let order = notation.order;
-        Input {
-            name,
-            lines: DebugLine::new(files.file, order),
-            strings: StringSections {
-                debug_line_str: EndianSlice::new(files.line_str, order),
-                debug_str: EndianSlice::new(files.strings, order),
-            },
-            address_size: notation.address_size,
-            lowest,
-        }
+        Ok(Program {
+            notation: notation_of(&elf),
+            sections,
+            lowest: elf.lowest_code_address().unwrap_or(0),
+        })
     }
 }
 
@@ -109,7 +161,9 @@ fn notation_of(elf: &Elf<'_>) -> Notation {
 }
 
 /// The section `.debug_line` of an ELF file.
-fn line_section<'i>(elf: &Elf<'i>) -> Result<&'i [u8], Refusal> {
+fn line_section<'i>(elf: &Elf<'i>) -> Result<&'i [u8], Refusal>
+    ensures { IfOk result (λ section. section_at (file_of elf.now) (codes ".debug_line") ≡ Ok (Some section.now)) }
+{
     match elf.section(b".debug_line") {
         Ok(Some(section)) => Ok(section),
         Ok(None) if matches!(elf.section(b".zdebug_line"), Ok(Some(_))) => {

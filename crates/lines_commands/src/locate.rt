@@ -1,12 +1,14 @@
 //! The command `where`: the place in the source of each address.
 
-use crate::error_text::ErrorText;
+ghost use Rattle.std.specs.Prelude.{◌≡◌};
+
 use crate::flags::JsonFlags;
 use crate::input::Input;
 use crate::json_text::JsonText;
 use crate::numbers::parse_address;
 use crate::path_text::PathText;
-use crate::report::{UnitPlace, Verdict, out_of_memory, tell};
+use crate::progress::{Printing, Progress};
+use crate::report::{UnitPlace, Verdict, out_of_memory};
 use crate::request::Form;
 use gimli_line::{ColumnType, LineRow};
 use gimli_lookup::{CoveringRows, PathError, Paths, SectionLookup};
@@ -25,16 +27,24 @@ pub(crate) struct Places<'i> {
 
 impl<'i> Places<'i> {
     /// The places of a section. Fails only for memory.
-    pub(crate) fn new(alloc: Global, input: Input<'i>, form: Form) -> io::Result<Places<'i>> {
+    pub(crate) fn new<E: Write>(
+        alloc: Global,
+        input: Input<'i>,
+        form: Form,
+        err: &mut E,
+    ) -> io::Result<Places<'i>> {
         let size = input.address_size.bytes();
-        match SectionLookup::new(&input.lines, alloc, size, input.lowest) {
-            Ok(lookup) => Ok(Places {
-                input,
-                lookup,
-                form,
-            }),
-            Err(_) => Err(out_of_memory()),
-        }
+        let mut progress = Progress::new(&input, Printing::Rare);
+        progress.show_whole(err);
+        let Ok(lookup) = SectionLookup::new(&input.lines, alloc, size, input.lowest) else {
+            return Err(out_of_memory());
+        };
+        progress.clear(err);
+        Ok(Places {
+            input,
+            lookup,
+            form,
+        })
     }
 
     /// Tells the fault of each unit. What stands before it is looked up all the same.
@@ -97,7 +107,8 @@ impl<'i> Places<'i> {
             None => {
                 self.print_unknown(None, out)?;
                 let word = PathText(word);
-                Ok(tell(self.input.name, err, format_args!("'{word}' is no address")))
+                let sentence = format_args!("'{word}' is no address");
+                Ok(self.input.file.tell(err, sentence))
             }
         }
     }
@@ -190,7 +201,7 @@ pub(crate) fn tell_faults<E: Write>(
     let mut verdict = Verdict::Clean;
     for unit in lookup.units() {
         let place = input.place(unit.offset().0);
-        match (unit.header(), unit.fault().map(ErrorText)) {
+        match (unit.header(), unit.fault()) {
             (_, None) => {}
             (None, Some(fault)) => verdict = place.tell(err, fault),
             (Some(_), Some(fault)) => {
@@ -217,8 +228,7 @@ struct JsonPlace<'p>(Place<'p>);
 impl fmt::Display for Place<'_> {
     fn fmt<W: fmt::Write>(&self, f: &mut fmt::Formatter<W>) -> fmt::Result {
         let path = PathText(self.path.unwrap_or(b"??"));
-        let line = line_of(&self.found.row);
-        let column = column_of(&self.found.row);
+        let (line, column) = shown(self.found);
         write!(f, "{path}:{line}:{column}")
     }
 }
@@ -229,8 +239,7 @@ impl fmt::Display for JsonPlace<'_> {
         let row = &place.found.row;
         let address = place.address;
         let path = JsonPath(place.path);
-        let line = line_of(row);
-        let column = column_of(row);
+        let (line, column) = shown(place.found);
         let start = row.address();
         let end = place.found.next.address();
         let discriminator = row.discriminator();
@@ -255,13 +264,28 @@ impl fmt::Display for JsonPath<'_> {
     }
 }
 
+/// The line and the column that are shown: those of the row that covers the address, which is the
+/// first of the two.
+fn shown(found: &CoveringRows) -> (u64, u64)
+    ensures { result ≡ (found.now.row.line, found.now.row.column) }
+{
+    (line_of(&found.row), column_of(&found.row))
+}
+
 /// The line of a row, 0 where there is none.
-pub(crate) fn line_of(row: &LineRow) -> u64 {
-    row.line().map_or(0, |line| line.get())
+pub(crate) fn line_of(row: &LineRow) -> u64
+    ensures { result ≡ row.now.line }
+{
+    match row.line() {
+        Some(line) => line.get(),
+        None => 0,
+    }
 }
 
 /// The column of a row, 0 for the left edge.
-pub(crate) fn column_of(row: &LineRow) -> u64 {
+pub(crate) fn column_of(row: &LineRow) -> u64
+    ensures { result ≡ row.now.column }
+{
     match row.column() {
         ColumnType::LeftEdge => 0,
         ColumnType::Column(column) => column.get(),

@@ -1,26 +1,56 @@
-//! Addresses, offsets and sizes in words.
+//! Addresses, offsets, sizes and lines in words.
 
-ghost use Rattle.std.specs.Prelude.{◌≤◌};
+ghost use Rattle.std.specs.Prelude.{◌≡◌, ◌≤◌, ◌↔◌, ℕ, List, IfSome, MatchOption, Some, codes};
+ghost use Rattle.lines_commands.specs.Words.{HasPrefix, NamesNumber, NamesAddress, NamesOffset, NamesTarget};
 
 use unit_text::AddressSize;
 
 /// An address in hexadecimal digits of either case, with or without `0x`. None for another word,
 /// and for one that doesn't fit 64 bits.
-pub fn parse_address(word: &str) -> Option<u64> {
-    parse_digits(without_prefix(word).unwrap_or(word), 16)
+pub fn parse_address(word: &str) -> Option<u64>
+    ensures named { IfSome result (NamesAddress word.now) }
+    ensures only { (address : ℕ) → NamesAddress word.now address → result ≡ Some address }
+{
+    match without_prefix(word) {
+        Some(digits) => parse_digits(digits, 16),
+        None => parse_digits(word, 16),
+    }
 }
 
 /// A number in decimal digits, or in hexadecimal ones after `0x`. None for another word, and for
 /// one that doesn't fit 64 bits.
-pub fn parse_offset(word: &str) -> Option<u64> {
+pub fn parse_offset(word: &str) -> Option<u64>
+    ensures named { IfSome result (NamesOffset word.now) }
+    ensures only { (offset : ℕ) → NamesOffset word.now offset → result ≡ Some offset }
+{
     match without_prefix(word) {
         Some(digits) => parse_digits(digits, 16),
         None => parse_digits(word, 10),
     }
 }
 
+/// A path and a line of it: what stands before the last colon, and the decimal digits after it.
+/// None for another word, for an empty path, and for a line that doesn't fit 64 bits.
+pub fn parse_target(word: &str) -> Option<(&str, u64)>
+    ensures named { IfSome result (λ target. NamesTarget word.now target.0.now target.1) }
+    ensures only { (path : List ℕ) (line : ℕ) → NamesTarget word.now path line
+        → MatchOption result ⊥ (λ target. (target.0.now ≡ path) × (target.1 ≡ line)) }
+{
+    let (path, digits) = word.rsplit_once(':')?;
+    if path.is_empty() {
+        return None;
+    }
+    let line = parse_digits(digits, 10)?;
+    Some((path, line))
+}
+
 /// The size of an address: 1, 2, 4 or 8 bytes.
-pub fn parse_size(word: &str) -> Option<AddressSize> {
+pub fn parse_size(word: &str) -> Option<AddressSize>
+    ensures one { (result ≡ Some AddressSize.One) ↔ (word.now ≡ codes "1") }
+    ensures two { (result ≡ Some AddressSize.Two) ↔ (word.now ≡ codes "2") }
+    ensures four { (result ≡ Some AddressSize.Four) ↔ (word.now ≡ codes "4") }
+    ensures eight { (result ≡ Some AddressSize.Eight) ↔ (word.now ≡ codes "8") }
+{
     match word {
         "1" => Some(AddressSize::One),
         "2" => Some(AddressSize::Two),
@@ -31,10 +61,14 @@ pub fn parse_size(word: &str) -> Option<AddressSize> {
 }
 
 /// What stands after `0x` or `0X`.
-fn without_prefix(word: &str) -> Option<&str> {
-    match word.strip_prefix("0x") {
+fn without_prefix(word: &str) -> Option<&str>
+    ensures cases { MatchOption result ((digits : List ℕ) → HasPrefix word.now digits → ⊥)
+        (λ digits. HasPrefix word.now digits.now) }
+{
+    let rest = word.strip_prefix('0')?;
+    match rest.strip_prefix('x') {
         Some(digits) => Some(digits),
-        None => word.strip_prefix("0X"),
+        None => rest.strip_prefix('X'),
     }
 }
 
@@ -42,6 +76,8 @@ fn without_prefix(word: &str) -> Option<&str> {
 fn parse_digits(digits: &str, radix: u32) -> Option<u64>
     requires low { 2 ≤ radix }
     requires high { radix ≤ 36 }
+    ensures named { IfSome result (NamesNumber radix digits.now) }
+    ensures only { (number : ℕ) → NamesNumber radix digits.now number → result ≡ Some number }
 {
     if digits.starts_with('+') {
         return None;

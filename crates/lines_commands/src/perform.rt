@@ -1,16 +1,18 @@
 //! What the program does, over what its words ask for, the bytes of files, a reader in the place of
 //! standard input, and writers in the place of standard output and standard error.
 
-ghost use Rattle.std.specs.Prelude.{◌≤◌, IfOk};
+ghost use Rattle.std.specs.Prelude.{◌≡◌, ◌≤◌, IfOk, Ok};
+ghost use Rattle.lines_commands.specs.Lines.{HasLines};
 
 use crate::addresses::{Target, print_addresses};
 use crate::check::print_check;
 use crate::file_list::print_files;
-use crate::input::{Files, Input};
+use crate::input::{Files, Input, Kind};
 use crate::locate::Places;
-use crate::report::{Verdict, tell};
+use crate::report::{FilePlace, Verdict};
 use crate::request::{Command, Form, Request};
 use crate::row_list::print_rows;
+use crate::screen::Screen;
 use crate::unit_list::print_units;
 use std::alloc::Global;
 use std::io;
@@ -29,13 +31,32 @@ pub fn run<I: BufRead, O: Write, E: Write>(
     err: &mut E,
 ) -> io::Result<u8>
     ensures status { IfOk result (λ status. status ≤ 1) }
+    ensures no_lines { request.now.kind ≡ Kind.Elf → (HasLines files.entry.file.now → ⊥) → result ≡ Ok 1 }
 {
-    let sections = match Input::new(request.file, request.kind, files) {
+    run_on(alloc, Screen::none(), request, files, input, out, err)
+}
+
+/// Does what `run` does, where outputs may be terminals: headings and faults are set off there, and
+/// a long command tells how far it is.
+pub fn run_on<I: BufRead, O: Write, E: Write>(
+    alloc: Global,
+    screen: Screen,
+    request: &Request<'_>,
+    files: Files<'_>,
+    input: &mut I,
+    out: &mut O,
+    err: &mut E,
+) -> io::Result<u8>
+    ensures status { IfOk result (λ status. status ≤ 1) }
+    ensures no_lines { request.now.kind ≡ Kind.Elf → (HasLines files.entry.file.now → ⊥) → result ≡ Ok 1 }
+{
+    let file = FilePlace {
+        name: request.file,
+        style: screen.fault(),
+    };
+    let sections = match Input::new(file, screen, request.kind, files) {
         Ok(sections) => sections,
-        Err(refusal) => {
-            tell(request.file, err, refusal);
-            return Ok(1);
-        }
+        Err(refusal) => return Ok(file.tell(err, refusal).status()),
     };
     let verdict = perform(alloc, &request.command, sections, input, out, err)?;
     out.flush()?;
@@ -65,7 +86,7 @@ fn perform<I: BufRead, O: Write, E: Write>(
         Command::Units => print_units(alloc, &sections, out, err),
         Command::Files(units) => print_files(alloc, &sections, *units, out, err),
         Command::Rows { units, form } => print_rows(alloc, &sections, *units, *form, out, err),
-        Command::Check => print_check(alloc, &sections, out),
+        Command::Check => print_check(alloc, &sections, out, err),
     }
 }
 
@@ -79,7 +100,7 @@ fn print_places<I: BufRead, O: Write, E: Write>(
     out: &mut O,
     err: &mut E,
 ) -> io::Result<Verdict> {
-    let places = Places::new(alloc, sections, form)?;
+    let places = Places::new(alloc, sections, form, err)?;
     let faults = places.tell_faults(err);
     let verdict = if addresses.is_empty() {
         places.print_as_they_come(alloc, input, out, err)?

@@ -1,7 +1,8 @@
 //! What is told on standard error, and whether there was anything to tell.
 
-ghost use Rattle.std.specs.Prelude.{◌≤◌};
+ghost use Rattle.std.specs.Prelude.{◌≡◌, ◌≤◌, ◌↔◌};
 
+use crate::screen::Style;
 use std::io::Write;
 use std::{fmt, io};
 
@@ -15,8 +16,20 @@ pub(crate) enum Verdict {
 }
 
 impl Verdict {
+    /// The verdict of a check, by how many things it found.
+    pub(crate) fn of_findings(found: u64) -> Verdict
+        ensures { (result ≡ Verdict.Clean) ↔ (found ≡ 0) }
+    {
+        match found {
+            0 => Verdict::Clean,
+            _ => Verdict::Faulty,
+        }
+    }
+
     /// The verdict of two parts.
-    pub(crate) fn and(self, other: Verdict) -> Verdict {
+    pub(crate) fn and(self, other: Verdict) -> Verdict
+        ensures { (result ≡ Verdict.Clean) ↔ ((self ≡ Verdict.Clean) × (other ≡ Verdict.Clean)) }
+    {
         match self {
             Verdict::Clean => other,
             Verdict::Faulty => Verdict::Faulty,
@@ -25,7 +38,9 @@ impl Verdict {
 
     /// The status of the program.
     pub(crate) fn status(self) -> u8
-        ensures { result ≤ 1 }
+        ensures bound { result ≤ 1 }
+        ensures clean { self ≡ Verdict.Clean → result ≡ 0 }
+        ensures faulty { self ≡ Verdict.Faulty → result ≡ 1 }
     {
         match self {
             Verdict::Clean => 0,
@@ -34,35 +49,46 @@ impl Verdict {
     }
 }
 
+/// A file, as faults name it.
+#[derive(Clone, Copy)]
+pub(crate) struct FilePlace<'n> {
+    /// The name of the file.
+    pub(crate) name: &'n str,
+    /// How faults are set off.
+    pub(crate) style: Style,
+}
+
+impl FilePlace<'_> {
+    /// Tells a sentence on the file. Where standard error takes nothing, the status still tells.
+    pub(crate) fn tell<E: Write>(self, err: &mut E, sentence: impl fmt::Display + Drop) -> Verdict
+        ensures { result ≡ Verdict.Faulty }
+    {
+        let name = self.name;
+        let begin = self.style.begin();
+        let end = self.style.end();
+        let _ = writeln!(err, "lines: {name}: {begin}{sentence}{end}");
+        Verdict::Faulty
+    }
+}
+
 /// The place of a fault: a unit of a file, by its offset.
 #[derive(Clone, Copy)]
 pub(crate) struct UnitPlace<'n> {
-    /// The name of the file.
-    pub(crate) name: &'n str,
+    /// The file.
+    pub(crate) file: FilePlace<'n>,
     /// The offset of the unit in its section.
     pub(crate) offset: u64,
 }
 
 impl UnitPlace<'_> {
     /// Tells a sentence on the unit.
-    pub(crate) fn tell<E: Write>(self, err: &mut E, sentence: impl fmt::Display + Drop) -> Verdict {
+    pub(crate) fn tell<E: Write>(self, err: &mut E, sentence: impl fmt::Display + Drop) -> Verdict
+        ensures { result ≡ Verdict.Faulty }
+    {
         let offset = self.offset;
-        tell(
-            self.name,
-            err,
-            format_args!("unit at 0x{offset:x}: {sentence}"),
-        )
+        self.file
+            .tell(err, format_args!("unit at 0x{offset:x}: {sentence}"))
     }
-}
-
-/// Tells a sentence on a file. Where standard error takes nothing, the status still tells.
-pub(crate) fn tell<E: Write>(
-    name: &str,
-    err: &mut E,
-    sentence: impl fmt::Display + Drop,
-) -> Verdict {
-    let _ = writeln!(err, "lines: {name}: {sentence}");
-    Verdict::Faulty
 }
 
 /// The refusal of memory, as an error of a program.

@@ -1,5 +1,7 @@
 //! What the words of the program ask for.
 
+ghost use Rattle.std.specs.Prelude.{◌≡◌, ◌⊎◌, ◌↔◌, IsTrue};
+
 use crate::input::Kind;
 
 /// What the words ask for: a command over a file.
@@ -56,7 +58,9 @@ pub enum UnitChoice {
 
 impl UnitChoice {
     /// Whether the unit at an offset is meant.
-    pub(crate) fn includes(self, offset: u64) -> bool {
+    pub(crate) fn includes(self, offset: u64) -> bool
+        ensures { IsTrue result ↔ ((self ≡ UnitChoice.All) ⊎ (self ≡ UnitChoice.At offset)) }
+    {
         match self {
             UnitChoice::All => true,
             UnitChoice::At(chosen) => chosen == offset,

@@ -1,12 +1,15 @@
 //! The command `rows`: the rows of units.
 
-use crate::error_text::{ErrorText, RowCount};
+use crate::file_list::print_heading;
 use crate::flags::{FlagLetters, JsonFlags};
 use crate::input::Input;
 use crate::locate::{JsonPath, column_of, line_of};
 use crate::path_text::{PathText, last_part};
-use crate::report::{UnitPlace, Verdict, out_of_memory, tell};
+use crate::progress::{Printing, Progress};
+use crate::report::{FilePlace, UnitPlace, Verdict, out_of_memory};
 use crate::request::{Form, UnitChoice};
+use crate::row_count::RowCount;
+use crate::screen::Screen;
 use crate::walk::{fault, next_unit};
 use gimli_line::{IncompleteLineProgram, LineProgramHeader, LineRow, LineUnit};
 use gimli_lookup::{PathError, Paths, StringSections};
@@ -26,29 +29,35 @@ pub(crate) fn print_rows<O: Write, E: Write>(
 ) -> io::Result<Verdict> {
     let mut verdict = Verdict::Clean;
     let mut is_found = choice == UnitChoice::All;
+    let mut progress = Progress::new(input, Printing::Steady);
     let mut units = input.units(alloc);
     for _ in 0..u64::MAX {
         let Some(unit) = next_unit(&mut units)? else {
             break;
         };
         let place = input.place(unit.offset.0);
+        progress.show(place.offset, err);
         if choice.includes(place.offset) {
             is_found = true;
-            verdict = verdict.and(print_unit(alloc, unit, place, input.strings, form, out, err)?);
+            verdict = verdict.and(print_unit(alloc, input, unit, place, form, out, err)?);
         }
     }
+    progress.clear(err);
     if is_found {
         Ok(verdict)
     } else {
-        Ok(tell_no_unit(input.name, choice, err))
+        Ok(tell_no_unit(input.file, choice, err))
     }
 }
 
 /// Tells that no unit begins at the chosen offset.
-pub(crate) fn tell_no_unit<E: Write>(name: &str, choice: UnitChoice, err: &mut E) -> Verdict {
+pub(crate) fn tell_no_unit<E: Write>(
+    file: FilePlace<'_>,
+    choice: UnitChoice,
+    err: &mut E,
+) -> Verdict {
     match choice {
-        UnitChoice::At(offset) => tell(
-            name,
+        UnitChoice::At(offset) => file.tell(
             err,
             format_args!("no unit begins at 0x{offset:x}; the command units prints where they do"),
         ),
@@ -59,24 +68,25 @@ pub(crate) fn tell_no_unit<E: Write>(name: &str, choice: UnitChoice, err: &mut E
 /// Prints the rows of a unit up to its end or its first fault, which is told.
 fn print_unit<'i, O: Write, E: Write>(
     alloc: Global,
+    input: &Input<'i>,
     unit: LineUnit<Slice<'i>>,
     place: UnitPlace<'_>,
-    strings: StringSections<Slice<'i>>,
     form: Form,
     out: &mut O,
     err: &mut E,
 ) -> io::Result<Verdict> {
     let program = match unit.program {
         Ok(program) => program,
-        Err(e) => return Ok(place.tell(err, ErrorText(fault(e)?))),
+        Err(e) => return Ok(place.tell(err, fault(e)?)),
     };
     if form != Form::Json {
-        print_headings(place.offset, program.header().version(), out)?;
+        print_heading(input.screen, place.offset, program.header().version(), out)?;
+        print_columns(input.screen, out)?;
     }
     let printer = RowPrinter {
         offset: place.offset,
         form,
-        strings,
+        strings: input.strings,
         file: 0,
         path: Ok(Vec::new(alloc)),
         is_known: false,
@@ -85,12 +95,14 @@ fn print_unit<'i, O: Write, E: Write>(
     print_program(alloc, program, printer, place, out, err)
 }
 
-/// Prints the headings of a unit.
-fn print_headings<O: Write>(offset: u64, version: u16, out: &mut O) -> io::Result<()> {
-    writeln!(out, "unit at 0x{offset:x}, version {version}")?;
+/// Prints the headings of rows.
+fn print_columns<O: Write>(screen: Screen, out: &mut O) -> io::Result<()> {
+    let style = screen.heading();
+    let begin = style.begin();
+    let end = style.end();
     writeln!(
         out,
-        "           address     line  column  discr  isa  flags  file"
+        "{begin}           address     line  column  discr  isa  flags  file{end}"
     )
 }
 
@@ -115,7 +127,7 @@ fn print_program<'i, O: Write, E: Write>(
             Ok(None) => break,
             Err(e) => {
                 let count = RowCount(printer.rows);
-                let fault = ErrorText(fault(e)?);
+                let fault = fault(e)?;
                 return Ok(place.tell(err, format_args!("after {count}: {fault}")));
             }
         }

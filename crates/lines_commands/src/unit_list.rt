@@ -1,8 +1,9 @@
 //! The command `units`: a line for each unit of a section.
 
-use crate::error_text::{ErrorText, RowCount};
 use crate::input::Input;
+use crate::progress::{Printing, Progress};
 use crate::report::{UnitPlace, Verdict};
+use crate::row_count::RowCount;
 use crate::walk::{fault, next_unit};
 use gimli_core::{Error, Format};
 use gimli_line::{IncompleteLineProgram, LineProgramHeader, LineUnit};
@@ -19,19 +20,25 @@ pub(crate) fn print_units<O: Write, E: Write>(
     out: &mut O,
     err: &mut E,
 ) -> io::Result<Verdict> {
+    let style = input.screen.heading();
+    let begin = style.begin();
+    let end = style.end();
     writeln!(
         out,
-        "    offset  version  format  address  files  sequences      rows     bytes"
+        "{begin}    offset  version  format  address  files  sequences      rows     bytes{end}"
     )?;
     let mut verdict = Verdict::Clean;
+    let mut progress = Progress::new(input, Printing::Steady);
     let mut units = input.units(alloc);
     for _ in 0..u64::MAX {
         let Some(unit) = next_unit(&mut units)? else {
             break;
         };
         let place = input.place(unit.offset.0);
+        progress.show(place.offset, err);
         verdict = verdict.and(print_unit(unit, place, out, err)?);
     }
+    progress.clear(err);
     Ok(verdict)
 }
 
@@ -44,7 +51,7 @@ fn print_unit<O: Write, E: Write>(
 ) -> io::Result<Verdict> {
     let program = match unit.program {
         Ok(program) => program,
-        Err(e) => return Ok(place.tell(err, ErrorText(fault(e)?))),
+        Err(e) => return Ok(place.tell(err, fault(e)?)),
     };
     let mut line = UnitLine::new(place.offset, program.header());
     let fault = line.count(program)?;
@@ -52,7 +59,6 @@ fn print_unit<O: Write, E: Write>(
     match fault {
         Some(fault) => {
             let rows = RowCount(line.rows);
-            let fault = ErrorText(fault);
             Ok(place.tell(err, format_args!("after {rows}: {fault}")))
         }
         None => Ok(Verdict::Clean),

@@ -17,7 +17,7 @@ impl<'i> Input<'i> {
     /// The place of a unit.
     pub(crate) fn place(&self, offset: usize) -> UnitPlace<'i> {
         UnitPlace {
-            name: self.name,
+            file: self.file,
             offset: offset as u64,
         }
     }

@@ -112,7 +112,7 @@ fn over_file<'a>(alloc: Global, command: Command<'a>) -> Result<Command<'a>, All
     command
         .arg(file)?
         .arg(raw(alloc))?
-        .arg(address_size(alloc))?
+        .arg(address_size(alloc)?)?
         .arg(option(alloc, "line-str", "The section .debug_line_str"))?
         .arg(option(alloc, "str", "The section .debug_str"))
 }
@@ -126,13 +126,14 @@ fn raw<'a>(alloc: Global) -> Arg<'a> {
         .help("FILE is a section .debug_line alone, in this order of bytes")
 }
 
-/// The size of an address.
-fn address_size<'a>(alloc: Global) -> Arg<'a> {
-    Arg::new(alloc, "address-size")
+/// The size of an address, which an ELF file says itself.
+fn address_size<'a>(alloc: Global) -> Result<Arg<'a>, AllocError> {
+    let size = Arg::new(alloc, "address-size")
         .long("address-size")
         .value_name("N")
         .action(ArgAction::Set)
-        .help("With --raw: the bytes of an address up to version 4: 1, 2, 4 or 8 (8 if unsaid)")
+        .help("With --raw: the bytes of an address up to version 4: 1, 2, 4 or 8 (8 if unsaid)");
+    size.requires_arg("raw")
 }
 
 /// An option that names a file.

@@ -1,10 +1,16 @@
 //! What the words ask for.
 
+ghost use Rattle.std.specs.Prelude.{◌≡◌, ℕ, List, IfOk, IsOk, Some, codes};
+ghost use Rattle.clap.specs.Words.{first_value, found_of};
+ghost use Rattle.lines_commands.specs.Words.{NamesOffset, NamesTarget};
+ghost use Rattle.lines_words.specs.Choice.{ChoosesUnits};
+
 use crate::grammar::program;
 use clap::error::ErrorKind;
 use clap::{ArgMatches, Error};
 use lines_commands::{
     Command, Form, Kind, Notation, Request, UnitChoice, parse_address, parse_offset, parse_size,
+    parse_target,
 };
 use std::alloc::{AllocError, Global};
 use unit_text::{AddressSize, parse_order};
@@ -82,7 +88,10 @@ fn command_of<'w>(
             addresses: addresses_of(alloc, matches)?,
             form: form_of(matches),
         }),
-        "at" => target_of(matches),
+        "at" => {
+            let (path, line) = target_of(matches)?;
+            Ok(Command::At { path, line })
+        }
         "units" => Ok(Command::Units),
         "files" => Ok(Command::Files(units_of(matches)?)),
         "rows" => Ok(Command::Rows {
@@ -112,20 +121,31 @@ fn addresses_of<'w>(alloc: Global, matches: &ArgMatches<'w>) -> Result<Vec<u64>,
 }
 
 /// The line of a path that is named.
-fn target_of<'w>(matches: &ArgMatches<'w>) -> Result<Command<'w>, Mistake<'w>> {
-    let word = matches.get_str("PATH:LINE").unwrap_or("");
-    let mistake = Mistake::Word(word, "a path, a colon and a line");
-    let Some((path, line)) = word.rsplit_once(':') else {
-        return Err(mistake);
+fn target_of<'w>(matches: &ArgMatches<'w>) -> Result<(&'w str, u64), Mistake<'w>>
+    ensures named { IfOk result (λ target. (word : List ℕ)
+        × (first_value (found_of matches.now) (codes "PATH:LINE") ≡ Some word)
+        × NamesTarget word target.0.now target.1) }
+    ensures found { (word path : List ℕ) (line : ℕ)
+        → first_value (found_of matches.now) (codes "PATH:LINE") ≡ Some word
+        → NamesTarget word path line → IsOk result }
+{
+    let wanted = "a path, a colon and a line";
+    let Some(word) = matches.get_str("PATH:LINE") else {
+        return Err(Mistake::Word("", wanted));
     };
-    match line.parse::<u64>() {
-        Ok(line) if !path.is_empty() => Ok(Command::At { path, line }),
-        _ => Err(mistake),
+    match parse_target(word) {
+        Some(target) => Ok(target),
+        None => Err(Mistake::Word(word, wanted)),
     }
 }
 
 /// The unit that is named, or all of them.
-fn units_of<'w>(matches: &ArgMatches<'w>) -> Result<UnitChoice, Mistake<'w>> {
+fn units_of<'w>(matches: &ArgMatches<'w>) -> Result<UnitChoice, Mistake<'w>>
+    ensures named { IfOk result (ChoosesUnits (first_value (found_of matches.now) (codes "UNIT"))) }
+    ensures found { (word : List ℕ) (offset : ℕ)
+        → first_value (found_of matches.now) (codes "UNIT") ≡ Some word
+        → NamesOffset word offset → IsOk result }
+{
     let Some(word) = matches.get_str("UNIT") else {
         return Ok(UnitChoice::All);
     };

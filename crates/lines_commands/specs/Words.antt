@@ -1,0 +1,30 @@
+-- What words say: addresses, offsets, and lines of paths.
+use Rattle.std.specs.Prelude.{◌≡◌, ◌≢◌, ◌<◌, ◌^◌, ◌++◌, ◌⊎◌, ℕ, List, [], codes}
+use Rattle.std.specs.Str.Parse.{IsNumeral, digits_value}
+
+-- the word is 0x or 0X, and then these bytes
+abbrev pub HasPrefix : List ℕ → List ℕ → Type 0
+HasPrefix word digits = (word ≡ codes "0x" ++ digits) ⊎ (word ≡ codes "0X" ++ digits)
+
+-- the digits are a number below 2^64 in this radix
+pub record NamesNumber (radix : ℕ) (digits : List ℕ) (number : ℕ) : Type 0 where
+  pub is_numeral : IsNumeral radix digits
+  pub number_named : number ≡ digits_value radix digits
+  pub number_fits : number < 2 ^ 64
+
+-- the word names an address: hexadecimal digits, with 0x before them or without it
+abbrev pub NamesAddress : List ℕ → ℕ → Type 0
+NamesAddress word address = (digits : List ℕ)
+    × ((word ≡ digits) ⊎ HasPrefix word digits) × NamesNumber 16 digits address
+
+-- the word names an offset: decimal digits, or hexadecimal ones with 0x before them
+abbrev pub NamesOffset : List ℕ → ℕ → Type 0
+NamesOffset word offset = NamesNumber 10 word offset
+    ⊎ ((digits : List ℕ) × HasPrefix word digits × NamesNumber 16 digits offset)
+
+-- the word names a line of a path: the path, a colon and the line in decimal digits
+pub record NamesTarget (word path : List ℕ) (line : ℕ) : Type 0 where
+  pub digits : List ℕ
+  pub split : word ≡ path ++ (codes ":" ++ digits)
+  pub some : path ≢ []
+  pub line_named : NamesNumber 10 digits line

@@ -1,0 +1,10 @@
+-- The units that a word chooses.
+use Rattle.std.specs.Prelude.{◌≡◌, ℕ, List, Option, None, Some}
+use Rattle.lines_commands.specs.Words.{NamesOffset}
+use Rattle.lines_commands.specs.declared.request.UnitChoice.{UnitChoice}
+use Rattle.lines_commands.specs.declared.request.UnitChoice.TheVariants.{All, At}
+
+-- the unit at the offset that a word names, or all where there is no word
+abbrev pub ChoosesUnits : Option (List ℕ) → UnitChoice → Type 0
+ChoosesUnits None choice = choice ≡ All
+ChoosesUnits (Some word) choice = (offset : ℕ) × (choice ≡ At offset) × NamesOffset word offset
