@@ -10,7 +10,7 @@ use Rattle.gimli_build.specs.declared.built.line_string.LineString.{LineString}
 use Rattle.gimli_write.specs.Tables.{with_directory}
 use Rattle.gimli_write.specs.FirstTables.{first_directories}
 use Rattle.gimli_write.specs.Built.{Built}
-use Rattle.gimli_write.specs.Version5Tables.{strings_behind, line_strings_behind, needs_empty, first_form, sources}
+use Rattle.gimli_write.specs.Version5Tables.{strings_after, line_strings_after, needs_empty, first_form, sources}
 use Rattle.builder_scripts.specs.Within.{AreWithin, AreIds}
 
 -- ---- tables that grow
@@ -41,11 +41,11 @@ with_empty-longer : (b : Bool) (texts : List (List ℕ)) → length texts ≤ le
 with_empty-longer true texts = with_text-longer texts []
 with_empty-longer false texts = omega arith
 
-pub strings_behind-longer : (p : Built) (texts : List (List ℕ)) → length texts ≤ length (strings_behind p texts)
-strings_behind-longer p texts = with_empty-longer (needs_empty p && nat_eq (first_form (sources p.files)) 0x0e) texts
+pub strings_after-longer : (p : Built) (texts : List (List ℕ)) → length texts ≤ length (strings_after p texts)
+strings_after-longer p texts = with_empty-longer (needs_empty p && nat_eq (first_form (sources p.files)) 0x0e) texts
 
-pub line_strings_behind-longer : (p : Built) (texts : List (List ℕ)) → length texts ≤ length (line_strings_behind p texts)
-line_strings_behind-longer p texts = with_empty-longer (needs_empty p && nat_eq (first_form (sources p.files)) 0x1f) texts
+pub line_strings_after-longer : (p : Built) (texts : List (List ℕ)) → length texts ≤ length (line_strings_after p texts)
+line_strings_after-longer p texts = with_empty-longer (needs_empty p && nat_eq (first_form (sources p.files)) 0x1f) texts
 
 -- ---- directories that are added
 
@@ -76,12 +76,12 @@ ids_more ids old new h are = λ k d short. let below = are k d short in omega (a
 
 -- ---- tables after a unit
 
-kept-longer : (old new behind : List (List ℕ)) → length old ≤ length behind → (new ≡ old) ⊎ (new ≡ behind) → length old ≤ length new
-kept-longer old new behind h (inl e) = subst (λ (t : List (List ℕ)). length old ≤ length t) (sym e) (omega arith)
-kept-longer old new behind h (inr e) = subst (λ (t : List (List ℕ)). length old ≤ length t) (sym e) h
+kept-longer : (old new after : List (List ℕ)) → length old ≤ length after → (new ≡ old) ⊎ (new ≡ after) → length old ≤ length new
+kept-longer old new after h (inl e) = subst (λ (t : List (List ℕ)). length old ≤ length t) (sym e) (omega arith)
+kept-longer old new after h (inr e) = subst (λ (t : List (List ℕ)). length old ≤ length t) (sym e) h
 
-pub strings_kept-longer : (p : Built) (old new : List (List ℕ)) → (new ≡ old) ⊎ (new ≡ strings_behind p old) → length old ≤ length new
-strings_kept-longer p old new kept = kept-longer old new (strings_behind p old) (strings_behind-longer p old) kept
+pub strings_kept-longer : (p : Built) (old new : List (List ℕ)) → (new ≡ old) ⊎ (new ≡ strings_after p old) → length old ≤ length new
+strings_kept-longer p old new kept = kept-longer old new (strings_after p old) (strings_after-longer p old) kept
 
-pub line_strings_kept-longer : (p : Built) (old new : List (List ℕ)) → (new ≡ old) ⊎ (new ≡ line_strings_behind p old) → length old ≤ length new
-line_strings_kept-longer p old new kept = kept-longer old new (line_strings_behind p old) (line_strings_behind-longer p old) kept
+pub line_strings_kept-longer : (p : Built) (old new : List (List ℕ)) → (new ≡ old) ⊎ (new ≡ line_strings_after p old) → length old ≤ length new
+line_strings_kept-longer p old new kept = kept-longer old new (line_strings_after p old) (line_strings_after-longer p old) kept

@@ -275,7 +275,7 @@ fn write_once(
     match script.target {
         Target::Vector => {
             let mut section = DebugLine::from(EndianVec::new(alloc, script.order));
-            let answer = write_behind(builder, script, encoding, &mut section);
+            let answer = write_after(builder, script, encoding, &mut section);
             Ok((section.0.into_vec(), End::of(answer, script.end)?))
         }
         Target::Pieces(PieceSize::One) => {
@@ -305,7 +305,7 @@ fn write_once(
         Target::Array(count) => {
             let array = ArraySection::new(alloc, count, script.order)?;
             let mut section = DebugLine::from(array);
-            let answer = write_behind(builder, script, encoding, &mut section);
+            let answer = write_after(builder, script, encoding, &mut section);
             Ok((section.0.into_vec(), End::of(answer, script.end)?))
         }
     }
@@ -319,7 +319,7 @@ fn write_pieces<const N: usize>(
     section: PieceVec<RunTimeEndian, N>,
 ) -> Result<(Vec<u8>, End), AllocError> {
     let mut section = DebugLine::from(section);
-    let answer = write_behind(builder, script, encoding, &mut section);
+    let answer = write_after(builder, script, encoding, &mut section);
     match section.0.into_vec() {
         Ok(bytes) => Ok((bytes, End::of(answer, script.end)?)),
         Err(_) => Err(AllocError),
@@ -327,7 +327,7 @@ fn write_pieces<const N: usize>(
 }
 
 /// Writes a built program after the bytes that the section holds before.
-fn write_behind<W: Writer>(
+fn write_after<W: Writer>(
     builder: &mut Builder,
     script: &Script,
     encoding: Encoding,

@@ -226,7 +226,7 @@ fn equal_entries(rt: HostRuntime) {
 // ---- programs
 
 /// A unit of version 2 with the file `a.c`, and no program; then the same of version 3, with opcode base 12 and a byte
-/// more behind its tables, and in the 64-bit format.
+/// more after its tables, and in the 64-bit format.
 const VERSION_2: &[u8] =
     b"\x20\0\0\0\x02\0\x1a\0\0\0\x01\x01\xfb\x0e\x0d\0\x01\x01\x01\x01\0\0\0\x01\0\0\x01\0a.c\0\0\0\0\0";
 
@@ -322,7 +322,7 @@ fn equal_programs(rt: HostRuntime) {
 
 // ---- rows
 
-/// Programs, each of which changes one register alone; the last hides what follows it.
+/// Programs, each of which changes one register alone; the last is a tombstone.
 const CHANGES: [&[u8]; 13] = [
     &[],
     &[2, 1],

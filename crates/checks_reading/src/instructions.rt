@@ -41,7 +41,7 @@ fn refuses<R: Reader>(program: &IncompleteLineProgram<R>, error: Error) -> bool 
 
 /// Whether nothing stands after the first instruction of a program, or after its refusal, however often it is
 /// asked; nor does it in a copy.
-fn ends_behind_first<R: Reader>(program: &IncompleteLineProgram<R>) -> bool {
+fn ends_after_first<R: Reader>(program: &IncompleteLineProgram<R>) -> bool {
     let mut instructions = program.header().instructions();
     // Whether the first one is refused makes no difference to what follows it.
     let _ = instructions.next_instruction(program.header());
@@ -58,17 +58,17 @@ fn is_only<R: Reader + PartialEq>(
     only: LineInstruction<R>,
 ) -> Result<bool> {
     let program = program(alloc, unit, 8)?;
-    Ok(begins_with(&program, only) && ends_behind_first(&program))
+    Ok(begins_with(&program, only) && ends_after_first(&program))
 }
 
 /// Whether a unit's first instruction is refused so, and nothing stands after it.
 fn is_refused<R: Reader>(alloc: Global, unit: R, error: Error) -> Result<bool> {
     let program = program(alloc, unit, 8)?;
-    Ok(refuses(&program, error) && ends_behind_first(&program))
+    Ok(refuses(&program, error) && ends_after_first(&program))
 }
 
 /// An instruction of each number of operands, and with an end of sequence.
-fn steps_of_nothing_behind_the_last_instruction(rt: &impl Abort, alloc: Global) -> Result<()> {
+fn steps_of_nothing_after_the_last_instruction(rt: &impl Abort, alloc: Global) -> Result<()> {
     let only = [
         (b"\x0c\xb9\x64".as_slice(), SetIsa(12857)),
         (b"\x09\x2a\0".as_slice(), FixedAddPc(42)),
@@ -82,10 +82,10 @@ fn steps_of_nothing_behind_the_last_instruction(rt: &impl Abort, alloc: Global) 
 }
 
 #[test]
-fn nothing_behind_the_last_instruction(rt: HostRuntime) {
+fn nothing_after_the_last_instruction(rt: HostRuntime) {
     check_equal(
         &rt,
-        steps_of_nothing_behind_the_last_instruction(&rt, rt.alloc()),
+        steps_of_nothing_after_the_last_instruction(&rt, rt.alloc()),
         Ok(()),
     );
 }
@@ -123,7 +123,7 @@ const REFUSED: [(&[u8], Error); 9] = [
     ),
 ];
 
-fn steps_of_nothing_behind_a_refused_instruction(rt: &impl Abort, alloc: Global) -> Result<()> {
+fn steps_of_nothing_after_a_refused_instruction(rt: &impl Abort, alloc: Global) -> Result<()> {
     for (bytes, error) in REFUSED {
         let unit = unit(alloc, HEADER, bytes)?;
         assert!(rt; is_refused(alloc, slice(&unit), error)?, "at {bytes:?}");
@@ -132,10 +132,10 @@ fn steps_of_nothing_behind_a_refused_instruction(rt: &impl Abort, alloc: Global)
 }
 
 #[test]
-fn nothing_behind_a_refused_instruction(rt: HostRuntime) {
+fn nothing_after_a_refused_instruction(rt: HostRuntime) {
     check_equal(
         &rt,
-        steps_of_nothing_behind_a_refused_instruction(&rt, rt.alloc()),
+        steps_of_nothing_after_a_refused_instruction(&rt, rt.alloc()),
         Ok(()),
     );
 }
@@ -655,8 +655,8 @@ fn check_reset<R: Reader>(
     Ok(())
 }
 
-/// An address that goes back hides what follows.
-fn check_hidden<R: Reader>(
+/// An address that goes back is a tombstone.
+fn check_tombstone<R: Reader>(
     rt: &impl Abort,
     row: &mut LineRow,
     program: &mut IncompleteLineProgram<R>,
@@ -713,7 +713,7 @@ fn check_registers<R: Reader>(rt: &impl Abort, alloc: Global, unit: R) -> Result
     let mut program = program(alloc, unit, 1)?;
     let mut row = LineRow::new(program.header());
     check_reset(rt, &mut row, &mut program)?;
-    check_hidden(rt, &mut row, &mut program)?;
+    check_tombstone(rt, &mut row, &mut program)?;
     check_rebased(rt, &mut row, &mut program)?;
     check_ended(rt, &mut row, &mut program)?;
     Ok(())

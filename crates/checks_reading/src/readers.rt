@@ -247,10 +247,10 @@ fn refused_calls_leave_the_reader(rt: HostRuntime) {
 /// Where the first zero byte stands, the byte after a skip of one, and how many bytes a front of two has.
 fn places<R: Reader>(reader: R, one: R::Offset, two: R::Offset) -> Result<(u64, u8, u64, u64)> {
     let found = reader.find(0)?;
-    let mut behind = reader;
-    behind.skip(one)?;
-    let offset = behind.offset_from(&reader);
-    let byte = behind.read_u8()?;
+    let mut after = reader;
+    after.skip(one)?;
+    let offset = after.offset_from(&reader);
+    let byte = after.read_u8()?;
     let mut front = reader;
     front.truncate(two)?;
     Ok((

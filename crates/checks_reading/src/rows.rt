@@ -96,7 +96,7 @@ const RUNS: [(&[u8], u8, &[Event]); 7] = [
     ),
 ];
 
-fn steps_of_behind_the_last_row_and_behind_a_refusal(
+fn steps_of_after_the_last_row_and_after_a_refusal(
     rt: &impl Abort,
     alloc: Global,
 ) -> gimli_core::Result<()> {
@@ -109,10 +109,10 @@ fn steps_of_behind_the_last_row_and_behind_a_refusal(
 }
 
 #[test]
-fn behind_the_last_row_and_behind_a_refusal(rt: HostRuntime) {
+fn after_the_last_row_and_after_a_refusal(rt: HostRuntime) {
     check_equal(
         &rt,
-        steps_of_behind_the_last_row_and_behind_a_refusal(&rt, rt.alloc()),
+        steps_of_after_the_last_row_and_after_a_refusal(&rt, rt.alloc()),
         Ok(()),
     );
 }
@@ -247,7 +247,7 @@ fn check_rows_of_sequences<R: Reader>(
     }
 }
 
-fn steps_of_files_before_and_behind_a_definition(
+fn steps_of_files_before_and_after_a_definition(
     rt: &impl Abort,
     alloc: Global,
 ) -> gimli_core::Result<()> {
@@ -258,10 +258,10 @@ fn steps_of_files_before_and_behind_a_definition(
 }
 
 #[test]
-fn files_before_and_behind_a_definition(rt: HostRuntime) {
+fn files_before_and_after_a_definition(rt: HostRuntime) {
     check_equal(
         &rt,
-        steps_of_files_before_and_behind_a_definition(&rt, rt.alloc()),
+        steps_of_files_before_and_after_a_definition(&rt, rt.alloc()),
         Ok(()),
     );
 }
@@ -351,7 +351,7 @@ fn check_copied_program<R: Reader>(
     Ok(())
 }
 
-/// A copy of a run behind its first row gives the rows that are still to come; so does the run.
+/// A copy of a run after its first row gives the rows that are still to come; so does the run.
 fn check_copied_rows<R: Reader>(
     rt: &impl Abort,
     rows: &mut OneShotLineRows<R>,

@@ -159,7 +159,7 @@ fn directories_twice(rt: HostRuntime) {
 }
 
 /// Adds another directory, after which the old id still has its own.
-fn put_behind(
+fn put_after(
     rt: &impl Abort,
     alloc: Global,
     program: &mut LineProgram,
@@ -183,7 +183,7 @@ fn steps_of_ids_stay(rt: &impl Abort, alloc: Global, program: &mut LineProgram) 
 {
     let old = put_directory(program, alloc, b'i')?;
     let copy = program.clone()?;
-    check_equal(rt, put_behind(rt, alloc, program, old, b'j'), Ok(()));
+    check_equal(rt, put_after(rt, alloc, program, old, b'j'), Ok(()));
     check_equal(rt, first_byte(copy.get_directory(old)), b'i');
     Ok(())
 }
@@ -340,7 +340,7 @@ fn details_set_again(rt: HostRuntime) {
 // ---- rows that may follow
 
 /// Sets the place of the current row.
-fn set_place(program: &mut LineProgram, address_offset: u64, op_index: u64)
+fn set_position(program: &mut LineProgram, address_offset: u64, op_index: u64)
     ensures { program.new.is_none ≡ program.old.is_none }
 {
     let row = program.row();
@@ -349,10 +349,10 @@ fn set_place(program: &mut LineProgram, address_offset: u64, op_index: u64)
 }
 
 /// Generates a row at this place, if it can be.
-fn put_place(program: &mut LineProgram, address_offset: u64, op_index: u64) -> Result<()>
+fn put_position(program: &mut LineProgram, address_offset: u64, op_index: u64) -> Result<()>
     requires { program.old.is_none ≡ false }
 {
-    set_place(program, address_offset, op_index);
+    set_position(program, address_offset, op_index);
     if program.can_generate_row() {
         program.generate_row()?;
     }
@@ -375,8 +375,8 @@ fn can_follow(
         line_range: 12,
     };
     let mut program = program_by(alloc, lines)?;
-    put_place(&mut program, previous.0, previous.1)?;
-    set_place(&mut program, place.0, place.1);
+    put_position(&mut program, previous.0, previous.1)?;
+    set_position(&mut program, place.0, place.1);
     Ok((
         program.can_generate_row(),
         program.can_end_sequence(place.0),

@@ -167,7 +167,7 @@ fn check_written(rt: &impl Abort, alloc: Global, program: &LineProgram) -> Resul
     Ok(())
 }
 
-fn steps_of_units_behind_other_bytes(rt: &impl Abort, alloc: Global) -> Result<()> {
+fn steps_of_units_after_other_bytes(rt: &impl Abort, alloc: Global) -> Result<()> {
     let program = demo(alloc)?;
     check_equal(rt, check_written(rt, alloc, &program), Ok(()));
     let wider = Encoding {
@@ -183,10 +183,10 @@ fn steps_of_units_behind_other_bytes(rt: &impl Abort, alloc: Global) -> Result<(
 }
 
 #[test]
-fn units_behind_other_bytes(rt: HostRuntime) {
+fn units_after_other_bytes(rt: HostRuntime) {
     check_equal(
         &rt,
-        steps_of_units_behind_other_bytes(&rt, rt.alloc()),
+        steps_of_units_after_other_bytes(&rt, rt.alloc()),
         Ok(()),
     );
 }
@@ -244,16 +244,16 @@ fn check_round_trip(rt: &impl Abort, alloc: Global, program: &LineProgram) -> Co
     Ok(())
 }
 
-fn steps_of_round_trip_behind_other_bytes(rt: &impl Abort, alloc: Global) -> ConvertResult<()> {
+fn steps_of_round_trip_after_other_bytes(rt: &impl Abort, alloc: Global) -> ConvertResult<()> {
     let program = demo(alloc)?;
     check_round_trip(rt, alloc, &program)
 }
 
 #[test]
-fn round_trip_behind_other_bytes(rt: HostRuntime) {
+fn round_trip_after_other_bytes(rt: HostRuntime) {
     check_equal(
         &rt,
-        steps_of_round_trip_behind_other_bytes(&rt, rt.alloc()),
+        steps_of_round_trip_after_other_bytes(&rt, rt.alloc()),
         Ok(()),
     );
 }

@@ -87,7 +87,7 @@ pub(crate) enum Memory {
 
 impl Memory {
     /// Whether this refusal is for memory, by whether what must stand after it does.
-    fn behind(error: ConvertError, stands: bool) -> Memory {
+    fn after(error: ConvertError, stands: bool) -> Memory {
         match error {
             ConvertError::OutOfMemory if stands => Memory::Wanting,
             ConvertError::OutOfMemory => Memory::Broken,
@@ -127,7 +127,7 @@ pub(crate) fn print_no_start(error: ConvertError, text: &mut String) -> Result<E
     print_refusal(error, text)?;
     Ok(Ending {
         is_begun: false,
-        memory: Memory::behind(error, true),
+        memory: Memory::after(error, true),
     })
 }
 
@@ -141,7 +141,7 @@ fn print_no_more(
     print_refusal(error, text)?;
     Ok(Ending {
         is_begun: true,
-        memory: Memory::behind(error, next == Some(ConvertError::OutOfMemory)),
+        memory: Memory::after(error, next == Some(ConvertError::OutOfMemory)),
     })
 }
 

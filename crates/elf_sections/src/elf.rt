@@ -3,7 +3,7 @@
 ghost use Rattle.std.specs.Prelude.{◌≡◌, nat_eq, MatchOption, []};
 ghost use Rattle.std.specs.Option.{option_copied};
 ghost use Rattle.gimli_core.specs.Order.{is_big};
-ghost use Rattle.gimli_core.specs.Reading.{seen};
+ghost use Rattle.gimli_core.specs.Reading.{result_map};
 ghost use Rattle.elf_sections.specs.Layout.{address_size};
 ghost use Rattle.elf_sections.specs.File.{file_at, section_at, code_addresses, IsLeast};
 
@@ -38,7 +38,7 @@ impl<'a> Elf<'a> {
     /// section headers are too short (`SectionHeaderSize`), and one that doesn't hold the names
     /// (`NamesCut`). It looks at the bytes of no other section.
     pub fn parse(bytes: &'a [u8]) -> Result<Elf<'a>, ElfError>
-        ensures { seen file_of result ≡ file_at bytes.now }
+        ensures { result_map file_of result ≡ file_at bytes.now }
     {
         let layout = Layout::parse(bytes)?;
         let header = Header::parse(layout, bytes)?;
@@ -81,7 +81,7 @@ impl<'a> Elf<'a> {
     /// (`Compressed`, by `SHF_COMPRESSED`), and one whose bytes aren't all in the file
     /// (`SectionCut`).
     pub fn section(&self, name: &[u8]) -> Result<Option<&'a [u8]>, ElfError>
-        ensures { seen option_copied result ≡ section_at (file_of self.now) name.now }
+        ensures { result_map option_copied result ≡ section_at (file_of self.now) name.now }
     {
         match self.table.find(self.names, name) {
             Some(header) => {

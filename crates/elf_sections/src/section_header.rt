@@ -1,7 +1,7 @@
 //! The header of a section, and the bytes that it stands for.
 
 ghost use Rattle.std.specs.Prelude.{◌≡◌, ◌≤◌, length, if◌then◌else◌};
-ghost use Rattle.gimli_core.specs.Reading.{seen};
+ghost use Rattle.gimli_core.specs.Reading.{result_map};
 ghost use Rattle.elf_sections.specs.SectionHeader.{section_header_size, section_header, is_active, has_flag, is_code, section_bytes};
 
 use crate::error::ElfError;
@@ -78,7 +78,7 @@ impl SectionHeader {
 
     /// The section's bytes in its file.
     pub(crate) fn bytes_in<'a>(&self, file: &'a [u8]) -> Result<&'a [u8], ElfError>
-        ensures { seen (λ bytes. bytes.now) result ≡ section_bytes file.now self.now }
+        ensures { result_map (λ bytes. bytes.now) result ≡ section_bytes file.now self.now }
     {
         if self.has_flag(COMPRESSED) {
             return Err(ElfError::Compressed);

@@ -2,7 +2,7 @@
 
 ghost use Rattle.std.specs.Prelude.{◌≡◌, ◌≤◌, ◌<◌, ◌+◌, ◌*◌, min, drop, length, find, filter, map, MatchOption, []};
 ghost use Rattle.std.specs.Option.{option_map_or};
-ghost use Rattle.gimli_core.specs.Reading.{seen};
+ghost use Rattle.gimli_core.specs.Reading.{result_map};
 ghost use Rattle.elf_sections.specs.SectionHeader.{section_header_size, section_header, is_active, is_code};
 ghost use Rattle.elf_sections.specs.Table.{table_at, names_at, is_name_at, count_of, names_index_of};
 
@@ -88,7 +88,7 @@ impl<'a> SectionTable<'a> {
         header: &Header,
         bytes: &'a [u8],
     ) -> Result<SectionTable<'a>, ElfError>
-        ensures { seen table_of result ≡ table_at layout header.now bytes.now }
+        ensures { result_map table_of result ≡ table_at layout header.now bytes.now }
     {
         if header.table_offset == 0 {
             return Ok(SectionTable::empty(layout));
@@ -143,7 +143,7 @@ impl<'a> SectionTable<'a> {
 
     /// The names of the sections.
     pub(crate) fn names(&self, file: &'a [u8]) -> Result<&'a [u8], ElfError>
-        ensures { seen (λ names. names.now) result ≡ names_at file.now (table_of self.now) }
+        ensures { result_map (λ names. names.now) result ≡ names_at file.now (table_of self.now) }
     {
         if self.names_index == UNDEF {
             return Ok(&[]);

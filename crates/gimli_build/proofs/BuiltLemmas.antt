@@ -8,7 +8,7 @@ use Rattle.gimli_core.specs.declared.common.Encoding.{Encoding}
 use Rattle.gimli_core.specs.declared.common.LineEncoding.{LineEncoding}
 use Rattle.gimli_build.specs.LineText.{LineText, line_text_eq, IsNotEmpty}
 use Rattle.gimli_build.specs.Tables.{Details, File, FileKey, has_file, with_directory, with_file, with_details, keys_of}
-use Rattle.gimli_build.specs.Built.{place_after, previous_place}
+use Rattle.gimli_build.specs.Built.{position_after, previous_position}
 use Rattle.gimli_build.specs.Conditions.{CanBuild, AreBuilt, IsProgram}
 use Rattle.gimli_build.specs.declared.built.items.BuiltItem.{BuiltItem}
 use Rattle.gimli_build.proofs.TableLemmas.{keys-with_file, keys-with_details}
@@ -17,29 +17,29 @@ use Rattle.gimli_build.proofs.TableLemmas.{keys-with_file, keys-with_details}
 
 -- where items leave off, from a place on
 reached : ℕ × ℕ → List BuiltItem → ℕ × ℕ
-reached place [] = place
-reached place (item ∷ items) = reached (place_after item) items
+reached position [] = position
+reached position (item ∷ items) = reached (position_after item) items
 
-last_at : (place : ℕ × ℕ) (item : BuiltItem) (items : List BuiltItem) (n : ℕ) → n ≡ length items → reached place (item ∷ items) ≡ option_map_or place_after (slice_get (item ∷ items) n) (0, 0)
+last_at : (position : ℕ × ℕ) (item : BuiltItem) (items : List BuiltItem) (n : ℕ) → n ≡ length items → reached position (item ∷ items) ≡ option_map_or position_after (slice_get (item ∷ items) n) (0, 0)
 unfolding reached
-last_at place item [] zero h = refl
-last_at place item [] (suc n) h = absurd (omega arith)
-last_at place item (next ∷ items) zero h = absurd (omega arith)
-last_at place item (next ∷ items) (suc n) h = last_at (place_after item) next items n (omega arith)
+last_at position item [] zero h = refl
+last_at position item [] (suc n) h = absurd (omega arith)
+last_at position item (next ∷ items) zero h = absurd (omega arith)
+last_at position item (next ∷ items) (suc n) h = last_at (position_after item) next items n (omega arith)
 
-reached_last : (items : List BuiltItem) → reached (0, 0) items ≡ previous_place items
+reached_last : (items : List BuiltItem) → reached (0, 0) items ≡ previous_position items
 unfolding reached
 reached_last [] = refl
 reached_last (item ∷ items) = last_at (0, 0) item items (length (item ∷ items) - 1) (omega arith)
 
-push_reached : (e : LineEncoding) (place : ℕ × ℕ) (items : List BuiltItem) (item : BuiltItem) → AreBuilt e place items → CanBuild e (reached place items) item → AreBuilt e place (items ++ item ∷ [])
+push_reached : (e : LineEncoding) (position : ℕ × ℕ) (items : List BuiltItem) (item : BuiltItem) → AreBuilt e position items → CanBuild e (reached position items) item → AreBuilt e position (items ++ item ∷ [])
 unfolding reached
-push_reached e place [] item so can = (can, tt)
-push_reached e place (first ∷ items) item so can = (so.0, push_reached e (place_after first) items item so.1 can)
+push_reached e position [] item so can = (can, tt)
+push_reached e position (first ∷ items) item so can = (so.0, push_reached e (position_after first) items item so.1 can)
 
 -- an item is built after others
 pub item_pushed : {is_none : Bool} {encoding : Encoding} {e : LineEncoding} {directories : List LineText} {keys : List FileKey} (items : List BuiltItem) (item : BuiltItem)
-    → IsProgram is_none encoding e directories keys items → CanBuild e (previous_place items) item → IsProgram is_none encoding e directories keys (items ++ item ∷ [])
+    → IsProgram is_none encoding e directories keys items → CanBuild e (previous_position items) item → IsProgram is_none encoding e directories keys (items ++ item ∷ [])
 item_pushed {e = e} items item so can = record {
   lines = so.lines;
   address_size = so.address_size;
@@ -47,7 +47,7 @@ item_pushed {e = e} items item so can = record {
   source_file = so.source_file;
   directories_not_empty = so.directories_not_empty;
   paths_not_empty = so.paths_not_empty;
-  items_built = push_reached e (0, 0) items item so.items_built (subst (λ (place : ℕ × ℕ). CanBuild e place item) (sym (reached_last items)) can);
+  items_built = push_reached e (0, 0) items item so.items_built (subst (λ (position : ℕ × ℕ). CanBuild e position item) (sym (reached_last items)) can);
 }
 
 -- ---- tables

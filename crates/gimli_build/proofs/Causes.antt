@@ -2,7 +2,7 @@
 use Rattle.std.proofs.Common.{◌≡◌, ℕ, ◌+◌, Bool, true, false, not, List, [], ◌∷◌, ◌++◌, length, map, Ok, Err, refl, sym, ap, ◌∙◌, if◌then◌else◌, nat_le, nat_eq, ◌⊎◌, inl, inr}
 use Rattle.std.specs.Prelude.{IsTrue, Option, Some, None, Result, ◌&&◌, nat_lt}
 use Rattle.gimli_core.specs.Numbers.{number_bytes, is_address_size}
-use Rattle.gimli_core.specs.Reading.{seen}
+use Rattle.gimli_core.specs.Reading.{result_map}
 use Rattle.gimli_core.specs.declared.common.Encoding.{Encoding}
 use Rattle.gimli_core.specs.declared.common.LineEncoding.{LineEncoding}
 use Rattle.gimli_bytes.specs.Number.{udata, uleb, length_word}
@@ -16,12 +16,12 @@ use Rattle.gimli_build.specs.declared.built.items.BuiltItem.TheVariants.{SetAddr
 use Rattle.gimli_build.specs.Built.{Built}
 use Rattle.gimli_build.specs.Rows.{initial_row}
 use Rattle.gimli_build.specs.FormatWord.{format_word}
-use Rattle.gimli_build.specs.Joined.{joined, RefusesFor}
+use Rattle.gimli_build.specs.Joined.{result_append, RefusesFor}
 use Rattle.gimli_build.specs.Items.{item_bytes, items_bytes, next_previous}
-use Rattle.gimli_build.specs.Version5Tables.{strings_behind, line_strings_behind}
+use Rattle.gimli_build.specs.Version5Tables.{strings_after, line_strings_after}
 use Rattle.gimli_build.specs.Unit.{version_bytes, opening_bytes, operations_bytes, line_encoding_bytes, flag_byte, base_byte, opcode_bytes, tables_bytes, fields_bytes, header_bytes, program_bytes, inside_bytes, escape_bytes, whole_bytes, is_incompatible, unit_bytes}
 use Rattle.gimli_build.specs.Cause.{cause_if, first_of, text_cause, item_cause, word_cause, unit_length_cause, header_length, unit_length, emitted_texts, first_cause}
-use Rattle.gimli_build.proofs.Refusals.{refusal, or_first, first_before_none, first_apart, joined-refusal, behind-refusal, tested-refusal, barred-refusal, seven_causes}
+use Rattle.gimli_build.proofs.Refusals.{refusal, or_first, first_before_none, first_apart, joined-refusal, after-refusal, tested-refusal, barred-refusal, seven_causes}
 use Rattle.gimli_build.proofs.NumberRefusals.{not_below, word-refusal, length-refusal, address-refusal}
 use Rattle.gimli_build.proofs.TableRefusals.{tables-refusal}
 use Rattle.gimli_build.proofs.Joined.{appended_bytes}
@@ -83,14 +83,14 @@ line_encoding-refusal : (version : ℕ) (e : LineEncoding) → refusal (line_enc
 line_encoding-refusal version e =
     let operations = operations_bytes version e.maximum_operations_per_instruction in
     let numbers = flag_byte e.default_is_stmt ∷ base_byte e.line_base ∷ e.line_range ∷ [] in
-    joined-refusal (Ok (e.minimum_instruction_length ∷ [])) (joined operations (Ok numbers))
+    joined-refusal (Ok (e.minimum_instruction_length ∷ [])) (result_append operations (Ok numbers))
     ∙ joined-refusal operations (Ok numbers)
     ∙ first_before_none (refusal operations)
     ∙ operations-refusal version e.maximum_operations_per_instruction
 
 -- ---- items
 
-seen-refusal : (view : List ℕ → List ℕ) (written : Result (List ℕ) Error) → refusal (seen view written) ≡ refusal written
+seen-refusal : (view : List ℕ → List ℕ) (written : Result (List ℕ) Error) → refusal (result_map view written) ≡ refusal written
 seen-refusal view (Ok bytes) = refl
 seen-refusal view (Err e) = refl
 
@@ -119,7 +119,7 @@ module _ (big : Bool) (p : Built) (strings line_strings : List (List ℕ)) where
   fields-refusal : refusal (fields_bytes big p strings line_strings) ≡ or_first (encoding_cause p) (texts_cause p strings line_strings)
   fields-refusal =
       let tables = tables_bytes big p strings line_strings in
-      let rest = joined (Ok opcode_bytes) tables in
+      let rest = result_append (Ok opcode_bytes) tables in
       joined-refusal (line_encoding_bytes p.encoding.version p.line_encoding) rest
       ∙ ap (λ (c : Option Error). or_first c (refusal rest)) (line_encoding-refusal p.encoding.version p.line_encoding)
       ∙ ap (λ (c : Option Error). or_first (encoding_cause p) c) (joined-refusal (Ok opcode_bytes) tables ∙ tables-refusal big p strings line_strings)
@@ -132,7 +132,7 @@ module _ (big : Bool) (p : Built) (strings line_strings : List (List ℕ)) where
   header-refusal =
       let format = p.encoding.format in
       let cause = header_cause p strings line_strings in
-      behind-refusal (λ n. format_word big format n) (fields_bytes big p strings line_strings) cause
+      after-refusal (λ n. format_word big format n) (fields_bytes big p strings line_strings) cause
       (λ bytes is. word-refusal big format (length bytes) ∙ ap (word_cause format) (fields_size big p strings line_strings bytes is))
       ∙ ap (λ (c : Option Error). or_first c cause) fields-refusal
 
@@ -145,7 +145,7 @@ module _ (big : Bool) (p : Built) (strings line_strings : List (List ℕ)) where
     inside-refusal =
         let program = program_bytes big p in
         let header = header_bytes big p strings line_strings in
-        let rest = joined header program in
+        let rest = result_append header program in
         let first = initial_row p.encoding.version p.line_encoding.default_is_stmt in
         joined-refusal (opening_bytes big p.encoding) rest
         ∙ ap (λ (c : Option Error). or_first c (refusal rest)) (opening-refusal big p.encoding)
@@ -159,7 +159,7 @@ module _ (big : Bool) (p : Built) (strings line_strings : List (List ℕ)) where
     whole-refusal =
         let format = p.encoding.format in
         let cause = unit_cause big p strings line_strings in
-        behind-refusal (λ n. joined (Ok (escape_bytes big format)) (length_word big format n)) (inside_bytes big p strings line_strings) cause
+        after-refusal (λ n. result_append (Ok (escape_bytes big format)) (length_word big format n)) (inside_bytes big p strings line_strings) cause
         (λ bytes is. joined-refusal (Ok (escape_bytes big format)) (length_word big format (length bytes))
         ∙ length-refusal big format (length bytes) ∙ ap (unit_length_cause format) (inside_size big p strings line_strings bytes is))
         ∙ ap (λ (c : Option Error). or_first c cause) inside-refusal
@@ -170,8 +170,8 @@ pub cause-is : (big : Bool) (unit : Encoding) (p : Built) (strings line_strings 
 cause-is big unit p strings line_strings known =
     let barred = is_incompatible unit p.encoding in
     let bar = cause_if barred IncompatibleLineProgramEncoding in
-    let texts = strings_behind p strings in
-    let line_texts = line_strings_behind p line_strings in
+    let texts = strings_after p strings in
+    let line_texts = line_strings_after p line_strings in
     seven_causes bar (version_cause p) (encoding_cause p) (texts_cause p texts line_texts) (header_cause p texts line_texts) (items_cause p) (unit_cause big p texts line_texts)
     ∙ ap (λ (c : Option Error). or_first bar c) (sym (whole-refusal big p texts line_texts known))
     ∙ sym (barred-refusal barred IncompatibleLineProgramEncoding (whole_bytes big p texts line_texts))

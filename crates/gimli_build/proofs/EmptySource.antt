@@ -9,8 +9,8 @@ use Rattle.gimli_build.specs.LineText.{IsWithin}
 use Rattle.gimli_build.specs.Tables.{File}
 use Rattle.gimli_build.specs.Built.{Built}
 use Rattle.gimli_build.specs.Conditions.{CanWrite}
-use Rattle.gimli_build.specs.Version5Tables.{needs_empty, strings_behind, line_strings_behind}
-use Rattle.gimli_build.proofs.ReadyTexts.{within_behind}
+use Rattle.gimli_build.specs.Version5Tables.{needs_empty, strings_after, line_strings_after}
+use Rattle.gimli_build.proofs.ReadyTexts.{within_after}
 
 -- ---- what is there stays
 
@@ -19,16 +19,16 @@ if-some P Q f (Some x) p = f x p
 if-some P Q f None p = tt
 
 -- a program that could be written can be written then
-pub can-write-behind : (p : Built) (strings line_strings : List (List ℕ)) → CanWrite p strings line_strings → CanWrite p (strings_behind p strings) (line_strings_behind p line_strings)
-can-write-behind p strings line_strings can =
-    let behind = strings_behind p strings in
-    let line_behind = line_strings_behind p line_strings in
-    let within = within_behind p strings line_strings in
+pub can-write-after : (p : Built) (strings line_strings : List (List ℕ)) → CanWrite p strings line_strings → CanWrite p (strings_after p strings) (line_strings_after p line_strings)
+can-write-after p strings line_strings can =
+    let after = strings_after p strings in
+    let line_after = line_strings_after p line_strings in
+    let within = within_after p strings line_strings in
     record {
       program = can.program;
-      directories = All-weaker (IsWithin strings line_strings) (IsWithin behind line_behind) within p.directories can.directories;
-      paths = All-weaker (λ (f : File). IsWithin strings line_strings f.0.0) (λ (f : File). IsWithin behind line_behind f.0.0) (λ f w. within f.0.0 w) p.files can.paths;
-      sources = All-weaker (λ (f : File). IfSome f.1.source (IsWithin strings line_strings)) (λ (f : File). IfSome f.1.source (IsWithin behind line_behind)) (λ f w. if-some (IsWithin strings line_strings) (IsWithin behind line_behind) within f.1.source w) p.files can.sources;
+      directories = All-weaker (IsWithin strings line_strings) (IsWithin after line_after) within p.directories can.directories;
+      paths = All-weaker (λ (f : File). IsWithin strings line_strings f.0.0) (λ (f : File). IsWithin after line_after f.0.0) (λ f w. within f.0.0 w) p.files can.paths;
+      sources = All-weaker (λ (f : File). IfSome f.1.source (IsWithin strings line_strings)) (λ (f : File). IfSome f.1.source (IsWithin after line_after)) (λ f w. if-some (IsWithin strings line_strings) (IsWithin after line_after) within f.1.source w) p.files can.sources;
       sources_end = can.sources_end;
     }
 

@@ -22,10 +22,10 @@ use Rattle.gimli_line.specs.header.Productions.{positive}
 use Rattle.gimli_line.specs.header.HeaderGrammar.{version_production, address_size_production, line_encoding_production}
 use Rattle.gimli_build.specs.Advance.{CanEncode}
 use Rattle.gimli_build.specs.FormatWord.{format_word}
-use Rattle.gimli_build.specs.Joined.{joined}
+use Rattle.gimli_build.specs.Joined.{result_append}
 use Rattle.gimli_build.specs.Unit.{version_bytes, operations_bytes, flag_byte, base_byte, line_encoding_bytes, escape_bytes}
 use Rattle.gimli_build.proofs.PartSizes.{format_word_size}
-use Rattle.gimli_build.proofs.WrittenParts.{same_written, behind_written, before_written}
+use Rattle.gimli_build.proofs.WrittenParts.{same_written, after_written, before_written}
 
 -- ---- lines
 
@@ -122,7 +122,7 @@ operations_spelled version n bytes some is = by (nat_le 4 version) refl (nat_eq 
 pub encoding-spelled : (version : ℕ) (e : LineEncoding) (bytes : List ℕ) → CanEncode e → line_encoding_bytes version e ≡ Ok bytes → (line_encoding_production version).Spells bytes e
 encoding-spelled version e bytes can is =
     let last = flag_byte e.default_is_stmt ∷ base_byte e.line_base ∷ e.line_range ∷ [] in
-    let a = behind_written (e.minimum_instruction_length ∷ []) (joined (operations_bytes version e.maximum_operations_per_instruction) (Ok last)) bytes is in
+    let a = after_written (e.minimum_instruction_length ∷ []) (result_append (operations_bytes version e.maximum_operations_per_instruction) (Ok last)) bytes is in
     let b = before_written (operations_bytes version e.maximum_operations_per_instruction) last a.rest a.rest_is in
     let minimum = positive-spelled e.minimum_instruction_length MinimumInstructionLengthZero can.instruction_length in
     let operations = operations_spelled version e.maximum_operations_per_instruction b.front can.operations b.front_is in

@@ -77,14 +77,14 @@ module _ (notation : Notation) (format : Format) where
   -- a value, and the values after it
   pub value-spelled : (content form : ℕ) (bytes : List ℕ) (v : Value) (formats : List (ℕ × ℕ)) (rest : List ℕ) (entry : Entry)
       → SpellsForm notation format form bytes v → IsSpelled formats rest entry → IsSpelled ((content, form) ∷ formats) (bytes ++ rest) ((content, v) ∷ entry)
-  value-spelled content form bytes v formats rest entry own behind = (v, bytes, rest, refl, own, (entry, rest, [], sym (append-nil rest), behind, (refl, refl)))
+  value-spelled content form bytes v formats rest entry own after = (v, bytes, rest, refl, own, (entry, rest, [], sym (append-nil rest), after, (refl, refl)))
 
   -- a value where a flag asks for it
   when_spelled : (due : Bool) (content form : ℕ) (bytes : List ℕ) (v : Value) (formats : List (ℕ × ℕ)) (rest : List ℕ) (entry : Entry)
       → SpellsForm notation format form bytes v → IsSpelled formats rest entry
       → IsSpelled (when due (content, form) ++ formats) ((if due then bytes else []) ++ rest) (when due (content, v) ++ entry)
-  when_spelled true content form bytes v formats rest entry own behind = value-spelled content form bytes v formats rest entry own behind
-  when_spelled false content form bytes v formats rest entry own behind = behind
+  when_spelled true content form bytes v formats rest entry own after = value-spelled content form bytes v formats rest entry own after
+  when_spelled false content form bytes v formats rest entry own after = after
 
   -- a value alone
   pub last-spelled : (content form : ℕ) (bytes : List ℕ) (v : Value) → SpellsForm notation format form bytes v → IsSpelled ((content, form) ∷ []) bytes ((content, v) ∷ [])

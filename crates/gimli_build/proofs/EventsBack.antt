@@ -10,7 +10,7 @@ use Rattle.gimli_core.specs.declared.common.LineEncoding.{LineEncoding}
 use Rattle.gimli_line.specs.header.Header.{Header}
 use Rattle.gimli_line.specs.run.Instruction.{Ins}
 use Rattle.gimli_line.specs.run.InstructionGrammar.{SpellsInstruction, Decodes}
-use Rattle.gimli_line.specs.run.Events.{row, Events, events_behind, program_events}
+use Rattle.gimli_line.specs.run.Events.{row, Events, events_after, program_events}
 use Rattle.gimli_line.specs.run.Machine.{run}
 use Rattle.gimli_line.specs.header.Parameters.{Parameters}
 use Rattle.gimli_line.specs.declared.run.row.LineRow.{LineRow as ReadRow}
@@ -26,7 +26,7 @@ use Rattle.gimli_build.specs.Rows.{initial_row}
 use Rattle.gimli_build.specs.SameRow.{built_rules, RowsMatch}
 use Rattle.gimli_build.specs.Unit.{program_bytes}
 use Rattle.gimli_build.proofs.RowRuns.{start-is}
-use Rattle.gimli_build.proofs.ItemRuns.{items-run, start_place}
+use Rattle.gimli_build.proofs.ItemRuns.{items-run, start_position}
 use Rattle.gimli_build.proofs.ItemSpellings.{items-spelled}
 
 -- ---- the decoding
@@ -73,13 +73,13 @@ rows_given : (parameters : Parameters) (encoding : Encoding) (e : LineEncoding) 
 rows_given parameters encoding e items same known can version built held =
     let first = initial_row encoding.version e.default_is_stmt in
     let list = items_instructions encoding.version e first items in
-    sym (items-run encoding e known can version 0 first items (start_place e can) (lit< tt) built held)
+    sym (items-run encoding e known can version 0 first items (start_position e can) (lit< tt) built held)
     ∙ sym (ap (λ (r : ReadRow). run (built_rules encoding e) r list) (start-is encoding e version))
     ∙ starts (built_rules encoding e) list
-    ∙ ap (λ (r : Parameters). events_behind r [] list) (sym same)
-    ∙ sym (append-nil (events_behind parameters [] list))
+    ∙ ap (λ (r : Parameters). events_after r [] list) (sym same)
+    ∙ sym (append-nil (events_after parameters [] list))
 
--- the rows of a written program, where addresses hold its items and none hides
+-- the rows of a written program, where addresses hold its items and none is a tombstone
 pub rows-back : (notation : Notation) (h : Header) (p : Built) → IsBuilt p → p.encoding.version ≤ 5 → 11 < notation.limit → h.parameters ≡ built_rules p.encoding p.line_encoding → program_bytes notation.big p ≡ Ok h.program
     → AddressesFit p.encoding.address_size 0 (0, 0) p.items
     → (rows : List ReadRow) × Events notation h h.program (map row rows) × RowsMatch p.encoding.version [] p.items rows

@@ -1,12 +1,12 @@
 -- Calls that append the bytes of instructions.
 use Rattle.std.proofs.Common.{◌≡◌, ◌++◌, List, [], ◌∷◌, ℕ, Ok, Err, refl}
 use Rattle.std.specs.Prelude.{Result}
-use Rattle.gimli_core.specs.Reading.{seen}
+use Rattle.gimli_core.specs.Reading.{result_map}
 use Rattle.gimli_bytes.specs.declared.error.Error.{Error}
 use Rattle.gimli_bytes.specs.declared.writer.Writer.{Ghosts}
 use Rattle.gimli_line.specs.run.Instruction.{Ins}
 use Rattle.gimli_build.specs.InstructionBytes.{instructions_bytes}
-use Rattle.gimli_build.specs.Joined.{joined}
+use Rattle.gimli_build.specs.Joined.{result_append}
 use Rattle.gimli_build.specs.Writes.{Writes}
 use Rattle.gimli_build.proofs.Joins.{bytes_append}
 
@@ -16,6 +16,6 @@ pub four_parts : {W E X : Type 0} {writer : Ghosts W E} {old new : W} {r : Resul
 four_parts f g h k so = rw (bytes_append (f ++ g ++ h) k, bytes_append (f ++ g) h, bytes_append f g) so
 
 -- the parts of a set address
-pub address_parts : (operand : List ℕ) (r : Result (List ℕ) Error) → joined (Ok (0 ∷ [])) (joined (Ok operand) (joined (Ok (0x02 ∷ [])) r)) ≡ seen (λ address. 0 ∷ operand ++ 0x02 ∷ address) r
+pub address_parts : (operand : List ℕ) (r : Result (List ℕ) Error) → result_append (Ok (0 ∷ [])) (result_append (Ok operand) (result_append (Ok (0x02 ∷ [])) r)) ≡ result_map (λ address. 0 ∷ operand ++ 0x02 ∷ address) r
 address_parts operand (Ok address) = refl
 address_parts operand (Err e) = refl

@@ -20,12 +20,12 @@ use Rattle.gimli_build.specs.Conditions.{AreBuilt}
 use Rattle.gimli_build.specs.Rows.{initial_row}
 use Rattle.gimli_build.specs.Encode.{row_instructions, end_instructions}
 use Rattle.gimli_build.specs.InstructionBytes.{instructions_bytes}
-use Rattle.gimli_build.specs.Joined.{joined}
+use Rattle.gimli_build.specs.Joined.{result_append}
 use Rattle.gimli_build.specs.Items.{item_bytes, items_bytes, items_instructions, AreFit}
 use Rattle.gimli_build.proofs.Spellings.{each-spelled, all_row, all_end, address-spelled}
 
 -- both parts were written
-joined_ok : (r s : Result (List ℕ) Error) (bytes : List ℕ) → joined r s ≡ Ok bytes → (a : List ℕ) × (b : List ℕ) × (r ≡ Ok a) × (s ≡ Ok b) × (bytes ≡ a ++ b)
+joined_ok : (r s : Result (List ℕ) Error) (bytes : List ℕ) → result_append r s ≡ Ok bytes → (a : List ℕ) × (b : List ℕ) × (r ≡ Ok a) × (s ≡ Ok b) × (bytes ≡ a ++ b)
 joined_ok (Ok a) (Ok b) bytes e = let p : a ++ b ≡ bytes = cc in (a, b, refl, refl, sym p)
 joined_ok (Ok a) (Err d) bytes e = absurd cc
 joined_ok (Err d) s bytes e = absurd cc

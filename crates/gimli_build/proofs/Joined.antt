@@ -7,7 +7,7 @@ use Rattle.std.specs.Prelude.{Result, All}
 use Rattle.std.proofs.lemmas.List.Elements.{All-head, All-drop}
 use Rattle.gimli_bytes.specs.Written.{Begins, Appends}
 use Rattle.gimli_bytes.specs.declared.error.Error.{Error}
-use Rattle.gimli_build.specs.Joined.{joined, joined_parts, RefusesFor}
+use Rattle.gimli_build.specs.Joined.{result_append, result_concat, RefusesFor}
 
 pub on_ok : {X : Type 0} (r : Result X Error) {P Q : Type 0} → (P → Q) → OnOk r P → OnOk r Q
 on_ok (Ok x) f p = f p
@@ -23,23 +23,23 @@ if_err (Err e) f p = f e p
 
 -- ---- two parts
 
-pub appends_joined : (a b : Result (List ℕ) Error) (old new newer : List ℕ) → Appends a old new → Appends b new newer → Appends (joined a b) old newer
+pub appends_joined : (a b : Result (List ℕ) Error) (old new newer : List ℕ) → Appends a old new → Appends b new newer → Appends (result_append a b) old newer
 appends_joined (Ok xs) (Ok ys) old new newer first second = second ∙ ap (λ (l : List ℕ). l ++ ys) first ∙ append_assoc old xs ys
 appends_joined (Ok xs) (Err e) old new newer first second = absurd second
 appends_joined (Err e) b old new newer first second = absurd first
 
-pub first_refused : (a b : Result (List ℕ) Error) (e : Error) → a ≡ Err e → joined a b ≡ Err e
-first_refused a b e is = ap (λ (r : Result (List ℕ) Error). joined r b) is
+pub first_refused : (a b : Result (List ℕ) Error) (e : Error) → a ≡ Err e → result_append a b ≡ Err e
+first_refused a b e is = ap (λ (r : Result (List ℕ) Error). result_append r b) is
 
-pub second_refused : (a b : Result (List ℕ) Error) (old new : List ℕ) (e : Error) → Appends a old new → b ≡ Err e → joined a b ≡ Err e
-second_refused (Ok xs) b old new e first is = ap (λ (r : Result (List ℕ) Error). joined (Ok xs) r) is
+pub second_refused : (a b : Result (List ℕ) Error) (old new : List ℕ) (e : Error) → Appends a old new → b ≡ Err e → result_append a b ≡ Err e
+second_refused (Ok xs) b old new e first is = ap (λ (r : Result (List ℕ) Error). result_append (Ok xs) r) is
 second_refused (Err d) b old new e first is = absurd first
 
-pub refuses_first : (a b : Result (List ℕ) Error) (e : Error) → RefusesFor a e → RefusesFor (joined a b) e
+pub refuses_first : (a b : Result (List ℕ) Error) (e : Error) → RefusesFor a e → RefusesFor (result_append a b) e
 refuses_first a b e (inl memory) = inl memory
 refuses_first a b e (inr is) = inr (first_refused a b e is)
 
-pub refuses_second : (a b : Result (List ℕ) Error) (old new : List ℕ) (e : Error) → Appends a old new → RefusesFor b e → RefusesFor (joined a b) e
+pub refuses_second : (a b : Result (List ℕ) Error) (old new : List ℕ) (e : Error) → Appends a old new → RefusesFor b e → RefusesFor (result_append a b) e
 refuses_second a b old new e first (inl memory) = inl memory
 refuses_second a b old new e first (inr is) = inr (second_refused a b old new e first is)
 
@@ -50,7 +50,7 @@ appended_bytes (Err e) old new h = absurd h
 -- ---- the parts of a list
 
 -- two parts that are there, and a third
-pub joined-joined : (a b : List ℕ) (r : Result (List ℕ) Error) → joined (Ok a) (joined (Ok b) r) ≡ joined (Ok (a ++ b)) r
+pub joined-joined : (a b : List ℕ) (r : Result (List ℕ) Error) → result_append (Ok a) (result_append (Ok b) r) ≡ result_append (Ok (a ++ b)) r
 joined-joined a b (Ok c) = ap (λ (l : List ℕ). let s : Result (List ℕ) Error = Ok l in s) (sym (append_assoc a b c))
 joined-joined a b (Err e) = refl
 
@@ -58,12 +58,12 @@ joined-joined a b (Err e) = refl
 pub record SoFar {A : Type 0} (part : A → Result (List ℕ) Error) (all left : List A) (old new : List ℕ) : Type 0 where
   pub done : List ℕ
   pub written : new ≡ old ++ done
-  pub parts : joined_parts part all ≡ joined (Ok done) (joined_parts part left)
+  pub parts : result_concat part all ≡ result_append (Ok done) (result_concat part left)
 
 pub none_so_far : {A : Type 0} (part : A → Result (List ℕ) Error) (all : List A) (old : List ℕ) → SoFar part all all old old
-none_so_far part all old = record { done = []; written = sym (append-nil old); parts = nothing (joined_parts part all) }
+none_so_far part all old = record { done = []; written = sym (append-nil old); parts = nothing (result_concat part all) }
   where
-    nothing : (r : Result (List ℕ) Error) → r ≡ joined (Ok []) r
+    nothing : (r : Result (List ℕ) Error) → r ≡ result_append (Ok []) r
     nothing (Ok bytes) = refl
     nothing (Err d) = refl
 
@@ -73,17 +73,17 @@ one_more part all left x old new newer so more =
     record {
       done = so.done ++ a.0;
       written = a.2 ∙ ap (λ (l : List ℕ). l ++ a.0) so.written ∙ append_assoc old so.done a.0;
-      parts = so.parts ∙ ap (λ (r : Result (List ℕ) Error). joined (Ok so.done) (joined r (joined_parts part left))) a.1 ∙ joined-joined so.done a.0 (joined_parts part left);
+      parts = so.parts ∙ ap (λ (r : Result (List ℕ) Error). result_append (Ok so.done) (result_append r (result_concat part left))) a.1 ∙ joined-joined so.done a.0 (result_concat part left);
     }
 
-pub one_refused : {A : Type 0} (part : A → Result (List ℕ) Error) (all left : List A) (x : A) (old new : List ℕ) (e : Error) → SoFar part all (x ∷ left) old new → RefusesFor (part x) e → RefusesFor (joined_parts part all) e
+pub one_refused : {A : Type 0} (part : A → Result (List ℕ) Error) (all left : List A) (x : A) (old new : List ℕ) (e : Error) → SoFar part all (x ∷ left) old new → RefusesFor (part x) e → RefusesFor (result_concat part all) e
 one_refused part all left x old new e so (inl memory) = inl memory
 one_refused part all left x old new e so (inr is) =
-    inr (so.parts ∙ ap (λ (r : Result (List ℕ) Error). joined (Ok so.done) (joined r (joined_parts part left))) is)
+    inr (so.parts ∙ ap (λ (r : Result (List ℕ) Error). result_append (Ok so.done) (result_append r (result_concat part left))) is)
 
-pub all_done : {A : Type 0} (part : A → Result (List ℕ) Error) (all : List A) (old new : List ℕ) → SoFar part all [] old new → Appends (joined_parts part all) old new
+pub all_done : {A : Type 0} (part : A → Result (List ℕ) Error) (all : List A) (old new : List ℕ) → SoFar part all [] old new → Appends (result_concat part all) old new
 all_done part all old new so =
-    let is : joined_parts part all ≡ Ok so.done = so.parts ∙ ap (λ (l : List ℕ). let s : Result (List ℕ) Error = Ok l in s) (append-nil so.done) in
+    let is : result_concat part all ≡ Ok so.done = so.parts ∙ ap (λ (l : List ℕ). let s : Result (List ℕ) Error = Ok l in s) (append-nil so.done) in
     rw is so.written
 
 -- what is left begins with the next element

@@ -10,7 +10,7 @@ use Rattle.gimli_core.specs.declared.error.Error.{Error}
 use Rattle.gimli_core.specs.declared.error.Error.TheVariants.{AddressOverflow}
 use Rattle.gimli_line.specs.header.File.{File}
 use Rattle.gimli_line.specs.header.Orders.{HeaderOrders}
-use Rattle.gimli_line.specs.header.Header.{Header, bare}
+use Rattle.gimli_line.specs.header.Header.{Header, without_files}
 use Rattle.gimli_line.specs.header.Parameters.{Parameters}
 use Rattle.gimli_line.specs.declared.run.row.LineRow.{LineRow as ReadRow}
 use Rattle.gimli_line.specs.declared.run.instruction.LineInstruction.TheVariants.{Special, Copy, AdvancePc, AdvanceLine, SetFile, SetColumn, NegateStatement, SetBasicBlock, ConstAddPc, SetPrologueEnd, SetEpilogueBegin, SetIsa, EndSequence, SetDiscriminator, SetAddress as ReadAddress}
@@ -19,12 +19,12 @@ use Rattle.gimli_line.specs.run.InstructionGrammar.{SpellsInstruction, Decodes}
 use Rattle.gimli_line.specs.run.InstructionReading.{decoded_at}
 use Rattle.gimli_line.specs.run.Events.{Event, row, fault}
 use Rattle.gimli_line.specs.run.EventsWithFiles.{EventWithFiles, events_with_files_from, next_registers}
-use Rattle.gimli_line.specs.run.Instruction.{files_behind}
+use Rattle.gimli_line.specs.run.Instruction.{files_after}
 use Rattle.gimli_line.specs.run.Sequences.{events_of}
-use Rattle.gimli_line.specs.run.Machine.{is_refused, stepped}
+use Rattle.gimli_line.specs.run.Machine.{is_refused, step_of}
 use Rattle.gimli_line.specs.run.RunState.{RunState}
-use Rattle.gimli_line.specs.run.Progress.{ready, Progress}
-use Rattle.gimli_line.specs.run.Rows.{events_left, started, WantsMemory, FaultIs}
+use Rattle.gimli_line.specs.run.Progress.{with_reset_row, Progress}
+use Rattle.gimli_line.specs.run.Rows.{events_left, start_of_run, WantsMemory, FaultIs}
 use Rattle.gimli_line.proofs.InstructionLaws.{is_decoded, one_decoding}
 use Rattle.gimli_build.specs.declared.built.row.LineRow.{LineRow}
 use Rattle.gimli_build.specs.declared.built.items.BuiltItem.{BuiltItem}
@@ -121,10 +121,10 @@ module _ (notation : Notation) (h : Header) where
   abbrev Spelled : List ℕ → List Ins → Type 0
   Spelled bytes list = Each (SpellsInstruction notation h) bytes list
 
-  each_joined : (front behind : List ℕ) (list more : List Ins) → Spelled front list → Spelled behind more → Spelled (front ++ behind) (list ++ more)
-  each_joined front behind [] more s t = rw s t
-  each_joined front behind (i ∷ list) more s t =
-      (s.0, s.1 ++ behind, ap (λ (xs : List ℕ). xs ++ behind) s.2 ∙ append_assoc s.0 s.1 behind, s.3, each_joined s.1 behind list more s.4 t)
+  each_joined : (front after : List ℕ) (list more : List Ins) → Spelled front list → Spelled after more → Spelled (front ++ after) (list ++ more)
+  each_joined front after [] more s t = rw s t
+  each_joined front after (i ∷ list) more s t =
+      (s.0, s.1 ++ after, ap (λ (xs : List ℕ). xs ++ after) s.2 ∙ append_assoc s.0 s.1 after, s.3, each_joined s.1 after list more s.4 t)
 
   -- what stands after whole instructions of a program is the rest of it
   pub rest_decoded : (bytes front rest : List ℕ) (list passed : List Ins) → Decodes notation h bytes list None → bytes ≡ front ++ rest → Spelled front passed
@@ -159,10 +159,10 @@ goes-none a b events none p =
 
 no_memory : (a b : RunState) → DefinesNoFile a → WantsMemory a b → ⊥
 no_memory a b none wants =
-    let place = goes-none a wants.place [] none wants.passed in
-    let rest = rest_decoded wants.place.unread.notation wants.place.fixed wants.place.unread.bytes wants.front wants.rest place.list (wants.definition ∷ []) place.decoding wants.parts
+    let position = goes-none a wants.position [] none wants.passed in
+    let rest = rest_decoded wants.position.unread.notation wants.position.fixed wants.position.unread.bytes wants.front wants.rest position.list (wants.definition ∷ []) position.decoding wants.parts
     (wants.front, [], sym (append-nil wants.front), wants.spelled, refl) in
-    let all : All NoFile (wants.definition ∷ rest.0) = rw rest.1 at place.none in
+    let all : All NoFile (wants.definition ∷ rest.0) = rw rest.1 at position.none in
     true≢false (sym wants.defines ∙ All-head NoFile wants.definition rest.0 all)
 
 -- the only fault of whole instructions
@@ -170,33 +170,33 @@ only_overflow : (appends : Bool) (parameters : Parameters) (r : ReadRow) (files 
     → events_with_files_from appends parameters r files list None ≡ record { event = fault e; files = seen } ∷ rest → e ≡ AddressOverflow
 only_overflow appends parameters r files seen [] rest e is = absurd cc
 only_overflow appends parameters r files seen (i ∷ list) rest e is =
-    by (is_refused parameters i r) (makes_row i && not r.hidden) (events_with_files_from appends parameters (next_registers parameters i r) (files_behind appends i files) list None)
-    (only_overflow appends parameters (next_registers parameters i r) (files_behind appends i files) seen list rest e) is
+    by (is_refused parameters i r) (makes_row i && not r.tombstone) (events_with_files_from appends parameters (next_registers parameters i r) (files_after appends i files) list None)
+    (only_overflow appends parameters (next_registers parameters i r) (files_after appends i files) seen list rest e) is
   where
-    by : (refused made : Bool) (behind : List EventWithFiles) → (behind ≡ record { event = fault e; files = seen } ∷ rest → e ≡ AddressOverflow)
+    by : (refused made : Bool) (after : List EventWithFiles) → (after ≡ record { event = fault e; files = seen } ∷ rest → e ≡ AddressOverflow)
         → map (λ e. let t : EventWithFiles = record { event = e; files = files } in t)
-        (if refused then fault AddressOverflow ∷ [] else (if made then row (stepped parameters i r) ∷ [] else [])) ++ behind ≡ record { event = fault e; files = seen } ∷ rest
+        (if refused then fault AddressOverflow ∷ [] else (if made then row (step_of parameters i r) ∷ [] else [])) ++ after ≡ record { event = fault e; files = seen } ∷ rest
         → e ≡ AddressOverflow
-    by true made behind next is = let first = ap events_of is in cc
-    by false true behind next is = let first = ap events_of is in absurd cc
-    by false false behind next is = next is
+    by true made after next is = let first = ap events_of is in cc
+    by false true after next is = let first = ap events_of is in absurd cc
+    by false false after next is = next is
 
-pub refused-none : (a b : RunState) (e : Error) → DefinesNoFile a → FaultIs (ready a) b e → e ≡ AddressOverflow
-refused-none a b e none (inl memory) = absurd (no_memory (ready a) b (record { list = none.list; decoding = none.decoding; none = none.none }) memory.1)
+pub refused-none : (a b : RunState) (e : Error) → DefinesNoFile a → FaultIs (with_reset_row a) b e → e ≡ AddressOverflow
+refused-none a b e none (inl memory) = absurd (no_memory (with_reset_row a) b (record { list = none.list; decoding = none.decoding; none = none.none }) memory.1)
 refused-none a b e none (inr next) =
     let same = one_decoding a.unread.notation a.fixed a.unread.bytes none.list None none.decoding in
-    let whole = ap (λ (p : List Ins × Option Error). events_with_files_from a.appends a.fixed.parameters (ready a).row a.files p.0 p.1) same in
-    only_overflow a.appends a.fixed.parameters (ready a).row a.files b.files none.list (events_left b) e (whole ∙ next.0)
+    let whole = ap (λ (p : List Ins × Option Error). events_with_files_from a.appends a.fixed.parameters (with_reset_row a).row a.files p.0 p.1) same in
+    only_overflow a.appends a.fixed.parameters (with_reset_row a).row a.files b.files none.list (events_left b) e (whole ∙ next.0)
 
 -- ---- a program from its start
 
 -- files have no part in how instructions are spelled
-bare_each : (notation : Notation) (h : Header) (front : List ℕ) (list : List Ins) → Each (SpellsInstruction notation h) front list → Each (SpellsInstruction notation (bare h)) front list
+bare_each : (notation : Notation) (h : Header) (front : List ℕ) (list : List Ins) → Each (SpellsInstruction notation h) front list → Each (SpellsInstruction notation (without_files h)) front list
 bare_each notation h front [] s = s
 bare_each notation h front (i ∷ list) s = (s.0, s.1, s.2, s.3, bare_each notation h s.1 list s.4)
 
 pub starts-none : (notation : Notation) (h : Header) (appends : Bool) (offset : ℕ) (orders : HeaderOrders) (list : List Ins) → Decodes notation h h.program list None → All (λ i. defines_file i ≡ false) list
-    → DefinesNoFile (started appends h notation offset orders (record { bytes = h.program; notation = notation }))
+    → DefinesNoFile (start_of_run appends h notation offset orders (record { bytes = h.program; notation = notation }))
 starts-none notation h appends offset orders list d none = record {
   list = list;
   decoding = record { front = d.front; rest = d.rest; parts = d.parts; spelled = bare_each notation h d.front list d.spelled; ended = d.ended };

@@ -10,7 +10,7 @@ use Rattle.gimli_core.specs.declared.common.Format.TheVariants.{Dwarf32, Dwarf64
 use Rattle.gimli_bytes.specs.declared.error.Error.{Error}
 use Rattle.gimli_bytes.specs.declared.error.Error.TheVariants.{ValueTooLarge}
 use Rattle.gimli_build.specs.FormatWord.{format_word}
-use Rattle.gimli_build.specs.Joined.{joined, joined_parts, behind_length}
+use Rattle.gimli_build.specs.Joined.{result_append, result_concat, after_length}
 
 -- these are so many bytes, where they are written
 abbrev pub HasSize : Result (List ℕ) Error → ℕ → Type 0
@@ -37,7 +37,7 @@ pub size_either : (test : Bool) (first second : Result (List ℕ) Error) (m n : 
 size_either true first second m n one other = one
 size_either false first second m n one other = other
 
-pub size_joined : (first rest : Result (List ℕ) Error) (m n : ℕ) → HasSize first m → HasSize rest n → HasSize (joined first rest) (m + n)
+pub size_joined : (first rest : Result (List ℕ) Error) (m n : ℕ) → HasSize first m → HasSize rest n → HasSize (result_append first rest) (m + n)
 size_joined (Ok a) (Ok b) m n first rest bytes is =
     let same : a ++ b ≡ bytes = cc in
     ap length (sym same) ∙ length-append a b ∙ ap (λ (k : ℕ). k + length b) (first a refl) ∙ ap (λ (k : ℕ). m + k) (rest b refl)
@@ -45,16 +45,16 @@ size_joined (Ok a) (Err e) m n first rest bytes is = absurd cc
 size_joined (Err e) written m n first rest bytes is = absurd cc
 
 pub size_parts : {A : Type 0} (part : A → Result (List ℕ) Error) (size : A → ℕ) → ((x : A) → HasSize (part x) (size x))
-    → (xs : List A) → HasSize (joined_parts part xs) (sum_by size xs)
+    → (xs : List A) → HasSize (result_concat part xs) (sum_by size xs)
 size_parts part size each [] = size_of_ok []
 size_parts part size each (x ∷ xs) =
-    size_as (joined_parts part (x ∷ xs)) (size x + sum_by size xs) (sum_by size (x ∷ xs)) (sym (sum_by-cons size x xs))
-    (size_joined (part x) (joined_parts part xs) (size x) (sum_by size xs) (each x) (size_parts part size each xs))
+    size_as (result_concat part (x ∷ xs)) (size x + sum_by size xs) (sum_by size (x ∷ xs)) (sym (sum_by-cons size x xs))
+    (size_joined (part x) (result_concat part xs) (size x) (sum_by size xs) (each x) (size_parts part size each xs))
 
-pub size_behind : (length_of : ℕ → Result (List ℕ) Error) (counted : Result (List ℕ) Error) (m n : ℕ) → ((k : ℕ) → HasSize (length_of k) m) → HasSize counted n
-    → HasSize (behind_length length_of counted) (m + n)
-size_behind length_of (Ok own) m n before counted = size_joined (length_of (length own)) (Ok own) m n (before (length own)) counted
-size_behind length_of (Err e) m n before counted = size_of_none e (m + n)
+pub size_after : (length_of : ℕ → Result (List ℕ) Error) (counted : Result (List ℕ) Error) (m n : ℕ) → ((k : ℕ) → HasSize (length_of k) m) → HasSize counted n
+    → HasSize (after_length length_of counted) (m + n)
+size_after length_of (Ok own) m n before counted = size_joined (length_of (length own)) (Ok own) m n (before (length own)) counted
+size_after length_of (Err e) m n before counted = size_of_none e (m + n)
 
 -- ---- numbers
 

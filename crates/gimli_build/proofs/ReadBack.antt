@@ -8,7 +8,7 @@ use Rattle.gimli_line.specs.header.Header.{UnitEntry}
 use Rattle.gimli_build.specs.Built.{Built}
 use Rattle.gimli_build.specs.Conditions.{IsBuilt, CanWrite}
 use Rattle.gimli_build.specs.Texts.{Sections}
-use Rattle.gimli_build.specs.Version5Tables.{strings_behind, line_strings_behind}
+use Rattle.gimli_build.specs.Version5Tables.{strings_after, line_strings_after}
 use Rattle.gimli_build.specs.ReadsBack.{ReadsBack, IsReadWell}
 use Rattle.gimli_build.specs.Unit.{version_bytes, whole_bytes, unit_bytes}
 use Rattle.gimli_build.proofs.WrittenParts.{before_written}
@@ -26,13 +26,13 @@ unit_known big p strings line_strings unit is =
     version-known big p.encoding.version b.front b.front_is
 
 pub reads-back : (notation : Notation) (unit_entry : UnitEntry) (sections : Sections) (big : Bool) (unit_encoding : Encoding) (p : Built) (old_strings old_line_strings : List (List ℕ)) (unit : List ℕ)
-    → length unit < 2 ^ 64 → IsBuilt p → CanWrite p old_strings old_line_strings → AreTexts (strings_behind p old_strings) → AreTexts (line_strings_behind p old_line_strings)
-    → byte_count (strings_behind p old_strings) < 2 ^ 64 → byte_count (line_strings_behind p old_line_strings) < 2 ^ 64
-    → unit_bytes big unit_encoding p old_strings old_line_strings ≡ Ok unit → IsReadWell notation unit_entry sections big p (strings_behind p old_strings) (line_strings_behind p old_line_strings) unit
-    → ReadsBack notation unit_entry sections p (strings_behind p old_strings) (line_strings_behind p old_line_strings) unit
+    → length unit < 2 ^ 64 → IsBuilt p → CanWrite p old_strings old_line_strings → AreTexts (strings_after p old_strings) → AreTexts (line_strings_after p old_line_strings)
+    → byte_count (strings_after p old_strings) < 2 ^ 64 → byte_count (line_strings_after p old_line_strings) < 2 ^ 64
+    → unit_bytes big unit_encoding p old_strings old_line_strings ≡ Ok unit → IsReadWell notation unit_entry sections big p (strings_after p old_strings) (line_strings_after p old_line_strings) unit
+    → ReadsBack notation unit_entry sections p (strings_after p old_strings) (line_strings_after p old_line_strings) unit
 reads-back notation unit_entry sections big unit_encoding p old_strings old_line_strings unit small built can texts line_texts short line_short is well =
-    let strings = strings_behind p old_strings in
-    let line_strings = line_strings_behind p old_line_strings in
+    let strings = strings_after p old_strings in
+    let line_strings = line_strings_after p old_line_strings in
     let h = header-back notation unit_entry sections big unit_encoding p old_strings old_line_strings unit small built can texts line_texts short line_short is well in
     let whole = whole_written big unit_encoding p old_strings old_line_strings unit is in
     let known = unit_known big p strings line_strings unit whole in

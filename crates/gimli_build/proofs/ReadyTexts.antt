@@ -7,13 +7,13 @@ use Rattle.std.proofs.lemmas.Bool.{leb-false, le-leb}
 use Rattle.std.proofs.lemmas.List.Elements.{All-nil, All-cons, All-head, All-tail}
 use Rattle.std.proofs.lemmas.List.Folds.{list_any_at, list_any-append}
 use Rattle.std.proofs.lemmas.Option.{slice_get_within}
-use Rattle.gimli_bytes.specs.Texts.{with_text, place_of_text}
+use Rattle.gimli_bytes.specs.Texts.{with_text, index_of_text}
 use Rattle.gimli_bytes.proofs.TextLemmas.{with_text-there, with_text-found}
 use Rattle.gimli_build.specs.LineText.{LineText, Inline, InStrings, InLineStrings, IsWithin, HasNoZero, bytes_in}
 use Rattle.gimli_build.specs.Tables.{File, FitsFile}
 use Rattle.gimli_build.specs.Built.{Built}
 use Rattle.gimli_build.specs.Conditions.{IsBuilt, CanWrite}
-use Rattle.gimli_build.specs.Version5Tables.{first_form, sources, needs_empty, empty_text, strings_behind, line_strings_behind}
+use Rattle.gimli_build.specs.Version5Tables.{first_form, sources, needs_empty, empty_text, strings_after, line_strings_after}
 use Rattle.gimli_build.proofs.TextForms.{IsReady}
 
 -- ---- tables that gain the empty text
@@ -49,9 +49,9 @@ within_more strings line_strings more more_lines s l (InStrings i) within = omeg
 within_more strings line_strings more more_lines s l (InLineStrings i) within = omega (arith, l, within)
 
 -- a text that was within the tables is within them once a program is written
-pub within_behind : (p : Built) (strings line_strings : List (List ℕ)) (t : LineText) → IsWithin strings line_strings t → IsWithin (strings_behind p strings) (line_strings_behind p line_strings) t
-within_behind p strings line_strings t within =
-    within_more strings line_strings (strings_behind p strings) (line_strings_behind p line_strings)
+pub within_after : (p : Built) (strings line_strings : List (List ℕ)) (t : LineText) → IsWithin strings line_strings t → IsWithin (strings_after p strings) (line_strings_after p line_strings) t
+within_after p strings line_strings t within =
+    within_more strings line_strings (strings_after p strings) (line_strings_after p line_strings)
     (grows (needs_empty p && nat_eq (first_form (sources p.files)) 0x0e) strings) (grows (needs_empty p && nat_eq (first_form (sources p.files)) 0x1f) line_strings) t within
 
 -- ---- the empty text in a form
@@ -60,21 +60,21 @@ record IsEmpty (strings line_strings : List (List ℕ)) (t : LineText) : Type 0 
   ready : IsReady strings line_strings t
   none : bytes_in strings line_strings t ≡ []
 
-empty_there : (texts : List (List ℕ)) → list_any (bytes_eq []) texts ≡ true → slice_get texts (place_of_text texts []) ≡ Some []
-empty_there texts has = ap (λ (l : List (List ℕ)). slice_get l (place_of_text texts [])) (sym (with_text-there texts [] has)) ∙ with_text-found texts []
+empty_there : (texts : List (List ℕ)) → list_any (bytes_eq []) texts ≡ true → slice_get texts (index_of_text texts []) ≡ Some []
+empty_there texts has = ap (λ (l : List (List ℕ)). slice_get l (index_of_text texts [])) (sym (with_text-there texts [] has)) ∙ with_text-found texts []
 
 empty_is : (form : ℕ) (strings line_strings : List (List ℕ)) → (nat_eq form 0x0e ≡ true → list_any (bytes_eq []) strings ≡ true) → (nat_eq form 0x1f ≡ true → list_any (bytes_eq []) line_strings ≡ true)
     → IsEmpty strings line_strings (empty_text form strings line_strings)
 empty_is form strings line_strings has has_line = by (nat_eq form 0x0e) refl (nat_eq form 0x1f) refl
   where
     by : (b : Bool) → nat_eq form 0x0e ≡ b → (c : Bool) → nat_eq form 0x1f ≡ c
-        → IsEmpty strings line_strings (if b then InStrings (place_of_text strings []) else (if c then InLineStrings (place_of_text line_strings []) else Inline []))
+        → IsEmpty strings line_strings (if b then InStrings (index_of_text strings []) else (if c then InLineStrings (index_of_text line_strings []) else Inline []))
     by true s c l =
         let found = empty_there strings (has s) in
-        record { ready = record { clean = tt; within = slice_get_within strings (place_of_text strings []) [] found }; none = ap (λ (o : Option (List ℕ)). unwrap_or o []) found }
+        record { ready = record { clean = tt; within = slice_get_within strings (index_of_text strings []) [] found }; none = ap (λ (o : Option (List ℕ)). unwrap_or o []) found }
     by false s true l =
         let found = empty_there line_strings (has_line l) in
-        record { ready = record { clean = tt; within = slice_get_within line_strings (place_of_text line_strings []) [] found }; none = ap (λ (o : Option (List ℕ)). unwrap_or o []) found }
+        record { ready = record { clean = tt; within = slice_get_within line_strings (index_of_text line_strings []) [] found }; none = ap (λ (o : Option (List ℕ)). unwrap_or o []) found }
     by false s false l = record { ready = record { clean = All-nil (λ b. b ≢ 0); within = tt }; none = refl }
 
 -- ---- what is read back of a program
@@ -125,10 +125,10 @@ some_within strings line_strings more more_lines s l None within = tt
 
 module _ (p : Built) (old_strings old_line_strings : List (List ℕ)) (new : nat_le p.encoding.version 4 ≡ false) (built : IsBuilt p) (can : CanWrite p old_strings old_line_strings) where
   abbrev strings : List (List ℕ)
-  strings = strings_behind p old_strings
+  strings = strings_after p old_strings
 
   abbrev line_strings : List (List ℕ)
-  line_strings = line_strings_behind p old_line_strings
+  line_strings = line_strings_after p old_line_strings
 
   abbrev form : ℕ
   form = first_form (sources p.files)

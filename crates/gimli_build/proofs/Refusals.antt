@@ -2,7 +2,7 @@
 use Rattle.std.proofs.Common.{◌≡◌, ℕ, Bool, true, false, not, List, [], ◌∷◌, ◌++◌, length, map, Ok, Err, refl, sym, ap, ◌∙◌, if◌then◌else◌}
 use Rattle.std.specs.Prelude.{Option, Some, None, Result, flat_map}
 use Rattle.gimli_bytes.specs.declared.error.Error.{Error}
-use Rattle.gimli_build.specs.Joined.{joined, joined_parts, behind_length}
+use Rattle.gimli_build.specs.Joined.{result_append, result_concat, after_length}
 use Rattle.gimli_build.specs.Cause.{cause_if, first_of}
 
 -- what bytes are refused for
@@ -65,29 +65,29 @@ causes_flat {A = A} cause f (x ∷ xs) =
 
 -- ---- refusals
 
-pub joined-refusal : (first rest : Result (List ℕ) Error) → refusal (joined first rest) ≡ or_first (refusal first) (refusal rest)
+pub joined-refusal : (first rest : Result (List ℕ) Error) → refusal (result_append first rest) ≡ or_first (refusal first) (refusal rest)
 joined-refusal (Ok first) (Ok rest) = refl
 joined-refusal (Ok first) (Err e) = refl
 joined-refusal (Err d) rest = refl
 
 pub parts-refusal : {A : Type 0} (part : A → Result (List ℕ) Error) (cause : A → Option Error) → ((x : A) → refusal (part x) ≡ cause x)
-    → (xs : List A) → refusal (joined_parts part xs) ≡ first_of (map cause xs)
+    → (xs : List A) → refusal (result_concat part xs) ≡ first_of (map cause xs)
 parts-refusal part cause each [] = refl
 parts-refusal part cause each (x ∷ xs) =
-    joined-refusal (part x) (joined_parts part xs)
-    ∙ ap (λ (c : Option Error). or_first c (refusal (joined_parts part xs))) (each x)
+    joined-refusal (part x) (result_concat part xs)
+    ∙ ap (λ (c : Option Error). or_first c (refusal (result_concat part xs))) (each x)
     ∙ ap (λ (c : Option Error). or_first (cause x) c) (parts-refusal part cause each xs)
     ∙ sym (first_apart (cause x) (map cause xs))
 
 -- a length is refused where nothing before it is
-pub behind-refusal : (length_of : ℕ → Result (List ℕ) Error) (counted : Result (List ℕ) Error) (cause : Option Error)
+pub after-refusal : (length_of : ℕ → Result (List ℕ) Error) (counted : Result (List ℕ) Error) (cause : Option Error)
     → ((bytes : List ℕ) → counted ≡ Ok bytes → refusal (length_of (length bytes)) ≡ cause)
-    → refusal (behind_length length_of counted) ≡ or_first (refusal counted) cause
-behind-refusal length_of (Ok bytes) cause refused =
+    → refusal (after_length length_of counted) ≡ or_first (refusal counted) cause
+after-refusal length_of (Ok bytes) cause refused =
     joined-refusal (length_of (length bytes)) (Ok bytes)
     ∙ first_before_none (refusal (length_of (length bytes)))
     ∙ refused bytes refl
-behind-refusal length_of (Err e) cause refused = refl
+after-refusal length_of (Err e) cause refused = refl
 
 -- bytes that are written where a test holds
 pub tested-refusal : (test : Bool) (bytes : List ℕ) (e : Error) → refusal (if test then Ok bytes else Err e) ≡ cause_if (not test) e

@@ -15,16 +15,16 @@ use Rattle.gimli_line.specs.declared.run.instruction.LineInstruction.TheVariants
 use Rattle.gimli_line.specs.header.Parameters.{Parameters}
 use Rattle.gimli_line.specs.run.Instruction.{Ins}
 use Rattle.gimli_line.specs.run.Registers.{advanced_line}
-use Rattle.gimli_line.specs.run.OperationPointer.{OperationPointer, operations_on, exceeds, address_limit}
+use Rattle.gimli_line.specs.run.OperationPointer.{OperationPointer, advanced_by, is_too_large, address_limit}
 use Rattle.gimli_line.specs.run.Events.{row}
 use Rattle.gimli_line.specs.run.Machine.{run, initial, reset_row, pointer_of, at_pointer}
 use Rattle.gimli_build.specs.declared.built.row.LineRow.{LineRow}
-use Rattle.gimli_build.specs.Advance.{CanEncode, IsPlace, CanFollow, operations}
+use Rattle.gimli_build.specs.Advance.{CanEncode, IsPosition, CanFollow, operations}
 use Rattle.gimli_build.specs.Due.{when}
 use Rattle.gimli_build.specs.Encode.{marks, changes, differ, line_part, line_opcode, is_special_advance, operation_part, row_instructions, row_maker, still_opcode, constant_advance, end_instructions}
 use Rattle.gimli_build.specs.FileNumber.{file_number}
 use Rattle.gimli_build.specs.Rows.{initial_row}
-use Rattle.gimli_build.specs.SameRow.{built_rules, read_row, behind_row, read_end}
+use Rattle.gimli_build.specs.SameRow.{built_rules, read_row, registers_after_row, read_end}
 use Rattle.gimli_build.proofs.Steps.{operations_above, whole_steps, taken_apart, special_parts, enough_of, none_of}
 
 -- ---- pointers
@@ -53,7 +53,7 @@ pub record HasRoom (parameters : Parameters) (p : OperationPointer) (n : ℕ) : 
   pub limit : address_limit parameters ≤ 2 ^ 64
 
 -- the machine's pointer is this one there
-pub on-ahead : (parameters : Parameters) (p : OperationPointer) (n : ℕ) → HasRoom parameters p n → operations_on parameters n p ≡ ahead parameters.line_encoding n p
+pub on-ahead : (parameters : Parameters) (p : OperationPointer) (n : ℕ) → HasRoom parameters p n → advanced_by parameters n p ≡ ahead parameters.line_encoding n p
 on-ahead parameters p n room = by (nat_eq parameters.line_encoding.maximum_operations_per_instruction 1) refl
   where
     by : (b : Bool) → nat_eq parameters.line_encoding.maximum_operations_per_instruction 1 ≡ b
@@ -76,7 +76,7 @@ on-ahead parameters p n room = by (nat_eq parameters.line_encoding.maximum_opera
         λ j. record { address = p.address + a j; op_index = whole j % k }
 
 -- an address holds it
-pub not_exceeding : (parameters : Parameters) (p : OperationPointer) (n : ℕ) → HasRoom parameters p n → exceeds parameters (ahead parameters.line_encoding n p) ≡ false
+pub not_exceeding : (parameters : Parameters) (p : OperationPointer) (n : ℕ) → HasRoom parameters p n → is_too_large parameters (ahead parameters.line_encoding n p) ≡ false
 not_exceeding parameters p n room = lt-leb (address_limit parameters) (ahead parameters.line_encoding n p).address room.address
 
 -- one advance after the other
@@ -222,14 +222,14 @@ module _ (encoding : Encoding) (e : LineEncoding) where
 
   -- ---- advances
 
-  goes-advance : (r : ReadRow) (n : ℕ) → r.hidden ≡ false → HasRoom parameters (pointer_of r) n → Goes r (AdvancePc n ∷ []) (moved_on e n r)
+  goes-advance : (r : ReadRow) (n : ℕ) → r.tombstone ≡ false → HasRoom parameters (pointer_of r) n → Goes r (AdvancePc n ∷ []) (moved_on e n r)
   goes-advance r n shown room list = rw (on-ahead parameters (pointer_of r) n room, not_exceeding parameters (pointer_of r) n room, shown) refl
 
-  goes-constant : (r : ReadRow) → r.hidden ≡ false → HasRoom parameters (pointer_of r) (constant_advance e) → Goes r (ConstAddPc ∷ []) (moved_on e (constant_advance e) r)
+  goes-constant : (r : ReadRow) → r.tombstone ≡ false → HasRoom parameters (pointer_of r) (constant_advance e) → Goes r (ConstAddPc ∷ []) (moved_on e (constant_advance e) r)
   goes-constant r shown room list = rw (on-ahead parameters (pointer_of r) (constant_advance e) room, not_exceeding parameters (pointer_of r) (constant_advance e) room, shown) refl
 
   -- a special opcode of this line advance above the base, and of so many operations
-  makes-special : (r : ReadRow) (u n : ℕ) → 1 ≤ e.line_range → u < e.line_range → r.hidden ≡ false → HasRoom parameters (pointer_of r) n
+  makes-special : (r : ReadRow) (u n : ℕ) → 1 ≤ e.line_range → u < e.line_range → r.tombstone ≡ false → HasRoom parameters (pointer_of r) n
       → Makes r (Special (13 + u + n * e.line_range) ∷ []) (record (moved_on e n r) { line = advanced_line (e.line_base +ℤ pos u) r.line })
   makes-special r u n some lt shown room list =
       let parts = special_parts e.line_range u n some lt in
@@ -244,11 +244,11 @@ module _ (encoding : Encoding) (e : LineEncoding) where
   abbrev made : ℕ → ℕ → ReadRow → ReadRow
   made u n r = record (moved_on e n r) { line = advanced_line (e.line_base +ℤ pos u) r.line }
 
-  makes-copy : (r : ReadRow) → r.hidden ≡ false → Makes r (Copy ∷ []) r
+  makes-copy : (r : ReadRow) → r.tombstone ≡ false → Makes r (Copy ∷ []) r
   makes-copy r shown list = ap (λ (b : Bool). (if b then [] else row r ∷ []) ++ run parameters (reset_row parameters r) list) shown
 
   -- the last instruction of a row
-  makes-row : (r : ReadRow) (u n : ℕ) → CanEncode e → u < e.line_range → r.hidden ≡ false → r.line < 2 ^ 64 → HasRoom parameters (pointer_of r) n
+  makes-row : (r : ReadRow) (u n : ℕ) → CanEncode e → u < e.line_range → r.tombstone ≡ false → r.line < 2 ^ 64 → HasRoom parameters (pointer_of r) n
       → Makes r (row_maker e (13 + u + n * e.line_range) ∷ []) (made u n r)
   makes-row r u n can lt shown small room list = by (nat_eq (13 + u + n * e.line_range) (still_opcode e)) refl
     where
@@ -268,7 +268,7 @@ module _ (encoding : Encoding) (e : LineEncoding) where
           makes-copy r shown list ∙ ap (λ (s : ReadRow). row s ∷ run parameters (reset_row parameters s) list) stands
 
   -- the operations of a row, and the row
-  makes-operations : (r : ReadRow) (u n : ℕ) → CanEncode e → u < e.line_range → r.hidden ≡ false → r.line < 2 ^ 64 → HasRoom parameters (pointer_of r) n
+  makes-operations : (r : ReadRow) (u n : ℕ) → CanEncode e → u < e.line_range → r.tombstone ≡ false → r.line < 2 ^ 64 → HasRoom parameters (pointer_of r) n
       → Makes r (operation_part e (13 + u) n) (made u n r)
   makes-operations r u n can lt shown small room list =
       by (nat_le (13 + u + n * e.line_range) 255) refl (nat_le (13 + u + (n - constant_advance e) * e.line_range) 255)
@@ -304,7 +304,7 @@ module _ (encoding : Encoding) (e : LineEncoding) where
           first ∙ ap (λ (x : ℕ). run parameters s (row_maker e x ∷ list)) keeps_bytes ∙ second ∙ ap (λ (x : ReadRow). row x ∷ run parameters (reset_row parameters x) list) same
 
   -- the line and the operations of a row, and the row
-  makes-move : (r : ReadRow) (d : ℤ) (n to : ℕ) → CanEncode e → r.hidden ≡ false → r.line < 2 ^ 64 → to < 2 ^ 64 → pos to ≡ pos r.line +ℤ d → HasRoom parameters (pointer_of r) n
+  makes-move : (r : ReadRow) (d : ℤ) (n to : ℕ) → CanEncode e → r.tombstone ≡ false → r.line < 2 ^ 64 → to < 2 ^ 64 → pos to ≡ pos r.line +ℤ d → HasRoom parameters (pointer_of r) n
       → Makes r (line_part e d ++ operation_part e (line_opcode e d) n) (record (moved_on e n r) { line = to })
   makes-move r d n to can shown small small' there room list = by (is_special_advance e d) refl
     where
@@ -346,22 +346,22 @@ module _ (encoding : Encoding) (e : LineEncoding) where
     room : HasRoom parameters (record { address = base + p; op_index = j }) (operations e p j o i)
     there : ahead e (operations e p j o i) (record { address = base + p; op_index = j }) ≡ record { address = base + o; op_index = i }
 
-  reaches : (base p j o i : ℕ) → IsTrue (is_address_size encoding.address_size) → CanEncode e → IsPlace e p j → CanFollow e p j o i → base + o < 2 ^ (8 * encoding.address_size) → Reaches base p j o i
-  reaches base p j o i known can place follows held =
+  reaches : (base p j o i : ℕ) → IsTrue (is_address_size encoding.address_size) → CanEncode e → IsPosition e p j → CanFollow e p j o i → base + o < 2 ^ (8 * encoding.address_size) → Reaches base p j o i
+  reaches base p j o i known can position follows held =
       let k = e.maximum_operations_per_instruction in
       let m = e.minimum_instruction_length in
       let t = (o - p) / m in
       let n = operations e p j o i in
-      let above = operations_above m k p j o i can.instruction_length place.divides follows.place.divides follows.after follows.later place.within in
+      let above = operations_above m k p j o i can.instruction_length position.divides follows.position.divides follows.after follows.later position.within in
       let sum : j + n ≡ t * k + i = omega (arith, above) in
-      let apart = taken_apart k t i follows.place.within in
+      let apart = taken_apart k t i follows.position.within in
       let q : (j + n) / k ≡ t = rw sum apart.0 in
       let w : (j + n) % k ≡ i = rw sum apart.1 in
-      let whole = whole_steps m p o can.instruction_length place.divides follows.place.divides follows.after in
+      let whole = whole_steps m p o can.instruction_length position.divides follows.position.divides follows.after in
       let a : base + p + m * ((j + n) / k) ≡ base + o = rw q (omega (arith, whole)) in
       record {
         room = record {
-          within = place.within;
+          within = position.within;
           count = omega (arith, sum, follows.fits);
           address = rw a held;
           limit = limit_small known;
@@ -370,12 +370,12 @@ module _ (encoding : Encoding) (e : LineEncoding) where
       }
 
   -- the instructions of a row make the row, from the registers after the row before it
-  pub row-runs : (base : ℕ) (previous built : LineRow) → IsTrue (is_address_size encoding.address_size) → CanEncode e → IsPlace e previous.address_offset previous.op_index
+  pub row-runs : (base : ℕ) (previous built : LineRow) → IsTrue (is_address_size encoding.address_size) → CanEncode e → IsPosition e previous.address_offset previous.op_index
       → CanFollow e previous.address_offset previous.op_index built.address_offset built.op_index → previous.line < 2 ^ 63 → built.line < 2 ^ 63 → base + built.address_offset < 2 ^ (8 * encoding.address_size)
-      → Makes (behind_row encoding.version base previous) (row_instructions encoding.version e previous built) (read_row encoding.version base built)
-  row-runs base previous built known can place follows from to held =
+      → Makes (registers_after_row encoding.version base previous) (row_instructions encoding.version e previous built) (read_row encoding.version base built)
+  row-runs base previous built known can position follows from to held =
       let version = encoding.version in
-      let r0 : ReadRow = behind_row version base previous in
+      let r0 : ReadRow = registers_after_row version base previous in
       let d = pos built.line -ℤ pos previous.line in
       let n = operations e previous.address_offset previous.op_index built.address_offset built.op_index in
       let r1 : ReadRow = record r0 { discriminator = built.discriminator; basic_block = built.basic_block; prologue_end = built.prologue_end; epilogue_begin = built.epilogue_begin } in
@@ -383,7 +383,7 @@ module _ (encoding : Encoding) (e : LineEncoding) where
       let s1 = goes-marks r0 built refl refl refl refl in
       let s2 = goes-changes r1 version previous built refl refl refl refl in
       let apart : pos built.line ≡ pos previous.line +ℤ d = omega (arith, ints) in
-      let ends = reaches base previous.address_offset previous.op_index built.address_offset built.op_index known can place follows held in
+      let ends = reaches base previous.address_offset previous.op_index built.address_offset built.op_index known can position follows held in
       let s3 = makes-move r2 d n built.line can refl (omega arith) (omega arith) apart ends.room in
       let s4 : Makes r2 (line_part e d ++ operation_part e (line_opcode e d) n) (read_row version base built) =
       λ list. s3 list ∙ ap (λ (p : OperationPointer). row (record (at_pointer p r2) { line = built.line }) ∷ run parameters (reset_row parameters (record (at_pointer p r2) { line = built.line })) list) ends.there in
@@ -392,34 +392,34 @@ module _ (encoding : Encoding) (e : LineEncoding) where
       ∙ makes_then r0 r2 (read_row version base built) (marks built ++ changes version previous built) (line_part e d ++ operation_part e (line_opcode e d) n) s12 s4 list
 
   -- the instructions of an end make the end
-  pub end-runs : (base : ℕ) (previous : LineRow) (o i : ℕ) → IsTrue (is_address_size encoding.address_size) → CanEncode e → IsPlace e previous.address_offset previous.op_index
+  pub end-runs : (base : ℕ) (previous : LineRow) (o i : ℕ) → IsTrue (is_address_size encoding.address_size) → CanEncode e → IsPosition e previous.address_offset previous.op_index
       → CanFollow e previous.address_offset previous.op_index o i → base + o < 2 ^ (8 * encoding.address_size)
-      → Makes (behind_row encoding.version base previous) (end_instructions e previous o i) (read_end encoding.version base previous o i)
-  end-runs base previous o i known can place follows held =
-      let r : ReadRow = behind_row encoding.version base previous in
+      → Makes (registers_after_row encoding.version base previous) (end_instructions e previous o i) (read_end encoding.version base previous o i)
+  end-runs base previous o i known can position follows held =
+      let r : ReadRow = registers_after_row encoding.version base previous in
       let n = operations e previous.address_offset previous.op_index o i in
-      let ends = reaches base previous.address_offset previous.op_index o i known can place follows held in
+      let ends = reaches base previous.address_offset previous.op_index o i known can position follows held in
       let s : ReadRow = at_pointer (record { address = base + o; op_index = i }) r in
       let first : Goes r (when (not (nat_eq n 0)) (AdvancePc n)) s = keep r s (not (nat_eq n 0)) (AdvancePc n)
       (λ h list. goes-advance r n refl ends.room list ∙ ap (λ (p : OperationPointer). run parameters (at_pointer p r) list) ends.there)
       (λ h. let idle : n ≡ 0 = same_from_test n 0 h in
-      let there : pointer_of r ≡ record { address = base + o; op_index = i } = sym (ahead-none e (pointer_of r) place.within) ∙ ap (λ (x : ℕ). ahead e x (pointer_of r)) (sym idle) ∙ ends.there in
+      let there : pointer_of r ≡ record { address = base + o; op_index = i } = sym (ahead-none e (pointer_of r) position.within) ∙ ap (λ (x : ℕ). ahead e x (pointer_of r)) (sym idle) ∙ ends.there in
       λ j. at_pointer (there j) r) in
       makes_then r s (read_end encoding.version base previous o i) (when (not (nat_eq n 0)) (AdvancePc n)) (EndSequence ∷ []) first (λ list. refl)
 
   -- a set address that doesn't go back moves the registers there
   pub set-address-runs : (base a : ℕ) (previous : LineRow) → base + previous.address_offset ≤ a → a < 2 ^ (8 * encoding.address_size) - 2
-      → Goes (behind_row encoding.version base previous) (SetAddress a ∷ []) (behind_row encoding.version a (record previous { address_offset = 0; op_index = 0 }))
+      → Goes (registers_after_row encoding.version base previous) (SetAddress a ∷ []) (registers_after_row encoding.version a (record previous { address_offset = 0; op_index = 0 }))
   set-address-runs base a previous le lt list =
       let low : nat_lt a (base + previous.address_offset) ≡ false = le-ltb a (base + previous.address_offset) le in
       let high : nat_le (2 ^ (8 * encoding.address_size) - 2) a ≡ false = lt-leb (2 ^ (8 * encoding.address_size) - 2) a lt in
       let from : a ≡ a + 0 = sym (add-zero a) in
-      rw (low, high) (ap (λ (x : ℕ). run parameters (at_pointer (record { address = x; op_index = 0 }) (behind_row encoding.version base previous)) list) from)
+      rw (low, high) (ap (λ (x : ℕ). run parameters (at_pointer (record { address = x; op_index = 0 }) (registers_after_row encoding.version base previous)) list) from)
 
   -- a sequence starts after its initial row
-  pub start-is : encoding.version ≤ 5 → initial parameters ≡ behind_row encoding.version 0 (initial_row encoding.version e.default_is_stmt)
+  pub start-is : encoding.version ≤ 5 → initial parameters ≡ registers_after_row encoding.version 0 (initial_row encoding.version e.default_is_stmt)
   start-is le = by (nat_eq encoding.version 5) refl
     where
-      by : (b : Bool) → nat_eq encoding.version 5 ≡ b → initial parameters ≡ behind_row encoding.version 0 (record (initial_row encoding.version e.default_is_stmt) { file = if b then 1 else 0 })
+      by : (b : Bool) → nat_eq encoding.version 5 ≡ b → initial parameters ≡ registers_after_row encoding.version 0 (record (initial_row encoding.version e.default_is_stmt) { file = if b then 1 else 0 })
       by true h = let over : nat_le encoding.version 4 ≡ false = lt-leb encoding.version 4 (let five : encoding.version ≡ 5 = grind (arith, nat_tests) in omega (arith, five)) in rw over refl
       by false h = let below : nat_le encoding.version 4 ≡ true = le-leb encoding.version 4 (let other : encoding.version ≤ 4 = grind (arith, nat_tests) in other) in rw below refl

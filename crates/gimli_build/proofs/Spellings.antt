@@ -12,7 +12,7 @@ use Rattle.std.proofs.lemmas.Bool.{lt-ltb, lt-leb, le-leb, ne_eqb, and_parts}
 use Rattle.gimli_core.specs.declared.common.LineEncoding.{LineEncoding}
 use Rattle.gimli_core.specs.Notation.{Notation}
 use Rattle.gimli_core.specs.Numbers.{SpellsUleb128, SpellsNumber, number_bytes}
-use Rattle.gimli_core.specs.Reading.{seen}
+use Rattle.gimli_core.specs.Reading.{result_map}
 use Rattle.gimli_core.specs.Production.{below_limit, unsigned, Each}
 use Rattle.gimli_core.proofs.Written.{number_spelled}
 use Rattle.gimli_bytes.specs.Number.{uleb, sleb}
@@ -123,7 +123,7 @@ module _ (notation : Notation) (h : Header) (base : h.parameters.opcode_base ≡
       sized size t = grind (arith, nat_tests)
 
       tested : (size : ℕ) → h.parameters.encoding.address_size ≡ size → (b c : Bool) → (nat_eq size 1 || nat_eq size 2 || nat_eq size 3 || nat_eq size 4 || nat_eq size 8) ≡ b → nat_lt a (256 ^ size) ≡ c
-          → (let r : Result (List ℕ) Error = if b then (if c then Ok (number_bytes notation.big size a) else Err ValueTooLarge) else Err (UnsupportedWordSize size) in seen (λ operand. 0 ∷ uleb (size + 1) ++ 2 ∷ operand) r) ≡ Ok bytes → Operand a bytes
+          → (let r : Result (List ℕ) Error = if b then (if c then Ok (number_bytes notation.big size a) else Err ValueTooLarge) else Err (UnsupportedWordSize size) in result_map (λ operand. 0 ∷ uleb (size + 1) ++ 2 ∷ operand) r) ≡ Ok bytes → Operand a bytes
       tested size same true true t u is =
           let written : 0 ∷ uleb (size + 1) ++ 2 ∷ number_bytes notation.big size a ≡ bytes = cc in
           (size, same, sized size t, ltb-true a (256 ^ size) u, sym written)

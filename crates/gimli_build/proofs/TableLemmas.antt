@@ -19,7 +19,7 @@ use Rattle.gimli_build.specs.declared.built.line_string.LineString.TheVariants.{
 use Rattle.gimli_build.specs.declared.built.files.FileInfo.{FileInfo}
 use Rattle.gimli_build.specs.contracts.built.line_string.LineStringPartialEq.TheImpl.{ghosts}
 use Rattle.gimli_build.specs.LineText.{LineText, Inline, InStrings, InLineStrings, line_text, line_text_eq, HasNoZero}
-use Rattle.gimli_build.specs.Tables.{with_directory, place_of_directory, FileKey, Details, no_details, File, key_eq, has_file, place_of_file, with_details, with_file, keys_of, Keeps, AreTables, numbered}
+use Rattle.gimli_build.specs.Tables.{with_directory, index_of_directory, FileKey, Details, no_details, File, key_eq, has_file, index_of_file, with_details, with_file, keys_of, Keeps, AreTables, with_indexes}
 use Rattle.gimli_build.specs.TablesInside.{details, key, directories_of, files_of}
 
 -- ---- texts
@@ -58,8 +58,8 @@ any-map p h [] = refl
 any-map p h (k ∷ ks) = ap (λ b. p (h k) || b) (any-map p h ks)
 
 -- what a place that a search gave is
-pub place_found : {A : Type 0} (p : A → Bool) (ks : List A) (i : ℕ) → Some i ≡ position p ks → i ≡ position_or_len p ks
-place_found p ks i e = by (nat_lt (position_or_len p ks) (length ks)) e
+pub index_found : {A : Type 0} (p : A → Bool) (ks : List A) (i : ℕ) → Some i ≡ position p ks → i ≡ position_or_len p ks
+index_found p ks i e = by (nat_lt (position_or_len p ks) (length ks)) e
   where
     by : (b : Bool) → Some i ≡ cond b (Some (position_or_len p ks)) None → i ≡ position_or_len p ks
     by true h = cc
@@ -79,9 +79,9 @@ directories_insert ks k =
     by true = refl
     by false = map-append line_text ks (k ∷ [])
 
-pub directory_place : (ks : List LineString) (k : LineString) → position_or_len (ghosts.eq k) ks ≡ place_of_directory (directories_of ks) (line_text k)
-directory_place [] k = refl
-directory_place (x ∷ xs) k = λ i. cond (not (line_eq k x i)) (1 + directory_place xs k i) 0
+pub index_of_equal_directory : (ks : List LineString) (k : LineString) → position_or_len (ghosts.eq k) ks ≡ index_of_directory (directories_of ks) (line_text k)
+index_of_equal_directory [] k = refl
+index_of_equal_directory (x ∷ xs) k = λ i. cond (not (line_eq k x i)) (1 + index_of_equal_directory xs k i) 0
 
 pub with_directory-AreTables : (ds : List LineText) (ks : List FileKey) (t : LineText) → AreTables ds ks → HasNoZero t → AreTables (with_directory ds t) ks
 with_directory-AreTables ds ks t so clean = by (list_any (line_text_eq t) ds) refl
@@ -123,20 +123,20 @@ files_insert (e ∷ es) k v =
     one : (n : ℕ) → with_details ((key e.0, details e.1) ∷ files_of es) (1 + n) (details v) ≡ (key e.0, details e.1) ∷ with_details (files_of es) n (details v)
     one n = let h : 1 + n ≡ suc n = omega arith in ap (λ (m : ℕ). with_details ((key e.0, details e.1) ∷ files_of es) m (details v)) h
 
-    joined : (b there : Bool) → (if b then (key e.0, details v) ∷ files_of es else (key e.0, details e.1) ∷ (if there then with_details (files_of es) (place_of_file (files_of es) (key k)) (details v) else files_of es ++ (key k, details v) ∷ []))
-        ≡ (if b || there then with_details ((key e.0, details e.1) ∷ files_of es) (cond (not b) (1 + place_of_file (files_of es) (key k)) 0) (details v) else (key e.0, details e.1) ∷ files_of es ++ (key k, details v) ∷ [])
+    joined : (b there : Bool) → (if b then (key e.0, details v) ∷ files_of es else (key e.0, details e.1) ∷ (if there then with_details (files_of es) (index_of_file (files_of es) (key k)) (details v) else files_of es ++ (key k, details v) ∷ []))
+        ≡ (if b || there then with_details ((key e.0, details e.1) ∷ files_of es) (cond (not b) (1 + index_of_file (files_of es) (key k)) 0) (details v) else (key e.0, details e.1) ∷ files_of es ++ (key k, details v) ∷ [])
     joined true true = refl
     joined true false = refl
-    joined false true = sym (one (place_of_file (files_of es) (key k)))
+    joined false true = sym (one (index_of_file (files_of es) (key k)))
     joined false false = refl
 
 pub any-files : (k : LineString × ℕ) (es : List ((LineString × ℕ) × FileInfo)) → list_any (pair_eq k) (map (λ e. e.0) es) ≡ has_file (files_of es) (key k)
 any-files k [] = refl
 any-files k (e ∷ es) = λ i. pair_eq-is k e.0 i || any-files k es i
 
-pub file_place : (es : List ((LineString × ℕ) × FileInfo)) (k : LineString × ℕ) → position_or_len (pair_eq k) (map (λ e. e.0) es) ≡ place_of_file (files_of es) (key k)
-file_place [] k = refl
-file_place (e ∷ es) k = λ i. cond (not (pair_eq-is k e.0 i)) (1 + file_place es k i) 0
+pub index_of_equal_file : (es : List ((LineString × ℕ) × FileInfo)) (k : LineString × ℕ) → position_or_len (pair_eq k) (map (λ e. e.0) es) ≡ index_of_file (files_of es) (key k)
+index_of_equal_file [] k = refl
+index_of_equal_file (e ∷ es) k = λ i. cond (not (pair_eq-is k e.0 i)) (1 + index_of_equal_file es k i) 0
 
 -- a search found a file, or none
 pub file_found : (es : List ((LineString × ℕ) × FileInfo)) (k : LineString × ℕ) (b : Bool) → b ≡ is_some (lookup (pair_eq k) es) → has_file (files_of es) (key k) ≡ b
@@ -149,7 +149,7 @@ with_file-kept files k h = ap (λ b. if b then files else files ++ (k, no_detail
 -- a new file has no details, where none are handed
 pub with_file-new : (files : List File) (k : FileKey) → has_file files k ≡ false → with_file files k (Some no_details) ≡ with_file files k None
 with_file-new files k h =
-    ap (λ b. if b then with_details files (place_of_file files k) no_details else files ++ (k, no_details) ∷ []) h
+    ap (λ b. if b then with_details files (index_of_file files k) no_details else files ++ (k, no_details) ∷ []) h
     ∙ ap (λ b. if b then files else files ++ (k, no_details) ∷ []) (sym h)
 
 pub keys-with_details : (files : List File) (i : ℕ) (d : Details) → keys_of (with_details files i d) ≡ keys_of files
@@ -164,8 +164,8 @@ with_file-AreTables ds files k d so clean within = by (has_file files k) refl
     absent : has_file files k ≡ false → list_any (key_eq k) (keys_of files) ≡ false
     absent h = any-map (key_eq k) (λ f. f.0) files ∙ h
 
-    by : (b : Bool) → has_file files k ≡ b → AreTables ds (keys_of (if b then with_details files (place_of_file files k) d else files ++ (k, d) ∷ []))
-    by true h = rw (keys-with_details files (place_of_file files k) d) so
+    by : (b : Bool) → has_file files k ≡ b → AreTables ds (keys_of (if b then with_details files (index_of_file files k) d else files ++ (k, d) ∷ []))
+    by true h = rw (keys-with_details files (index_of_file files k) d) so
     by false h = rw (map-append (λ (f : File). f.0) files ((k, d) ∷ [])) (record {
       distinct_directories = so.distinct_directories;
       directories_end = so.directories_end;
@@ -192,9 +192,9 @@ written-AreTables ds es n v so = rw (files_with es n v) (rw (keys-with_details (
 -- ---- a walk over the files
 
 pub numbered_more : (es : List ((LineString × ℕ) × FileInfo)) (i j : ℕ) (e : (LineString × ℕ) × FileInfo) → slice_get es i ≡ Some e
-    → numbered j (drop i (files_of es)) ≡ (j, line_text e.0.0, e.0.1) ∷ numbered (j + 1) (drop (i + 1) (files_of es))
+    → with_indexes j (drop i (files_of es)) ≡ (j, line_text e.0.0, e.0.1) ∷ with_indexes (j + 1) (drop (i + 1) (files_of es))
 numbered_more [] i j e h = cc
-numbered_more (x ∷ xs) zero j e h = let s : x ≡ e = cc in ap (λ (k : (LineString × ℕ) × FileInfo). (j, line_text k.0.0, k.0.1) ∷ numbered (j + 1) (files_of xs)) s
+numbered_more (x ∷ xs) zero j e h = let s : x ≡ e = cc in ap (λ (k : (LineString × ℕ) × FileInfo). (j, line_text k.0.0, k.0.1) ∷ with_indexes (j + 1) (files_of xs)) s
 numbered_more (x ∷ xs) (suc n) j e h = rw suc_add (numbered_more xs n j e h)
 
 -- ---- clones
@@ -218,8 +218,8 @@ files_cloned (e ∷ es) (f ∷ fs) z = λ i. ((z.0.0.0 i, z.0.0.1 i), z.0.1 i) �
 pub keys-with_file : (files : List File) (k : FileKey) (given : Option Details) → keys_of (with_file files k given) ≡ (if has_file files k then keys_of files else keys_of files ++ k ∷ [])
 keys-with_file files k given = by (has_file files k) given
   where
-    by : (b : Bool) (given : Option Details) → keys_of (if b then (elim given [ Some d ↦ with_details files (place_of_file files k) d | None ↦ files ]) else files ++ (k, unwrap_or given no_details) ∷ []) ≡ (if b then keys_of files else keys_of files ++ k ∷ [])
-    by true (Some d) = keys-with_details files (place_of_file files k) d
+    by : (b : Bool) (given : Option Details) → keys_of (if b then (elim given [ Some d ↦ with_details files (index_of_file files k) d | None ↦ files ]) else files ++ (k, unwrap_or given no_details) ∷ []) ≡ (if b then keys_of files else keys_of files ++ k ∷ [])
+    by true (Some d) = keys-with_details files (index_of_file files k) d
     by true None = refl
     by false given = map-append (λ (f : File). f.0) files ((k, unwrap_or given no_details) ∷ [])
 
@@ -270,16 +270,16 @@ found eq tells xs x = by (list_any (eq x) xs) refl
     by true h = found_there eq tells xs x h
     by false h = found_new eq xs x h
 
-pub directory_found : (ds : List LineText) (t : LineText) → slice_get (with_directory ds t) (place_of_directory ds t) ≡ Some t
+pub directory_found : (ds : List LineText) (t : LineText) → slice_get (with_directory ds t) (index_of_directory ds t) ≡ Some t
 directory_found ds t = found line_text_eq line_text_eq-tells ds t
 
-place_of_key : (files : List File) (k : FileKey) → place_of_file files k ≡ position_or_len (key_eq k) (keys_of files)
-place_of_key [] k = refl
-place_of_key (f ∷ files) k = ap (λ n. cond (not (key_eq k f.0)) (1 + n) 0) (place_of_key files k)
+index_of_key : (files : List File) (k : FileKey) → index_of_file files k ≡ position_or_len (key_eq k) (keys_of files)
+index_of_key [] k = refl
+index_of_key (f ∷ files) k = ap (λ n. cond (not (key_eq k f.0)) (1 + n) 0) (index_of_key files k)
 
-pub file_found_at : (files : List File) (k : FileKey) (given : Option Details) → slice_get (keys_of (with_file files k given)) (place_of_file files k) ≡ Some k
+pub file_found_at : (files : List File) (k : FileKey) (given : Option Details) → slice_get (keys_of (with_file files k given)) (index_of_file files k) ≡ Some k
 file_found_at files k given =
-    rw (keys-with_file files k given, place_of_key files k, ← any-map (key_eq k) (λ (f : File). f.0) files) (found key_eq key_eq-tells (keys_of files) k)
+    rw (keys-with_file files k given, index_of_key files k, ← any-map (key_eq k) (λ (f : File). f.0) files) (found key_eq key_eq-tells (keys_of files) k)
 
 pub some_within : {A : Type 0} (xs : List A) (i : ℕ) (x : A) → slice_get xs i ≡ Some x → i < length xs
 some_within [] i x h = absurd cc
@@ -310,10 +310,10 @@ with_details-others (f ∷ files) zero d (suc i) h = refl
 with_details-others (f ∷ files) (suc n) d zero h = refl
 with_details-others (f ∷ files) (suc n) d (suc i) h = with_details-others files n d i (λ e. h (ap suc e))
 
-pub file_others : (files : List File) (k : FileKey) (given : Option Details) (i : ℕ) → i < length files → i ≢ place_of_file files k → slice_get (with_file files k given) i ≡ slice_get files i
+pub file_others : (files : List File) (k : FileKey) (given : Option Details) (i : ℕ) → i < length files → i ≢ index_of_file files k → slice_get (with_file files k given) i ≡ slice_get files i
 file_others files k given i short other = by (has_file files k) given
   where
-    by : (b : Bool) (given : Option Details) → slice_get (if b then (elim given [ Some d ↦ with_details files (place_of_file files k) d | None ↦ files ]) else files ++ (k, unwrap_or given no_details) ∷ []) i ≡ slice_get files i
-    by true (Some d) = with_details-others files (place_of_file files k) d i other
+    by : (b : Bool) (given : Option Details) → slice_get (if b then (elim given [ Some d ↦ with_details files (index_of_file files k) d | None ↦ files ]) else files ++ (k, unwrap_or given no_details) ∷ []) i ≡ slice_get files i
+    by true (Some d) = with_details-others files (index_of_file files k) d i other
     by true None = refl
     by false given = slice_get-kept files ((k, unwrap_or given no_details) ∷ []) i short

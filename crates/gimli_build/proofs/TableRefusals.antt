@@ -9,7 +9,7 @@ use Rattle.gimli_bytes.specs.declared.error.Error.TheVariants.{LineStringFormMis
 use Rattle.gimli_build.specs.LineText.{LineText, Inline, InStrings, InLineStrings}
 use Rattle.gimli_build.specs.Tables.{File}
 use Rattle.gimli_build.specs.Built.{Built}
-use Rattle.gimli_build.specs.Joined.{joined, joined_parts}
+use Rattle.gimli_build.specs.Joined.{result_append, result_concat}
 use Rattle.gimli_build.specs.Version4Tables.{name_bytes, directories_bytes, file_bytes, files_bytes}
 use Rattle.gimli_build.specs.Version5Tables.{text_form, first_form, path_texts, sources, empty_text, directory_formats, file_formats, formats_bytes, detail_bytes, text_bytes, text_in_form, directory_table_bytes, source_bytes, file_entry_bytes, file_table_bytes}
 use Rattle.gimli_build.specs.Unit.{tables_bytes}
@@ -35,8 +35,8 @@ module _ (format : Format) (strings line_strings : List (List ℕ)) where
 
   directories-refusal : (directories : List LineText) → refusal (directories_bytes directories) ≡ first_of (map name_cause (drop 1 directories))
   directories-refusal directories =
-      joined-refusal (joined_parts name_bytes (drop 1 directories)) (Ok (0 ∷ []))
-      ∙ first_before_none (refusal (joined_parts name_bytes (drop 1 directories)))
+      joined-refusal (result_concat name_bytes (drop 1 directories)) (Ok (0 ∷ []))
+      ∙ first_before_none (refusal (result_concat name_bytes (drop 1 directories)))
       ∙ parts-refusal name_bytes name_cause name-refusal (drop 1 directories)
 
   file-refusal : (f : File) → refusal (file_bytes f) ≡ name_cause f.0.0
@@ -47,13 +47,13 @@ module _ (format : Format) (strings line_strings : List (List ℕ)) where
 
   files-refusal : (files : List File) → refusal (files_bytes files) ≡ first_of (map name_cause (path_texts files))
   files-refusal files =
-      joined-refusal (joined_parts file_bytes files) (Ok (0 ∷ []))
-      ∙ first_before_none (refusal (joined_parts file_bytes files))
+      joined-refusal (result_concat file_bytes files) (Ok (0 ∷ []))
+      ∙ first_before_none (refusal (result_concat file_bytes files))
       ∙ parts-refusal file_bytes (λ (f : File). name_cause f.0.0) file-refusal files
       ∙ sym (causes_map name_cause (λ (f : File). f.0.0) files)
 
   old-refusal : (directories : List LineText) (files : List File)
-      → refusal (joined (directories_bytes directories) (files_bytes files))
+      → refusal (result_append (directories_bytes directories) (files_bytes files))
       ≡ first_of (map cause_of (map (λ (t : LineText). (0x08, t)) (drop 1 directories ++ path_texts files)))
   old-refusal directories files =
       let named = drop 1 directories in
@@ -89,8 +89,8 @@ module _ (format : Format) (strings line_strings : List (List ℕ)) where
 -- ---- tables of version 5
 
 -- what can't be refused stands first
-behind-refusal : (first : List ℕ) (rest : Result (List ℕ) Error) (cause : Option Error) → refusal rest ≡ cause → refusal (joined (Ok first) rest) ≡ cause
-behind-refusal first rest cause h = joined-refusal (Ok first) rest ∙ h
+after-refusal : (first : List ℕ) (rest : Result (List ℕ) Error) (cause : Option Error) → refusal rest ≡ cause → refusal (result_append (Ok first) rest) ≡ cause
+after-refusal first rest cause h = joined-refusal (Ok first) rest ∙ h
 
 module _ (big : Bool) (p : Built) (strings line_strings : List (List ℕ)) where
   abbrev own_cause : ℕ × LineText → Option Error
@@ -106,10 +106,10 @@ module _ (big : Bool) (p : Built) (strings line_strings : List (List ℕ)) where
       let path = text_in_form big format strings line_strings path_form f.0.0 in
       let written = source_bytes big format strings line_strings p f in
       let details = Ok (detail_bytes p f) in
-      joined-refusal path (joined details written)
-      ∙ ap (λ (c : Option Error). or_first c (refusal (joined details written))) (formed-refusal format strings line_strings big path_form f.0.0)
+      joined-refusal path (result_append details written)
+      ∙ ap (λ (c : Option Error). or_first c (refusal (result_append details written))) (formed-refusal format strings line_strings big path_form f.0.0)
       ∙ ap (λ (c : Option Error). or_first (own_cause (path_form, f.0.0)) c)
-      (behind-refusal (detail_bytes p f) written (first_of (map own_cause last)) (source-refusal format strings line_strings big p.file_has_source form source))
+      (after-refusal (detail_bytes p f) written (first_of (map own_cause last)) (source-refusal format strings line_strings big p.file_has_source form source))
       ∙ sym (first_apart (own_cause (path_form, f.0.0)) (map own_cause last))
 
   directory_table-refusal : refusal (directory_table_bytes big p.encoding.format strings line_strings p)
@@ -118,7 +118,7 @@ module _ (big : Bool) (p : Built) (strings line_strings : List (List ℕ)) where
       let format = p.encoding.format in
       let form = first_form p.directories in
       let text = text_in_form big format strings line_strings form in
-      behind-refusal (formats_bytes (directory_formats p) ++ uleb (length p.directories)) (joined_parts text p.directories)
+      after-refusal (formats_bytes (directory_formats p) ++ uleb (length p.directories)) (result_concat text p.directories)
       (first_of (map own_cause (map (λ (t : LineText). (form, t)) p.directories)))
       (parts-refusal text (λ (t : LineText). own_cause (form, t)) (formed-refusal format strings line_strings big form) p.directories
       ∙ sym (causes_map own_cause (λ (t : LineText). (form, t)) p.directories))
@@ -128,12 +128,12 @@ module _ (big : Bool) (p : Built) (strings line_strings : List (List ℕ)) where
   file_table-refusal =
       let entry = file_entry_bytes big p.encoding.format strings line_strings p in
       let texts = file_texts p strings line_strings in
-      behind-refusal (formats_bytes (file_formats p) ++ uleb (length p.files)) (joined_parts entry p.files)
+      after-refusal (formats_bytes (file_formats p) ++ uleb (length p.files)) (result_concat entry p.files)
       (first_of (map own_cause (flat_map texts p.files)))
       (parts-refusal entry (λ (f : File). first_of (map own_cause (texts f))) entry-refusal p.files
       ∙ sym (causes_flat own_cause texts p.files))
 
-  new-refusal : refusal (joined (directory_table_bytes big p.encoding.format strings line_strings p) (file_table_bytes big p.encoding.format strings line_strings p))
+  new-refusal : refusal (result_append (directory_table_bytes big p.encoding.format strings line_strings p) (file_table_bytes big p.encoding.format strings line_strings p))
       ≡ first_of (map own_cause (map (λ (t : LineText). (first_form p.directories, t)) p.directories ++ flat_map (file_texts p strings line_strings) p.files))
   new-refusal =
       let directories = directory_table_bytes big p.encoding.format strings line_strings p in
@@ -150,8 +150,8 @@ module _ (big : Bool) (p : Built) (strings line_strings : List (List ℕ)) where
   -- the tables are refused for the first text that has a cause
   pub tables-refusal : refusal (tables_bytes big p strings line_strings) ≡ first_of (map own_cause (emitted_texts p strings line_strings))
   tables-refusal =
-      by (nat_le p.encoding.version 4) (joined (directories_bytes p.directories) (files_bytes p.files))
-      (joined (directory_table_bytes big p.encoding.format strings line_strings p) (file_table_bytes big p.encoding.format strings line_strings p))
+      by (nat_le p.encoding.version 4) (result_append (directories_bytes p.directories) (files_bytes p.files))
+      (result_append (directory_table_bytes big p.encoding.format strings line_strings p) (file_table_bytes big p.encoding.format strings line_strings p))
       (map (λ (t : LineText). (0x08, t)) (drop 1 p.directories ++ path_texts p.files))
       (map (λ (t : LineText). (first_form p.directories, t)) p.directories ++ flat_map (file_texts p strings line_strings) p.files)
       (old-refusal p.encoding.format strings line_strings p.directories p.files) new-refusal

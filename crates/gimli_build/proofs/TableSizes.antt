@@ -12,7 +12,7 @@ use Rattle.gimli_bytes.specs.declared.error.Error.TheVariants.{LineStringFormMis
 use Rattle.gimli_build.specs.LineText.{LineText, Inline, InStrings, InLineStrings}
 use Rattle.gimli_build.specs.Tables.{File}
 use Rattle.gimli_build.specs.Built.{Built}
-use Rattle.gimli_build.specs.Joined.{joined, joined_parts}
+use Rattle.gimli_build.specs.Joined.{result_append, result_concat}
 use Rattle.gimli_build.specs.Version4Tables.{name_bytes, directories_bytes, file_bytes, files_bytes}
 use Rattle.gimli_build.specs.Version5Tables.{text_form, first_form, path_texts, sources, empty_text, directory_formats, file_formats, formats_bytes, detail_bytes, text_bytes, text_in_form, directory_table_bytes, source_bytes, file_entry_bytes, file_table_bytes}
 use Rattle.gimli_build.specs.Unit.{tables_bytes}
@@ -29,7 +29,7 @@ name_size format (InLineStrings i) = size_of_none LineStringFormMismatch (word_s
 
 directories_size : (format : Format) (directories : List LineText) → HasSize (directories_bytes directories) (sum_by (text_size format) (drop 1 directories) + 1)
 directories_size format directories =
-    size_joined (joined_parts name_bytes (drop 1 directories)) (Ok (0 ∷ [])) (sum_by (text_size format) (drop 1 directories)) 1
+    size_joined (result_concat name_bytes (drop 1 directories)) (Ok (0 ∷ [])) (sum_by (text_size format) (drop 1 directories)) 1
     (size_parts name_bytes (text_size format) (name_size format) (drop 1 directories)) (size_of_ok (0 ∷ []))
 
 three_lengths : (a b c : List ℕ) (n : ℕ) → n + length (a ++ b ++ c) ≡ n + length a + length b + length c
@@ -47,7 +47,7 @@ one_file_size format f =
 
 files_size : (format : Format) (files : List File) → HasSize (files_bytes files) (sum_by (file_size format) files + 1)
 files_size format files =
-    size_joined (joined_parts file_bytes files) (Ok (0 ∷ [])) (sum_by (file_size format) files) 1
+    size_joined (result_concat file_bytes files) (Ok (0 ∷ [])) (sum_by (file_size format) files) 1
     (size_parts file_bytes (file_size format) (one_file_size format) files) (size_of_ok (0 ∷ []))
 
 -- ---- texts of version 5
@@ -81,9 +81,9 @@ module _ (big : Bool) (format : Format) (strings line_strings : List (List ℕ))
 
 -- formats and a number, and what stands after them
 prefixed_size : (formats number : List ℕ) (rest : Result (List ℕ) Error) (n : ℕ) → HasSize rest n
-    → HasSize (joined (Ok (formats ++ number)) rest) (length formats + length number + n)
+    → HasSize (result_append (Ok (formats ++ number)) rest) (length formats + length number + n)
 prefixed_size formats number rest n size =
-    size_as (joined (Ok (formats ++ number)) rest) (length (formats ++ number) + n) (length formats + length number + n)
+    size_as (result_append (Ok (formats ++ number)) rest) (length (formats ++ number) + n) (length formats + length number + n)
     (ap (λ (k : ℕ). k + n) (length-append formats number))
     (size_joined (Ok (formats ++ number)) rest (length (formats ++ number)) n (size_of_ok (formats ++ number)) size)
 
@@ -103,7 +103,7 @@ module _ (big : Bool) (p : Built) (strings line_strings : List (List ℕ)) where
       let written = source_bytes big format strings line_strings p f in
       size_as (file_entry_bytes big format strings line_strings p f) (path + (details + sum_by sized last)) (entry_size p strings line_strings f)
       (path_first path details (sum_by sized last) ∙ ap (λ (k : ℕ). k + details) (sym (sum_by-cons sized (first_form (path_texts p.files), f.0.0) last)))
-      (size_joined (text_in_form big format strings line_strings (first_form (path_texts p.files)) f.0.0) (joined (Ok (detail_bytes p f)) written) path (details + sum_by sized last)
+      (size_joined (text_in_form big format strings line_strings (first_form (path_texts p.files)) f.0.0) (result_append (Ok (detail_bytes p f)) written) path (details + sum_by sized last)
       (formed_size big format strings line_strings (first_form (path_texts p.files)) f.0.0)
       (size_joined (Ok (detail_bytes p f)) written details (sum_by sized last) (size_of_ok (detail_bytes p f))
       (source_size big format strings line_strings p.file_has_source form source)))
@@ -114,14 +114,14 @@ module _ (big : Bool) (p : Built) (strings line_strings : List (List ℕ)) where
       let format = p.encoding.format in
       let form = first_form p.directories in
       prefixed_size (formats_bytes (directory_formats p)) (uleb (length p.directories))
-      (joined_parts (text_in_form big format strings line_strings form) p.directories) (sum_by (text_size format) p.directories)
+      (result_concat (text_in_form big format strings line_strings form) p.directories) (sum_by (text_size format) p.directories)
       (size_parts (text_in_form big format strings line_strings form) (text_size format) (formed_size big format strings line_strings form) p.directories)
 
   file_table_size : HasSize (file_table_bytes big p.encoding.format strings line_strings p)
       (length (formats_bytes (file_formats p)) + length (uleb (length p.files)) + sum_by (entry_size p strings line_strings) p.files)
   file_table_size =
       let entry = file_entry_bytes big p.encoding.format strings line_strings p in
-      prefixed_size (formats_bytes (file_formats p)) (uleb (length p.files)) (joined_parts entry p.files) (sum_by (entry_size p strings line_strings) p.files)
+      prefixed_size (formats_bytes (file_formats p)) (uleb (length p.files)) (result_concat entry p.files) (sum_by (entry_size p strings line_strings) p.files)
       (size_parts entry (entry_size p strings line_strings) one_entry_size p.files)
 
   -- ---- both
@@ -136,7 +136,7 @@ module _ (big : Bool) (p : Built) (strings line_strings : List (List ℕ)) where
       let files = length (formats_bytes (file_formats p)) + length (uleb (length p.files)) + sum_by (entry_size p strings line_strings) p.files in
       let directory_table = directory_table_bytes big format strings line_strings p in
       let file_table = file_table_bytes big format strings line_strings p in
-      size_either (nat_le p.encoding.version 4) (joined (directories_bytes p.directories) (files_bytes p.files)) (joined directory_table file_table)
+      size_either (nat_le p.encoding.version 4) (result_append (directories_bytes p.directories) (files_bytes p.files)) (result_append directory_table file_table)
       (old_directories + old_files) (directories + files)
       (size_joined (directories_bytes p.directories) (files_bytes p.files) old_directories old_files (directories_size format p.directories) (files_size format p.files))
       (size_joined directory_table file_table directories files directory_table_size file_table_size)

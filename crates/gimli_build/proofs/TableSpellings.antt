@@ -13,7 +13,7 @@ use Rattle.gimli_line.specs.header.File.{File as ReadFile}
 use Rattle.gimli_line.specs.header.HeaderGrammar.{SpellsPaths, SpellsFiles, file_production}
 use Rattle.gimli_build.specs.LineText.{LineText, Inline, InStrings, InLineStrings, bytes_in, HasNoZero, IsNotEmpty}
 use Rattle.gimli_build.specs.Tables.{File, FitsFile, keys_of}
-use Rattle.gimli_build.specs.Joined.{joined_parts}
+use Rattle.gimli_build.specs.Joined.{result_concat}
 use Rattle.gimli_build.specs.Version4Tables.{name_bytes, directories_bytes, file_bytes, files_bytes}
 use Rattle.gimli_build.proofs.WrittenParts.{same_written, both_written, before_written}
 
@@ -29,17 +29,17 @@ module _ (strings line_strings : List (List ℕ)) where
 
   -- ---- directories
 
-  names_spelled : (ts : List LineText) (bytes : List ℕ) → All IsNotEmpty ts → All HasNoZero ts → joined_parts name_bytes ts ≡ Ok bytes → Each name.Spells bytes (map (bytes_in strings line_strings) ts)
+  names_spelled : (ts : List LineText) (bytes : List ℕ) → All IsNotEmpty ts → All HasNoZero ts → result_concat name_bytes ts ≡ Ok bytes → Each name.Spells bytes (map (bytes_in strings line_strings) ts)
   names_spelled [] bytes some clean is = same_written [] bytes is
   names_spelled (t ∷ ts) bytes some clean is =
-      let b = both_written (name_bytes t) (joined_parts name_bytes ts) bytes is in
+      let b = both_written (name_bytes t) (result_concat name_bytes ts) bytes is in
       let own = name_spelled t b.first (All-head IsNotEmpty t ts some) (All-head HasNoZero t ts clean) b.first_is in
       (b.first, b.rest, b.whole, own, names_spelled ts b.rest (All-tail IsNotEmpty t ts some) (All-tail HasNoZero t ts clean) b.rest_is)
 
   pub directories-spelled : (ds : List LineText) (bytes : List ℕ) → All IsNotEmpty (drop 1 ds) → All HasNoZero (drop 1 ds) → directories_bytes ds ≡ Ok bytes
       → SpellsPaths bytes (map (bytes_in strings line_strings) (drop 1 ds))
   directories-spelled ds bytes some clean is =
-      let b = before_written (joined_parts name_bytes (drop 1 ds)) (0 ∷ []) bytes is in
+      let b = before_written (result_concat name_bytes (drop 1 ds)) (0 ∷ []) bytes is in
       (b.front, b.whole, names_spelled (drop 1 ds) b.front some clean b.front_is)
 
   -- ---- files
@@ -77,11 +77,11 @@ module _ (strings line_strings : List (List ℕ)) where
       let numbers = numbers_spelled path f.0.1 f.1.timestamp f.1.size fits.directory fits.timestamp fits.size in
       (path, b.front, uleb f.0.1 ++ uleb f.1.timestamp ++ uleb f.1.size, b.whole, name_spelled f.0.0 b.front some clean b.front_is, numbers)
 
-  each_file_spelled : (fs : List File) (bytes : List ℕ) → All (λ k. IsNotEmpty k.0) (keys_of fs) → All (λ k. HasNoZero k.0) (keys_of fs) → All FitsFile fs → joined_parts file_bytes fs ≡ Ok bytes
+  each_file_spelled : (fs : List File) (bytes : List ℕ) → All (λ k. IsNotEmpty k.0) (keys_of fs) → All (λ k. HasNoZero k.0) (keys_of fs) → All FitsFile fs → result_concat file_bytes fs ≡ Ok bytes
       → Each entry_production.Spells bytes (map read_file fs)
   each_file_spelled [] bytes some clean fits is = same_written [] bytes is
   each_file_spelled (f ∷ fs) bytes some clean fits is =
-      let b = both_written (file_bytes f) (joined_parts file_bytes fs) bytes is in
+      let b = both_written (file_bytes f) (result_concat file_bytes fs) bytes is in
       let own = file_spelled f b.first (All-head (λ k. IsNotEmpty k.0) f.0 (keys_of fs) some) (All-head (λ k. HasNoZero k.0) f.0 (keys_of fs) clean) (All-head FitsFile f fs fits) b.first_is in
       let rest = each_file_spelled fs b.rest (All-tail (λ k. IsNotEmpty k.0) f.0 (keys_of fs) some) (All-tail (λ k. HasNoZero k.0) f.0 (keys_of fs) clean) (All-tail FitsFile f fs fits) b.rest_is in
       (b.first, b.rest, b.whole, own, rest)
@@ -89,5 +89,5 @@ module _ (strings line_strings : List (List ℕ)) where
   pub files-spelled : (fs : List File) (bytes : List ℕ) → All (λ k. IsNotEmpty k.0) (keys_of fs) → All (λ k. HasNoZero k.0) (keys_of fs) → All FitsFile fs → files_bytes fs ≡ Ok bytes
       → SpellsFiles bytes (map read_file fs)
   files-spelled fs bytes some clean fits is =
-      let b = before_written (joined_parts file_bytes fs) (0 ∷ []) bytes is in
+      let b = before_written (result_concat file_bytes fs) (0 ∷ []) bytes is in
       (b.front, b.whole, each_file_spelled fs b.front some clean fits b.front_is)

@@ -13,16 +13,16 @@ use Rattle.gimli_bytes.specs.Texts.{AreTexts, table_bytes}
 use Rattle.gimli_bytes.specs.declared.error.Error.{Error}
 use Rattle.gimli_line.specs.header.Header.{UnitEntry}
 use Rattle.gimli_line.specs.header.File.{File as ReadFile}
-use Rattle.gimli_line.specs.header.HeaderGrammar.{path_of, file_of_entry, taken, directory_table, file_table}
+use Rattle.gimli_line.specs.header.HeaderGrammar.{path_of, file_of_entry, handed_value, directory_table, file_table}
 use Rattle.gimli_line.specs.declared.header.file_entry.FileEntryFormat.{FileEntryFormat}
 use Rattle.gimli_build.specs.LineText.{LineText, bytes_in, HasNoZero}
 use Rattle.gimli_build.specs.Tables.{File, Details}
 use Rattle.gimli_build.specs.Texts.{Sections, OneByOne}
-use Rattle.gimli_build.specs.Stored.{Stored, stored}
+use Rattle.gimli_build.specs.Stored.{Stored, stored_details}
 use Rattle.gimli_build.specs.Built.{Built}
 use Rattle.gimli_build.specs.Conditions.{IsBuilt}
 use Rattle.gimli_build.specs.ReadsBack.{IsDirectory, IsFile}
-use Rattle.gimli_build.specs.Joined.{joined}
+use Rattle.gimli_build.specs.Joined.{result_append}
 use Rattle.gimli_build.specs.Version4Tables.{directories_bytes, files_bytes}
 use Rattle.gimli_build.specs.Version5Tables.{directory_formats, file_formats, directory_table_bytes, file_table_bytes}
 use Rattle.gimli_build.specs.Unit.{tables_bytes}
@@ -36,7 +36,7 @@ use Rattle.gimli_build.proofs.Version5TableSpellings.{directory_entry, file_entr
 
 -- the directories from index 0 on: up to version 4 the one that was handed is the first
 abbrev from_zero : Built → UnitEntry → List Value → List Value
-from_zero p unit_entry directories = if nat_le p.encoding.version 4 then option_to_list (option_map String (taken p.encoding unit_entry.directory)) ++ directories else directories
+from_zero p unit_entry directories = if nat_le p.encoding.version 4 then option_to_list (option_map String (handed_value p.encoding unit_entry.directory)) ++ directories else directories
 
 abbrev formats_of_directories : Built → List (ℕ × ℕ)
 formats_of_directories p = directory_formats p
@@ -79,7 +79,7 @@ module _ (sections : Sections) (strings line_strings : List (List ℕ)) where
   handed_back (d ∷ ds) some = (refl, texts_back ds)
 
   -- what a file keeps
-  stored_old : (p : Built) (d : Details) → nat_le p.encoding.version 4 ≡ true → stored p strings line_strings d ≡ record { timestamp = d.timestamp; size = d.size; md5 = replicate 16 0; source = None }
+  stored_old : (p : Built) (d : Details) → nat_le p.encoding.version 4 ≡ true → stored_details p strings line_strings d ≡ record { timestamp = d.timestamp; size = d.size; md5 = replicate 16 0; source = None }
   stored_old p d old = rw old refl
 
   file_back : (p : Built) (f : File) → nat_le p.encoding.version 4 ≡ true → IsFile sections p strings line_strings (read_file strings line_strings f) f
@@ -117,7 +117,7 @@ module _ (notation : Notation) (unit_entry : UnitEntry) (sections : Sections) (p
     old_back known = rw (old, known) (handed_back sections strings line_strings p.directories (built.is.working_dir refl))
 
     old_tables : (bytes : List ℕ) → unit_entry.directory ≡ option_map (bytes_in strings line_strings) (slice_get p.directories 0)
-        → joined (directories_bytes p.directories) (files_bytes p.files) ≡ Ok bytes → TablesBack notation unit_entry sections p strings line_strings bytes
+        → result_append (directories_bytes p.directories) (files_bytes p.files) ≡ Ok bytes → TablesBack notation unit_entry sections p strings line_strings bytes
     old_tables bytes known is =
         let b = both_written (directories_bytes p.directories) (files_bytes p.files) bytes is in
         record {
@@ -159,7 +159,7 @@ module _ (notation : Notation) (unit_entry : UnitEntry) (sections : Sections) (p
     new_back = rw new (new-directories-back sections p strings line_strings strings_are line_strings_are texts line_texts p.directories ready.directories)
 
     new_tables : (bytes : List ℕ) → length bytes < 2 ^ 64
-        → joined (directory_table_bytes notation.big p.encoding.format strings line_strings p) (file_table_bytes notation.big p.encoding.format strings line_strings p) ≡ Ok bytes
+        → result_append (directory_table_bytes notation.big p.encoding.format strings line_strings p) (file_table_bytes notation.big p.encoding.format strings line_strings p) ≡ Ok bytes
         → TablesBack notation unit_entry sections p strings line_strings bytes
     new_tables bytes small is =
         let b = both_written (directory_table_bytes notation.big p.encoding.format strings line_strings p) (file_table_bytes notation.big p.encoding.format strings line_strings p) bytes is in
@@ -196,11 +196,11 @@ module _ (notation : Notation) (unit_entry : UnitEntry) (sections : Sections) (p
 
   pub tables-back : (bytes : List ℕ) → AreReadWell → length bytes < 2 ^ 64 → tables_bytes notation.big p strings line_strings ≡ Ok bytes → TablesBack notation unit_entry sections p strings line_strings bytes
   tables-back bytes well small is =
-      by (nat_le p.encoding.version 4) refl (joined (directories_bytes p.directories) (files_bytes p.files))
-      (joined (directory_table_bytes notation.big p.encoding.format strings line_strings p) (file_table_bytes notation.big p.encoding.format strings line_strings p)) refl refl is
+      by (nat_le p.encoding.version 4) refl (result_append (directories_bytes p.directories) (files_bytes p.files))
+      (result_append (directory_table_bytes notation.big p.encoding.format strings line_strings p) (file_table_bytes notation.big p.encoding.format strings line_strings p)) refl refl is
     where
-      by : (b : Bool) → nat_le p.encoding.version 4 ≡ b → (r s : Result (List ℕ) Error) → r ≡ joined (directories_bytes p.directories) (files_bytes p.files)
-          → s ≡ joined (directory_table_bytes notation.big p.encoding.format strings line_strings p) (file_table_bytes notation.big p.encoding.format strings line_strings p)
+      by : (b : Bool) → nat_le p.encoding.version 4 ≡ b → (r s : Result (List ℕ) Error) → r ≡ result_append (directories_bytes p.directories) (files_bytes p.files)
+          → s ≡ result_append (directory_table_bytes notation.big p.encoding.format strings line_strings p) (file_table_bytes notation.big p.encoding.format strings line_strings p)
           → (if b then r else s) ≡ Ok bytes → TablesBack notation unit_entry sections p strings line_strings bytes
       by true old r s first second is = old_tables old bytes (well.directory old) (sym first ∙ is)
       by false new r s first second is =

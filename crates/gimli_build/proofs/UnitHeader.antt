@@ -14,7 +14,7 @@ use Rattle.gimli_build.specs.Texts.{Sections, OneByOne}
 use Rattle.gimli_build.specs.Built.{Built}
 use Rattle.gimli_build.specs.Conditions.{IsBuilt, CanWrite}
 use Rattle.gimli_build.specs.SameRow.{built_rules}
-use Rattle.gimli_build.specs.Version5Tables.{strings_behind, line_strings_behind}
+use Rattle.gimli_build.specs.Version5Tables.{strings_after, line_strings_after}
 use Rattle.gimli_build.specs.ReadsBack.{AreFormats, IsUnit, directories_from_zero, IsDirectory, IsFile, IsReadWell}
 use Rattle.gimli_build.specs.Unit.{operand_counts, program_bytes, whole_bytes, is_incompatible, unit_bytes}
 use Rattle.gimli_build.proofs.ReadyTexts.{tables-ready}
@@ -35,9 +35,9 @@ pub record HeaderBack (notation : Notation) (unit_entry : UnitEntry) (sections :
 
 -- a unit that is written is written whole
 pub whole_written : (big : Bool) (unit_encoding : Encoding) (p : Built) (old_strings old_line_strings : List (List ℕ)) (unit : List ℕ) → unit_bytes big unit_encoding p old_strings old_line_strings ≡ Ok unit
-    → whole_bytes big p (strings_behind p old_strings) (line_strings_behind p old_line_strings) ≡ Ok unit
+    → whole_bytes big p (strings_after p old_strings) (line_strings_after p old_line_strings) ≡ Ok unit
 whole_written big unit_encoding p old_strings old_line_strings unit is =
-    by (is_incompatible unit_encoding p.encoding) (whole_bytes big p (strings_behind p old_strings) (line_strings_behind p old_line_strings)) is
+    by (is_incompatible unit_encoding p.encoding) (whole_bytes big p (strings_after p old_strings) (line_strings_after p old_line_strings)) is
   where
     by : (b : Bool) (r : Result (List ℕ) Error) → (let s : Result (List ℕ) Error = if b then Err IncompatibleLineProgramEncoding else r in s) ≡ Ok unit → r ≡ Ok unit
     by true r is = absurd cc
@@ -64,10 +64,10 @@ module _ (notation : Notation) (unit_entry : UnitEntry) (sections : Sections) (p
       }
 
   -- how the unit is read, the tables are
-  read_well : (old_strings old_line_strings : List (List ℕ)) (unit : List ℕ) → CanWrite p old_strings old_line_strings → AreTexts (strings_behind p old_strings) → AreTexts (line_strings_behind p old_line_strings)
-      → byte_count (strings_behind p old_strings) < 2 ^ 64 → byte_count (line_strings_behind p old_line_strings) < 2 ^ 64
-      → IsReadWell notation unit_entry sections notation.big p (strings_behind p old_strings) (line_strings_behind p old_line_strings) unit
-      → AreReadWell notation unit_entry sections p (strings_behind p old_strings) (line_strings_behind p old_line_strings) built
+  read_well : (old_strings old_line_strings : List (List ℕ)) (unit : List ℕ) → CanWrite p old_strings old_line_strings → AreTexts (strings_after p old_strings) → AreTexts (line_strings_after p old_line_strings)
+      → byte_count (strings_after p old_strings) < 2 ^ 64 → byte_count (line_strings_after p old_line_strings) < 2 ^ 64
+      → IsReadWell notation unit_entry sections notation.big p (strings_after p old_strings) (line_strings_after p old_line_strings) unit
+      → AreReadWell notation unit_entry sections p (strings_after p old_strings) (line_strings_after p old_line_strings) built
   read_well old_strings old_line_strings unit can texts line_texts short line_short well = record {
     directory = λ old. well.directory (leb-true p.encoding.version 4 old);
     ready = λ new. tables-ready p old_strings old_line_strings new built can;
@@ -75,21 +75,21 @@ module _ (notation : Notation) (unit_entry : UnitEntry) (sections : Sections) (p
     line_strings_are = well.line_strings_are;
     texts = texts;
     line_texts = line_texts;
-    strings_short = rw (length-table_bytes (strings_behind p old_strings)) short;
-    line_strings_short = rw (length-table_bytes (line_strings_behind p old_line_strings)) line_short;
-    held = λ new wide. are-held notation.limit p (strings_behind p old_strings) (line_strings_behind p old_line_strings) new
+    strings_short = rw (length-table_bytes (strings_after p old_strings)) short;
+    line_strings_short = rw (length-table_bytes (line_strings_after p old_line_strings)) line_short;
+    held = λ new wide. are-held notation.limit p (strings_after p old_strings) (line_strings_after p old_line_strings) new
         (let above = leb-false p.encoding.version 4 new in well.texts_held (omega (arith, above)) wide);
   }
 
 -- a unit whose length 64 bits hold
 pub header-back : (notation : Notation) (unit_entry : UnitEntry) (sections : Sections) (big : Bool) (unit_encoding : Encoding) (p : Built) (old_strings old_line_strings : List (List ℕ)) (unit : List ℕ)
-    → length unit < 2 ^ 64 → IsBuilt p → CanWrite p old_strings old_line_strings → AreTexts (strings_behind p old_strings) → AreTexts (line_strings_behind p old_line_strings)
-    → byte_count (strings_behind p old_strings) < 2 ^ 64 → byte_count (line_strings_behind p old_line_strings) < 2 ^ 64
-    → unit_bytes big unit_encoding p old_strings old_line_strings ≡ Ok unit → IsReadWell notation unit_entry sections big p (strings_behind p old_strings) (line_strings_behind p old_line_strings) unit
-    → HeaderBack notation unit_entry sections p (strings_behind p old_strings) (line_strings_behind p old_line_strings) unit
+    → length unit < 2 ^ 64 → IsBuilt p → CanWrite p old_strings old_line_strings → AreTexts (strings_after p old_strings) → AreTexts (line_strings_after p old_line_strings)
+    → byte_count (strings_after p old_strings) < 2 ^ 64 → byte_count (line_strings_after p old_line_strings) < 2 ^ 64
+    → unit_bytes big unit_encoding p old_strings old_line_strings ≡ Ok unit → IsReadWell notation unit_entry sections big p (strings_after p old_strings) (line_strings_after p old_line_strings) unit
+    → HeaderBack notation unit_entry sections p (strings_after p old_strings) (line_strings_after p old_line_strings) unit
 header-back notation unit_entry sections big unit_encoding p old_strings old_line_strings unit small built can texts line_texts short line_short is well =
-    let strings = strings_behind p old_strings in
-    let line_strings = line_strings_behind p old_line_strings in
+    let strings = strings_after p old_strings in
+    let line_strings = line_strings_after p old_line_strings in
     let whole : whole_bytes notation.big p strings line_strings ≡ Ok unit =
     ap (λ (b : Bool). whole_bytes b p strings line_strings) well.order ∙ whole_written big unit_encoding p old_strings old_line_strings unit is in
     let same : IsReadWell notation unit_entry sections notation.big p strings line_strings unit = record {

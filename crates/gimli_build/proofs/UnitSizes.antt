@@ -8,10 +8,10 @@ use Rattle.gimli_bytes.specs.declared.error.Error.{Error}
 use Rattle.gimli_bytes.specs.declared.error.Error.TheVariants.{UnsupportedVersion, NeedVersion}
 use Rattle.gimli_build.specs.Built.{Built}
 use Rattle.gimli_build.specs.FormatWord.{format_word}
-use Rattle.gimli_build.specs.Joined.{joined}
+use Rattle.gimli_build.specs.Joined.{result_append}
 use Rattle.gimli_build.specs.Unit.{version_bytes, opening_bytes, operations_bytes, line_encoding_bytes, flag_byte, base_byte, opcode_bytes, tables_bytes, fields_bytes, header_bytes, program_bytes, inside_bytes}
 use Rattle.gimli_build.specs.Cause.{tables_size, header_length, size_of, unit_length}
-use Rattle.gimli_build.proofs.PartSizes.{HasSize, size_of_ok, size_of_none, size_as, size_tested, size_joined, size_behind, number_size, format_word_size}
+use Rattle.gimli_build.proofs.PartSizes.{HasSize, size_of_ok, size_of_none, size_as, size_tested, size_joined, size_after, number_size, format_word_size}
 use Rattle.gimli_build.proofs.TableSizes.{tables-size}
 
 -- ---- the version and what stands with it
@@ -22,7 +22,7 @@ version_size big version =
     (size_tested (nat_le 2 version && nat_le version 5) (number_bytes big 2 version) (UnsupportedVersion version))
 
 opened_size : (old : Bool) (version : Result (List ℕ) Error) (address_size : ℕ) → HasSize version 2
-    → HasSize (joined version (Ok (if old then [] else address_size ∷ 0 ∷ []))) (if old then 2 else 4)
+    → HasSize (result_append version (Ok (if old then [] else address_size ∷ 0 ∷ []))) (if old then 2 else 4)
 opened_size true version address_size size = size_joined version (Ok []) 2 0 size (size_of_ok [])
 opened_size false version address_size size = size_joined version (Ok (address_size ∷ 0 ∷ [])) 2 2 size (size_of_ok (address_size ∷ 0 ∷ []))
 
@@ -46,7 +46,7 @@ line_encoding_size version e =
     let operations = operations_bytes version e.maximum_operations_per_instruction in
     let numbers = flag_byte e.default_is_stmt ∷ base_byte e.line_base ∷ e.line_range ∷ [] in
     size_as (line_encoding_bytes version e) (1 + ((if fourth then 1 else 0) + 3)) (if fourth then 5 else 4) (encoding_count fourth)
-    (size_joined (Ok (e.minimum_instruction_length ∷ [])) (joined operations (Ok numbers)) 1 ((if fourth then 1 else 0) + 3)
+    (size_joined (Ok (e.minimum_instruction_length ∷ [])) (result_append operations (Ok numbers)) 1 ((if fourth then 1 else 0) + 3)
     (size_of_ok (e.minimum_instruction_length ∷ []))
     (size_joined operations (Ok numbers) (if fourth then 1 else 0) 3
     (operations_size fourth (nat_eq e.maximum_operations_per_instruction 1) e.maximum_operations_per_instruction) (size_of_ok numbers)))
@@ -69,7 +69,7 @@ module _ (big : Bool) (p : Built) (strings line_strings : List (List ℕ)) where
       let tables = tables_bytes big p strings line_strings in
       let count = tables_size p strings line_strings in
       size_as (fields_bytes big p strings line_strings) (encoding + (13 + count)) (header_length p strings line_strings) (three_parts encoding 13 count)
-      (size_joined (line_encoding_bytes p.encoding.version p.line_encoding) (joined (Ok opcode_bytes) tables) encoding (13 + count)
+      (size_joined (line_encoding_bytes p.encoding.version p.line_encoding) (result_append (Ok opcode_bytes) tables) encoding (13 + count)
       (line_encoding_size p.encoding.version p.line_encoding)
       (size_joined (Ok opcode_bytes) tables 13 count (size_of_ok opcode_bytes) (tables-size big p strings line_strings)))
 
@@ -78,7 +78,7 @@ module _ (big : Bool) (p : Built) (strings line_strings : List (List ℕ)) where
   header_size : HasSize (header_bytes big p strings line_strings) (word_size p.encoding.format + header_length p strings line_strings)
   header_size =
       let word = word_size p.encoding.format in
-      size_behind (λ n. format_word big p.encoding.format n) (fields_bytes big p strings line_strings) word (header_length p strings line_strings)
+      size_after (λ n. format_word big p.encoding.format n) (fields_bytes big p strings line_strings) word (header_length p strings line_strings)
       (λ n. format_word_size big p.encoding.format n) fields_size
 
   -- what the unit length counts is as long as it says
@@ -91,6 +91,6 @@ module _ (big : Bool) (p : Built) (strings line_strings : List (List ℕ)) where
       let counted = header_length p strings line_strings in
       size_as (inside_bytes big p strings line_strings) (opening + ((word + counted) + program)) (unit_length big p strings line_strings)
       (two_and_two opening word counted program)
-      (size_joined (opening_bytes big p.encoding) (joined header (program_bytes big p)) opening ((word + counted) + program)
+      (size_joined (opening_bytes big p.encoding) (result_append header (program_bytes big p)) opening ((word + counted) + program)
       (opening_size big p.encoding)
       (size_joined header (program_bytes big p) (word + counted) program header_size (own_size (program_bytes big p))))

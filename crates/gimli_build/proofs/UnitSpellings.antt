@@ -10,17 +10,17 @@ use Rattle.gimli_core.specs.declared.error.Error.TheVariants.{OpcodeBaseZero}
 use Rattle.gimli_bytes.specs.Number.{length_word}
 use Rattle.gimli_bytes.specs.declared.error.Error.{Error}
 use Rattle.gimli_line.specs.header.Header.{Header, UnitEntry, plain_file}
-use Rattle.gimli_line.specs.header.HeaderGrammar.{Opening, taken, parameters_production, opening_production, fields_production, header_production}
+use Rattle.gimli_line.specs.header.HeaderGrammar.{Opening, handed_value, parameters_production, opening_production, fields_production, header_production}
 use Rattle.gimli_build.specs.Built.{Built}
 use Rattle.gimli_build.specs.Conditions.{IsBuilt}
 use Rattle.gimli_build.specs.Texts.{Sections}
 use Rattle.gimli_build.specs.SameRow.{built_rules}
 use Rattle.gimli_build.specs.ReadsBack.{IsUnit}
 use Rattle.gimli_build.specs.FormatWord.{format_word}
-use Rattle.gimli_build.specs.Joined.{joined}
+use Rattle.gimli_build.specs.Joined.{result_append}
 use Rattle.gimli_build.specs.Unit.{version_bytes, opening_bytes, line_encoding_bytes, operand_counts, opcode_bytes, tables_bytes, fields_bytes, header_bytes, program_bytes, inside_bytes, escape_bytes, whole_bytes}
 use Rattle.gimli_build.proofs.Frames.{size_4, size_8}
-use Rattle.gimli_build.proofs.WrittenParts.{same_written, both_written, behind_written, before_written, counted_written}
+use Rattle.gimli_build.proofs.WrittenParts.{same_written, both_written, after_written, before_written, counted_written}
 use Rattle.gimli_build.proofs.EncodingSpellings.{positive-spelled, encoding-spelled, version-spelled, address-spelled, offset-spelled, length-spelled}
 use Rattle.gimli_build.proofs.TablesBack.{TablesBack}
 
@@ -53,9 +53,9 @@ pub unit_written : (big : Bool) (p : Built) (strings line_strings : List (List �
 unit_written big p strings line_strings unit is =
     let escape = escape_bytes big p.encoding.format in
     let word : ℕ → Result (List ℕ) Error = λ n. length_word big p.encoding.format n in
-    let a = counted_written (λ n. joined (Ok escape) (word n)) (inside_bytes big p strings line_strings) unit is in
-    let b = behind_written escape (word (length a.inside)) a.size a.size_is in
-    let c = both_written (opening_bytes big p.encoding) (joined (header_bytes big p strings line_strings) (program_bytes big p)) a.inside a.inside_is in
+    let a = counted_written (λ n. result_append (Ok escape) (word n)) (inside_bytes big p strings line_strings) unit is in
+    let b = after_written escape (word (length a.inside)) a.size a.size_is in
+    let c = both_written (opening_bytes big p.encoding) (result_append (header_bytes big p strings line_strings) (program_bytes big p)) a.inside a.inside_is in
     let d = both_written (header_bytes big p strings line_strings) (program_bytes big p) c.rest c.rest_is in
     let e = counted_written (λ n. format_word big p.encoding.format n) (fields_bytes big p strings line_strings) d.first d.first_is in
     record {
@@ -84,8 +84,8 @@ pub record FieldsWritten (big : Bool) (p : Built) (strings line_strings : List (
 
 pub fields_written : (big : Bool) (p : Built) (strings line_strings : List (List ℕ)) (fields : List ℕ) → fields_bytes big p strings line_strings ≡ Ok fields → FieldsWritten big p strings line_strings fields
 fields_written big p strings line_strings fields is =
-    let a = both_written (line_encoding_bytes p.encoding.version p.line_encoding) (joined (Ok opcode_bytes) (tables_bytes big p strings line_strings)) fields is in
-    let b = behind_written opcode_bytes (tables_bytes big p strings line_strings) a.rest a.rest_is in
+    let a = both_written (line_encoding_bytes p.encoding.version p.line_encoding) (result_append (Ok opcode_bytes) (tables_bytes big p strings line_strings)) fields is in
+    let b = after_written opcode_bytes (tables_bytes big p strings line_strings) a.rest a.rest_is in
     record {
       encoding = a.first;
       tables = b.rest;
@@ -143,8 +143,8 @@ module _ (notation : Notation) (unit_entry : UnitEntry) (sections : Sections) (p
     file_formats = t.file_formats;
     files = t.files;
     program = program;
-    comp_dir = taken p.encoding unit_entry.directory;
-    comp_file = taken p.encoding (option_map (λ path. plain_file path 0 0 0) unit_entry.name);
+    comp_dir = handed_value p.encoding unit_entry.directory;
+    comp_file = handed_value p.encoding (option_map (λ path. plain_file path 0 0 0) unit_entry.name);
   }
 
   abbrev opening_of : List ℕ → Opening

@@ -18,12 +18,12 @@ use Rattle.gimli_line.specs.header.HeaderGrammar.{Entry, entry_production, table
 use Rattle.gimli_build.specs.LineText.{LineText, bytes_in}
 use Rattle.gimli_build.specs.Tables.{File, Details}
 use Rattle.gimli_build.specs.Texts.{Sections, IsText, IsOptionalText, OneByOne}
-use Rattle.gimli_build.specs.Stored.{Stored, stored}
-use Rattle.gimli_build.specs.Joined.{joined, joined_parts}
+use Rattle.gimli_build.specs.Stored.{Stored, stored_details}
+use Rattle.gimli_build.specs.Joined.{result_append, result_concat}
 use Rattle.gimli_build.specs.Built.{Built}
 use Rattle.gimli_build.specs.ReadsBack.{IsDirectory, IsFile}
 use Rattle.gimli_build.specs.Version5Tables.{first_form, path_texts, sources, formats_bytes, directory_formats, file_formats, detail_bytes, text_in_form, directory_table_bytes, source_bytes, file_entry_bytes, file_table_bytes}
-use Rattle.gimli_build.proofs.WrittenParts.{same_written, both_written, behind_written}
+use Rattle.gimli_build.proofs.WrittenParts.{same_written, both_written, after_written}
 use Rattle.gimli_build.proofs.TextForms.{read_text, IsReady, text-spelled, text-long, text-back}
 use Rattle.gimli_build.proofs.FormatForms.{read_format, formats_of, formats-same, directory-formats, file-formats}
 use Rattle.gimli_build.proofs.EntryForms.{entry_of, file_with, file-read, IsSpelled, last-spelled, entry-spelled}
@@ -34,30 +34,30 @@ use Rattle.gimli_build.proofs.HeldOffsets.{IsHeld, IsFileHeld, AreHeld}
 
 module _ (notation : Notation) (format : Format) {X : Type 0} (formats : List (ℕ × ℕ)) (P : X → Type 0) (part : X → Result (List ℕ) Error) (entry : X → Entry)
     (spelled : (x : X) (bytes : List ℕ) → P x → part x ≡ Ok bytes → IsSpelled notation format formats bytes (entry x)) (long : (x : X) (bytes : List ℕ) → part x ≡ Ok bytes → 0 < length bytes) where
-  each_spelled : (xs : List X) (bytes : List ℕ) → All P xs → joined_parts part xs ≡ Ok bytes → (times (length xs) (entry_production notation format (map read_format formats))).Spells bytes (map entry xs)
+  each_spelled : (xs : List X) (bytes : List ℕ) → All P xs → result_concat part xs ≡ Ok bytes → (times (length xs) (entry_production notation format (map read_format formats))).Spells bytes (map entry xs)
   each_spelled [] bytes all is = (same_written [] bytes is, refl)
   each_spelled (x ∷ xs) bytes all is =
-      let b = both_written (part x) (joined_parts part xs) bytes is in
+      let b = both_written (part x) (result_concat part xs) bytes is in
       let rest = each_spelled xs b.rest (All-tail P x xs all) b.rest_is in
       (entry x, b.first, b.rest, b.whole, spelled x b.first (All-head P x xs all) b.first_is, (map entry xs, b.rest, [], sym (append-nil b.rest), rest, (refl, refl)))
 
   -- there are no more entries than bytes
-  few : (xs : List X) (bytes : List ℕ) → joined_parts part xs ≡ Ok bytes → length xs ≤ length bytes
+  few : (xs : List X) (bytes : List ℕ) → result_concat part xs ≡ Ok bytes → length xs ≤ length bytes
   few [] bytes is = omega arith
   few (x ∷ xs) bytes is =
-      let b = both_written (part x) (joined_parts part xs) bytes is in
+      let b = both_written (part x) (result_concat part xs) bytes is in
       let whole = ap length b.whole ∙ length-append b.first b.rest in
       let first = long x b.first b.first_is in
       let rest = few xs b.rest b.rest_is in
       omega (arith, whole, first, rest)
 
   table_spelled : (xs : List X) (bytes : List ℕ) → SpellsFormats (formats_bytes formats) (map read_format formats) → All P xs
-      → joined (Ok (formats_bytes formats ++ uleb (length xs))) (joined_parts part xs) ≡ Ok bytes → length bytes < 2 ^ 64
+      → result_append (Ok (formats_bytes formats ++ uleb (length xs))) (result_concat part xs) ≡ Ok bytes → length bytes < 2 ^ 64
       → (table_production notation format).Spells bytes (map read_format formats, map entry xs)
   table_spelled xs bytes formats_spelled all is small =
       let front = formats_bytes formats in
       let count = uleb (length xs) in
-      let b = behind_written (front ++ count) (joined_parts part xs) bytes is in
+      let b = after_written (front ++ count) (result_concat part xs) bytes is in
       let whole = ap length b.whole ∙ length-append (front ++ count) b.rest in
       let short = few xs b.rest b.rest_is in
       let number = (uleb_shortest (length xs) (omega (arith, whole, short, small))).spells in
@@ -118,8 +118,8 @@ module _ (notation : Notation) (p : Built) (strings line_strings : List (List �
       let path_form = first_form (path_texts p.files) in
       let source_form = first_form (sources p.files) in
       let source = source_bytes notation.big p.encoding.format strings line_strings p f in
-      let a = both_written (text_written path_form f.0.0) (joined (Ok (detail_bytes p f)) source) bytes is in
-      let b = behind_written (detail_bytes p f) source a.rest a.rest_is in
+      let a = both_written (text_written path_form f.0.0) (result_append (Ok (detail_bytes p f)) source) bytes is in
+      let b = after_written (detail_bytes p f) source a.rest a.rest_is in
       let s = source_written f b.rest b.rest_is in
       let spell = text-spelled notation p.encoding.format strings line_strings strings_short line_strings_short in
       let whole : bytes ≡ a.first ++ (detail_bytes p f ++ b.rest) = a.whole ∙ ap (λ (l : List ℕ). a.first ++ l) b.whole in
@@ -137,7 +137,7 @@ module _ (notation : Notation) (p : Built) (strings line_strings : List (List �
   file_long : (f : File) (bytes : List ℕ) → file_entry_bytes notation.big p.encoding.format strings line_strings p f ≡ Ok bytes → 0 < length bytes
   file_long f bytes is =
       let form = first_form (path_texts p.files) in
-      let a = both_written (text_written form f.0.0) (joined (Ok (detail_bytes p f)) (source_bytes notation.big p.encoding.format strings line_strings p f)) bytes is in
+      let a = both_written (text_written form f.0.0) (result_append (Ok (detail_bytes p f)) (source_bytes notation.big p.encoding.format strings line_strings p f)) bytes is in
       let whole = ap length a.whole ∙ length-append a.first a.rest in
       let long = text-long notation.big p.encoding.format strings line_strings form f.0.0 a.first a.first_is in
       omega (arith, whole, long)
@@ -161,7 +161,7 @@ module _ (sections : Sections) (p : Built) (strings line_strings : List (List �
       (text_back t (All-head (IsReady strings line_strings) t ts all), new-directories-back ts (All-tail (IsReady strings line_strings) t ts all))
 
   -- what a file keeps in version 5
-  stored_new : (d : Details) → nat_le p.encoding.version 4 ≡ false → stored p strings line_strings d ≡ record {
+  stored_new : (d : Details) → nat_le p.encoding.version 4 ≡ false → stored_details p strings line_strings d ≡ record {
     timestamp = if p.file_has_timestamp then d.timestamp else 0;
     size = if p.file_has_size then d.size else 0;
     md5 = if p.file_has_md5 then d.md5 else replicate 16 0;

@@ -9,9 +9,9 @@ use Rattle.gimli_bytes.specs.declared.address.Address.TheVariants.{Constant, Sym
 use Rattle.gimli_bytes.specs.declared.error.Error.TheVariants.{IncompatibleLineProgramEncoding, UnsupportedVersion, NeedVersion, LineStringFormMismatch, ValueTooLarge, InvalidAddress}
 use Rattle.gimli_build.specs.LineText.{LineText, Inline, InLineStrings}
 use Rattle.gimli_build.specs.Tables.{File, no_details}
-use Rattle.gimli_build.specs.Built.{Built, started}
+use Rattle.gimli_build.specs.Built.{Built, empty_built}
 use Rattle.gimli_build.specs.Rows.{initial_row}
-use Rattle.gimli_build.specs.Version5Tables.{line_strings_behind}
+use Rattle.gimli_build.specs.Version5Tables.{line_strings_after}
 use Rattle.gimli_build.specs.Unit.{base_byte, unit_bytes}
 use Rattle.gimli_build.specs.Cause.{first_cause}
 use Rattle.gimli_build.specs.declared.built.items.BuiltItem.{BuiltItem}
@@ -36,7 +36,7 @@ abbrev usual : LineEncoding
 usual = lines 1 1 (negsuc 4) 14
 
 abbrev built : Encoding → LineEncoding → List File → List BuiltItem → Built
-built e l files items = record (started false e l (Inline (0x2f ∷ 0x77 ∷ []) ∷ []) files) { items = items }
+built e l files items = record (empty_built false e l (Inline (0x2f ∷ 0x77 ∷ []) ∷ []) files) { items = items }
 
 -- the file a.c in the working directory
 abbrev a_c : File
@@ -76,7 +76,7 @@ encoding_5 = encoding 5 Dwarf32 8
 
 -- a unit of version 5 with these directories and files, and whether sources are written
 abbrev built_5 : List LineText → List File → Bool → List BuiltItem → Built
-built_5 directories files has_source items = record (started false encoding_5 usual directories files) { file_has_source = has_source; items = items }
+built_5 directories files has_source items = record (empty_built false encoding_5 usual directories files) { file_has_source = has_source; items = items }
 
 abbrev in_program : Built
 in_program = built_5 (Inline (0x2f ∷ 0x77 ∷ []) ∷ []) (a_c ∷ []) false []
@@ -122,7 +122,7 @@ missing_source items =
 abbrev four_texts : List (List ℕ)
 four_texts = w ∷ a ∷ (0x78 ∷ []) ∷ (0x62 ∷ 0x2e ∷ 0x63 ∷ []) ∷ []
 
-empty_text_is_added : line_strings_behind (missing_source []) four_texts ≡ four_texts ++ [] ∷ []
+empty_text_is_added : line_strings_after (missing_source []) four_texts ≡ four_texts ++ [] ∷ []
 empty_text_is_added = refl
 
 -- the last source is the empty text, at offset 13

@@ -4,12 +4,12 @@ use Rattle.std.specs.Prelude.{Result}
 use Rattle.gimli_bytes.specs.Written.{Begins, Appends, Refuses}
 use Rattle.gimli_bytes.specs.declared.error.Error.{Error}
 use Rattle.gimli_bytes.specs.declared.writer.Writer.{Ghosts}
-use Rattle.gimli_build.specs.Joined.{joined, joined_parts, RefusesFor}
+use Rattle.gimli_build.specs.Joined.{result_append, result_concat, RefusesFor}
 use Rattle.gimli_build.specs.Writes.{Writes}
 use Rattle.gimli_build.proofs.Joined.{SoFar, none_so_far, one_more, one_refused, all_done, on_ok, if_err, appends_joined, refuses_second, begins_self, begins_then}
 
 -- two calls
-pub joins : {W E X Y : Type 0} {writer : Ghosts W E} {old mid new : W} {x : X} {r : Result Y Error} {a b : Result (List ℕ) Error} → Writes writer old mid (Ok x) a → Writes writer mid new r b → Writes writer old new r (joined a b)
+pub joins : {W E X Y : Type 0} {writer : Ghosts W E} {old mid new : W} {x : X} {r : Result Y Error} {a b : Result (List ℕ) Error} → Writes writer old mid (Ok x) a → Writes writer mid new r b → Writes writer old new r (result_append a b)
 joins {writer = writer} {old = old} {mid = mid} {new = new} {r = r} {a = a} {b = b} first second = record {
   keeps = begins_then (writer.contents old) (writer.contents mid) (writer.contents new) first.keeps second.keeps;
   ordered = second.ordered ∙ first.ordered;
@@ -63,7 +63,7 @@ one_written {writer = writer} {part = part} {all = all} {left = left} {x = x} {o
   put = λ keeps_bytes. one_more part all left x (writer.contents old) (writer.contents mid) (writer.contents new) (so.put keeps_bytes) (more.ok keeps_bytes);
 }
 
-pub one_unwritten : {W E A X Y : Type 0} {writer : Ghosts W E} {part : A → Result (List ℕ) Error} {all left : List A} {x : A} {old mid new : W} {e : Error} → WritesSoFar writer part all (x ∷ left) old mid → Writes {X = X} writer mid new (Err e) (part x) → Writes {X = Y} writer old new (Err e) (joined_parts part all)
+pub one_unwritten : {W E A X Y : Type 0} {writer : Ghosts W E} {part : A → Result (List ℕ) Error} {all left : List A} {x : A} {old mid new : W} {e : Error} → WritesSoFar writer part all (x ∷ left) old mid → Writes {X = X} writer mid new (Err e) (part x) → Writes {X = Y} writer old new (Err e) (result_concat part all)
 one_unwritten {writer = writer} {part = part} {all = all} {left = left} {x = x} {old = old} {mid = mid} {new = new} {e = e} so refused = record {
   keeps = begins_then (writer.contents old) (writer.contents mid) (writer.contents new) so.keeps refused.keeps;
   ordered = refused.ordered ∙ so.ordered;
@@ -71,7 +71,7 @@ one_unwritten {writer = writer} {part = part} {all = all} {left = left} {x = x} 
   err = λ keeps_bytes fails_for_memory_alone. one_refused part all left x (writer.contents old) (writer.contents mid) e (so.put keeps_bytes) (refused.err keeps_bytes fails_for_memory_alone);
 }
 
-pub all_written : {W E A X : Type 0} {writer : Ghosts W E} {part : A → Result (List ℕ) Error} {all : List A} {old new : W} {y : X} → WritesSoFar writer part all [] old new → Writes writer old new (Ok y) (joined_parts part all)
+pub all_written : {W E A X : Type 0} {writer : Ghosts W E} {part : A → Result (List ℕ) Error} {all : List A} {old new : W} {y : X} → WritesSoFar writer part all [] old new → Writes writer old new (Ok y) (result_concat part all)
 all_written {writer = writer} {part = part} {all = all} {old = old} {new = new} so = record {
   keeps = so.keeps;
   ordered = so.ordered;

@@ -2,7 +2,7 @@
 use Rattle.std.proofs.Common.{◌≡◌, ℕ, List, ◌++◌, length, Ok, Err, refl, sym}
 use Rattle.std.specs.Prelude.{Result}
 use Rattle.gimli_bytes.specs.declared.error.Error.{Error}
-use Rattle.gimli_build.specs.Joined.{joined, behind_length}
+use Rattle.gimli_build.specs.Joined.{result_append, after_length}
 
 -- what was written is one thing
 pub same_written : (a b : List ℕ) → ◌≡◌ {A = Result (List ℕ) Error} (Ok a) (Ok b) → b ≡ a
@@ -16,7 +16,7 @@ pub record Both (r s : Result (List ℕ) Error) (bytes : List ℕ) : Type 0 wher
   pub rest_is : s ≡ Ok rest
   pub whole : bytes ≡ first ++ rest
 
-pub both_written : (r s : Result (List ℕ) Error) (bytes : List ℕ) → joined r s ≡ Ok bytes → Both r s bytes
+pub both_written : (r s : Result (List ℕ) Error) (bytes : List ℕ) → result_append r s ≡ Ok bytes → Both r s bytes
 both_written (Ok a) (Ok b) bytes e = let p : a ++ b ≡ bytes = cc in record { first = a; rest = b; first_is = refl; rest_is = refl; whole = sym p }
 both_written (Ok a) (Err d) bytes e = absurd cc
 both_written (Err d) s bytes e = absurd cc
@@ -27,9 +27,9 @@ pub record Behind (first : List ℕ) (s : Result (List ℕ) Error) (bytes : List
   pub rest_is : s ≡ Ok rest
   pub whole : bytes ≡ first ++ rest
 
-pub behind_written : (first : List ℕ) (s : Result (List ℕ) Error) (bytes : List ℕ) → joined (Ok first) s ≡ Ok bytes → Behind first s bytes
-behind_written first (Ok b) bytes e = let p : first ++ b ≡ bytes = cc in record { rest = b; rest_is = refl; whole = sym p }
-behind_written first (Err d) bytes e = absurd cc
+pub after_written : (first : List ℕ) (s : Result (List ℕ) Error) (bytes : List ℕ) → result_append (Ok first) s ≡ Ok bytes → Behind first s bytes
+after_written first (Ok b) bytes e = let p : first ++ b ≡ bytes = cc in record { rest = b; rest_is = refl; whole = sym p }
+after_written first (Err d) bytes e = absurd cc
 
 -- what was written, and bytes after it that can't be refused
 pub record Before (r : Result (List ℕ) Error) (last : List ℕ) (bytes : List ℕ) : Type 0 where
@@ -37,7 +37,7 @@ pub record Before (r : Result (List ℕ) Error) (last : List ℕ) (bytes : List 
   pub front_is : r ≡ Ok front
   pub whole : bytes ≡ front ++ last
 
-pub before_written : (r : Result (List ℕ) Error) (last bytes : List ℕ) → joined r (Ok last) ≡ Ok bytes → Before r last bytes
+pub before_written : (r : Result (List ℕ) Error) (last bytes : List ℕ) → result_append r (Ok last) ≡ Ok bytes → Before r last bytes
 before_written (Ok a) last bytes e = let p : a ++ last ≡ bytes = cc in record { front = a; front_is = refl; whole = sym p }
 before_written (Err d) last bytes e = absurd cc
 
@@ -49,7 +49,7 @@ pub record Counted (length_of : ℕ → Result (List ℕ) Error) (r : Result (Li
   pub size_is : length_of (length inside) ≡ Ok size
   pub whole : bytes ≡ size ++ inside
 
-pub counted_written : (length_of : ℕ → Result (List ℕ) Error) (r : Result (List ℕ) Error) (bytes : List ℕ) → behind_length length_of r ≡ Ok bytes → Counted length_of r bytes
+pub counted_written : (length_of : ℕ → Result (List ℕ) Error) (r : Result (List ℕ) Error) (bytes : List ℕ) → after_length length_of r ≡ Ok bytes → Counted length_of r bytes
 counted_written length_of (Ok inside) bytes e =
     let b = before_written (length_of (length inside)) inside bytes e in
     record { inside = inside; size = b.front; inside_is = refl; size_is = b.front_is; whole = b.whole }

@@ -13,13 +13,13 @@ pub record CanEncode (e : LineEncoding) : Type 0 where
   pub range : e.line_range ≤ 127
 
 -- a row can stand here: at a whole machine instruction, and at one of its operations
-pub record IsPlace (e : LineEncoding) (offset op_index : ℕ) : Type 0 where
+pub record IsPosition (e : LineEncoding) (offset op_index : ℕ) : Type 0 where
   pub divides : offset % e.minimum_instruction_length ≡ 0
   pub within : op_index < e.maximum_operations_per_instruction
 
 -- a row or an end at the offset o and the operation i can follow a row at p and j
 pub record CanFollow (e : LineEncoding) (p j o i : ℕ) : Type 0 where
-  pub place : IsPlace e o i
+  pub position : IsPosition e o i
   pub after : p ≤ o
   pub later : o ≡ p → j ≤ i
   pub fits : (o - p) / e.minimum_instruction_length * e.maximum_operations_per_instruction + i < 2 ^ 64

@@ -31,8 +31,8 @@ pub record Built : Type 0 where
   pub in_sequence : Bool
 
 -- a program of these encodings with these tables, and nothing else yet
-abbrev pub started : Bool → Encoding → LineEncoding → List LineText → List File → Built
-started is_none encoding line_encoding directories files = record {
+abbrev pub empty_built : Bool → Encoding → LineEncoding → List LineText → List File → Built
+empty_built is_none encoding line_encoding directories files = record {
   is_none = is_none;
   encoding = encoding;
   line_encoding = line_encoding;
@@ -50,7 +50,7 @@ started is_none encoding line_encoding directories files = record {
 -- what stands for no program
 abbrev pub no_program : Built
 no_program =
-    started true (record { address_size = 0; format = Dwarf32; version = 2 })
+    empty_built true (record { address_size = 0; format = Dwarf32; version = 2 })
     (record { minimum_instruction_length = 1; maximum_operations_per_instruction = 1; default_is_stmt = true; line_base = negsuc 4; line_range = 14 })
     [] []
 
@@ -58,14 +58,14 @@ no_program =
 
 -- the offset and the operation that an item leaves off at: the sequence begins, or counts anew, after an end and a
 -- set address
-abbrev pub place_after : BuiltItem → ℕ × ℕ
-place_after (Row r) = (r.address_offset, r.op_index)
-place_after (SetAddress a) = (0, 0)
-place_after (End offset op_index) = (0, 0)
+abbrev pub position_after : BuiltItem → ℕ × ℕ
+position_after (Row r) = (r.address_offset, r.op_index)
+position_after (SetAddress a) = (0, 0)
+position_after (End offset op_index) = (0, 0)
 
 -- the place of the previous row, which the next one is after
-abbrev pub previous_place : List BuiltItem → ℕ × ℕ
-previous_place items = option_map_or place_after (slice_get items (length items - 1)) (0, 0)
+abbrev pub previous_position : List BuiltItem → ℕ × ℕ
+previous_position items = option_map_or position_after (slice_get items (length items - 1)) (0, 0)
 
 -- a symbol counts as 0
 abbrev pub address_value : Address → ℕ

@@ -4,8 +4,8 @@ use Rattle.gimli_build.specs.Tables.{keys_of}
 use Rattle.gimli_build.specs.Conditions.{IsProgram}
 use Rattle.gimli_build.specs.declared.built.line_program.LineProgram.TheInside.{Inside}
 
-abbrev pub built : Inside → Built
-built a = record {
+abbrev pub built_of : Inside → Built
+built_of a = record {
   is_none = a.none;
   encoding = a.encoding;
   line_encoding = a.line_encoding;

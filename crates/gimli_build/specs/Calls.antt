@@ -6,14 +6,14 @@ use Rattle.gimli_core.specs.declared.common.LineEncoding.{LineEncoding}
 use Rattle.gimli_bytes.specs.declared.address.Address.{Address}
 use Rattle.gimli_build.specs.LineText.{LineText}
 use Rattle.gimli_build.specs.Tables.{FileKey, Details, Tables, with_directory, with_file}
-use Rattle.gimli_build.specs.Rows.{initial_row, cleared, restarted}
-use Rattle.gimli_build.specs.Built.{Built, started}
+use Rattle.gimli_build.specs.Rows.{initial_row, without_marks, row_after_address}
+use Rattle.gimli_build.specs.Built.{Built, empty_built}
 use Rattle.gimli_build.specs.declared.built.row.LineRow.{LineRow}
 use Rattle.gimli_build.specs.declared.built.items.BuiltItem.TheVariants.{SetAddress, Row, End}
 
 -- after `new`: these tables, and nothing else is built yet
 abbrev pub new_program : Encoding → LineEncoding → Tables → Built
-new_program encoding line_encoding tables = started false encoding line_encoding tables.directories tables.files
+new_program encoding line_encoding tables = empty_built false encoding line_encoding tables.directories tables.files
 
 -- ---- tables
 
@@ -33,11 +33,11 @@ after_begin address p = record p { items = p.items ++ option_to_list (option_map
 
 -- after `set_address`
 abbrev pub after_address : Address → Built → Built
-after_address address p = record p { items = p.items ++ SetAddress address ∷ []; row = restarted p.in_sequence p.row; in_sequence = true }
+after_address address p = record p { items = p.items ++ SetAddress address ∷ []; row = row_after_address p.in_sequence p.row; in_sequence = true }
 
 -- after `generate_row`, where this was the current row
 abbrev pub after_row : LineRow → Built → Built
-after_row row p = record p { items = p.items ++ Row row ∷ []; row = cleared row; in_sequence = true }
+after_row row p = record p { items = p.items ++ Row row ∷ []; row = without_marks row; in_sequence = true }
 
 -- after `end_sequence` at this offset
 abbrev pub after_end : ℕ → Built → Built

@@ -12,7 +12,7 @@ use Rattle.gimli_bytes.specs.Texts.{offset_of}
 use Rattle.gimli_build.specs.LineText.{LineText, Inline, InStrings, InLineStrings}
 use Rattle.gimli_build.specs.Tables.{File}
 use Rattle.gimli_build.specs.Built.{Built}
-use Rattle.gimli_build.specs.Version5Tables.{text_form, first_form, path_texts, sources, empty_text, strings_behind, line_strings_behind, directory_formats, file_formats, formats_bytes, detail_bytes}
+use Rattle.gimli_build.specs.Version5Tables.{text_form, first_form, path_texts, sources, empty_text, strings_after, line_strings_after, directory_formats, file_formats, formats_bytes, detail_bytes}
 use Rattle.gimli_build.specs.Unit.{is_incompatible, opcode_bytes, program_bytes}
 use Rattle.gimli_build.specs.declared.built.items.BuiltItem.{BuiltItem}
 use Rattle.gimli_build.specs.declared.built.items.BuiltItem.TheVariants.{SetAddress}
@@ -115,8 +115,8 @@ unit_length_cause Dwarf64 n = None
 -- why a program can't be written for a unit of this encoding, with these tables
 abbrev pub first_cause : Bool → Encoding → Built → List (List ℕ) → List (List ℕ) → Option Error
 first_cause big unit p handed_strings handed_line_strings =
-    let strings = strings_behind p handed_strings in
-    let line_strings = line_strings_behind p handed_line_strings in
+    let strings = strings_after p handed_strings in
+    let line_strings = line_strings_after p handed_line_strings in
     first_of (
     cause_if (is_incompatible unit p.encoding) IncompatibleLineProgramEncoding
     ∷ cause_if (not (nat_le 2 p.encoding.version && nat_le p.encoding.version 5)) (UnsupportedVersion p.encoding.version)

@@ -6,7 +6,7 @@ use Rattle.gimli_core.specs.declared.common.LineEncoding.{LineEncoding}
 use Rattle.gimli_build.specs.LineText.{LineText, IsWithin, HasNoZero, IsNotEmpty}
 use Rattle.gimli_build.specs.Tables.{FileKey, FitsFile, AreTables, keys_of}
 use Rattle.gimli_build.specs.Advance.{CanEncode, CanFollow}
-use Rattle.gimli_build.specs.Built.{Built, place_after, previous_place}
+use Rattle.gimli_build.specs.Built.{Built, position_after, previous_position}
 use Rattle.gimli_build.specs.Items.{AreFit}
 use Rattle.gimli_build.specs.declared.built.items.BuiltItem.{BuiltItem}
 use Rattle.gimli_build.specs.declared.built.items.BuiltItem.TheVariants.{SetAddress, Row, End}
@@ -20,20 +20,20 @@ pub record Accepts (encoding : Encoding) (line_encoding : LineEncoding) : Type 0
 
 -- an item can be built where the previous row is at this place; a line must fit a signed number
 abbrev pub CanBuild : LineEncoding → ℕ × ℕ → BuiltItem → Type 0
-CanBuild e place (SetAddress a) = Unit {0}
-CanBuild e place (Row r) = CanFollow e place.0 place.1 r.address_offset r.op_index × (r.line < 2 ^ 63)
-CanBuild e place (End offset op_index) = CanFollow e place.0 place.1 offset op_index
+CanBuild e position (SetAddress a) = Unit {0}
+CanBuild e position (Row r) = CanFollow e position.0 position.1 r.address_offset r.op_index × (r.line < 2 ^ 63)
+CanBuild e position (End offset op_index) = CanFollow e position.0 position.1 offset op_index
 
 abbrev pub CanGenerateRow : Built → Type 0
-CanGenerateRow p = CanBuild p.line_encoding (previous_place p.items) (Row p.row)
+CanGenerateRow p = CanBuild p.line_encoding (previous_position p.items) (Row p.row)
 
 abbrev pub CanEndSequence : Built → ℕ → Type 0
-CanEndSequence p offset = CanBuild p.line_encoding (previous_place p.items) (End offset p.row.op_index)
+CanEndSequence p offset = CanBuild p.line_encoding (previous_position p.items) (End offset p.row.op_index)
 
 -- each of these items could be built, the first with the previous row at this place
 abbrev pub AreBuilt : LineEncoding → ℕ × ℕ → List BuiltItem → Type 0
-AreBuilt e place [] = Unit {0}
-AreBuilt e place (item ∷ items) = CanBuild e place item × AreBuilt e (place_after item) items
+AreBuilt e position [] = Unit {0}
+AreBuilt e position (item ∷ items) = CanBuild e position item × AreBuilt e (position_after item) items
 
 -- ---- programs
 

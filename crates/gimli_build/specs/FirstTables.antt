@@ -2,7 +2,7 @@
 use Rattle.std.specs.Prelude.{ℕ, List, [], ◌∷◌, nat_le, if◌then◌else◌, Option, option_map, unwrap_or}
 use Rattle.std.specs.Option.{option_map_or}
 use Rattle.gimli_build.specs.LineText.{LineText, line_text}
-use Rattle.gimli_build.specs.Tables.{Details, File, Tables, no_details, with_directory, place_of_directory}
+use Rattle.gimli_build.specs.Tables.{Details, File, Tables, no_details, with_directory, index_of_directory}
 use Rattle.gimli_build.specs.TablesInside.{details}
 use Rattle.gimli_build.specs.declared.built.line_string.LineString.{LineString}
 use Rattle.gimli_build.specs.declared.built.files.FileInfo.{FileInfo}
@@ -16,7 +16,7 @@ first_directories version working_dir source_dir =
 abbrev pub first_files : ℕ → LineText → Option LineText → LineText → Option Details → List File
 first_files version working_dir source_dir source_file known =
     if nat_le version 4 then []
-    else ((source_file, option_map_or (place_of_directory (working_dir ∷ [])) source_dir 0), unwrap_or known no_details) ∷ []
+    else ((source_file, option_map_or (index_of_directory (working_dir ∷ [])) source_dir 0), unwrap_or known no_details) ∷ []
 
 -- both, of what `new` is handed: the working directory, and the directory, the path and the details of the source file
 abbrev pub first_tables : ℕ → LineString → Option LineString → LineString → Option FileInfo → Tables

@@ -9,12 +9,12 @@ use Rattle.gimli_line.specs.run.Instruction.{Ins}
 use Rattle.gimli_build.specs.declared.built.row.LineRow.{LineRow}
 use Rattle.gimli_build.specs.declared.built.items.BuiltItem.{BuiltItem}
 use Rattle.gimli_build.specs.declared.built.items.BuiltItem.TheVariants.{SetAddress, Row, End}
-use Rattle.gimli_build.specs.Built.{address_value, place_after}
+use Rattle.gimli_build.specs.Built.{address_value, position_after}
 use Rattle.gimli_build.specs.Rows.{initial_row}
 use Rattle.gimli_build.specs.Encode.{row_instructions, end_instructions}
 use Rattle.gimli_build.specs.InstructionBytes.{instructions_bytes, set_address_bytes, FitsInstructions}
 use Rattle.gimli_build.specs.SameRow.{read_row, read_end}
-use Rattle.gimli_build.specs.Joined.{joined}
+use Rattle.gimli_build.specs.Joined.{result_append}
 
 -- the row that the next item follows: after a set address offsets count anew, after an end a sequence starts
 abbrev pub next_previous : ℕ → Bool → LineRow → BuiltItem → LineRow
@@ -40,13 +40,13 @@ items_rows version e base previous (SetAddress a ∷ items) = items_rows version
 items_rows version e base previous (Row r ∷ items) = read_row version base r ∷ items_rows version e base r items
 items_rows version e base previous (End offset op_index ∷ items) = read_end version base previous offset op_index ∷ items_rows version e 0 (initial_row version e.default_is_stmt) items
 
--- addresses hold them, and none of them hides: each set address is at least the address reached, and isn't one of the
--- two greatest, which stand for nothing
+-- addresses hold them, and none of them is a tombstone: each set address is at least the address reached, and isn't
+-- one of the two greatest, which stand for nothing
 abbrev pub AddressesFit : ℕ → ℕ → ℕ × ℕ → List BuiltItem → Type 0
-AddressesFit size base place [] = Unit {0}
-AddressesFit size base place (SetAddress a ∷ items) = (base + place.0 ≤ address_value a) × (address_value a < 2 ^ (8 * size) - 2) × AddressesFit size (address_value a) (place_after (SetAddress a)) items
-AddressesFit size base place (Row r ∷ items) = (base + r.address_offset < 2 ^ (8 * size)) × AddressesFit size base (place_after (Row r)) items
-AddressesFit size base place (End offset op_index ∷ items) = (base + offset < 2 ^ (8 * size)) × AddressesFit size 0 (place_after (End offset op_index)) items
+AddressesFit size base position [] = Unit {0}
+AddressesFit size base position (SetAddress a ∷ items) = (base + position.0 ≤ address_value a) × (address_value a < 2 ^ (8 * size) - 2) × AddressesFit size (address_value a) (position_after (SetAddress a)) items
+AddressesFit size base position (Row r ∷ items) = (base + r.address_offset < 2 ^ (8 * size)) × AddressesFit size base (position_after (Row r)) items
+AddressesFit size base position (End offset op_index ∷ items) = (base + offset < 2 ^ (8 * size)) × AddressesFit size 0 (position_after (End offset op_index)) items
 
 -- ---- their bytes
 
@@ -59,7 +59,7 @@ item_bytes big encoding e previous (End offset op_index) = Ok (instructions_byte
 abbrev pub items_bytes : Bool → Encoding → LineEncoding → LineRow → List BuiltItem → Result (List ℕ) Error
 items_bytes big encoding e previous [] = Ok []
 items_bytes big encoding e previous (item ∷ items) =
-    joined (item_bytes big encoding e previous item) (items_bytes big encoding e (next_previous encoding.version e.default_is_stmt previous item) items)
+    result_append (item_bytes big encoding e previous item) (items_bytes big encoding e (next_previous encoding.version e.default_is_stmt previous item) items)
 
 -- 64 bits hold the numbers of the rows, as they do in any program
 abbrev pub FitsItem : ℕ → BuiltItem → Type 0

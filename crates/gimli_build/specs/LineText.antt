@@ -1,6 +1,6 @@
 -- Texts of a line program, without where they lie in memory.
 use Rattle.std.specs.Prelude.{◌≢◌, ℕ, ◌<◌, Bool, false, List, [], length, slice_get, unwrap_or, bytes_eq, nat_eq, nat_le, if◌then◌else◌, All}
-use Rattle.gimli_bytes.specs.Texts.{with_text, place_of_text}
+use Rattle.gimli_bytes.specs.Texts.{with_text, index_of_text}
 use Rattle.gimli_build.specs.declared.built.line_string.LineString.{LineString}
 use Rattle.gimli_build.specs.declared.built.line_string.LineString.TheVariants.{String, StringRef, LineStringRef}
 
@@ -37,7 +37,7 @@ bytes_in strings line_strings (InLineStrings i) = unwrap_or (slice_get line_stri
 
 -- bytes as a text of a program of this version, and the line strings with it
 abbrev pub made_text : ℕ → List (List ℕ) → List ℕ → LineText
-made_text version line_strings bytes = if nat_le version 4 then Inline bytes else InLineStrings (place_of_text line_strings bytes)
+made_text version line_strings bytes = if nat_le version 4 then Inline bytes else InLineStrings (index_of_text line_strings bytes)
 
 abbrev pub made_table : ℕ → List (List ℕ) → List ℕ → List (List ℕ)
 made_table version line_strings bytes = if nat_le version 4 then line_strings else with_text line_strings bytes

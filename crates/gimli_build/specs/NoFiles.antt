@@ -6,7 +6,7 @@ use Rattle.gimli_line.specs.header.Orders.{HeaderOrders}
 use Rattle.gimli_line.specs.run.Instruction.{Ins, defines_file}
 use Rattle.gimli_line.specs.run.InstructionGrammar.{Decodes}
 use Rattle.gimli_line.specs.run.RunState.{RunState}
-use Rattle.gimli_line.specs.run.Rows.{started}
+use Rattle.gimli_line.specs.run.Rows.{start_of_run}
 
 -- what is left of the program is whole instructions, and none of them defines a file
 pub record DefinesNoFile (a : RunState) : Type 0 where
@@ -16,4 +16,4 @@ pub record DefinesNoFile (a : RunState) : Type 0 where
 
 -- rows at the start of the program of a header
 abbrev pub program_started : Bool → Header → Notation → ℕ → HeaderOrders → RunState
-program_started appends h notation offset orders = started appends h notation offset orders (record { bytes = h.program; notation = notation })
+program_started appends h notation offset orders = start_of_run appends h notation offset orders (record { bytes = h.program; notation = notation })

@@ -17,7 +17,7 @@ use Rattle.gimli_bytes.specs.Texts.{table_bytes, offset_of}
 use Rattle.gimli_build.specs.LineText.{LineText, Inline, InStrings, InLineStrings, bytes_in}
 use Rattle.gimli_build.specs.Tables.{File}
 use Rattle.gimli_build.specs.Texts.{Sections, IsText, IsOptionalText, OneByOne}
-use Rattle.gimli_build.specs.Stored.{stored}
+use Rattle.gimli_build.specs.Stored.{stored_details}
 use Rattle.gimli_build.specs.Items.{AddressesFit}
 use Rattle.gimli_build.specs.Runs.{program_instructions}
 use Rattle.gimli_build.specs.SameRow.{built_rules, RowsMatch}
@@ -57,10 +57,10 @@ IsDirectory sections strings line_strings read built = IsText sections read (byt
 pub record IsFile (sections : Sections) (p : Built) (strings line_strings : List (List ℕ)) (read : ReadFile) (built : File) : Type 0 where
   pub path : IsText sections read.path_name (bytes_in strings line_strings built.0.0)
   pub directory : read.directory_index ≡ built.0.1
-  pub timestamp : read.timestamp ≡ (stored p strings line_strings built.1).timestamp
-  pub size : read.size ≡ (stored p strings line_strings built.1).size
-  pub md5 : read.md5 ≡ (stored p strings line_strings built.1).md5
-  pub source : IsOptionalText sections read.source (stored p strings line_strings built.1).source
+  pub timestamp : read.timestamp ≡ (stored_details p strings line_strings built.1).timestamp
+  pub size : read.size ≡ (stored_details p strings line_strings built.1).size
+  pub md5 : read.md5 ≡ (stored_details p strings line_strings built.1).md5
+  pub source : IsOptionalText sections read.source (stored_details p strings line_strings built.1).source
 
 -- the program of a header is the instructions of a built program, and nothing else
 abbrev pub DecodesAs : Notation → Header → Built → Type 0
@@ -68,7 +68,7 @@ DecodesAs notation h p = Decodes notation h h.program (program_instructions p) N
 
 -- the bytes are a unit, and what is read of it is what was built: the encodings, the directories and the files with
 -- these tables and these sections, and the instructions of each item, up to the end of the program. Where addresses hold
--- the items, and none hides, its events are the built rows and ends
+-- the items, and none is a tombstone, its events are the built rows and ends
 pub record ReadsBack (notation : Notation) (unit_entry : UnitEntry) (sections : Sections) (p : Built) (strings line_strings : List (List ℕ)) (unit : List ℕ) : Type 0 where
   pub header : Header
   pub is_unit : IsUnit notation unit_entry unit header

@@ -20,13 +20,13 @@ initial_row version is_stmt = record {
 }
 
 -- the row once it was built: what stands for one row alone goes
-abbrev pub cleared : LineRow → LineRow
-cleared r = record r { discriminator = 0; basic_block = false; prologue_end = false; epilogue_begin = false }
+abbrev pub without_marks : LineRow → LineRow
+without_marks r = record r { discriminator = 0; basic_block = false; prologue_end = false; epilogue_begin = false }
 
 -- the row at another offset and op_index
-abbrev pub at_place : ℕ × ℕ → LineRow → LineRow
-at_place place r = record r { address_offset = place.0; op_index = place.1 }
+abbrev pub at_position : ℕ × ℕ → LineRow → LineRow
+at_position position r = record r { address_offset = position.0; op_index = position.1 }
 
 -- the row where an address was set: in a sequence its place is now told from there
-abbrev pub restarted : Bool → LineRow → LineRow
-restarted in_sequence r = if in_sequence then record r { address_offset = 0; op_index = 0 } else r
+abbrev pub row_after_address : Bool → LineRow → LineRow
+row_after_address in_sequence r = if in_sequence then record r { address_offset = 0; op_index = 0 } else r

@@ -9,10 +9,10 @@ use Rattle.gimli_line.specs.run.Events.{Event, row}
 use Rattle.gimli_line.specs.run.Machine.{run, initial}
 use Rattle.gimli_build.specs.declared.built.row.LineRow.{LineRow}
 use Rattle.gimli_build.specs.declared.built.items.BuiltItem.{BuiltItem}
-use Rattle.gimli_build.specs.Advance.{IsPlace, CanFollow}
-use Rattle.gimli_build.specs.Rows.{initial_row, at_place}
+use Rattle.gimli_build.specs.Advance.{IsPosition, CanFollow}
+use Rattle.gimli_build.specs.Rows.{initial_row, at_position}
 use Rattle.gimli_build.specs.Encode.{row_instructions, end_instructions}
-use Rattle.gimli_build.specs.SameRow.{built_rules, read_row, behind_row, read_end}
+use Rattle.gimli_build.specs.SameRow.{built_rules, read_row, registers_after_row, read_end}
 use Rattle.gimli_build.specs.Items.{items_instructions, items_rows, AddressesFit}
 use Rattle.gimli_build.specs.Built.{Built}
 use Rattle.gimli_build.specs.Conditions.{Accepts, AreBuilt}
@@ -38,13 +38,13 @@ past_row r here = record here { previous = r }
 
 -- after a set address: offsets count from it, from 0 on
 abbrev pub past_address : ℕ → Run → Run
-past_address address here = record here { base = address; previous = at_place (0, 0) here.previous }
+past_address address here = record here { base = address; previous = at_position (0, 0) here.previous }
 
 -- ---- what can come next
 
 -- the place of the row before
-abbrev pub place_of : Run → ℕ × ℕ
-place_of here = (here.previous.address_offset, here.previous.op_index)
+abbrev pub position_of : Run → ℕ × ℕ
+position_of here = (here.previous.address_offset, here.previous.op_index)
 
 -- a row or an end at the offset o and the operation i can follow the row before
 abbrev pub Follows : Run → ℕ → ℕ → Type 0
@@ -53,7 +53,7 @@ Follows here o i = CanFollow here.line_encoding here.previous.address_offset her
 -- a program may have these encodings, and a row can stand where the row before does
 pub record IsUnderWay (here : Run) : Type 0 where
   pub accepts : Accepts here.encoding here.line_encoding
-  pub place : IsPlace here.line_encoding here.previous.address_offset here.previous.op_index
+  pub position : IsPosition here.line_encoding here.previous.address_offset here.previous.op_index
 
 -- a row can be next: it can follow, both lines fit a signed number, and an address holds it
 pub record IsNextRow (here : Run) (r : LineRow) : Type 0 where
@@ -72,11 +72,11 @@ pub record IsNextAddress (here : Run) (address : ℕ) : Type 0 where
   pub forward : here.base + here.previous.address_offset ≤ address
   pub shown : address < 2 ^ (8 * here.encoding.address_size) - 2
 
--- items can be next: each can be built after the one before it, addresses hold them and none hides; the line before fits a
--- signed number, and the version is known
+-- items can be next: each can be built after the one before it, addresses hold them and none is a tombstone; the line
+-- before fits a signed number, and the version is known
 pub record AreNext (here : Run) (items : List BuiltItem) : Type 0 where
-  pub built : AreBuilt here.line_encoding (place_of here) items
-  pub addresses : AddressesFit here.encoding.address_size here.base (place_of here) items
+  pub built : AreBuilt here.line_encoding (position_of here) items
+  pub addresses : AddressesFit here.encoding.address_size here.base (position_of here) items
   pub line_before : here.previous.line < 2 ^ 63
   pub version : here.encoding.version ≤ 5
 
@@ -111,7 +111,7 @@ rules here = built_rules here.encoding here.line_encoding
 
 -- the registers
 abbrev pub registers : Run → ReadRow
-registers here = behind_row here.encoding.version here.base here.previous
+registers here = registers_after_row here.encoding.version here.base here.previous
 
 -- what instructions give, run from there
 abbrev pub events_from : Run → List Ins → List Event
@@ -136,7 +136,7 @@ abbrev pub run_of_program : Built → List Event
 run_of_program p = (let rules = built_rules p.encoding p.line_encoding in run rules (initial rules) (program_instructions p))
 
 -- a program can be run: it may have these encodings, the version is known, each item can be built after the one before it,
--- addresses hold them, and none hides
+-- addresses hold them, and none is a tombstone
 pub record CanRun (p : Built) : Type 0 where
   pub accepts : Accepts p.encoding p.line_encoding
   pub version : p.encoding.version ≤ 5

@@ -18,7 +18,7 @@ built_rules encoding e = record { encoding = encoding; line_encoding = e; opcode
 -- a row, where the address `base` was set before it
 abbrev pub read_row : ℕ → ℕ → LineRow → ReadRow
 read_row version base row = record {
-  hidden = false;
+  tombstone = false;
   address = base + row.address_offset;
   op_index = row.op_index;
   file = file_number version row.file;
@@ -34,12 +34,12 @@ read_row version base row = record {
 }
 
 -- the registers after it
-abbrev pub behind_row : ℕ → ℕ → LineRow → ReadRow
-behind_row version base row = record (read_row version base row) { basic_block = false; prologue_end = false; epilogue_begin = false; discriminator = 0 }
+abbrev pub registers_after_row : ℕ → ℕ → LineRow → ReadRow
+registers_after_row version base row = record (read_row version base row) { basic_block = false; prologue_end = false; epilogue_begin = false; discriminator = 0 }
 
 -- an end at an offset and an operation, after a row
 abbrev pub read_end : ℕ → ℕ → LineRow → ℕ → ℕ → ReadRow
-read_end version base previous offset op_index = record (behind_row version base previous) { address = base + offset; op_index = op_index; end_sequence = true }
+read_end version base previous offset op_index = record (registers_after_row version base previous) { address = base + offset; op_index = op_index; end_sequence = true }
 
 -- a read row says what a built one says, where the address `base` was set before it
 abbrev pub IsSameRow : ℕ → ℕ → LineRow → ReadRow → Type 0

@@ -13,8 +13,8 @@ pub record Stored : Type 0 where
 
 -- up to version 4 the timestamp and the size; in version 5 what the program's flags say, where the empty text stands
 -- for no source
-abbrev pub stored : Built → List (List ℕ) → List (List ℕ) → Details → Stored
-stored p strings line_strings details =
+abbrev pub stored_details : Built → List (List ℕ) → List (List ℕ) → Details → Stored
+stored_details p strings line_strings details =
     if nat_le p.encoding.version 4
     then record { timestamp = details.timestamp; size = details.size; md5 = replicate 16 0; source = None }
     else record {

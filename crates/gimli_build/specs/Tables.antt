@@ -10,8 +10,8 @@ abbrev pub with_directory : List LineText → LineText → List LineText
 with_directory directories t = if list_any (line_text_eq t) directories then directories else directories ++ t ∷ []
 
 -- the index of a directory, which is the end where it isn't there
-abbrev pub place_of_directory : List LineText → LineText → ℕ
-place_of_directory directories t = position_or_len (line_text_eq t) directories
+abbrev pub index_of_directory : List LineText → LineText → ℕ
+index_of_directory directories t = position_or_len (line_text_eq t) directories
 
 -- ---- files
 
@@ -40,8 +40,8 @@ abbrev pub has_file : List File → FileKey → Bool
 has_file files key = list_any (λ f. key_eq key f.0) files
 
 -- the index of a file, which is the end where it isn't there
-abbrev pub place_of_file : List File → FileKey → ℕ
-place_of_file files key = position_or_len (λ f. key_eq key f.0) files
+abbrev pub index_of_file : List File → FileKey → ℕ
+index_of_file files key = position_or_len (λ f. key_eq key f.0) files
 
 -- 64 bits hold the numbers of a file, and a digest has sixteen bytes, as in any program
 pub record FitsFile (f : File) : Type 0 where
@@ -60,7 +60,7 @@ with_details (f ∷ files) (suc i) details = f ∷ with_details files i details
 -- other goes last
 abbrev pub with_file : List File → FileKey → Option Details → List File
 with_file files key given =
-    if has_file files key then (elim given [ Some details ↦ with_details files (place_of_file files key) details | None ↦ files ])
+    if has_file files key then (elim given [ Some details ↦ with_details files (index_of_file files key) details | None ↦ files ])
     else files ++ (key, unwrap_or given no_details) ∷ []
 
 -- ---- both
@@ -87,6 +87,6 @@ pub record AreTables (directories : List LineText) (keys : List FileKey) : Type 
   pub in_directories : All (λ k. k.1 < length directories) keys
 
 -- the files that an iterator still gives from an index on, each with its index
-abbrev pub numbered : ℕ → List File → List (ℕ × LineText × ℕ)
-numbered i [] = []
-numbered i (f ∷ files) = (i, f.0.0, f.0.1) ∷ numbered (i + 1) files
+abbrev pub with_indexes : ℕ → List File → List (ℕ × LineText × ℕ)
+with_indexes i [] = []
+with_indexes i (f ∷ files) = (i, f.0.0, f.0.1) ∷ with_indexes (i + 1) files

@@ -10,9 +10,9 @@ use Rattle.gimli_bytes.specs.Number.{length_word}
 use Rattle.gimli_bytes.specs.declared.error.Error.{Error}
 use Rattle.gimli_bytes.specs.declared.error.Error.TheVariants.{IncompatibleLineProgramEncoding, UnsupportedVersion, NeedVersion}
 use Rattle.gimli_build.specs.FormatWord.{format_word}
-use Rattle.gimli_build.specs.Joined.{joined, behind_length}
+use Rattle.gimli_build.specs.Joined.{result_append, after_length}
 use Rattle.gimli_build.specs.Version4Tables.{directories_bytes, files_bytes}
-use Rattle.gimli_build.specs.Version5Tables.{strings_behind, line_strings_behind, directory_table_bytes, file_table_bytes}
+use Rattle.gimli_build.specs.Version5Tables.{strings_after, line_strings_after, directory_table_bytes, file_table_bytes}
 use Rattle.gimli_build.specs.Rows.{initial_row}
 use Rattle.gimli_build.specs.Encode.{built_opcode_base}
 use Rattle.gimli_build.specs.Items.{items_bytes}
@@ -25,7 +25,7 @@ version_bytes big version = if nat_le 2 version && nat_le version 5 then Ok (num
 
 -- the version, and in version 5 the address size and a segment selector size of 0
 abbrev pub opening_bytes : Bool → Encoding → Result (List ℕ) Error
-opening_bytes big encoding = joined (version_bytes big encoding.version) (Ok (if nat_le encoding.version 4 then [] else encoding.address_size ∷ 0 ∷ []))
+opening_bytes big encoding = result_append (version_bytes big encoding.version) (Ok (if nat_le encoding.version 4 then [] else encoding.address_size ∷ 0 ∷ []))
 
 -- how many operations an instruction of the machine has: before version 4 it is one, and no byte says so
 abbrev pub operations_bytes : ℕ → ℕ → Result (List ℕ) Error
@@ -42,8 +42,8 @@ base_byte base = cast_unsigned w8 base
 -- how lines and operations are encoded
 abbrev pub line_encoding_bytes : ℕ → LineEncoding → Result (List ℕ) Error
 line_encoding_bytes version e =
-    joined (Ok (e.minimum_instruction_length ∷ []))
-    (joined (operations_bytes version e.maximum_operations_per_instruction)
+    result_append (Ok (e.minimum_instruction_length ∷ []))
+    (result_append (operations_bytes version e.maximum_operations_per_instruction)
     (Ok (flag_byte e.default_is_stmt ∷ base_byte e.line_base ∷ e.line_range ∷ [])))
 
 -- how many LEB128 operands the standard opcodes 1 to 12 have
@@ -59,19 +59,19 @@ opcode_bytes = built_opcode_base ∷ operand_counts
 -- the directories and the files
 abbrev pub tables_bytes : Bool → Built → List (List ℕ) → List (List ℕ) → Result (List ℕ) Error
 tables_bytes big p strings line_strings =
-    if nat_le p.encoding.version 4 then joined (directories_bytes p.directories) (files_bytes p.files)
-    else joined (directory_table_bytes big p.encoding.format strings line_strings p) (file_table_bytes big p.encoding.format strings line_strings p)
+    if nat_le p.encoding.version 4 then result_append (directories_bytes p.directories) (files_bytes p.files)
+    else result_append (directory_table_bytes big p.encoding.format strings line_strings p) (file_table_bytes big p.encoding.format strings line_strings p)
 
 -- what the header length counts
 abbrev pub fields_bytes : Bool → Built → List (List ℕ) → List (List ℕ) → Result (List ℕ) Error
 fields_bytes big p strings line_strings =
-    joined (line_encoding_bytes p.encoding.version p.line_encoding)
-    (joined (Ok opcode_bytes)
+    result_append (line_encoding_bytes p.encoding.version p.line_encoding)
+    (result_append (Ok opcode_bytes)
     (tables_bytes big p strings line_strings))
 
 -- the header length, and what it counts
 abbrev pub header_bytes : Bool → Built → List (List ℕ) → List (List ℕ) → Result (List ℕ) Error
-header_bytes big p strings line_strings = behind_length (λ n. format_word big p.encoding.format n) (fields_bytes big p strings line_strings)
+header_bytes big p strings line_strings = after_length (λ n. format_word big p.encoding.format n) (fields_bytes big p strings line_strings)
 
 -- the instructions
 abbrev pub program_bytes : Bool → Built → Result (List ℕ) Error
@@ -81,7 +81,7 @@ program_bytes big p =
 -- what the unit length counts
 abbrev pub inside_bytes : Bool → Built → List (List ℕ) → List (List ℕ) → Result (List ℕ) Error
 inside_bytes big p strings line_strings =
-    joined (opening_bytes big p.encoding) (joined (header_bytes big p strings line_strings) (program_bytes big p))
+    result_append (opening_bytes big p.encoding) (result_append (header_bytes big p strings line_strings) (program_bytes big p))
 
 -- what tells the format, in front of the word of a length
 abbrev pub escape_bytes : Bool → Format → List ℕ
@@ -91,7 +91,7 @@ escape_bytes big Dwarf64 = number_bytes big 4 0xffff_ffff
 -- the unit length, and what it counts
 abbrev pub whole_bytes : Bool → Built → List (List ℕ) → List (List ℕ) → Result (List ℕ) Error
 whole_bytes big p strings line_strings =
-    behind_length (λ n. joined (Ok (escape_bytes big p.encoding.format)) (length_word big p.encoding.format n)) (inside_bytes big p strings line_strings)
+    after_length (λ n. result_append (Ok (escape_bytes big p.encoding.format)) (length_word big p.encoding.format n)) (inside_bytes big p strings line_strings)
 
 -- a unit of this encoding has no line program of that one: up to version 4 a file number is never 0, and addresses
 -- have one size
@@ -103,4 +103,4 @@ is_incompatible unit program = (nat_lt unit.version 5 && nat_le 5 program.versio
 abbrev pub unit_bytes : Bool → Encoding → Built → List (List ℕ) → List (List ℕ) → Result (List ℕ) Error
 unit_bytes big unit p strings line_strings =
     if is_incompatible unit p.encoding then Err IncompatibleLineProgramEncoding
-    else whole_bytes big p (strings_behind p strings) (line_strings_behind p line_strings)
+    else whole_bytes big p (strings_after p strings) (line_strings_after p line_strings)

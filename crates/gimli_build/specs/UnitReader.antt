@@ -14,7 +14,7 @@ use Rattle.gimli_build.specs.Encode.{built_opcode_base}
 use Rattle.gimli_build.specs.Conditions.{AreBuilt}
 use Rattle.gimli_build.specs.InstructionBytes.{set_address_bytes, FitsInstructions}
 use Rattle.gimli_build.specs.Items.{items_bytes, AreFit}
-use Rattle.gimli_build.specs.Runs.{Run, Follows, place_of}
+use Rattle.gimli_build.specs.Runs.{Run, Follows, position_of}
 
 -- a reader at a unit: the header has the opcode base of what is built, and the reader's offsets hold the length of the
 -- longest instruction
@@ -56,6 +56,6 @@ pub record IsWritableRow (here : Run) (r : LineRow) : Type 0 where
 pub record AreWritable (u : UnitReader) (here : Run) (items : List BuiltItem) : Type 0 where
   pub encoding : u.header.parameters.encoding ≡ here.encoding
   pub encode : CanEncode here.line_encoding
-  pub built : AreBuilt here.line_encoding (place_of here) items
+  pub built : AreBuilt here.line_encoding (position_of here) items
   pub line_before : here.previous.line < 2 ^ 63
   pub fit : AreFit here.encoding.version items

@@ -5,7 +5,7 @@ use Rattle.gimli_bytes.specs.declared.error.Error.{Error}
 use Rattle.gimli_bytes.specs.declared.error.Error.TheVariants.{LineStringFormMismatch}
 use Rattle.gimli_build.specs.LineText.{LineText, Inline}
 use Rattle.gimli_build.specs.Tables.{File}
-use Rattle.gimli_build.specs.Joined.{joined, joined_parts}
+use Rattle.gimli_build.specs.Joined.{result_append, result_concat}
 
 -- a name in the unit itself; up to version 4 no other table can hold it
 abbrev pub name_bytes : LineText → Result (List ℕ) Error
@@ -14,12 +14,12 @@ name_bytes t = Err LineStringFormMismatch
 
 -- the directories but for the working directory, and a zero byte that closes them
 abbrev pub directories_bytes : List LineText → Result (List ℕ) Error
-directories_bytes directories = joined (joined_parts name_bytes (drop 1 directories)) (Ok (0 ∷ []))
+directories_bytes directories = result_append (result_concat name_bytes (drop 1 directories)) (Ok (0 ∷ []))
 
 -- a file: its path, its directory, its timestamp and its size
 abbrev pub file_bytes : File → Result (List ℕ) Error
-file_bytes f = joined (name_bytes f.0.0) (Ok (uleb f.0.1 ++ uleb f.1.timestamp ++ uleb f.1.size))
+file_bytes f = result_append (name_bytes f.0.0) (Ok (uleb f.0.1 ++ uleb f.1.timestamp ++ uleb f.1.size))
 
 -- the files, and a zero byte that closes them
 abbrev pub files_bytes : List File → Result (List ℕ) Error
-files_bytes files = joined (joined_parts file_bytes files) (Ok (0 ∷ []))
+files_bytes files = result_append (result_concat file_bytes files) (Ok (0 ∷ []))

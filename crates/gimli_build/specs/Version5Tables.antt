@@ -4,14 +4,14 @@ use Rattle.std.specs.Option.{is_none}
 use Rattle.std.specs.List.{flat_map, list_any}
 use Rattle.gimli_core.specs.declared.common.Format.{Format}
 use Rattle.gimli_bytes.specs.Number.{uleb}
-use Rattle.gimli_bytes.specs.Texts.{with_text, place_of_text, offset_of}
+use Rattle.gimli_bytes.specs.Texts.{with_text, index_of_text, offset_of}
 use Rattle.gimli_bytes.specs.declared.error.Error.{Error}
 use Rattle.gimli_bytes.specs.declared.error.Error.TheVariants.{LineStringFormMismatch}
 use Rattle.gimli_build.specs.Due.{when}
 use Rattle.gimli_build.specs.LineText.{LineText, Inline, InStrings, InLineStrings}
 use Rattle.gimli_build.specs.Tables.{File}
 use Rattle.gimli_build.specs.FormatWord.{format_word}
-use Rattle.gimli_build.specs.Joined.{joined, joined_parts}
+use Rattle.gimli_build.specs.Joined.{result_append, result_concat}
 use Rattle.gimli_build.specs.Built.{Built}
 
 -- ---- forms (DWARF 5, section 7.5.6)
@@ -45,16 +45,16 @@ needs_empty p = nat_le 5 p.encoding.version && p.file_has_source && list_any (λ
 -- the empty text in a form, with these tables
 abbrev pub empty_text : ℕ → List (List ℕ) → List (List ℕ) → LineText
 empty_text form strings line_strings =
-    if nat_eq form 0x0e then InStrings (place_of_text strings [])
-    else (if nat_eq form 0x1f then InLineStrings (place_of_text line_strings [])
+    if nat_eq form 0x0e then InStrings (index_of_text strings [])
+    else (if nat_eq form 0x1f then InLineStrings (index_of_text line_strings [])
     else Inline [])
 
 -- the tables once a program is written: they have gained the empty text where it is needed and has their form
-abbrev pub strings_behind : Built → List (List ℕ) → List (List ℕ)
-strings_behind p strings = if needs_empty p && nat_eq (first_form (sources p.files)) 0x0e then with_text strings [] else strings
+abbrev pub strings_after : Built → List (List ℕ) → List (List ℕ)
+strings_after p strings = if needs_empty p && nat_eq (first_form (sources p.files)) 0x0e then with_text strings [] else strings
 
-abbrev pub line_strings_behind : Built → List (List ℕ) → List (List ℕ)
-line_strings_behind p line_strings = if needs_empty p && nat_eq (first_form (sources p.files)) 0x1f then with_text line_strings [] else line_strings
+abbrev pub line_strings_after : Built → List (List ℕ) → List (List ℕ)
+line_strings_after p line_strings = if needs_empty p && nat_eq (first_form (sources p.files)) 0x1f then with_text line_strings [] else line_strings
 
 -- ---- formats
 
@@ -99,8 +99,8 @@ module _ (big : Bool) (format : Format) (strings line_strings : List (List ℕ))
   -- the directories, after their formats and their number
   abbrev pub directory_table_bytes : Built → Result (List ℕ) Error
   directory_table_bytes p =
-      joined (Ok (formats_bytes (directory_formats p) ++ uleb (length p.directories)))
-      (joined_parts (text_in_form (first_form p.directories)) p.directories)
+      result_append (Ok (formats_bytes (directory_formats p) ++ uleb (length p.directories)))
+      (result_concat (text_in_form (first_form p.directories)) p.directories)
 
   -- its source, or the empty text
   abbrev pub source_bytes : Built → File → Result (List ℕ) Error
@@ -111,11 +111,11 @@ module _ (big : Bool) (format : Format) (strings line_strings : List (List ℕ))
 
   abbrev pub file_entry_bytes : Built → File → Result (List ℕ) Error
   file_entry_bytes p f =
-      joined (text_in_form (first_form (path_texts p.files)) f.0.0)
-      (joined (Ok (detail_bytes p f)) (source_bytes p f))
+      result_append (text_in_form (first_form (path_texts p.files)) f.0.0)
+      (result_append (Ok (detail_bytes p f)) (source_bytes p f))
 
   -- the files, after their formats and their number
   abbrev pub file_table_bytes : Built → Result (List ℕ) Error
   file_table_bytes p =
-      joined (Ok (formats_bytes (file_formats p) ++ uleb (length p.files)))
-      (joined_parts (file_entry_bytes p) p.files)
+      result_append (Ok (formats_bytes (file_formats p) ++ uleb (length p.files)))
+      (result_concat (file_entry_bytes p) p.files)

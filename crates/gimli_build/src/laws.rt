@@ -15,7 +15,7 @@ ghost use Rattle.gimli_line.specs.header.Orders.{HeaderOrders};
 ghost use Rattle.gimli_line.specs.run.Instruction.{Ins, defines_file};
 ghost use Rattle.gimli_line.specs.run.Events.{Event, row};
 ghost use Rattle.gimli_line.specs.run.RunState.{RunState};
-ghost use Rattle.gimli_line.specs.run.Progress.{ready, Progress};
+ghost use Rattle.gimli_line.specs.run.Progress.{with_reset_row, Progress};
 ghost use Rattle.gimli_line.specs.run.Rows.{FaultIs};
 ghost use Rattle.gimli_line.specs.run.Machine.{initial};
 ghost use Rattle.gimli_line.specs.declared.run.instruction.LineInstruction.TheVariants.{SetAddress};
@@ -115,7 +115,7 @@ pub fn moving_rows_are_short()
 {}
 
 /// The instructions of built items, run from the registers after the row before them, give one row for each row
-/// and each end, in order, and no fault, where addresses hold them and no set address hides.
+/// and each end, in order, and no fault, where addresses hold them and no set address is a tombstone.
 pub fn items_run()
     ensures { (here : Run) (items : List BuiltItem) → IsUnderWay here → AreNext here items →
         events_from here (written_items here items) ≡ map row (given_items here items) }
@@ -149,7 +149,7 @@ pub fn written_rows_take_no_memory()
     ensures goes { (old new : RunState) (events : List Event) → DefinesNoFile old →
         Progress old new events → DefinesNoFile new }
     ensures refused { (old new : RunState) (e : Error) → DefinesNoFile old →
-        FaultIs (ready old) new e → e ≡ AddressOverflow }
+        FaultIs (with_reset_row old) new e → e ≡ AddressOverflow }
 {}
 
 /// `==` holds of two texts, and of two ids, exactly where they are the same text and the same index; and of what is

@@ -18,8 +18,8 @@ both old first second mid new before after = after ∙ ap (λ (l : List ℕ). l 
 pub at_end : (old : List ℕ) (at : ℕ) → at ≡ length old → length old ≤ at
 at_end old at is = omega arith
 
-pub behind : (old mid : List ℕ) (at : ℕ) → Begins old mid → at ≡ length mid → length old ≤ at
-behind old mid at begins is = omega (arith, ap length begins, length-take (length old) mid)
+pub later : (old mid : List ℕ) (at : ℕ) → Begins old mid → at ≡ length mid → length old ≤ at
+later old mid at begins is = omega (arith, ap length begins, length-take (length old) mid)
 
 pub place_32 : (format : Format) (old : List ℕ) (at : ℕ) → format ≡ Dwarf32 → at ≡ length old → at ≡ length old + escape_size format
 place_32 format old at short is = rw short (omega arith)

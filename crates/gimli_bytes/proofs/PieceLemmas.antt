@@ -11,7 +11,7 @@ use Rattle.std.proofs.lemmas.List.Folds.{concat-append}
 use Rattle.std.proofs.lemmas.Bool.{lt-ltb, le-ltb}
 use Rattle.std.proofs.lemmas.Nat.{div-add-mod', div_below}
 use native.Mathlib.Nat.{lt_of_mul-lt-mul_right}
-use Rattle.gimli_bytes.specs.Written.{patched}
+use Rattle.gimli_bytes.specs.Written.{overwrite_of}
 use Rattle.gimli_bytes.specs.declared.error.Error.TheVariants.{LengthOutOfBounds}
 use Rattle.gimli_bytes.specs.Pieces.{HaveSizes, NeedsNoPiece, ArePieces, put_over, in_use, HoldPieces}
 
@@ -38,8 +38,8 @@ pub put_over-front : (p c : List ℕ) (at : ℕ) (bytes : List ℕ) → at + len
 put_over-front p c at bytes h = grind (arith, common_steps)
 
 -- after other bytes
-pub put_over-behind : (p c : List ℕ) (at : ℕ) (bytes : List ℕ) → put_over (p ++ c) (length p + at) bytes ≡ p ++ put_over c at bytes
-put_over-behind p c at bytes =
+pub put_over-after : (p c : List ℕ) (at : ℕ) (bytes : List ℕ) → put_over (p ++ c) (length p + at) bytes ≡ p ++ put_over c at bytes
+put_over-after p c at bytes =
     let place : length p + at + length bytes ≡ length p + (at + length bytes) = omega arith in
     let back : drop (length p + at + length bytes) (p ++ c) ≡ drop (at + length bytes) c = rw place (drop-append-add p c (at + length bytes)) in
     rw (take-append-add p c at, back) (simp append_assoc)
@@ -80,8 +80,8 @@ put_over-piece n (q ∷ ps) zero start d bytes s inside fits =
 put_over-piece n (q ∷ ps) (suc i) start d bytes s inside fits =
     let size : length q ≡ n = All-head (λ q. length q ≡ n) q ps s in
     let place : suc i * n + start ≡ length q + (i * n + start) = omega arith in
-    let behind = put_over-piece n ps i start d bytes (All-tail (λ q. length q ≡ n) q ps s) (omega arith) fits in
-    rw (place, behind) (sym (put_over-behind q (concat ps) (i * n + start) bytes))
+    let later = put_over-piece n ps i start d bytes (All-tail (λ q. length q ≡ n) q ps s) (omega arith) fits in
+    rw (place, later) (sym (put_over-after q (concat ps) (i * n + start) bytes))
 
 -- a place within the bytes is within a piece
 pub piece-inside : (n at : ℕ) (ps : List (List ℕ)) → 1 ≤ n → Sized n ps → at < length (concat ps) → at / n < length ps
@@ -216,13 +216,13 @@ take-before old at bytes h =
 
 -- ---- the refusals of a place
 
-pub patched-inside : (old : List ℕ) (at : ℕ) (bytes new : List ℕ) → at + length bytes ≤ length old → new ≡ put_over old at bytes → patched old at bytes ≡ Ok new
+pub patched-inside : (old : List ℕ) (at : ℕ) (bytes new : List ℕ) → at + length bytes ≤ length old → new ≡ put_over old at bytes → overwrite_of old at bytes ≡ Ok new
 patched-inside old at bytes new h is =
     let first : nat_lt (length old) at ≡ false = le-ltb (length old) at (omega arith) in
     let second : nat_lt (length old) (at + length bytes) ≡ false = le-ltb (length old) (at + length bytes) h in
     rw (first, second, is) refl
 
-pub patched-past : (old : List ℕ) (at : ℕ) (bytes : List ℕ) → at ≤ length old → length old < at + length bytes → patched old at bytes ≡ Err LengthOutOfBounds
+pub patched-past : (old : List ℕ) (at : ℕ) (bytes : List ℕ) → at ≤ length old → length old < at + length bytes → overwrite_of old at bytes ≡ Err LengthOutOfBounds
 patched-past old at bytes h past =
     let first : nat_lt (length old) at ≡ false = le-ltb (length old) at h in
     let second : nat_lt (length old) (at + length bytes) ≡ true = lt-ltb (length old) (at + length bytes) past in

@@ -10,7 +10,7 @@ use Rattle.std.proofs.lemmas.List.Folds.{list_any_at}
 use Rattle.std.proofs.lemmas.List.Quantifiers.{all_pairs_push}
 use Rattle.std.proofs.lemmas.List.Sums.{sum_by-append, sum_by-cons, sum_by-take-le}
 use Rattle.std.proofs.lemmas.Slice.Eq.{bytes_eq-Decides}
-use Rattle.gimli_bytes.specs.Texts.{AreTexts, KeepsTexts, with_text, place_of_text, byte_count, offset_of, table_bytes}
+use Rattle.gimli_bytes.specs.Texts.{AreTexts, KeepsTexts, with_text, index_of_text, byte_count, offset_of, table_bytes}
 use Rattle.gimli_bytes.specs.TextsInside.{texts_of}
 
 -- ---- from keys to texts
@@ -24,8 +24,8 @@ prefix-map p h [] = refl
 prefix-map p h (k ∷ ks) = ap (λ n. cond (p (h k)) (1 + n) 0) (prefix-map p h ks)
 
 -- what a place that a search gave is
-place_found : {A : Type 0} (p : A → Bool) (ks : List A) (i : ℕ) → Some i ≡ position p ks → i ≡ position_or_len p ks
-place_found p ks i e = by (nat_lt (position_or_len p ks) (length ks)) e
+index_found : {A : Type 0} (p : A → Bool) (ks : List A) (i : ℕ) → Some i ≡ position p ks → i ≡ position_or_len p ks
+index_found p ks i e = by (nat_lt (position_or_len p ks) (length ks)) e
   where
     by : (b : Bool) → Some i ≡ cond b (Some (position_or_len p ks)) None → i ≡ position_or_len p ks
     by true h = cc
@@ -35,7 +35,7 @@ place_found p ks i e = by (nat_lt (position_or_len p ks) (length ks)) e
 pub is_there : (ks : List (Vec ℕ Global)) (t : List ℕ) (b : Bool) → b ≡ list_any (λ k. bytes_eq t k.items) ks → list_any (bytes_eq t) (texts_of ks) ≡ b
 is_there ks t b e = any-map (bytes_eq t) (λ k. k.items) ks ∙ sym e
 
-place_is : (ks : List (Vec ℕ Global)) (t : List ℕ) → position_or_len (λ k. bytes_eq t k.items) ks ≡ place_of_text (texts_of ks) t
+place_is : (ks : List (Vec ℕ Global)) (t : List ℕ) → position_or_len (λ k. bytes_eq t k.items) ks ≡ index_of_text (texts_of ks) t
 place_is ks t = sym (prefix-map (λ x. not (bytes_eq t x)) (λ k. k.items) ks)
 
 -- a text that a search doesn't find is none of them
@@ -44,11 +44,11 @@ not_there ks t e h =
     true≢false (sym (list_any_at (bytes_eq t) (texts_of ks) h.0 t h.1 ((bytes_eq-Decides t (get_or (texts_of ks) h.0 t)).1 (sym h.2))) ∙ is_there ks t false e)
 
 -- the place of a text that is there
-pub place_there : (ks : List (Vec ℕ Global)) (t : List ℕ) (i : ℕ) → Some i ≡ position (λ k. bytes_eq t k.items) ks → i ≡ place_of_text (texts_of ks) t
-place_there ks t i e = place_found (λ k. bytes_eq t k.items) ks i e ∙ place_is ks t
+pub index_there : (ks : List (Vec ℕ Global)) (t : List ℕ) (i : ℕ) → Some i ≡ position (λ k. bytes_eq t k.items) ks → i ≡ index_of_text (texts_of ks) t
+index_there ks t i e = index_found (λ k. bytes_eq t k.items) ks i e ∙ place_is ks t
 
 -- the place of a new text
-pub place_new : (ks : List (Vec ℕ Global)) (t : List ℕ) (v : Vec ℕ Global) → v.items ≡ t → position_or_len (λ k. bytes_eq v.items k.items) ks ≡ place_of_text (texts_of ks) t
+pub place_new : (ks : List (Vec ℕ Global)) (t : List ℕ) (v : Vec ℕ Global) → v.items ≡ t → position_or_len (λ k. bytes_eq v.items k.items) ks ≡ index_of_text (texts_of ks) t
 place_new ks t v e = ap (λ (x : List ℕ). position_or_len (λ (k : Vec ℕ Global). bytes_eq x k.items) ks) e ∙ place_is ks t
 
 -- the keys after a new one
@@ -84,33 +84,33 @@ with_text-AreTexts ts t so clean = by (list_any (bytes_eq t) ts) refl
       no_zero = All-push (λ u. All (λ b. b ≢ 0) u) ts t so.no_zero clean;
     }
 
-found-there : (ts : List (List ℕ)) (t : List ℕ) → list_any (bytes_eq t) ts ≡ true → slice_get ts (place_of_text ts t) ≡ Some t
+found-there : (ts : List (List ℕ)) (t : List ℕ) → list_any (bytes_eq t) ts ≡ true → slice_get ts (index_of_text ts t) ≡ Some t
 found-there [] t h = cc
 found-there (s ∷ ts) t h = at (bytes_eq t s) refl (found-there ts t) h
   where
-    at : (b : Bool) → bytes_eq t s ≡ b → (list_any (bytes_eq t) ts ≡ true → slice_get ts (place_of_text ts t) ≡ Some t) → (b || list_any (bytes_eq t) ts) ≡ true
-        → slice_get (s ∷ ts) (cond (not b) (1 + place_of_text ts t) 0) ≡ Some t
+    at : (b : Bool) → bytes_eq t s ≡ b → (list_any (bytes_eq t) ts ≡ true → slice_get ts (index_of_text ts t) ≡ Some t) → (b || list_any (bytes_eq t) ts) ≡ true
+        → slice_get (s ∷ ts) (cond (not b) (1 + index_of_text ts t) 0) ≡ Some t
     at true e rest h = ap Some (sym ((bytes_eq-Decides t s).0 e))
     at false e rest h =
-        let one : 1 + place_of_text ts t ≡ suc (place_of_text ts t) = omega arith in
+        let one : 1 + index_of_text ts t ≡ suc (index_of_text ts t) = omega arith in
         ap (slice_get (s ∷ ts)) one ∙ rest h
 
-found-new : (ts : List (List ℕ)) (t : List ℕ) → list_any (bytes_eq t) ts ≡ false → slice_get (ts ++ t ∷ []) (place_of_text ts t) ≡ Some t
+found-new : (ts : List (List ℕ)) (t : List ℕ) → list_any (bytes_eq t) ts ≡ false → slice_get (ts ++ t ∷ []) (index_of_text ts t) ≡ Some t
 found-new [] t h = refl
 found-new (s ∷ ts) t h = at (bytes_eq t s) (found-new ts t) h
   where
-    at : (b : Bool) → (list_any (bytes_eq t) ts ≡ false → slice_get (ts ++ t ∷ []) (place_of_text ts t) ≡ Some t) → (b || list_any (bytes_eq t) ts) ≡ false
-        → slice_get (s ∷ ts ++ t ∷ []) (cond (not b) (1 + place_of_text ts t) 0) ≡ Some t
+    at : (b : Bool) → (list_any (bytes_eq t) ts ≡ false → slice_get (ts ++ t ∷ []) (index_of_text ts t) ≡ Some t) → (b || list_any (bytes_eq t) ts) ≡ false
+        → slice_get (s ∷ ts ++ t ∷ []) (cond (not b) (1 + index_of_text ts t) 0) ≡ Some t
     at true rest h = cc
     at false rest h =
-        let one : 1 + place_of_text ts t ≡ suc (place_of_text ts t) = omega arith in
+        let one : 1 + index_of_text ts t ≡ suc (index_of_text ts t) = omega arith in
         ap (slice_get (s ∷ ts ++ t ∷ [])) one ∙ rest h
 
 -- an added text stands at its place
-pub with_text-found : (ts : List (List ℕ)) (t : List ℕ) → slice_get (with_text ts t) (place_of_text ts t) ≡ Some t
+pub with_text-found : (ts : List (List ℕ)) (t : List ℕ) → slice_get (with_text ts t) (index_of_text ts t) ≡ Some t
 with_text-found ts t = by (list_any (bytes_eq t) ts) refl
   where
-    by : (b : Bool) → list_any (bytes_eq t) ts ≡ b → slice_get (if b then ts else ts ++ t ∷ []) (place_of_text ts t) ≡ Some t
+    by : (b : Bool) → list_any (bytes_eq t) ts ≡ b → slice_get (if b then ts else ts ++ t ∷ []) (index_of_text ts t) ≡ Some t
     by true h = found-there ts t h
     by false h = found-new ts t h
 

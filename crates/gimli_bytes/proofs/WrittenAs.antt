@@ -4,7 +4,7 @@ use Rattle.std.proofs.lemmas.Bool.{ne_eqb, lt-ltb}
 use Rattle.std.proofs.lemmas.List.{take_all}
 use Rattle.std.specs.Prelude.{Bool, true, Result, ◌+◌, ◌-◌, ◌^◌, ◌%◌, bit_and, nat_eq, ◌||◌, ℤ, pos, negsuc}
 use Rattle.gimli_core.specs.Numbers.{number_bytes}
-use Rattle.gimli_core.specs.Reading.{seen}
+use Rattle.gimli_core.specs.Reading.{result_map}
 use Rattle.gimli_core.specs.declared.constants.DwEhPe.{DwEhPe}
 use Rattle.gimli_bytes.specs.Written.{Begins, Appends, Refuses}
 use Rattle.gimli_bytes.specs.Number.{twos_complement, sdata, pointer_data, pointer_at_end, format_of}
@@ -26,7 +26,7 @@ refuses_as is r h = rw is h
 -- ---- signed numbers
 
 pub signed_as : (big : Bool) (z passed : ℤ) (size known : ℕ) (bits : Result ℕ Error) → size ≡ known → (nat_eq known 1 || nat_eq known 2 || nat_eq known 4 || nat_eq known 8) ≡ true → bits ≡ twos_complement known passed → passed ≡ z
-    → sdata big z size ≡ seen (number_bytes big known) bits
+    → sdata big z size ≡ result_map (number_bytes big known) bits
 signed_as big z passed size known bits is one bits_are same = rw (is, one, bits_are, same) refl
 
 -- all 64 bits
@@ -48,7 +48,7 @@ absolute_pointer big old address n encoding format size constant kind is = rw (c
 
 pub relative_pointer : (big : Bool) (old : List ℕ) (address : Address) (n place : ℕ) (encoding : DwEhPe) (format : DwEhPe) (size : ℕ) → address ≡ Constant n → bit_and encoding.0 0x70 ≡ 0x10 → place ≡ length old → format.0 ≡ bit_and encoding.0 0x0f
     → pointer_at_end big old address encoding size ≡ pointer_data big ((n + (2 ^ 64 - place)) % 2 ^ 64) format size
-relative_pointer big old address n place encoding format size constant kind behind is = rw (constant, kind, ← behind) (ap (λ (f : DwEhPe). pointer_data big ((n + (2 ^ 64 - place)) % 2 ^ 64) f size) (same_format format encoding is))
+relative_pointer big old address n place encoding format size constant kind later is = rw (constant, kind, ← later) (ap (λ (f : DwEhPe). pointer_data big ((n + (2 ^ 64 - place)) % 2 ^ 64) f size) (same_format format encoding is))
 
 pub other_pointer : (big : Bool) (old : List ℕ) (address : Address) (n : ℕ) (encoding : DwEhPe) (size : ℕ) → address ≡ Constant n → bit_and encoding.0 0x70 ≢ 0 → bit_and encoding.0 0x70 ≢ 0x10
     → pointer_at_end big old address encoding size ≡ Err (UnsupportedPointerEncoding encoding)

@@ -3,7 +3,7 @@
 use Rattle.std.specs.Prelude.{ℕ, zero, suc, ◌+◌, ◌-◌, ◌*◌, ◌/◌, ◌%◌, ◌^◌, Bool, ◌||◌, nat_lt, nat_eq, if◌then◌else◌, List, [], ◌∷◌, ◌++◌, length, Result, Ok, Err, ℤ, pos, negsuc, bit_and}
 use Rattle.std.specs.Int.{w64, cast_signed}
 use Rattle.gimli_core.specs.Numbers.{number_bytes}
-use Rattle.gimli_core.specs.Reading.{seen}
+use Rattle.gimli_core.specs.Reading.{result_map}
 use Rattle.gimli_core.specs.declared.common.Format.{Format}
 use Rattle.gimli_core.specs.declared.common.Format.TheVariants.{Dwarf32, Dwarf64}
 use Rattle.gimli_core.specs.declared.constants.DwEhPe.{DwEhPe}
@@ -30,7 +30,7 @@ twos_complement size (negsuc n) = if nat_lt n (2 ^ (8 * size - 1)) then Ok (2 ^ 
 abbrev pub sdata : Bool → ℤ → ℕ → Result (List ℕ) Error
 sdata big z size =
     if nat_eq size 1 || nat_eq size 2 || nat_eq size 4 || nat_eq size 8
-    then seen (number_bytes big size) (twos_complement size z)
+    then result_map (number_bytes big size) (twos_complement size z)
     else Err (UnsupportedWordSize size)
 
 -- ---- LEB128 (DWARF 5, section 7.6)
@@ -124,6 +124,6 @@ pointer_bytes big place (Constant n) encoding size =
     else Err (UnsupportedPointerEncoding encoding))
 pointer_bytes big place (Symbol symbol addend) encoding size = Err InvalidAddress
 
--- the same for an address that is written behind these bytes
+-- the same for an address that is written after these bytes
 abbrev pub pointer_at_end : Bool → List ℕ → Address → DwEhPe → ℕ → Result (List ℕ) Error
 pointer_at_end big old address encoding size = pointer_bytes big (length old) address encoding size

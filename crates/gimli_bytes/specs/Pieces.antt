@@ -30,6 +30,6 @@ pub record HoldPieces (n len : ℕ) (pieces : List (List ℕ)) : Type 0 where
   pub enough : len ≤ length pieces * n
   pub needed : length pieces * n < len + n
 
--- behind so many bytes so many more need no further piece
+-- after so many bytes so many more need no further piece
 abbrev pub NeedsNoPiece : ℕ → ℕ → ℕ → Type 0
 NeedsNoPiece n len more = div_ceil (len + more) n ≡ div_ceil len n

@@ -12,8 +12,8 @@ abbrev pub with_text : List (List ℕ) → List ℕ → List (List ℕ)
 with_text texts t = if list_any (bytes_eq t) texts then texts else texts ++ t ∷ []
 
 -- the place of a text, which is the end where it isn't there
-abbrev pub place_of_text : List (List ℕ) → List ℕ → ℕ
-place_of_text texts t = position_or_len (bytes_eq t) texts
+abbrev pub index_of_text : List (List ℕ) → List ℕ → ℕ
+index_of_text texts t = position_or_len (bytes_eq t) texts
 
 -- what a table is written as: each text and a zero byte
 abbrev pub table_bytes : List (List ℕ) → List ℕ

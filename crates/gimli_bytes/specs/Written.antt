@@ -25,15 +25,15 @@ Untouched (Err e) old new = new ≡ old
 
 -- bytes put over the old ones from a place on, or the refusal of the place: it may be the end, and no byte may pass
 -- the end
-abbrev pub patched : List ℕ → ℕ → List ℕ → Result (List ℕ) Error
-patched old at bytes =
+abbrev pub overwrite_of : List ℕ → ℕ → List ℕ → Result (List ℕ) Error
+overwrite_of old at bytes =
     if nat_lt (length old) at then Err OffsetOutOfBounds
     else (if nat_lt (length old) (at + length bytes) then Err LengthOutOfBounds
     else Ok (take at old ++ bytes ++ drop (at + length bytes) old))
 
 -- the same of wanted bytes, which may be refused before the place is looked at
 abbrev pub patch : Result (List ℕ) Error → List ℕ → ℕ → Result (List ℕ) Error
-patch (Ok bytes) old at = patched old at bytes
+patch (Ok bytes) old at = overwrite_of old at bytes
 patch (Err e) old at = Err e
 
 -- what a call over bytes that are there leaves where it answered Ok: the wanted bytes, from the place on, over the old ones

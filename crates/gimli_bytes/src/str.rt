@@ -1,5 +1,5 @@
 ghost use Rattle.std.specs.Prelude.{◌≡◌, ◌≢◌, ℕ, ◌<◌, ◌^◌, List, [], length, IfOk, IfErr, OnOk, OnErr, Ok, Some, IsOk, IsTrue, All, Contains, slice_get};
-ghost use Rattle.gimli_bytes.specs.Texts.{AreTexts, KeepsTexts, with_text, place_of_text, offset_of, table_bytes, byte_count};
+ghost use Rattle.gimli_bytes.specs.Texts.{AreTexts, KeepsTexts, with_text, index_of_text, offset_of, table_bytes, byte_count};
 ghost use Rattle.gimli_bytes.specs.Written.{Begins, Appends, Refuses};
 
 use crate::error::{Error, Result};
@@ -60,7 +60,7 @@ impl Texts {
     fn add(&mut self, text: &[u8]) -> Result<usize>
         requires { All (λ b. b ≢ 0) text.now }
         ensures ok { OnOk result (self.new ≡ with_text self.old text.now) }
-        ensures id { IfOk result (λ index. index ≡ place_of_text self.old text.now) }
+        ensures id { IfOk result (λ index. index ≡ index_of_text self.old text.now) }
         ensures found { IfOk result (λ index. slice_get self.new index ≡ Some text.now) }
         ensures stays { OnOk result (KeepsTexts self.old self.new) }
         ensures there { Contains self.old text.now → IsOk result }
@@ -145,7 +145,7 @@ impl StringTable {
     pub fn add(&mut self, text: &[u8]) -> Result<StringId>
         requires { All (λ b. b ≢ 0) text.now }
         ensures ok { OnOk result (self.new ≡ with_text self.old text.now) }
-        ensures id { IfOk result (λ id. id.0 ≡ place_of_text self.old text.now) }
+        ensures id { IfOk result (λ id. id.0 ≡ index_of_text self.old text.now) }
         ensures found { IfOk result (λ id. slice_get self.new id.0 ≡ Some text.now) }
         ensures stays { OnOk result (KeepsTexts self.old self.new) }
         ensures there { Contains self.old text.now → IsOk result }
@@ -238,7 +238,7 @@ impl LineStringTable {
     pub fn add(&mut self, text: &[u8]) -> Result<LineStringId>
         requires { All (λ b. b ≢ 0) text.now }
         ensures ok { OnOk result (self.new ≡ with_text self.old text.now) }
-        ensures id { IfOk result (λ id. id.0 ≡ place_of_text self.old text.now) }
+        ensures id { IfOk result (λ id. id.0 ≡ index_of_text self.old text.now) }
         ensures found { IfOk result (λ id. slice_get self.new id.0 ≡ Some text.now) }
         ensures stays { OnOk result (KeepsTexts self.old self.new) }
         ensures there { Contains self.old text.now → IsOk result }

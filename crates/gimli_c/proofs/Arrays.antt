@@ -6,27 +6,27 @@ use Rattle.std.proofs.lemmas.Bool.{ltb-true, ltb-false}
 use Rattle.std.proofs.lemmas.List.{length-take-le, take_all, take_more}
 use Rattle.std.proofs.lemmas.Option.{get_or_from_slice_get, slice_get_within}
 use Rattle.std.proofs.lemmas.Slice.Zip.{all_zipped_more, AllZip-long}
-use Rattle.gimli_c.specs.Written.{written}
+use Rattle.gimli_c.specs.Written.{slots_with}
 
 take_none : {A : Type 0} (n : ℕ) → take n (let xs : List A = [] in xs) ≡ []
 take_none zero = refl
 take_none (suc n) = refl
 
-pub written_none : {A : Type 0} (old : List A) → written [] old ≡ old
+pub written_none : {A : Type 0} (old : List A) → slots_with [] old ≡ old
 written_none [] = refl
 written_none (o ∷ old) = refl
 
 -- one more, after those that stand there
-pub written_more : {A : Type 0} (xs : List A) (x : A) (old : List A) → written (xs ++ x ∷ []) old ≡ set (written xs old) (length xs) x
+pub written_more : {A : Type 0} (xs : List A) (x : A) (old : List A) → slots_with (xs ++ x ∷ []) old ≡ set (slots_with xs old) (length xs) x
 written_more [] x [] = refl
 written_more [] x (o ∷ old) = ap (λ (ys : List _). x ∷ ys) (written_none old)
 written_more (y ∷ ys) x [] = refl
 written_more (y ∷ ys) x (o ∷ old) = ap (λ (zs : List _). y ∷ zs) (written_more ys x old)
 
 -- no more than there is room for
-pub written_take : {A : Type 0} (n : ℕ) (xs old : List A) → (length xs ≤ n) ⊎ (length old ≤ n) → written (take n xs) old ≡ written xs old
-written_take n [] [] h = ap (λ (ys : List _). written ys []) (take_none n)
-written_take n [] (o ∷ old) h = ap (λ (ys : List _). written ys (o ∷ old)) (take_none n)
+pub written_take : {A : Type 0} (n : ℕ) (xs old : List A) → (length xs ≤ n) ⊎ (length old ≤ n) → slots_with (take n xs) old ≡ slots_with xs old
+written_take n [] [] h = ap (λ (ys : List _). slots_with ys []) (take_none n)
+written_take n [] (o ∷ old) h = ap (λ (ys : List _). slots_with ys (o ∷ old)) (take_none n)
 written_take zero (x ∷ xs) [] h = refl
 written_take (suc n) (x ∷ xs) [] h = refl
 written_take zero (x ∷ xs) (o ∷ old) h = elim h [ inl a ↦ absurd (omega arith) | inr b ↦ absurd (omega arith) ]
@@ -34,31 +34,31 @@ written_take (suc n) (x ∷ xs) (o ∷ old) h =
     ap (λ (ys : List _). x ∷ ys) (written_take n xs old (elim h as (λ _. (length xs ≤ n) ⊎ (length old ≤ n)) [ inl a ↦ inl (omega arith) | inr b ↦ inr (omega arith) ]))
 
 -- one more byte of those that are copied
-pub copied_more : (bytes old now : List ℕ) (i : ℕ) → i < length bytes → now ≡ written (take i bytes) old
-    → set now i (get_or bytes i 0) ≡ written (take (i + 1) bytes) old
+pub copied_more : (bytes old now : List ℕ) (i : ℕ) → i < length bytes → now ≡ slots_with (take i bytes) old
+    → set now i (get_or bytes i 0) ≡ slots_with (take (i + 1) bytes) old
 copied_more bytes old now i lt so_far =
     let place : i ≡ length (take i bytes) = omega (arith, length-take-le i bytes (omega arith)) in
     ap (λ (xs : List ℕ). set xs i (get_or bytes i 0)) so_far
-    ∙ ap (λ (n : ℕ). set (written (take i bytes) old) n (get_or bytes i 0)) place
+    ∙ ap (λ (n : ℕ). set (slots_with (take i bytes) old) n (get_or bytes i 0)) place
     ∙ sym (written_more (take i bytes) (get_or bytes i 0) old)
-    ∙ ap (λ (xs : List ℕ). written xs old) (sym (take_more bytes i 0 lt))
+    ∙ ap (λ (xs : List ℕ). slots_with xs old) (sym (take_more bytes i 0 lt))
 
 -- one more of those that are copied, of any kind
-pub copied_next : {A : Type 0} (xs old now : List A) (i : ℕ) (x : A) → slice_get xs i ≡ Some x → now ≡ written (take i xs) old
-    → set now i x ≡ written (take (i + 1) xs) old
+pub copied_next : {A : Type 0} (xs old now : List A) (i : ℕ) (x : A) → slice_get xs i ≡ Some x → now ≡ slots_with (take i xs) old
+    → set now i x ≡ slots_with (take (i + 1) xs) old
 copied_next xs old now i x is so_far =
     let lt = slice_get_within xs i x is in
     let place : i ≡ length (take i xs) = omega (arith, length-take-le i xs (omega (arith, lt))) in
     ap (λ (zs : List _). set zs i x) so_far
-    ∙ ap (λ (n : ℕ). set (written (take i xs) old) n x) place
+    ∙ ap (λ (n : ℕ). set (slots_with (take i xs) old) n x) place
     ∙ sym (written_more (take i xs) x old)
-    ∙ ap (λ (zs : List _). written zs old) (sym (take_more xs i x lt ∙ ap (λ (y : _). take i xs ++ y ∷ []) (get_or_from_slice_get xs i x x is)))
+    ∙ ap (λ (zs : List _). slots_with zs old) (sym (take_more xs i x lt ∙ ap (λ (y : _). take i xs ++ y ∷ []) (get_or_from_slice_get xs i x x is)))
 
 -- as far as there is room
-pub written_within : {A : Type 0} (n : ℕ) (xs old : List A) → n ≡ min (length xs) (length old) → written (take n xs) old ≡ written xs old
+pub written_within : {A : Type 0} (n : ℕ) (xs old : List A) → n ≡ min (length xs) (length old) → slots_with (take n xs) old ≡ slots_with xs old
 written_within n xs old is = at_test (ltb (length old) (length xs)) refl
   where
-    at_test : (b : Bool) → ltb (length old) (length xs) ≡ b → written (take n xs) old ≡ written xs old
+    at_test : (b : Bool) → ltb (length old) (length xs) ≡ b → slots_with (take n xs) old ≡ slots_with xs old
     at_test true e = let lt : length old < length xs = ltb-true (length old) (length xs) e in written_take n xs old (inr (omega (arith, is, lt)))
     at_test false e = let le : length xs ≤ length old = ltb-false (length old) (length xs) e in written_take n xs old (inl (omega (arith, is, le)))
 
@@ -68,7 +68,7 @@ written_within n xs old is = at_test (ltb (length old) (length xs)) refl
 pub record AreWritten {A B : Type 0} (R : A → B → Type 0) (xs : List A) (old new : List B) : Type 0 where
   pub ys : List B
   pub each : AllZip R xs ys
-  pub copied : new ≡ written ys old
+  pub copied : new ≡ slots_with ys old
 
 pub none_written : {A B : Type 0} (R : A → B → Type 0) (xs : List A) (old : List B) → AreWritten R (take 0 xs) old old
 none_written R xs old = record { ys = []; each = tt; copied = sym (written_none old) }
@@ -84,7 +84,7 @@ one_more_written R xs old now i y lt w r =
       each = subst (λ (zs : List ℕ). AllZip R zs (w.ys ++ y ∷ [])) (sym more) (all_zipped_more R (take i xs) w.ys (get_or xs i 0) y w.each r);
       copied =
           ap (λ (zs : List _). set zs i y) w.copied
-          ∙ ap (λ (n : ℕ). set (written w.ys old) n y) place
+          ∙ ap (λ (n : ℕ). set (slots_with w.ys old) n y) place
           ∙ sym (written_more w.ys y old);
     }
 
@@ -103,5 +103,5 @@ take_within xs n room is = at_test (ltb room (length xs)) refl
     at_test false e = above (ltb-false room (length xs) e)
 
 pub all_written : {B : Type 0} (R : ℕ → B → Type 0) (xs : List ℕ) (old now : List B) (i : ℕ) → i ≡ min (length xs) (length old) → AreWritten R (take i xs) old now
-    → (ys : List B) × AllZip R (take (length old) xs) ys × (now ≡ written ys old)
+    → (ys : List B) × AllZip R (take (length old) xs) ys × (now ≡ slots_with ys old)
 all_written R xs old now i is w = (w.ys, subst (λ (zs : List ℕ). AllZip R zs w.ys) (take_within xs i (length old) is) w.each, w.copied)

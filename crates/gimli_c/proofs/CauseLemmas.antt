@@ -13,14 +13,14 @@ use Rattle.gimli_build.specs.Tables.{File, with_directory, with_file}
 use Rattle.gimli_c.specs.declared.row.GimliRow.{GimliRow}
 use Rattle.gimli_c.specs.declared.text.GimliName.{GimliName}
 use Rattle.gimli_c.specs.declared.tables.GimliFileName.{GimliFileName}
-use Rattle.gimli_c.specs.Causes.{HasHandedFault, HasNone, HasTextFault, HasFileFault, HasRowFault, HasRowsFault, first_index, place_behind}
+use Rattle.gimli_c.specs.Causes.{HasHandedFault, HasNone, HasTextFault, HasFileFault, HasRowFault, HasRowsFault, first_index, position_after}
 use Rattle.gimli_c.specs.Causes.HasEncodingFault.{bad_size, bad_lines}
 use Rattle.gimli_c.specs.Causes.HasHandedFault.{of_encoding, of_tables, of_rows}
 use Rattle.gimli_c.specs.Refused.{encoding_fault}
 use Rattle.gimli_build.specs.Advance.{CanEncode}
 use Rattle.gimli_c.specs.Causes.HasFileFault.{no_directory, path_fault}
 use Rattle.gimli_c.specs.Causes.HasTableFault.{no_source, directory_fault, file_fault}
-use Rattle.gimli_c.specs.Handed.{AddsDirectories, AddsFiles, base_behind, base_of, details_handed, encoding_of, first_ids, ids_of_directories, ids_of_files, key_handed, line_encoding_of, text_handed}
+use Rattle.gimli_c.specs.Handed.{AddsDirectories, AddsFiles, base_after, base_of, details_handed, encoding_of, first_ids, ids_of_directories, ids_of_files, key_handed, line_encoding_of, text_handed}
 use Rattle.gimli_c.specs.Handing.{Handed}
 
 -- what holds of the element at an index holds of some element
@@ -111,12 +111,12 @@ file_is_well version texts ids id file well there status (path_fault fault) = we
 pub all_more : {X : Type 0} (P : X → Type 0) (xs : List X) (i : ℕ) (d : X) → i < length xs → All P (take i xs) → P (get_or xs i d) → All P (take (i + 1) xs)
 all_more P xs i d within so_far one = rw (take_more xs i d within) (All-push P (take i xs) (get_or xs i d) so_far one)
 
--- where the row at an index has no fault, a fault of the rows from there on is one of the rows behind it
+-- where the row at an index has no fault, a fault of the rows from there on is one of the rows after it
 pub rows_left : (now old : Built) (files : ℕ) (base : Option ℕ) (place : ℕ × ℕ) (rows : List GimliRow) (i : ℕ) (d : GimliRow) (status : ℕ)
     → now.line_encoding ≡ old.line_encoding → now.encoding ≡ old.encoding → i < length rows
     → HasNone (HasRowFault now.line_encoding now.encoding.version files (base_of base (get_or rows i d)) place (get_or rows i d))
     → HasRowsFault old.line_encoding old.encoding.version files base place (drop i rows) status
-    → HasRowsFault old.line_encoding old.encoding.version files (base_behind base (get_or rows i d)) (place_behind base (get_or rows i d)) (drop (i + 1) rows) status
+    → HasRowsFault old.line_encoding old.encoding.version files (base_after base (get_or rows i d)) (position_after base (get_or rows i d)) (drop (i + 1) rows) status
 rows_left now old files base place rows i d status same_lines same within well fault =
     let all : List GimliRow → Type 0 = λ xs. HasRowsFault old.line_encoding old.encoding.version files base place xs status in
     let one : LineEncoding → Encoding → Type 0 = λ lines encoding. HasNone (HasRowFault lines encoding.version files (base_of base (get_or rows i d)) place (get_or rows i d)) in

@@ -7,8 +7,8 @@ use Rattle.gimli_core.specs.Notation.{Notation}
 use Rattle.gimli_core.specs.Values.{Value}
 use Rattle.gimli_line.specs.header.File.{File}
 use Rattle.gimli_line.specs.declared.run.instruction.LineInstruction.TheVariants.{Special, Copy, AdvancePc, AdvanceLine, SetFile, SetColumn, NegateStatement, SetBasicBlock, ConstAddPc, FixedAddPc, SetPrologueEnd, SetEpilogueBegin, SetIsa, UnknownStandard0, UnknownStandard1, UnknownStandardN, EndSequence, SetAddress, DefineFile, SetDiscriminator, UnknownExtended}
-use Rattle.gimli_line.specs.header.Header.{Header, added, bare, directory_of, file_of, from_one}
-use Rattle.gimli_line.specs.run.Instruction.{Ins, files_behind}
+use Rattle.gimli_line.specs.header.Header.{Header, files_with, without_files, directory_of, file_of, from_one}
+use Rattle.gimli_line.specs.run.Instruction.{Ins, files_after}
 use Rattle.gimli_line.specs.run.InstructionReading.{decoded_at}
 use Rattle.gimli_line.specs.run.Progress.{files_from}
 use Rattle.gimli_line.specs.run.Rows.{files_at_end}
@@ -17,12 +17,12 @@ use Rattle.gimli_line.specs.run.EventsWithFiles.{FilesAtEnd}
 use Rattle.gimli_c.specs.Place.{Place, notation_at, HasUnit}
 use Rattle.gimli_c.specs.FileSeen.{HasFiles, file_seen_by_c, text_here, bytes_here}
 use Rattle.gimli_c.specs.Run.{header_with}
-use Rattle.gimli_c.specs.Written.{written}
+use Rattle.gimli_c.specs.Written.{slots_with}
 use Rattle.gimli_c.proofs.Arrays.{written_none}
 
 -- a header that is another one but for its files
 pub has_files : (p : Place) (notation : Notation) (h complete : Header) (files : List File) → HasUnit p h → notation ≡ notation_at p
-    → FilesAtEnd notation true h h.program files → bare complete ≡ bare h → complete.files ≡ files → HasFiles p complete
+    → FilesAtEnd notation true h h.program files → without_files complete ≡ without_files h → complete.files ≡ files → HasFiles p complete
 has_files p notation h complete files unit n at_end same are = record {
   header = h;
   unit = unit;
@@ -31,12 +31,12 @@ has_files p notation h complete files unit n at_end same are = record {
   complete_is = ap (λ (k : Header). record k { files = complete.files }) same ∙ ap (λ (fs : List File). record h { files = fs }) are;
 }
 
-pub some_text : (v : Option Value) (text slice old new : List ℕ) → Some text ≡ text_here v → slice ≡ text → new ≡ written slice old → new ≡ written (bytes_here v) old
+pub some_text : (v : Option Value) (text slice old new : List ℕ) → Some text ≡ text_here v → slice ≡ text → new ≡ slots_with slice old → new ≡ slots_with (bytes_here v) old
 some_text v text slice old new t s n =
-    n ∙ ap (λ (xs : List ℕ). written xs old) (s ∙ ap (λ (o : Option (List ℕ)). unwrap_or o []) t)
+    n ∙ ap (λ (xs : List ℕ). slots_with xs old) (s ∙ ap (λ (o : Option (List ℕ)). unwrap_or o []) t)
 
-pub no_text : (v : Option Value) (old new : List ℕ) → None ≡ text_here v → new ≡ old → new ≡ written (bytes_here v) old
-no_text v old new t n = n ∙ sym (written_none old) ∙ ap (λ (o : Option (List ℕ)). written (unwrap_or o []) old) t
+pub no_text : (v : Option Value) (old new : List ℕ) → None ≡ text_here v → new ≡ old → new ≡ slots_with (bytes_here v) old
+no_text v old new t n = n ∙ sym (written_none old) ∙ ap (λ (o : Option (List ℕ)). slots_with (unwrap_or o []) old) t
 
 -- ---- files that a program defines stand after the others
 
@@ -48,11 +48,11 @@ record HasFirst (files all : List File) : Type 0 where
 the_same : (files : List File) → HasFirst files files
 the_same files = record { more = []; parts = sym (append-nil files) }
 
-more_added : (appends : Bool) (f : File) (files : List File) → HasFirst files (added appends f files)
+more_added : (appends : Bool) (f : File) (files : List File) → HasFirst files (files_with appends f files)
 more_added true f files = record { more = f ∷ []; parts = refl }
 more_added false f files = the_same files
 
-more_files : (appends : Bool) (i : Ins) (files : List File) → HasFirst files (files_behind appends i files)
+more_files : (appends : Bool) (i : Ins) (files : List File) → HasFirst files (files_after appends i files)
 more_files appends (DefineFile f) files = more_added appends f files
 more_files appends (Special _) files = the_same files
 more_files appends Copy files = the_same files
@@ -79,7 +79,7 @@ more_from : (appends : Bool) (files : List File) (list : List Ins) → HasFirst 
 more_from appends files [] = the_same files
 more_from appends files (i ∷ list) =
     let one = more_files appends i files in
-    let rest = more_from appends (files_behind appends i files) list in
+    let rest = more_from appends (files_after appends i files) list in
     record {
       more = one.more ++ rest.more;
       parts = rest.parts ∙ ap (λ (fs : List File). fs ++ rest.more) one.parts ∙ append_assoc files one.more rest.more;
@@ -101,11 +101,11 @@ entry_stays true first files more (suc k) f is = slice_get-front files more k f 
 entry_stays false first files more index f is = slice_get-front files more index f is
 
 -- a header in a run, by the files of its place
-header_is : (a : RunState) (h : Header) → bare h ≡ a.fixed → h.files ≡ a.files → h ≡ header_with a a.files
+header_is : (a : RunState) (h : Header) → without_files h ≡ a.fixed → h.files ≡ a.files → h ≡ header_with a a.files
 header_is a h same are = ap (λ (k : Header). record k { files = h.files }) same ∙ ap (λ (fs : List File). header_with a fs) are
 
 -- a file that is there has its index at the end too
-pub file_stays : (a : RunState) (h : Header) (index : ℕ) (f : File) → bare h ≡ a.fixed → h.files ≡ a.files → Some f ≡ file_of h index
+pub file_stays : (a : RunState) (h : Header) (index : ℕ) (f : File) → without_files h ≡ a.fixed → h.files ≡ a.files → Some f ≡ file_of h index
     → file_of (header_with a a.files) index ≡ file_of (header_with a (files_at_end a)) index
 file_stays a h index f same are is =
     let at : file_of (header_with a a.files) index ≡ Some f = ap (λ (k : Header). file_of k index) (sym (header_is a h same are)) ∙ sym is in
@@ -120,7 +120,7 @@ pub record IsLookedUp (start now : RunState) (h : Header) (index : ℕ) : Type 0
   pub fixed : now.fixed ≡ start.fixed
   pub file : file_of (header_with now now.files) index ≡ file_of (header_with now (files_at_end start)) index
 
-pub looked_up : (start now : RunState) (h : Header) (index : ℕ) → bare h ≡ now.fixed → h.files ≡ now.files → now.fixed ≡ start.fixed
+pub looked_up : (start now : RunState) (h : Header) (index : ℕ) → without_files h ≡ now.fixed → h.files ≡ now.files → now.fixed ≡ start.fixed
     → file_of (header_with now now.files) index ≡ file_of (header_with now (files_at_end start)) index → IsLookedUp start now h index
 looked_up start now h index same are fixed file = record { header = header_is now h same are; fixed = fixed; file = file }
 
@@ -141,6 +141,6 @@ directory_is start now h index i l =
 
 -- the header with all files, of a run from its start
 pub has_complete : (p : Place) (notation : Notation) (h : Header) (start : RunState) → HasUnit p h → notation ≡ notation_at p
-    → FilesAtEnd notation true h h.program (files_at_end start) → start.fixed ≡ bare h → HasFiles p (complete start)
+    → FilesAtEnd notation true h h.program (files_at_end start) → start.fixed ≡ without_files h → HasFiles p (complete start)
 has_complete p notation h start unit n at_end fixed =
     has_files p notation h (complete start) (files_at_end start) unit n at_end (ap (λ (k : Header). record k { files = [] }) fixed) refl

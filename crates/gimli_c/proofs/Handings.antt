@@ -10,9 +10,9 @@ use Rattle.gimli_bytes.specs.Written.{Appends}
 use Rattle.gimli_build.specs.Built.{Built}
 use Rattle.gimli_build.specs.Conditions.{CanWrite}
 use Rattle.gimli_build.specs.LineText.{LineText, Inline, InStrings, InLineStrings, IsWithin, HasNoZero}
-use Rattle.gimli_build.specs.Tables.{File, FileKey, Details, with_file, with_details, has_file, place_of_file}
+use Rattle.gimli_build.specs.Tables.{File, FileKey, Details, with_file, with_details, has_file, index_of_file}
 use Rattle.gimli_bytes.specs.Texts.{with_text}
-use Rattle.gimli_build.specs.Version5Tables.{needs_empty, strings_behind, line_strings_behind, first_form, sources}
+use Rattle.gimli_build.specs.Version5Tables.{needs_empty, strings_after, line_strings_after, first_form, sources}
 use Rattle.gimli_core.specs.declared.common.Encoding.{Encoding}
 use Rattle.gimli_build.specs.declared.built.items.BuiltItem.{BuiltItem}
 use Rattle.gimli_c.specs.declared.encoding.GimliEncoding.{GimliEncoding}
@@ -45,8 +45,8 @@ module _ (Q : File → Type 0) (d : Details) (other : (k : FileKey) (e : Details
   files_with : (files : List File) (k : FileKey) → All Q files → Q (k, d) → All Q (with_file files k (Some d))
   files_with files k all one = by (has_file files k)
     where
-      by : (b : Bool) → All Q (if b then with_details files (place_of_file files k) d else files ++ (k, d) ∷ [])
-      by true = details_with files (place_of_file files k) all
+      by : (b : Bool) → All Q (if b then with_details files (index_of_file files k) d else files ++ (k, d) ∷ [])
+      by true = details_with files (index_of_file files k) all
       by false = All-push Q files (k, d) all one
 
 pub file_can : (p : Built) (k : FileKey) (d : Details) → CanWrite p [] [] → IsInline k.0 → d.source ≡ None → CanWrite (record p { files = with_file p.files k (Some d) }) [] []
@@ -79,15 +79,15 @@ no_empty p is = by (nat_le 5 p.encoding.version) p.file_has_source (list_any (λ
     by true true b e = absurd cc
     by false true b e = absurd cc
 
-no_strings : (p : Built) → p.file_has_source ≡ false → strings_behind p [] ≡ []
+no_strings : (p : Built) → p.file_has_source ≡ false → strings_after p [] ≡ []
 no_strings p is = ap (λ (b : Bool). if b && nat_eq (first_form (sources p.files)) 0x0e then with_text [] [] else []) (no_empty p is)
 
-no_line_strings : (p : Built) → p.file_has_source ≡ false → line_strings_behind p [] ≡ []
+no_line_strings : (p : Built) → p.file_has_source ≡ false → line_strings_after p [] ≡ []
 no_line_strings p is = ap (λ (b : Bool). if b && nat_eq (first_form (sources p.files)) 0x1f then with_text [] [] else []) (no_empty p is)
 
 -- so what was written to an empty section with empty tables is read back with empty tables
 pub read_back : (written big : Bool) (p : Built) (strings line_strings : List (List ℕ)) (old new : List ℕ) → written ≡ big → old ≡ []
-    → p.file_has_source ≡ false → strings ≡ strings_behind p [] → line_strings ≡ line_strings_behind p []
+    → p.file_has_source ≡ false → strings ≡ strings_after p [] → line_strings ≡ line_strings_after p []
     → (unit : List ℕ) × (new ≡ old ++ unit) × ReadsBackAs written p strings line_strings unit → ReadsBackAs big p [] [] new
 read_back written big p strings line_strings old new big_is old_is none s_is l_is given =
     subst (λ (b : Bool). ReadsBackAs b p [] [] new) big_is
@@ -101,15 +101,15 @@ pub built_source : (h : Handed) (p : Built) → IsBuiltOf h p → p.file_has_sou
 built_source h p b =
     ap (λ (q : Built). q.file_has_source) b.others ∙ ap (λ (q : Built). q.file_has_source) b.files.others ∙ ap (λ (q : Built). q.file_has_source) b.directories.others
 
-pub items_built : (details : ℕ) (e : GimliEncoding) (start between behind p : Built) (texts : List (List ℕ)) (bytes ids given : List ℕ) (files : List GimliFileName)
+pub items_built : (details : ℕ) (e : GimliEncoding) (start between after p : Built) (texts : List (List ℕ)) (bytes ids given : List ℕ) (files : List GimliFileName)
     (file_ids now : List ℕ) (rows : List GimliRow) → start.items ≡ [] → start.encoding ≡ encoding_of e → AddsDirectories (program_with details start) between texts ids
-    → AddsFiles between behind bytes given files file_ids → now ≡ file_ids → AddsItems behind p (items_handed behind.encoding.version now None rows)
+    → AddsFiles between after bytes given files file_ids → now ≡ file_ids → AddsItems after p (items_handed after.encoding.version now None rows)
     → p.items ≡ items_handed e.version file_ids None rows
-items_built details e start between behind p texts bytes ids given files file_ids now rows none is d f same a =
-    let items : behind.items ≡ [] = ap (λ (q : Built). q.items) f.others ∙ ap (λ (q : Built). q.items) d.others ∙ none in
-    let version : behind.encoding.version ≡ e.version =
+items_built details e start between after p texts bytes ids given files file_ids now rows none is d f same a =
+    let items : after.items ≡ [] = ap (λ (q : Built). q.items) f.others ∙ ap (λ (q : Built). q.items) d.others ∙ none in
+    let version : after.encoding.version ≡ e.version =
     ap (λ (q : Built). q.encoding.version) f.others ∙ ap (λ (q : Built). q.encoding.version) d.others ∙ ap (λ (x : Encoding). x.version) is in
-    a.items_are ∙ ap (λ (xs : List BuiltItem). xs ++ items_handed behind.encoding.version now None rows) items
+    a.items_are ∙ ap (λ (xs : List BuiltItem). xs ++ items_handed after.encoding.version now None rows) items
     ∙ ap (λ (v : ℕ). items_handed v now None rows) version ∙ ap (λ (xs : List ℕ). items_handed e.version xs None rows) same
 
 -- which details are written changes nothing of what a program requires to be written, where no source is among them

@@ -1,7 +1,7 @@
 -- The units of an index.
 use Rattle.std.proofs.Common.{◌≡◌, ◌<◌, ◌^◌, ℕ, zero, suc, Bool, List, [], ◌∷◌, length, map, get_or, refl, ap, subst, ◌∙◌, inl, inr, arith}
 use Rattle.std.specs.Prelude.{All, Some, slice_get, Result, Ok, Err, IfOk, IfErr}
-use Rattle.gimli_core.specs.Notation.{noted}
+use Rattle.gimli_core.specs.Notation.{notation_of}
 use Rattle.gimli_line.specs.Units.{AreUnits}
 use Rattle.gimli_lookup.specs.Section.{ListedUnit, KeptUnit, unit_without_header}
 use Rattle.gimli_lookup.specs.SectionUnits.{IsUnitOf}
@@ -36,7 +36,7 @@ unit_there (u ∷ units) (suc k) lt =
 
 -- units of a section, by other names of its bytes and its order
 pub same_units : (section other : List ℕ) (big other_big : Bool) (size lowest : ℕ) (units kept : List KeptUnit) → other ≡ section → other_big ≡ big
-    → AreUnits (noted other_big (2 ^ 64)) 0 other (map (λ (u : KeptUnit). u.unit.offset) units)
+    → AreUnits (notation_of other_big (2 ^ 64)) 0 other (map (λ (u : KeptUnit). u.unit.offset) units)
     → All (IsUnitOf (section_read other other_big) (entry_of size) lowest) units
     → kept ≡ map unit_without_header units → AreUnitsOf section big size lowest kept
 same_units section other big other_big size lowest units kept s b offsets each are =
@@ -125,11 +125,11 @@ place_here P i kept section offset s o p =
 
 -- the units of an index, by other names of its bytes and its order
 record UnitsOf (section : List ℕ) (big : Bool) (size lowest : ℕ) (units : List KeptUnit) : Type 0 where
-  offsets : AreUnits (noted big (2 ^ 64)) 0 section (map (λ (u : KeptUnit). u.unit.offset) units)
+  offsets : AreUnits (notation_of big (2 ^ 64)) 0 section (map (λ (u : KeptUnit). u.unit.offset) units)
   each : All (IsUnitOf (section_read section big) (entry_of size) lowest) units
 
 pub same_units_in : (i : SectionIndex) (section : List ℕ) (big : Bool) (units : List KeptUnit) → section ≡ i.section.items → big ≡ i.big
-    → AreUnits (noted big (2 ^ 64)) 0 section (map (λ (u : KeptUnit). u.unit.offset) units)
+    → AreUnits (notation_of big (2 ^ 64)) 0 section (map (λ (u : KeptUnit). u.unit.offset) units)
     → All (IsUnitOf (section_read section big) (entry_of i.address_size) i.lowest) units → AreUnitsIn i units
 same_units_in i section big units s b offsets each =
     let here : UnitsOf i.section.items i.big i.address_size i.lowest units =

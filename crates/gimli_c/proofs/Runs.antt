@@ -9,8 +9,8 @@ use Rattle.gimli_line.specs.declared.run.row.LineRow.{LineRow}
 use Rattle.gimli_line.specs.header.File.{File}
 use Rattle.gimli_line.specs.header.Header.{Header}
 use Rattle.gimli_line.specs.run.Instruction.{Ins}
-use Rattle.gimli_line.specs.run.Events.{Event, row, fault, events_at, events_behind, end_events, Events}
-use Rattle.gimli_line.specs.run.EventsWithFiles.{EventWithFiles, EventsWithFiles, with_files, files_at, events_with_files_behind}
+use Rattle.gimli_line.specs.run.Events.{Event, row, fault, events_at, events_after, end_events, Events}
+use Rattle.gimli_line.specs.run.EventsWithFiles.{EventWithFiles, EventsWithFiles, with_files, files_at, events_with_files_after}
 use Rattle.gimli_line.specs.run.Sequences.{events_of}
 use Rattle.gimli_line.specs.run.InstructionReading.{decoded_at, decoded_upto}
 use Rattle.gimli_line.specs.run.Progress.{files_from}
@@ -20,18 +20,18 @@ use Rattle.gimli_c.specs.declared.row.GimliRow.{GimliRow}
 use Rattle.gimli_c.specs.Place.{Place, notation_at, HasUnit}
 use Rattle.gimli_c.specs.Run.{rows_of, fault_of, Begun, Copied, HasEvents}
 use Rattle.gimli_c.specs.Seen.{row_seen}
-use Rattle.gimli_c.specs.Written.{written}
+use Rattle.gimli_c.specs.Written.{slots_with}
 use Rattle.gimli_c.proofs.Arrays.{written_none, written_more}
 
 -- ---- rows before a fault
 
-rows_behind : (seen : List LineRow) (rest : List Event) → rows_of (map row seen ++ rest) ≡ seen ++ rows_of rest
-rows_behind [] rest = refl
-rows_behind (r ∷ seen) rest = ap (λ (xs : List LineRow). r ∷ xs) (rows_behind seen rest)
+rows_after : (seen : List LineRow) (rest : List Event) → rows_of (map row seen ++ rest) ≡ seen ++ rows_of rest
+rows_after [] rest = refl
+rows_after (r ∷ seen) rest = ap (λ (xs : List LineRow). r ∷ xs) (rows_after seen rest)
 
-fault_behind : (seen : List LineRow) (rest : List Event) → fault_of (map row seen ++ rest) ≡ fault_of rest
-fault_behind [] rest = refl
-fault_behind (r ∷ seen) rest = fault_behind seen rest
+fault_after : (seen : List LineRow) (rest : List Event) → fault_of (map row seen ++ rest) ≡ fault_of rest
+fault_after [] rest = refl
+fault_after (r ∷ seen) rest = fault_after seen rest
 
 -- ---- a run on its way
 
@@ -40,14 +40,14 @@ pub record IsOnTheWay (events left : List Event) (skip count : ℕ) (old now : L
   pub seen : List LineRow
   pub given : events ≡ map row seen ++ left
   pub count_is : count ≡ length seen
-  pub copied : now ≡ written (map row_seen (drop skip seen)) old
+  pub copied : now ≡ slots_with (map row_seen (drop skip seen)) old
 
 pub at_start : (events : List Event) (skip : ℕ) (old : List GimliRow) → IsOnTheWay events events skip 0 old old
 at_start events skip old = record {
   seen = [];
   given = refl;
   count_is = refl;
-  copied = sym (ap (λ (xs : List LineRow). written (map row_seen xs) old) (drop_all skip [] (omega arith)) ∙ written_none old);
+  copied = sym (ap (λ (xs : List LineRow). slots_with (map row_seen xs) old) (drop_all skip [] (omega arith)) ∙ written_none old);
 }
 
 pub one_more : (events left rest : List Event) (skip count : ℕ) (old now next : List GimliRow) (r : LineRow) → IsOnTheWay events left skip count old now
@@ -61,32 +61,32 @@ one_more events left rest skip count old now next r way is skipped put = record 
   copied = at_test (ltb count skip) refl;
 }
   where
-    below : count < skip → next ≡ written (map row_seen (drop skip (way.seen ++ r ∷ []))) old
-    below lt = skipped lt ∙ way.copied ∙ ap (λ (xs : List LineRow). written (map row_seen xs) old)
+    below : count < skip → next ≡ slots_with (map row_seen (drop skip (way.seen ++ r ∷ []))) old
+    below lt = skipped lt ∙ way.copied ∙ ap (λ (xs : List LineRow). slots_with (map row_seen xs) old)
         (drop_all skip way.seen (omega (arith, way.count_is)) ∙ sym (drop_all skip (way.seen ++ r ∷ []) (omega (arith, way.count_is, length-append way.seen (r ∷ [])))))
 
-    above : skip ≤ count → next ≡ written (map row_seen (drop skip (way.seen ++ r ∷ []))) old
+    above : skip ≤ count → next ≡ slots_with (map row_seen (drop skip (way.seen ++ r ∷ []))) old
     above le =
         let so_far = map row_seen (drop skip way.seen) in
         let place : count - skip ≡ length so_far = omega (arith, way.count_is, length-map (drop skip way.seen) row_seen, length-drop skip way.seen) in
         put le ∙ ap (λ (xs : List GimliRow). set xs (count - skip) (row_seen r)) way.copied
-        ∙ ap (λ (n : ℕ). set (written so_far old) n (row_seen r)) place
+        ∙ ap (λ (n : ℕ). set (slots_with so_far old) n (row_seen r)) place
         ∙ sym (written_more so_far (row_seen r) old)
-        ∙ ap (λ (xs : List GimliRow). written xs old) (sym (map-append row_seen (drop skip way.seen) (r ∷ [])))
-        ∙ ap (λ (xs : List LineRow). written (map row_seen xs) old) (sym (drop-append-le skip way.seen (r ∷ []) (omega (arith, way.count_is))))
+        ∙ ap (λ (xs : List GimliRow). slots_with xs old) (sym (map-append row_seen (drop skip way.seen) (r ∷ [])))
+        ∙ ap (λ (xs : List LineRow). slots_with (map row_seen xs) old) (sym (drop-append-le skip way.seen (r ∷ []) (omega (arith, way.count_is))))
 
-    at_test : (b : Bool) → ltb count skip ≡ b → next ≡ written (map row_seen (drop skip (way.seen ++ r ∷ []))) old
+    at_test : (b : Bool) → ltb count skip ≡ b → next ≡ slots_with (map row_seen (drop skip (way.seen ++ r ∷ []))) old
     at_test true e = below (ltb-true count skip e)
     at_test false e = above (ltb-false count skip e)
 
 pub at_end : (events left : List Event) (skip count : ℕ) (old now : List GimliRow) (end : Option Error) → IsOnTheWay events left skip count old now
     → rows_of left ≡ [] → fault_of left ≡ end → Copied events skip old now count end
 at_end events left skip count old now end way none is =
-    let rows_are : rows_of events ≡ way.seen = ap rows_of way.given ∙ rows_behind way.seen left ∙ ap (λ (xs : List LineRow). way.seen ++ xs) none ∙ append-nil way.seen in
+    let rows_are : rows_of events ≡ way.seen = ap rows_of way.given ∙ rows_after way.seen left ∙ ap (λ (xs : List LineRow). way.seen ++ xs) none ∙ append-nil way.seen in
     record {
       count_is = way.count_is ∙ ap length (sym rows_are);
-      end_is = sym is ∙ sym (fault_behind way.seen left) ∙ ap fault_of (sym way.given);
-      copied = way.copied ∙ ap (λ (xs : List LineRow). written (map row_seen (drop skip xs)) old) (sym rows_are);
+      end_is = sym is ∙ sym (fault_after way.seen left) ∙ ap fault_of (sym way.given);
+      copied = way.copied ∙ ap (λ (xs : List LineRow). slots_with (map row_seen (drop skip xs)) old) (sym rows_are);
     }
 
 -- where it stops, the rows that were seen are the first ones
@@ -94,7 +94,7 @@ pub stopped : (events left : List Event) (skip count : ℕ) (old now : List Giml
 stopped events left skip count old now way = record {
   met = way.seen;
   rest = rows_of left;
-  parts = ap rows_of way.given ∙ rows_behind way.seen left;
+  parts = ap rows_of way.given ∙ rows_after way.seen left;
   copied = way.copied;
 }
 
@@ -105,7 +105,7 @@ counted events left rest skip count old now r way is fits =
     omega (
       arith,
       way.count_is,
-      ap length (ap rows_of (way.given ∙ ap (λ (xs : List Event). map row way.seen ++ xs) is) ∙ rows_behind way.seen (row r ∷ rest)),
+      ap length (ap rows_of (way.given ∙ ap (λ (xs : List Event). map row way.seen ++ xs) is) ∙ rows_after way.seen (row r ∷ rest)),
       length-append way.seen (r ∷ rows_of rest),
       fits,
     )
@@ -116,16 +116,16 @@ events_of_at : (files : List File) (es : List Event) → events_of (with_files f
 events_of_at files [] = refl
 events_of_at files (e ∷ es) = ap (λ (xs : List Event). e ∷ xs) (events_of_at files es)
 
-events_of_behind : (a : Bool) (h : Header) (past list : List Ins) (end : Option Error)
-    → events_of (events_with_files_behind a h past list end) ≡ events_behind h.parameters past list ++ end_events end
-events_of_behind a h past [] end = events_of_at (files_at a h.files past) (end_events end)
-events_of_behind a h past (i ∷ list) end =
+events_of_after : (a : Bool) (h : Header) (past list : List Ins) (end : Option Error)
+    → events_of (events_with_files_after a h past list end) ≡ events_after h.parameters past list ++ end_events end
+events_of_after a h past [] end = events_of_at (files_at a h.files past) (end_events end)
+events_of_after a h past (i ∷ list) end =
     let files = files_at a h.files past in
     let here = events_at h.parameters past i in
-    map-append (λ (t : EventWithFiles). t.event) (with_files files here) (events_with_files_behind a h (i ∷ past) list end)
-    ∙ ap (λ (xs : List Event). xs ++ events_of (events_with_files_behind a h (i ∷ past) list end)) (events_of_at files here)
-    ∙ ap (λ (xs : List Event). here ++ xs) (events_of_behind a h (i ∷ past) list end)
-    ∙ sym (append_assoc here (events_behind h.parameters (i ∷ past) list) (end_events end))
+    map-append (λ (t : EventWithFiles). t.event) (with_files files here) (events_with_files_after a h (i ∷ past) list end)
+    ∙ ap (λ (xs : List Event). xs ++ events_of (events_with_files_after a h (i ∷ past) list end)) (events_of_at files here)
+    ∙ ap (λ (xs : List Event). here ++ xs) (events_of_after a h (i ∷ past) list end)
+    ∙ sym (append_assoc here (events_after h.parameters (i ∷ past) list) (end_events end))
 
 -- events that have files are events
 pub without_files : (notation : Notation) (a : Bool) (h : Header) (bytes : List ℕ) (events : List EventWithFiles) → EventsWithFiles notation a h bytes events
@@ -134,7 +134,7 @@ without_files notation a h bytes events given = record {
   list = given.list;
   end = given.end;
   decoding = given.decoding;
-  given = ap events_of given.given ∙ events_of_behind a h [] given.list given.end;
+  given = ap events_of given.given ∙ events_of_after a h [] given.list given.end;
 }
 
 -- rows are among the events

@@ -43,12 +43,12 @@ is_program_of h p b =
     let files_between = ap (λ (q : Built). q.files) d.others in
     let files = b.files.files_are ∙ ap (λ (xs : List ℕ). files_handed h.texts xs b.between.files h.files) d.ids_are
     ∙ ap (λ (fs : List File). files_handed h.texts (ids h) fs h.files) files_between in
-    let behind = b.files.others ∙ ap (λ (q : Built). let r : Built = record q { files = b.behind.files } in r) between
+    let after = b.files.others ∙ ap (λ (q : Built). let r : Built = record q { files = b.after.files } in r) between
     ∙ ap (λ (fs : List File). let q : Built = record (with_tables h) { files = fs } in q) files in
     let given = b.files.ids_are ∙ ap (λ (xs : List ℕ). ids_of_files h.texts xs b.between.files h.files) d.ids_are
     ∙ ap (λ (fs : List File). ids_of_files h.texts (ids h) fs h.files) files_between in
     let items = b.items ∙ ap (λ (xs : List ℕ). items_handed h.encoding.version xs None h.rows) given in
-    b.others ∙ ap (λ (q : Built). let r : Built = record q { items = p.items; row = p.row; in_sequence = p.in_sequence } in r) behind
+    b.others ∙ ap (λ (q : Built). let r : Built = record q { items = p.items; row = p.row; in_sequence = p.in_sequence } in r) after
     ∙ ap (λ (xs : List BuiltItem). let r : Built = record (with_tables h) { items = xs; row = p.row; in_sequence = p.in_sequence } in r) items
 
 -- so each of them has the same first cause

@@ -10,7 +10,7 @@ use Rattle.gimli_c.specs.declared.text.GimliName.{GimliName}
 use Rattle.gimli_c.specs.declared.tables.GimliFileName.{GimliFileName}
 use Rattle.gimli_c.specs.declared.row.GimliRow.{GimliRow}
 use Rattle.gimli_c.specs.declared.status.TheConstants.{UNSUPPORTED_LINE_ENCODING, TEXT_OUT_OF_BOUNDS, ZERO_IN_TEXT, EMPTY_TEXT, NO_SOURCE_FILE, NO_SUCH_DIRECTORY, NO_SUCH_FILE, ROW_OUT_OF_ORDER, UNKNOWN_FLAG}
-use Rattle.gimli_c.specs.Handed.{text_handed, line_encoding_of, ends, base_of, base_behind}
+use Rattle.gimli_c.specs.Handed.{text_handed, line_encoding_of, ends, base_of, base_after}
 use Rattle.gimli_c.specs.Handing.{Handed, IsBuiltOf, write_status}
 use Rattle.gimli_c.specs.Refused.{encoding_fault, HasBadLines}
 
@@ -58,7 +58,7 @@ pub data HasTableFault (version : ℕ) (texts : List ℕ) (directories : List Gi
 abbrev pub LacksFile : ℕ → ℕ → ℕ → Type 0
 LacksFile version files number = (number < first_index version) ⊎ (first_index version + files ≤ number)
 
--- a row can stand behind a row at this place, in a sequence that begins at the address `base`
+-- a row can stand after a row at this place, in a sequence that begins at the address `base`
 pub record CanStand (e : LineEncoding) (base : ℕ) (place : ℕ × ℕ) (r : GimliRow) : Type 0 where
   pub above : base ≤ r.address
   pub follows : CanFollow e place.0 place.1 (r.address - base) r.op_index
@@ -71,15 +71,15 @@ pub data HasRowFault (e : LineEncoding) (version files base : ℕ) (place : ℕ 
   no_file : status ≡ NO_SUCH_FILE → ends r ≡ false → LacksFile version files r.file → HasRowFault e version files base place r status
 
 -- the place that a row leaves off at: its offset in the sequence and its operation; an end leaves off where the next begins
-abbrev pub place_behind : Option ℕ → GimliRow → ℕ × ℕ
-place_behind base r = if ends r then (0, 0) else (r.address - base_of base r, r.op_index)
+abbrev pub position_after : Option ℕ → GimliRow → ℕ × ℕ
+position_after base r = if ends r then (0, 0) else (r.address - base_of base r, r.op_index)
 
 -- one of these rows is refused; the row before them is at this place, and its sequence, if it goes on, began at the address
 abbrev pub HasRowsFault : LineEncoding → ℕ → ℕ → Option ℕ → ℕ × ℕ → List GimliRow → ℕ → Type 0
 HasRowsFault e version files base place [] status = ⊥
 HasRowsFault e version files base place (r ∷ rows) status =
     HasRowFault e version files (base_of base r) place r status
-    ⊎ HasRowsFault e version files (base_behind base r) (place_behind base r) rows status
+    ⊎ HasRowsFault e version files (base_after base r) (position_after base r) rows status
 
 -- ---- all
 

@@ -9,7 +9,7 @@ use Rattle.gimli_c.specs.declared.file.GimliText.{GimliText}
 use Rattle.gimli_c.specs.declared.file.GimliFile.{GimliFile}
 use Rattle.gimli_c.specs.Place.{Place, notation_at, HasUnit}
 use Rattle.gimli_c.specs.Seen.{flag}
-use Rattle.gimli_c.specs.Written.{written}
+use Rattle.gimli_c.specs.Written.{slots_with}
 
 abbrev pub text_at : ℕ → ℕ → ℕ → GimliText
 text_at kind place size = record { kind = kind; place = place; size = size }
@@ -71,8 +71,8 @@ pub record GivesFile (p : Place) (index : ℕ) (seen : GimliFile) (path_old path
   pub file : File
   pub is_file : file_of header index ≡ Some file
   pub seen_is : seen ≡ file_seen_by_c header file
-  pub path_is : path_new ≡ written (bytes_here (Some file.path_name)) path_old
-  pub directory_is : directory_new ≡ written (bytes_here (directory_of header file.directory_index)) directory_old
+  pub path_is : path_new ≡ slots_with (bytes_here (Some file.path_name)) path_old
+  pub directory_is : directory_new ≡ slots_with (bytes_here (directory_of header file.directory_index)) directory_old
 
 -- the unit at the place has no file of the index
 pub record GivesNoFile (p : Place) (index : ℕ) : Type 0 where
@@ -87,7 +87,7 @@ pub record GivesDirectory (p : Place) (index : ℕ) (seen : GimliText) (bytes_ol
   pub directory : Value
   pub is_directory : directory_of header index ≡ Some directory
   pub seen_is : seen ≡ text_seen directory
-  pub bytes_is : bytes_new ≡ written (bytes_here (Some directory)) bytes_old
+  pub bytes_is : bytes_new ≡ slots_with (bytes_here (Some directory)) bytes_old
 
 -- the unit at the place has no directory of the index
 pub record GivesNoDirectory (p : Place) (index : ℕ) : Type 0 where

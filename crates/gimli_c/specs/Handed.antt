@@ -7,7 +7,7 @@ use Rattle.gimli_core.specs.declared.common.Format.TheVariants.{Dwarf32, Dwarf64
 use Rattle.gimli_bytes.specs.declared.address.Address.TheVariants.{Constant}
 use Rattle.gimli_build.specs.Built.{Built}
 use Rattle.gimli_build.specs.LineText.{LineText, Inline, InStrings, InLineStrings}
-use Rattle.gimli_build.specs.Tables.{File, FileKey, Details, with_directory, place_of_directory, with_file, place_of_file}
+use Rattle.gimli_build.specs.Tables.{File, FileKey, Details, with_directory, index_of_directory, with_file, index_of_file}
 use Rattle.gimli_build.specs.declared.built.row.LineRow.{LineRow}
 use Rattle.gimli_build.specs.declared.built.items.BuiltItem.{BuiltItem}
 use Rattle.gimli_build.specs.declared.built.items.BuiltItem.TheVariants.{SetAddress, Row, End}
@@ -94,8 +94,8 @@ abbrev pub base_of : Option ℕ → GimliRow → ℕ
 base_of base r = unwrap_or base r.address
 
 -- the address of the sequence that the next row belongs to; none where it begins one
-abbrev pub base_behind : Option ℕ → GimliRow → Option ℕ
-base_behind base r = if ends r then None else Some (base_of base r)
+abbrev pub base_after : Option ℕ → GimliRow → Option ℕ
+base_after base r = if ends r then None else Some (base_of base r)
 
 -- where a sequence begins its address is set
 abbrev pub items_of_start : Option ℕ → ℕ → List BuiltItem
@@ -109,7 +109,7 @@ items_of_row version ids base r = items_of_start base r.address ++ item_handed v
 -- what rows add, one after the other
 abbrev pub items_handed : ℕ → List ℕ → Option ℕ → List GimliRow → List BuiltItem
 items_handed version ids base [] = []
-items_handed version ids base (r ∷ rows) = items_of_row version ids base r ++ items_handed version ids (base_behind base r) rows
+items_handed version ids base (r ∷ rows) = items_of_row version ids base r ++ items_handed version ids (base_after base r) rows
 
 -- a program has these items more, and is else what it was but for the row that is built next
 pub record AddsItems (old new : Built) (items : List BuiltItem) : Type 0 where
@@ -127,7 +127,7 @@ directories_handed directories (t ∷ texts) = directories_handed (with_director
 abbrev pub ids_of_directories : List LineText → List (List ℕ) → List ℕ
 ids_of_directories directories [] = []
 ids_of_directories directories (t ∷ texts) =
-    place_of_directory directories (Inline t) ∷ ids_of_directories (with_directory directories (Inline t)) texts
+    index_of_directory directories (Inline t) ∷ ids_of_directories (with_directory directories (Inline t)) texts
 
 -- a file: its path and its directory, by the ids of these
 abbrev pub key_handed : List ℕ → List ℕ → GimliFileName → FileKey
@@ -146,7 +146,7 @@ files_handed texts ids files (f ∷ more) =
 abbrev pub ids_of_files : List ℕ → List ℕ → List File → List GimliFileName → List ℕ
 ids_of_files texts ids files [] = []
 ids_of_files texts ids files (f ∷ more) =
-    place_of_file files (key_handed texts ids f)
+    index_of_file files (key_handed texts ids f)
     ∷ ids_of_files texts ids (with_file files (key_handed texts ids f) (Some (details_handed f))) more
 
 -- ---- the program that is built

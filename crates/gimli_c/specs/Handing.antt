@@ -12,7 +12,7 @@ use Rattle.gimli_c.specs.declared.tables.GimliFileName.{GimliFileName}
 use Rattle.gimli_c.specs.declared.row.GimliRow.{GimliRow}
 use Rattle.gimli_c.specs.Handed.{encoding_of, line_encoding_of, has_flag, text_handed, items_handed, AddsDirectories, AddsFiles}
 use Rattle.gimli_c.specs.Start.{start_program}
-use Rattle.gimli_c.specs.Written.{written}
+use Rattle.gimli_c.specs.Written.{slots_with}
 
 -- all that is handed over but for the room
 pub record Handed : Type 0 where
@@ -24,8 +24,8 @@ pub record Handed : Type 0 where
   pub files : List GimliFileName
   pub rows : List GimliRow
 
-abbrev pub handed : GimliEncoding → Bool → ℕ → List ℕ → List GimliName → List GimliFileName → List GimliRow → Handed
-handed encoding big details texts directories files rows = record {
+abbrev pub handed_of : GimliEncoding → Bool → ℕ → List ℕ → List GimliName → List GimliFileName → List GimliRow → Handed
+handed_of encoding big details texts directories files rows = record {
   encoding = encoding;
   big = big;
   details = details;
@@ -64,11 +64,11 @@ pub record IsBuiltOf (h : Handed) (p : Built) : Type 0 where
   pub directory_ids : List ℕ
   pub file_ids : List ℕ
   pub between : Built
-  pub behind : Built
+  pub after : Built
   pub directories : AddsDirectories (program_with h.details start) between (map (text_handed h.texts) h.directories) directory_ids
-  pub files : AddsFiles between behind h.texts directory_ids h.files file_ids
+  pub files : AddsFiles between after h.texts directory_ids h.files file_ids
   pub items : p.items ≡ items_handed h.encoding.version file_ids None h.rows
-  pub others : p ≡ record behind { items = p.items; row = p.row; in_sequence = p.in_sequence }
+  pub others : p ≡ record after { items = p.items; row = p.row; in_sequence = p.in_sequence }
   pub can : CanWrite p [] []
 
 -- bytes are the unit of a program whose texts all stand in it, and read back as it
@@ -83,7 +83,7 @@ pub record GivesUnitOf (h : Handed) (old new : List ℕ) (size : ℕ) : Type 0 w
   pub bytes : List ℕ
   pub is_unit : IsUnitOf h.big program bytes
   pub fits : length bytes ≤ length old
-  pub written_is : new ≡ written bytes old
+  pub written_is : new ≡ slots_with bytes old
   pub size_is : size ≡ length bytes
 
 -- the unit is longer than the room

@@ -1,7 +1,7 @@
 -- What an index keeps, and what it answers.
 use Rattle.std.specs.Prelude.{◌≡◌, ◌^◌, ◌⊎◌, ℕ, Bool, true, List, length, map, take, All, Some, None, Ok, Err, nat_eq, slice_get}
 use Rattle.std.specs.List.{AllZip}
-use Rattle.gimli_core.specs.Notation.{noted}
+use Rattle.gimli_core.specs.Notation.{notation_of}
 use Rattle.gimli_core.specs.Numbers.{is_address_size}
 use Rattle.gimli_line.specs.Units.{AreUnits}
 use Rattle.gimli_line.specs.declared.run.row.LineRow.{LineRow}
@@ -27,7 +27,7 @@ use Rattle.gimli_c.specs.FileSeen.{GivesDirectory, GivesFile, GivesNoDirectory, 
 use Rattle.gimli_c.specs.Place.{Place, place, HasNoUnit}
 use Rattle.gimli_c.specs.Seen.{row_seen}
 use Rattle.gimli_c.specs.Status.{fault_status}
-use Rattle.gimli_c.specs.Written.{written}
+use Rattle.gimli_c.specs.Written.{slots_with}
 
 -- ---- what an index is made of
 
@@ -53,7 +53,7 @@ program section big address_size lowest line_strings strings = record {
 
 -- offsets have 64 bits, and no directory and no name is handed in with a unit
 abbrev pub section_read : List ℕ → Bool → Unread
-section_read section big = record { bytes = section; notation = noted big (2 ^ 64) }
+section_read section big = record { bytes = section; notation = notation_of big (2 ^ 64) }
 
 abbrev pub entry_of : ℕ → UnitEntry
 entry_of address_size = record { address_size = address_size; directory = None; name = None }
@@ -61,7 +61,7 @@ entry_of address_size = record { address_size = address_size; directory = None; 
 -- these are all units of a section, each with the sequences that are kept of it; their headers aren't kept
 pub record AreUnitsOf (section : List ℕ) (big : Bool) (address_size lowest : ℕ) (kept : List KeptUnit) : Type 0 where
   pub units : List KeptUnit
-  pub offsets : AreUnits (noted big (2 ^ 64)) 0 section (map (λ u. u.unit.offset) units)
+  pub offsets : AreUnits (notation_of big (2 ^ 64)) 0 section (map (λ u. u.unit.offset) units)
   pub each : All (IsUnitOf (section_read section big) (entry_of address_size) lowest) units
   pub kept_are : kept ≡ map unit_without_header units
 
@@ -86,7 +86,7 @@ pub record GivesPlace (units : List KeptUnit) (address : ℕ) (seen : GimliPlace
   pub row_is : seen.row ≡ row_seen x
   pub end_is : seen.end ≡ y.address
 
--- what stands in the place of a row, and of a place, where there is none: all numbers are 0
+-- what stands in place of a row, and of a place, where there is none: all numbers are 0
 abbrev pub no_row : GimliRow
 no_row = record { address = 0; op_index = 0; file = 0; line = 0; column = 0; isa = 0; discriminator = 0; flags = 0 }
 
@@ -100,7 +100,7 @@ IsAnswer units address seen = GivesPlace units address seen ⊎ ((seen ≡ no_pl
 -- the answers to the addresses, one for each as far as there is room, in an array of the caller that held others
 abbrev pub WritesAnswers : SectionIndex → List ℕ → List GimliPlace → List GimliPlace → Type 0
 WritesAnswers i addresses old new =
-    (answers : List GimliPlace) × AllZip (IsAnswer i.units) (take (length old) addresses) answers × (new ≡ written answers old)
+    (answers : List GimliPlace) × AllZip (IsAnswer i.units) (take (length old) addresses) answers × (new ≡ slots_with answers old)
 
 -- where the unit of an index stands
 abbrev pub unit_place : SectionIndex → KeptUnit → Place
@@ -131,7 +131,7 @@ pub record GivesPath (i : SectionIndex) (unit file : ℕ) (comp_dir whole : List
 -- that path in an array of the caller, and its length
 abbrev pub WritesPath : SectionIndex → ℕ → ℕ → List ℕ → List ℕ → List ℕ → ℕ → Type 0
 WritesPath i unit file comp_dir old new size =
-    (whole : List ℕ) × GivesPath i unit file comp_dir whole × (new ≡ written whole old) × (size ≡ length whole)
+    (whole : List ℕ) × GivesPath i unit file comp_dir whole × (new ≡ slots_with whole old) × (size ≡ length whole)
 
 -- a string of the file's path can't be told
 pub record CantTellPath (i : SectionIndex) (unit file : ℕ) (comp_dir : List ℕ) : Type 0 where
@@ -198,7 +198,7 @@ pub record GivesAddresses (i : SectionIndex) (unit file asked line : ℕ) (addre
 -- those addresses in an array of the caller, and how many there are
 abbrev pub WritesAddresses : SectionIndex → ℕ → ℕ → ℕ → ℕ → List ℕ → List ℕ → ℕ → Type 0
 WritesAddresses i unit file asked line old new count =
-    (addresses : List ℕ) × GivesAddresses i unit file asked line addresses × (new ≡ written addresses old) × (count ≡ length addresses)
+    (addresses : List ℕ) × GivesAddresses i unit file asked line addresses × (new ≡ slots_with addresses old) × (count ≡ length addresses)
 
 -- the index has no such unit, or no line from the asked one on has an address
 abbrev pub HasNoAddress : SectionIndex → ℕ → ℕ → ℕ → Type 0
@@ -208,7 +208,7 @@ HasNoAddress i unit file asked = (slice_get i.units unit ≡ None) ⊎ ((kept : 
 
 -- all units of the section of an index, with their headers
 pub record AreUnitsIn (i : SectionIndex) (units : List KeptUnit) : Type 0 where
-  pub offsets : AreUnits (noted i.big (2 ^ 64)) 0 i.section.items (map (λ u. u.unit.offset) units)
+  pub offsets : AreUnits (notation_of i.big (2 ^ 64)) 0 i.section.items (map (λ u. u.unit.offset) units)
   pub each : All (IsUnitOf (section_read i.section.items i.big) (entry_of i.address_size) i.lowest) units
 
 -- the sections of strings of an index
@@ -225,7 +225,7 @@ pub record GivesAddressesOf (i : SectionIndex) (path : List ℕ) (asked line : �
 -- those addresses in an array of the caller, and how many there are
 abbrev pub WritesAddressesOf : SectionIndex → List ℕ → ℕ → ℕ → List ℕ → List ℕ → ℕ → Type 0
 WritesAddressesOf i path asked line old new count =
-    (addresses : List ℕ) × GivesAddressesOf i path asked line addresses × (new ≡ written addresses old) × (count ≡ length addresses)
+    (addresses : List ℕ) × GivesAddressesOf i path asked line addresses × (new ≡ slots_with addresses old) × (count ≡ length addresses)
 
 -- no line of the path from the asked one on has an address
 pub record HasNoAddressOf (i : SectionIndex) (path : List ℕ) (asked : ℕ) : Type 0 where

@@ -1,6 +1,6 @@
 -- Where a unit stands: a section, how its numbers are read, and an offset.
 use Rattle.std.specs.Prelude.{◌≡◌, ◌^◌, ◌⊎◌, ℕ, Bool, true, false, List, None, drop}
-use Rattle.gimli_core.specs.Notation.{Notation, noted}
+use Rattle.gimli_core.specs.Notation.{Notation, notation_of}
 use Rattle.gimli_core.specs.Numbers.{is_address_size}
 use Rattle.gimli_core.specs.declared.error.Error.{Error}
 use Rattle.gimli_line.specs.header.Header.{Header, UnitEntry}
@@ -22,7 +22,7 @@ place section big address_size offset =
 
 -- offsets have 64 bits
 abbrev pub notation_at : Place → Notation
-notation_at p = noted p.big (2 ^ 64)
+notation_at p = notation_of p.big (2 ^ 64)
 
 -- no directory and no name is handed in
 abbrev pub unit_entry_at : Place → UnitEntry

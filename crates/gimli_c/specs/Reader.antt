@@ -13,7 +13,7 @@ use Rattle.gimli_c.specs.Place.{Place}
 use Rattle.gimli_c.specs.Run.{rows_of, fault_of, HasEvents}
 use Rattle.gimli_c.specs.Seen.{row_seen}
 use Rattle.gimli_c.specs.Status.{fault_status}
-use Rattle.gimli_c.specs.Written.{written}
+use Rattle.gimli_c.specs.Written.{slots_with}
 
 -- the rows that are to come
 abbrev pub rows_left : UnitRows → List LineRow
@@ -34,7 +34,7 @@ pub record IsAtFirstRow (p : Place) (r : UnitRows) : Type 0 where
 -- the rows to come stand in an array of the caller, as far as it has room, and this is how many; where it has room for more, the
 -- rows are at their end, and the status is that of the fault there
 pub record GivesNextRows (r : UnitRows) (old new : List GimliRow) (count status : ℕ) : Type 0 where
-  pub copied : new ≡ written (map row_seen (rows_left r)) old
+  pub copied : new ≡ slots_with (map row_seen (rows_left r)) old
   pub count_is : count ≡ min (length (rows_left r)) (length old)
   pub status_is : status ≡ (if nat_lt count (length old) then fault_status r.fault else OK)
 

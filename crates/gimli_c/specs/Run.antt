@@ -10,7 +10,7 @@ use Rattle.gimli_c.specs.declared.row.GimliRow.{GimliRow}
 use Rattle.gimli_c.specs.Place.{Place, notation_at, HasUnit, HasNoUnit}
 use Rattle.gimli_c.specs.Seen.{row_seen}
 use Rattle.gimli_c.specs.Status.{fault_status}
-use Rattle.gimli_c.specs.Written.{written}
+use Rattle.gimli_c.specs.Written.{slots_with}
 
 -- the header of a run, with these files
 abbrev pub header_with : RunState → List File → Header
@@ -33,7 +33,7 @@ fault_of (fault e ∷ events) = Some e
 pub record Copied (events : List Event) (skip : ℕ) (old new : List GimliRow) (count : ℕ) (end : Option Error) : Type 0 where
   pub count_is : count ≡ length (rows_of events)
   pub end_is : end ≡ fault_of events
-  pub copied : new ≡ written (map row_seen (drop skip (rows_of events))) old
+  pub copied : new ≡ slots_with (map row_seen (drop skip (rows_of events))) old
 
 -- a run of these events that stopped on its way: the rows that it met, from the skip-th on, stand in an array that held
 -- others, as far as it has room
@@ -41,7 +41,7 @@ pub record Begun (events : List Event) (skip : ℕ) (old new : List GimliRow) : 
   pub met : List LineRow
   pub rest : List LineRow
   pub parts : rows_of events ≡ met ++ rest
-  pub copied : new ≡ written (map row_seen (drop skip met)) old
+  pub copied : new ≡ slots_with (map row_seen (drop skip met)) old
 
 -- the program of the unit at the place gives these events
 pub record HasEvents (p : Place) (h : Header) (events : List Event) : Type 0 where

@@ -3,9 +3,9 @@ use Rattle.std.specs.Prelude.{ℕ, false, nat_le, if◌then◌else◌, List, [],
 use Rattle.std.specs.Option.{option_map_or}
 use Rattle.gimli_core.specs.declared.common.Encoding.{Encoding}
 use Rattle.gimli_core.specs.declared.common.LineEncoding.{LineEncoding}
-use Rattle.gimli_build.specs.Built.{Built, started}
+use Rattle.gimli_build.specs.Built.{Built, empty_built}
 use Rattle.gimli_build.specs.LineText.{LineText, Inline}
-use Rattle.gimli_build.specs.Tables.{File, no_details, with_directory, place_of_directory}
+use Rattle.gimli_build.specs.Tables.{File, no_details, with_directory, index_of_directory}
 use Rattle.gimli_c.specs.declared.text.GimliName.{GimliName}
 use Rattle.gimli_c.specs.declared.tables.GimliFileName.{GimliFileName}
 use Rattle.gimli_c.specs.Handed.{text_handed}
@@ -33,8 +33,8 @@ start_directories version texts directories files =
 abbrev pub start_files : ℕ → List ℕ → List GimliName → List GimliFileName → List File
 start_files version texts directories files =
     if nat_le version 4 then []
-    else ((first_path texts files, place_of_directory (directory_text texts directories 0 ∷ []) (own_directory texts directories files)), no_details) ∷ []
+    else ((first_path texts files, index_of_directory (directory_text texts directories 0 ∷ []) (own_directory texts directories files)), no_details) ∷ []
 
 abbrev pub start_program : Encoding → LineEncoding → List ℕ → List GimliName → List GimliFileName → Built
 start_program encoding lines texts directories files =
-    started false encoding lines (start_directories encoding.version texts directories files) (start_files encoding.version texts directories files)
+    empty_built false encoding lines (start_directories encoding.version texts directories files) (start_files encoding.version texts directories files)

@@ -2,7 +2,7 @@
 use Rattle.std.specs.Prelude.{List, [], ◌∷◌}
 
 -- the first places hold these, as far as there is room; the others hold what they held
-abbrev pub written : {A : Type 0} → List A → List A → List A
-written xs [] = []
-written [] (o ∷ old) = o ∷ old
-written (x ∷ xs) (o ∷ old) = x ∷ written xs old
+abbrev pub slots_with : {A : Type 0} → List A → List A → List A
+slots_with xs [] = []
+slots_with [] (o ∷ old) = o ∷ old
+slots_with (x ∷ xs) (o ∷ old) = x ∷ slots_with xs old

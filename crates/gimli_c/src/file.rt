@@ -6,7 +6,7 @@ ghost use Rattle.gimli_core.specs.Values.{value_seen};
 ghost use Rattle.gimli_line.specs.header.File.{file_seen};
 ghost use Rattle.gimli_c.specs.FileSeen.{details_of, file_seen_by_c, optional_text_seen, text_here, GivesFile, GivesNoFile};
 ghost use Rattle.gimli_c.specs.Place.{place, HasNoUnit};
-ghost use Rattle.gimli_c.specs.Written.{written};
+ghost use Rattle.gimli_c.specs.Written.{slots_with};
 
 use crate::place::program_at;
 use crate::row::flag;
@@ -190,7 +190,7 @@ pub(crate) fn text_here<R: Reader>(value: Option<AttributeValue<R>>) -> Option<R
 
 /// Puts bytes into a place, as far as there is room.
 pub(crate) fn copy_bytes(bytes: &[u8], room: &mut [u8])
-    ensures { room.new ≡ written bytes.now room.old }
+    ensures { room.new ≡ slots_with bytes.now room.old }
 {
     for (place, byte) in bytes.iter().enumerate() {
         if place >= room.len() {

@@ -3,9 +3,9 @@
 ghost use Rattle.std.specs.Prelude.{◌≡◌, ◌≢◌, ◌<◌, ◌≤◌, ◌-◌, [], ◌∷◌, false, true, length, IfErr, IfNone, IfOk, IfSome, OnOk, None, slice_get, unwrap_or};
 ghost use Rattle.gimli_build.specs.declared.built.items.BuiltItem.{BuiltItem};
 ghost use Rattle.gimli_build.specs.Conditions.{CanWrite};
-ghost use Rattle.gimli_build.specs.Built.{previous_place};
-ghost use Rattle.gimli_c.specs.Causes.{CanStand, HasNone, HasRowFault, HasRowsFault, LacksFile, place_behind};
-ghost use Rattle.gimli_c.specs.Handed.{IsRefusal, AddsItems, base_behind, base_of, ends, id_of_file, items_handed, items_of_row, items_of_start, row_handed, row_of_file};
+ghost use Rattle.gimli_build.specs.Built.{previous_position};
+ghost use Rattle.gimli_c.specs.Causes.{CanStand, HasNone, HasRowFault, HasRowsFault, LacksFile, position_after};
+ghost use Rattle.gimli_c.specs.Handed.{IsRefusal, AddsItems, base_after, base_of, ends, id_of_file, items_handed, items_of_row, items_of_start, row_handed, row_of_file};
 
 use crate::row::{
     ALL_FLAGS, BASIC_BLOCK, END_SEQUENCE, EPILOGUE_BEGIN, GimliRow, IS_STMT, PROLOGUE_END, has_flag,
@@ -25,11 +25,11 @@ pub(crate) fn add_rows(
     ensures can { CanWrite program.new [] [] }
     ensures ok { OnOk result (AddsItems program.old program.new
         (items_handed program.old.encoding.version ids.now None rows.now)) }
-    ensures well { previous_place program.old.items ≡ (0, 0) → OnOk result (HasNone
+    ensures well { previous_position program.old.items ≡ (0, 0) → OnOk result (HasNone
         (HasRowsFault program.old.line_encoding program.old.encoding.version (length ids.now)
         None (0, 0) rows.now)) }
     ensures err { IfErr result IsRefusal }
-    ensures cause { previous_place program.old.items ≡ (0, 0) → IfErr result (λ s. s ≢ OUT_OF_MEMORY →
+    ensures cause { previous_position program.old.items ≡ (0, 0) → IfErr result (λ s. s ≢ OUT_OF_MEMORY →
         HasRowsFault program.old.line_encoding program.old.encoding.version (length ids.now)
         None (0, 0) rows.now s) }
 {
@@ -52,16 +52,16 @@ fn add_row(
     ensures can { CanWrite program.new [] [] }
     ensures ok { OnOk result (AddsItems program.old program.new
         (items_of_row program.old.encoding.version ids.now base row.now)) }
-    ensures behind { IfOk result (λ behind. behind ≡ base_behind base row.now) }
-    ensures well { (base ≡ None → previous_place program.old.items ≡ (0, 0)) → OnOk result (HasNone
+    ensures after { IfOk result (λ after. after ≡ base_after base row.now) }
+    ensures well { (base ≡ None → previous_position program.old.items ≡ (0, 0)) → OnOk result (HasNone
         (HasRowFault program.old.line_encoding program.old.encoding.version (length ids.now)
-        (base_of base row.now) (previous_place program.old.items) row.now)) }
+        (base_of base row.now) (previous_position program.old.items) row.now)) }
     ensures err { IfErr result IsRefusal }
-    ensures place { OnOk result (previous_place program.new.items ≡ place_behind base row.now) }
-    ensures cause { (base ≡ None → previous_place program.old.items ≡ (0, 0)) →
+    ensures place { OnOk result (previous_position program.new.items ≡ position_after base row.now) }
+    ensures cause { (base ≡ None → previous_position program.old.items ≡ (0, 0)) →
         IfErr result (λ s. s ≢ OUT_OF_MEMORY →
         HasRowFault program.old.line_encoding program.old.encoding.version (length ids.now)
-        (base_of base row.now) (previous_place program.old.items) row.now s) }
+        (base_of base row.now) (previous_position program.old.items) row.now s) }
 {
     let start = begin(program, base, row.address)?;
     if row.address < start {
@@ -85,8 +85,8 @@ fn begin(program: &mut LineProgram, base: Option<u64>, address: u64) -> Result<u
     ensures ok { OnOk result (AddsItems program.old program.new (items_of_start base address)) }
     ensures err { IfErr result IsRefusal }
     ensures memory { IfErr result (λ s. s ≡ OUT_OF_MEMORY) }
-    ensures place { (base ≡ None → previous_place program.old.items ≡ (0, 0)) →
-        OnOk result (previous_place program.new.items ≡ previous_place program.old.items) }
+    ensures place { (base ≡ None → previous_position program.old.items ≡ (0, 0)) →
+        OnOk result (previous_position program.new.items ≡ previous_position program.old.items) }
 {
     match base {
         Some(base) => Ok(base),
@@ -105,11 +105,11 @@ fn add_end(program: &mut LineProgram, start: u64, row: &GimliRow) -> Result<(), 
     ensures ok { OnOk result (AddsItems program.old program.new
         (BuiltItem.End (row.now.address - start) row.now.op_index ∷ [])) }
     ensures well { ends row.now ≡ true → OnOk result
-        (CanStand program.old.line_encoding start (previous_place program.old.items) row.now) }
+        (CanStand program.old.line_encoding start (previous_position program.old.items) row.now) }
     ensures err { IfErr result IsRefusal }
     ensures order { IfErr result (λ s. s ≢ OUT_OF_MEMORY → s ≡ ROW_OUT_OF_ORDER) }
     ensures cause { IfErr result (λ s. s ≢ OUT_OF_MEMORY →
-        CanStand program.old.line_encoding start (previous_place program.old.items) row.now → ⊥) }
+        CanStand program.old.line_encoding start (previous_position program.old.items) row.now → ⊥) }
 {
     let offset = row.address - start;
     program.row().op_index = row.op_index;
@@ -136,14 +136,14 @@ fn add_line(
     ensures ok { OnOk result (AddsItems program.old program.new
         (BuiltItem.Row (row_handed program.old.encoding.version ids.now start row.now) ∷ [])) }
     ensures stands { OnOk result
-        (CanStand program.old.line_encoding start (previous_place program.old.items) row.now) }
+        (CanStand program.old.line_encoding start (previous_position program.old.items) row.now) }
     ensures flags { OnOk result (row.now.flags < 32) }
     ensures file { OnOk result
         (LacksFile program.old.encoding.version (length ids.now) row.now.file → ⊥) }
     ensures err { IfErr result IsRefusal }
     ensures cause { ends row.now ≡ false → IfErr result (λ s. s ≢ OUT_OF_MEMORY →
         HasRowFault program.old.line_encoding program.old.encoding.version (length ids.now)
-        start (previous_place program.old.items) row.now s) }
+        start (previous_position program.old.items) row.now s) }
 {
     if row.flags > ALL_FLAGS {
         return Err(UNKNOWN_FLAG);

@@ -25,7 +25,7 @@ pub(crate) fn advance<R: Reader>(rows: &mut OneShotLineRows<R>) -> Result<Option
         events_of (events_left rows.old) ≡ fault e ∷ events_of (events_left rows.new)) }
     ensures fixed { rows.new.fixed ≡ rows.old.fixed }
     ensures files { OnOk result (files_at_end rows.new ≡ files_at_end rows.old) }
-    ensures files_behind { IfErr result (λ e. e ≢ Error.OutOfMemory →
+    ensures files_after { IfErr result (λ e. e ≢ Error.OutOfMemory →
         files_at_end rows.new ≡ files_at_end rows.old) }
 {
     match rows.next_row() {

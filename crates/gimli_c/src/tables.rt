@@ -2,10 +2,10 @@
 
 ghost use Rattle.std.specs.Prelude.{◌≡◌, ◌≢◌, ◌<◌, ◌≤◌, [], All, Any, IfErr, IfOk, IfSome, OnOk, None, Some, false, length, map, option_map, slice_get};
 ghost use Rattle.gimli_build.specs.Conditions.{Accepts, CanWrite};
-ghost use Rattle.gimli_build.specs.Built.{started};
+ghost use Rattle.gimli_build.specs.Built.{empty_built};
 ghost use Rattle.gimli_build.specs.FirstTables.{first_directories, first_files};
 ghost use Rattle.gimli_build.specs.LineText.{line_text, Inline};
-ghost use Rattle.gimli_build.specs.Tables.{place_of_file, with_file};
+ghost use Rattle.gimli_build.specs.Tables.{index_of_file, with_file};
 ghost use Rattle.gimli_c.specs.Causes.{HasFileFault, HasNone, HasTableFault, HasTextFault};
 ghost use Rattle.gimli_c.specs.Handed.{IsRefusal, IsInline, AddsDirectories, AddsFiles, details_handed, first_ids, key_handed, text_handed};
 ghost use Rattle.gimli_c.specs.Start.{start_program};
@@ -35,7 +35,7 @@ pub struct GimliFileName {
 
 /// A program without rows. In version 5 its first directory and its first file are those that are handed over. Requires
 /// encodings that rows can be written by.
-pub(crate) fn started(
+pub(crate) fn empty_built(
     alloc: Global,
     encoding: Encoding,
     lines: LineEncoding,
@@ -87,7 +87,7 @@ fn new_program(
     requires own { IfSome own (λ own. IsInline (line_text own)) }
     requires path { IsInline (line_text path) }
     ensures can { IfOk result (λ program. CanWrite program [] []) }
-    ensures program { IfOk result (λ program. program ≡ started false encoding lines
+    ensures program { IfOk result (λ program. program ≡ empty_built false encoding lines
         (first_directories encoding.version (line_text working) (option_map line_text own))
         (first_files encoding.version (line_text working) (option_map line_text own)
         (line_text path) None)) }
@@ -213,7 +213,7 @@ fn add_file(
       files = with_file program.old.files (key_handed texts.now ids.now file.now) (Some (details_handed file.now));
     }) }
     ensures id { IfOk result (λ id.
-        id ≡ place_of_file program.old.files (key_handed texts.now ids.now file.now)) }
+        id ≡ index_of_file program.old.files (key_handed texts.now ids.now file.now)) }
     ensures well { OnOk result (HasNone
         (HasFileFault program.old.encoding.version texts.now (length ids.now) file.now)) }
     ensures err { IfErr result IsRefusal }

@@ -9,7 +9,7 @@ ghost use Rattle.gimli_build.specs.Unit.{unit_bytes};
 ghost use Rattle.gimli_c.specs.Causes.{HasCause, HasHandedFault, HasNone};
 ghost use Rattle.gimli_c.specs.Handed.{IsRefusal};
 ghost use Rattle.gimli_c.specs.Refused.{encoding_fault, HasBadLines};
-ghost use Rattle.gimli_c.specs.Handing.{GivesUnitOf, IsBuiltOf, NeedsRoom, handed, program_with, write_status};
+ghost use Rattle.gimli_c.specs.Handing.{GivesUnitOf, IsBuiltOf, NeedsRoom, handed_of, program_with, write_status};
 
 use crate::encoding::{GimliEncoding, encodings};
 use crate::file::{HAS_MD5, HAS_SIZE, HAS_TIMESTAMP, copy_bytes};
@@ -46,16 +46,16 @@ pub extern "C" fn gimli_line_write(
     unit: &mut [u8],
     size: &mut u64,
 ) -> u32
-    ensures ok { result ≡ OK → GivesUnitOf (handed encoding.now big details texts.now
+    ensures ok { result ≡ OK → GivesUnitOf (handed_of encoding.now big details texts.now
         directories.now files.now rows.now) unit.old unit.new size.new }
-    ensures room { result ≡ NO_ROOM → NeedsRoom (handed encoding.now big details texts.now
+    ensures room { result ≡ NO_ROOM → NeedsRoom (handed_of encoding.now big details texts.now
         directories.now files.now rows.now) unit.old size.new }
     ensures fault { (s : ℕ) → encoding_fault encoding.now ≡ Some s → result ≡ s }
     ensures bad_lines { HasBadLines encoding.now → result ≡ UNSUPPORTED_LINE_ENCODING }
     ensures number { result ≢ OK → result ≢ NO_ROOM → IsRefusal result }
     ensures cause { result ≢ OK → result ≢ NO_ROOM → result ≢ OUT_OF_MEMORY → HasCause
-        (handed encoding.now big details texts.now directories.now files.now rows.now) result }
-    ensures refused { (s : ℕ) → HasCause (handed encoding.now big details texts.now
+        (handed_of encoding.now big details texts.now directories.now files.now rows.now) result }
+    ensures refused { (s : ℕ) → HasCause (handed_of encoding.now big details texts.now
         directories.now files.now rows.now) s → IsRefusal result }
     ensures err { result ≢ OK → unit.new ≡ unit.old }
     ensures none { result ≢ OK → result ≢ NO_ROOM → size.new ≡ 0 }
@@ -89,14 +89,14 @@ fn built(
     rows: &[GimliRow],
 ) -> Result<LineProgram, u32>
     ensures ok { (big : Bool) → IfOk result (λ program. IsBuiltOf
-        (handed encoding.now big details texts.now directories.now files.now rows.now) program) }
+        (handed_of encoding.now big details texts.now directories.now files.now rows.now) program) }
     ensures fault { (s : ℕ) → encoding_fault encoding.now ≡ Some s → result ≡ Err s }
     ensures bad_lines { HasBadLines encoding.now → result ≡ Err UNSUPPORTED_LINE_ENCODING }
     ensures err { IfErr result IsRefusal }
     ensures cause { (big : Bool) → IfErr result (λ s. s ≢ OUT_OF_MEMORY → HasHandedFault
-        (handed encoding.now big details texts.now directories.now files.now rows.now) s) }
+        (handed_of encoding.now big details texts.now directories.now files.now rows.now) s) }
     ensures well { (big : Bool) → OnOk result (HasNone (HasHandedFault
-        (handed encoding.now big details texts.now directories.now files.now rows.now))) }
+        (handed_of encoding.now big details texts.now directories.now files.now rows.now))) }
 {
     let (units, lines) = encodings(encoding)?;
     let start = started(alloc, units, lines, texts, directories, files)?;

@@ -12,7 +12,7 @@ use Rattle.gimli_core.specs.declared.error.Error.{Error}
 use Rattle.gimli_core.specs.declared.error.Error.TheVariants.{UnknownReservedLength, UnsupportedAddressSize, UnsupportedOffset}
 use Rattle.gimli_core.specs.Notation.{Notation}
 use Rattle.gimli_core.specs.Numbers.{SpellsNumber, SpellsInitialLength, value_of, is_address_size}
-use Rattle.gimli_core.specs.Reading.{Read, ◌>>=◌, seen, eof, byte_at, signed_byte_at, number_at, split_at, text_at, word_at, initial_length_at, address_size_at, offset_of, check_at, below_at}
+use Rattle.gimli_core.specs.Reading.{Read, ◌>>=◌, result_map, eof, byte_at, signed_byte_at, number_at, split_at, text_at, word_at, initial_length_at, address_size_at, offset_of, check_at, below_at}
 use Rattle.gimli_core.specs.Production.{Production, check, byte, signed_byte, number, some_bytes, text, address_size, below_limit, fits_offset, offset_word, initial_length, unit_length, IsWanting, Reads}
 use Rattle.gimli_core.proofs.Productions.{ok_parts, bind_ok, bind_fault, bind_refused, reads_both, reads_done, reads_check, reads_same}
 use Rattle.gimli_core.proofs.Padded.{split_ok}
@@ -104,9 +104,9 @@ record ZeroAt (bytes : List ℕ) (k : ℕ) : Type 0 where
 
 zero_more : (b : ℕ) (bytes : List ℕ) (k : ℕ) → b ≢ 0 → ZeroAt bytes k → ZeroAt (b ∷ bytes) (suc k)
 zero_more b bytes k other zero =
-    let behind : drop (suc k + 1) (b ∷ bytes) ≡ drop (k + 1) bytes = let n : suc k + 1 ≡ suc (k + 1) = omega arith in rw n refl in
+    let after : drop (suc k + 1) (b ∷ bytes) ≡ drop (k + 1) bytes = let n : suc k + 1 ≡ suc (k + 1) = omega arith in rw n refl in
     record {
-      parts = ap (λ (xs : List ℕ). b ∷ xs) zero.parts ∙ ap (λ (xs : List ℕ). b ∷ take k bytes ++ 0 ∷ xs) (sym behind);
+      parts = ap (λ (xs : List ℕ). b ∷ xs) zero.parts ∙ ap (λ (xs : List ℕ). b ∷ take k bytes ++ 0 ∷ xs) (sym after);
       name = (other, zero.name);
     }
 
@@ -156,9 +156,9 @@ text_only front name rest s =
     let lt : length name < length (name ++ 0 ∷ rest) = omega (arith, length-append name (0 ∷ rest)) in
     let front_is : take (length name) (name ++ 0 ∷ rest) ≡ name = take_at name (0 ∷ rest) (length name) refl in
     let len : length (name ++ 0 ∷ []) ≡ length name + 1 = length-append name (0 ∷ []) in
-    let behind : drop (length name + 1) (name ++ 0 ∷ rest) ≡ rest =
+    let after : drop (length name + 1) (name ++ 0 ∷ rest) ≡ rest =
     ap (drop (length name + 1)) (sym (append_assoc name (0 ∷ []) rest)) ∙ drop_at (name ++ 0 ∷ []) rest (length name + 1) len in
-    ap text_at whole ∙ rw (at, lt-ltb (length name) (length (name ++ 0 ∷ rest)) lt, front_is, behind, text_at) refl
+    ap text_at whole ∙ rw (at, lt-ltb (length name) (length (name ++ 0 ∷ rest)) lt, front_is, after, text_at) refl
 
 text_fault : (bytes : List ℕ) (e : Error) → (text_at bytes).0 ≡ Err e → text.Fault bytes e
 text_fault bytes e is = elim (cases_lt (place bytes) (length bytes)) [
@@ -232,13 +232,13 @@ reads_offset_word notation Dwarf64 =
 -- ---- initial lengths
 
 -- after the first word
-abbrev behind_first : Bool → ℕ → List ℕ → Read (ℕ × Format)
-behind_first big n rest =
+abbrev after_first : Bool → ℕ → List ℕ → Read (ℕ × Format)
+after_first big n rest =
     if nat_lt n 0xffff_fff0 then (Ok (n, Dwarf32), rest)
     else (if nat_eq n 0xffff_ffff then (number_at big 8 rest >>= λ m left. (Ok (m, Dwarf64), left)) else (Err UnknownReservedLength, rest))
 
 abbrev length_at : Bool → List ℕ → Read (ℕ × Format)
-length_at big bytes = number_at big 4 bytes >>= behind_first big
+length_at big bytes = number_at big 4 bytes >>= after_first big
 
 -- which of the three it is
 data First (n : ℕ) : Type 0 where
@@ -259,26 +259,26 @@ module _ (big : Bool) where
   number_8 : (rest : List ℕ) (m : ℕ) (left : List ℕ) → number_at big 8 rest ≡ (Ok m, left) → (tail : List ℕ) × (rest ≡ tail ++ left) × SpellsNumber big 8 tail m
   number_8 = (reads_number big 8).found
 
-  behind_found : (n : ℕ) → First n → (rest : List ℕ) (u : ℕ × Format) (left first : List ℕ) → SpellsNumber big 4 first n → behind_first big n rest ≡ (Ok u, left)
+  after_found : (n : ℕ) → First n → (rest : List ℕ) (u : ℕ × Format) (left first : List ℕ) → SpellsNumber big 4 first n → after_first big n rest ≡ (Ok u, left)
       → (tail : List ℕ) × (rest ≡ tail ++ left) × SpellsInitialLength big (first ++ tail) u.1 u.0
-  behind_found n (short lt is) rest u left first spelled e =
+  after_found n (short lt is) rest u left first spelled e =
       let p = ok_parts (n, Dwarf32) u rest left (rw is at e) in
       subst (λ (v : ℕ × Format). (tail : List ℕ) × (rest ≡ tail ++ left) × SpellsInitialLength big (first ++ tail) v.1 v.0) p.0
       ([], p.1, (rw (append-nil first) spelled, lt))
-  behind_found n (long same not_short is) rest u left first spelled e =
+  after_found n (long same not_short is) rest u left first spelled e =
       let q = bind_ok (number_at big 8 rest) (λ m left. (let r : Read (ℕ × Format) = (Ok (m, Dwarf64), left) in r)) u left (rw (not_short, is) at e) in
       let p = ok_parts (q.0, Dwarf64) u q.1 left q.3 in
       let t = number_8 rest q.0 q.1 q.2 in
       subst (λ (v : ℕ × Format). (tail : List ℕ) × (rest ≡ tail ++ left) × SpellsInitialLength big (first ++ tail) v.1 v.0) p.0
       (t.0, t.1 ∙ ap (λ (xs : List ℕ). t.0 ++ xs) p.1, (first, t.0, refl, rw (← same) spelled, t.2))
-  behind_found n (reserved le other not_short is) rest u left first spelled e =
+  after_found n (reserved le other not_short is) rest u left first spelled e =
       let p = ap (λ (r : Read (ℕ × Format)). r.0) (rw (not_short, is) at e) in absurd cc
 
   length_found : (bytes : List ℕ) (u : ℕ × Format) (rest : List ℕ) → length_at big bytes ≡ (Ok u, rest) → (front : List ℕ) × (bytes ≡ front ++ rest) × SpellsInitialLength big front u.1 u.0
   length_found bytes u rest e =
-      let q = bind_ok (number_at big 4 bytes) (behind_first big) u rest e in
+      let q = bind_ok (number_at big 4 bytes) (after_first big) u rest e in
       let f = (reads_number big 4).found bytes q.0 q.1 q.2 in
-      let b = behind_found q.0 (first_of q.0) q.1 u rest f.0 f.2 q.3 in
+      let b = after_found q.0 (first_of q.0) q.1 u rest f.0 f.2 q.3 in
       (f.0 ++ b.0, f.1 ∙ ap (λ (xs : List ℕ). f.0 ++ xs) b.1 ∙ sym (append_assoc f.0 b.0 rest), b.2)
 
   length_only : (front : List ℕ) (u : ℕ × Format) (rest : List ℕ) → SpellsInitialLength big front u.1 u.0 → length_at big (front ++ rest) ≡ (Ok u, rest)
@@ -291,34 +291,34 @@ module _ (big : Bool) where
       let second = (reads_number big 8).only s.1 n rest s.4 in
       ap (length_at big) whole ∙ rw (first, second) refl
 
-  behind_fault : (n : ℕ) → First n → (rest : List ℕ) (e : Error) → (behind_first big n rest).0 ≡ Err e
+  after_fault : (n : ℕ) → First n → (rest : List ℕ) (e : Error) → (after_first big n rest).0 ≡ Err e
       → ((0xffff_fff0 ≤ n) × (n ≢ 0xffff_ffff) × (e ≡ UnknownReservedLength)) ⊎ ((n ≡ 0xffff_ffff) × IsWanting 8 rest e)
-  behind_fault n (short lt is) rest e f = let p = rw is at f in absurd cc
-  behind_fault n (long same not_short is) rest e f =
+  after_fault n (short lt is) rest e f = let p = rw is at f in absurd cc
+  after_fault n (long same not_short is) rest e f =
       elim (bind_fault (number_at big 8 rest) (λ m left. (let r : Read (ℕ × Format) = (Ok (m, Dwarf64), left) in r)) e (rw (not_short, is) at f)) [
         | inl p ↦ inr (same, (reads_number big 8).fault rest e p)
         | inr q ↦ let none = q.3 in absurd cc
       ]
-  behind_fault n (reserved le other not_short is) rest e f = let p = rw (not_short, is) at f in inl (le, other, cc)
+  after_fault n (reserved le other not_short is) rest e f = let p = rw (not_short, is) at f in inl (le, other, cc)
 
   length_fault : (bytes : List ℕ) (e : Error) → (length_at big bytes).0 ≡ Err e → (initial_length big).Fault bytes e
-  length_fault bytes e f = elim (bind_fault (number_at big 4 bytes) (behind_first big) e f) [
+  length_fault bytes e f = elim (bind_fault (number_at big 4 bytes) (after_first big) e f) [
     | inl p ↦ inl ((reads_number big 4).fault bytes e p)
     | inr q ↦
         let found = (reads_number big 4).found bytes q.0 q.1 q.2 in
-        inr (found.0, q.1, q.0, found.1, found.2, behind_fault q.0 (first_of q.0) q.1 e q.3)
+        inr (found.0, q.1, q.0, found.1, found.2, after_fault q.0 (first_of q.0) q.1 e q.3)
   ]
 
-  behind_refused : (n : ℕ) (rest : List ℕ) (e : Error) → ((0xffff_fff0 ≤ n) × (n ≢ 0xffff_ffff) × (e ≡ UnknownReservedLength)) ⊎ ((n ≡ 0xffff_ffff) × IsWanting 8 rest e) → (behind_first big n rest).0 ≡ Err e
-  behind_refused n rest e (inl f) = rw (le-ltb n 0xffff_fff0 f.0, ne_eqb n 0xffff_ffff f.1, f.2) refl
-  behind_refused n rest e (inr f) =
+  after_refused : (n : ℕ) (rest : List ℕ) (e : Error) → ((0xffff_fff0 ≤ n) × (n ≢ 0xffff_ffff) × (e ≡ UnknownReservedLength)) ⊎ ((n ≡ 0xffff_ffff) × IsWanting 8 rest e) → (after_first big n rest).0 ≡ Err e
+  after_refused n rest e (inl f) = rw (le-ltb n 0xffff_fff0 f.0, ne_eqb n 0xffff_ffff f.1, f.2) refl
+  after_refused n rest e (inr f) =
       rw f.0 (bind_refused (number_at big 8 rest) (λ m left. (let r : Read (ℕ × Format) = (Ok (m, Dwarf64), left) in r)) e ((reads_number big 8).refused rest e f.1))
 
   length_refused : (bytes : List ℕ) (e : Error) → (initial_length big).Fault bytes e → (length_at big bytes).0 ≡ Err e
-  length_refused bytes e (inl f) = bind_refused (number_at big 4 bytes) (behind_first big) e ((reads_number big 4).refused bytes e f)
+  length_refused bytes e (inl f) = bind_refused (number_at big 4 bytes) (after_first big) e ((reads_number big 4).refused bytes e f)
   length_refused bytes e (inr f) =
       let first = (reads_number big 4).only f.0 f.2 f.1 f.4 in
-      rw (f.3, first) (behind_refused f.2 f.1 e f.5)
+      rw (f.3, first) (after_refused f.2 f.1 e f.5)
 
   reads_initial_length : Reads (initial_length big) (length_at big)
   reads_initial_length = record { found = length_found; only = length_only; fault = length_fault; refused = length_refused }
@@ -330,7 +330,7 @@ module _ (notation : Notation) where
   with_test u rest = check_at (fits_offset notation u.1 u.0) UnsupportedOffset rest >>= λ fits left. (Ok u, left)
 
   abbrev as_offset : ℕ → List ℕ → Read (ℕ × Format)
-  as_offset m left = (seen (λ n. (n, Dwarf64)) (offset_of notation.limit m), left)
+  as_offset m left = (result_map (λ n. (n, Dwarf64)) (offset_of notation.limit m), left)
 
   test_long : (m : ℕ) (left : List ℕ) → with_test (m, Dwarf64) left ≡ as_offset m left
   test_long m left = elim (cases_lt m notation.limit) [
@@ -338,23 +338,23 @@ module _ (notation : Notation) where
     | inr le ↦ rw (le-ltb m notation.limit le, le-leb notation.limit m le) refl
   ]
 
-  abbrev behind_tested : ℕ → List ℕ → Read (ℕ × Format)
-  behind_tested n rest =
+  abbrev after_tested : ℕ → List ℕ → Read (ℕ × Format)
+  after_tested n rest =
       if nat_lt n 0xffff_fff0 then (Ok (n, Dwarf32), rest)
       else (if nat_eq n 0xffff_ffff then (number_at notation.big 8 rest >>= as_offset) else (Err UnknownReservedLength, rest))
 
-  behind_same : (n : ℕ) → First n → (rest : List ℕ) → (behind_first notation.big n rest >>= with_test) ≡ behind_tested n rest
-  behind_same n (short lt is) rest = rw is refl
-  behind_same n (long same not_short is) rest =
+  after_same : (n : ℕ) → First n → (rest : List ℕ) → (after_first notation.big n rest >>= with_test) ≡ after_tested n rest
+  after_same n (short lt is) rest = rw is refl
+  after_same n (long same not_short is) rest =
       let wrap : ℕ → List ℕ → Read (ℕ × Format) = λ m left. (Ok (m, Dwarf64), left) in
       rw (not_short, is) (bind_assoc (number_at notation.big 8 rest) wrap with_test ∙ bind_same (number_at notation.big 8 rest) (λ m left. with_test (m, Dwarf64) left) as_offset test_long)
-  behind_same n (reserved le other not_short is) rest = rw (not_short, is) refl
+  after_same n (reserved le other not_short is) rest = rw (not_short, is) refl
 
   unit_same : (bytes : List ℕ) → (length_at notation.big bytes >>= with_test) ≡ initial_length_at notation.big notation.limit bytes
   unfolding initial_length_at
   unit_same bytes =
-      bind_assoc (number_at notation.big 4 bytes) (behind_first notation.big) with_test
-      ∙ bind_same (number_at notation.big 4 bytes) (λ n rest. behind_first notation.big n rest >>= with_test) behind_tested (λ n rest. behind_same n (first_of n) rest)
+      bind_assoc (number_at notation.big 4 bytes) (after_first notation.big) with_test
+      ∙ bind_same (number_at notation.big 4 bytes) (λ n rest. after_first notation.big n rest >>= with_test) after_tested (λ n rest. after_same n (first_of n) rest)
 
   pub reads_unit_length : Reads (unit_length notation) (initial_length_at notation.big notation.limit)
   reads_unit_length =

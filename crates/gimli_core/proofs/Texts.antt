@@ -29,8 +29,8 @@ pub skip_refuses_not : (n one : ℕ) (bytes text mid rest : List ℕ) (e : Error
 skip_refuses_not n one bytes text mid rest e lt is taken refused =
     let there : n ≤ length bytes = omega arith in
     let parts = rw (le-ltb (length bytes) n there, split_at) at taken in
-    let behind : mid ≡ drop n bytes = ap (λ (r : Read (List ℕ)). r.1) parts in
-    let some : one ≤ length mid = omega (arith, length-drop n bytes, ap length behind) in
+    let after : mid ≡ drop n bytes = ap (λ (r : Read (List ℕ)). r.1) parts in
+    let some : one ≤ length mid = omega (arith, length-drop n bytes, ap length after) in
     let f = rw (le-ltb (length mid) one some, skip_at) at refused in
     let p = ap (λ (r : Read (Unit {0})). r.0) f in
     absurd cc

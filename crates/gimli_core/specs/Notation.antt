@@ -8,5 +8,5 @@ pub record Notation : Type 0 where
   pub limit : ℕ
 
 -- the notation of this order and this limit
-abbrev pub noted : Bool → ℕ → Notation
-noted big limit = record { big = big; limit = limit }
+abbrev pub notation_of : Bool → ℕ → Notation
+notation_of big limit = record { big = big; limit = limit }

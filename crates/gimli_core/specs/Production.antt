@@ -63,8 +63,8 @@ IsOpen [] = Unit {0}
 IsOpen (b ∷ bytes) = b ≢ 0
 
 -- values one after the other, none of which begins with a zero byte, and a zero byte that closes them
-abbrev pub closed : {A : Type 0} → Production A → Production (List A)
-closed l = record {
+abbrev pub list_to_zero : {A : Type 0} → Production A → Production (List A)
+list_to_zero l = record {
   Spells = λ bytes xs. (front : List ℕ) × (bytes ≡ front ++ 0 ∷ []) × Each l.Spells front xs;
   Fault = λ bytes e. (xs : List _) × (front : List ℕ) × (rest : List ℕ) × (bytes ≡ front ++ rest) × Each l.Spells front xs × IsOpen rest × l.Fault rest e;
 }

@@ -35,9 +35,9 @@ abbrev pub within_at : {A : Type 0} → List ℕ → (List ℕ → Read A) → L
 within_at inside read bytes = (with_rest (read inside), bytes)
 
 -- an answer, its value seen by view
-abbrev pub seen : {A B E : Type 0} → (A → B) → Result A E → Result B E
-seen view (Ok x) = Ok (view x)
-seen view (Err e) = Err e
+abbrev pub result_map : {A B E : Type 0} → (A → B) → Result A E → Result B E
+result_map view (Ok x) = Ok (view x)
+result_map view (Err e) = Err e
 
 -- ---- bytes
 
@@ -137,7 +137,7 @@ unfoldable pub initial_length_at : Bool → ℕ → List ℕ → Read (ℕ × Fo
 initial_length_at big limit bytes =
     number_at big 4 bytes >>= λ n rest.
     if nat_lt n 0xffff_fff0 then (Ok (n, Dwarf32), rest)
-    else (if nat_eq n 0xffff_ffff then (number_at big 8 rest >>= λ n rest. (seen (λ n. (n, Dwarf64)) (offset_of limit n), rest))
+    else (if nat_eq n 0xffff_ffff then (number_at big 8 rest >>= λ n rest. (result_map (λ n. (n, Dwarf64)) (offset_of limit n), rest))
     else (Err UnknownReservedLength, rest))
 
 -- the size of an address

@@ -87,10 +87,10 @@ pub const DW_LNCT_LLVM_source: DwLnct = DwLnct(0x2001);
 #[derive(Clone, Copy, Debug, PartialEq, Eq)]
 pub struct DwForm(pub u16);
 
-/// A block behind its length in two bytes.
+/// A block after its length in two bytes.
 pub const DW_FORM_block2: DwForm = DwForm(0x0003);
 
-/// A block behind its length in four bytes.
+/// A block after its length in four bytes.
 pub const DW_FORM_block4: DwForm = DwForm(0x0004);
 
 /// Two bytes.
@@ -105,10 +105,10 @@ pub const DW_FORM_data8: DwForm = DwForm(0x0007);
 /// A text in place, ended by a zero byte.
 pub const DW_FORM_string: DwForm = DwForm(0x0008);
 
-/// A block behind its length as an unsigned LEB128 number.
+/// A block after its length as an unsigned LEB128 number.
 pub const DW_FORM_block: DwForm = DwForm(0x0009);
 
-/// A block behind its length in one byte.
+/// A block after its length in one byte.
 pub const DW_FORM_block1: DwForm = DwForm(0x000a);
 
 /// One byte.

@@ -3,7 +3,7 @@
 ghost use Rattle.std.specs.Prelude.{◌≡◌, ℕ, ◌+◌, ◌-◌, ◌*◌, ◌≤◌, ◌^◌, IsTrue};
 ghost use Rattle.std.proofs.Common.{rules};
 ghost use Rattle.gimli_core.specs.Numbers.{is_address_size};
-ghost use Rattle.gimli_core.specs.Reading.{seen, offset_of, sized_sum};
+ghost use Rattle.gimli_core.specs.Reading.{result_map, offset_of, sized_sum};
 
 use crate::error::{Error, Result};
 
@@ -29,7 +29,7 @@ pub trait ReaderOffset: Copy + Eq + Ord {
 
     /// The offset of a number. Refused by `UnsupportedOffset`, exactly where it is too large for the type.
     fn from_u64(offset: u64) -> Result<Self>
-        ensures { seen number result ≡ offset_of limit offset };
+        ensures { result_map number result ≡ offset_of limit offset };
 
     /// The number that it stands for.
     fn into_u64(self) -> u64
@@ -76,10 +76,10 @@ pub trait ReaderAddress: Copy {
     /// greatest address of the size. Requires that `size` is 1, 2, 4 or 8.
     fn add_sized(self, length: u64, size: u8) -> Result<Self>
         requires { IsTrue (is_address_size size) }
-        ensures { seen number result ≡ sized_sum (number self) length size };
+        ensures { result_map number result ≡ sized_sum (number self) length size };
 
     /// The least address that stands for nothing: the greatest of the size but one. Linkers put it, or the
-    /// greatest, in the place of an address that they dropped. Requires that `size` is 1, 2, 4 or 8.
+    /// greatest, in place of an address that they dropped. Requires that `size` is 1, 2, 4 or 8.
     fn min_tombstone(size: u8) -> Self
         requires { IsTrue (is_address_size size) }
         ensures { number result ≡ 2 ^ (8 * size) - 2 };

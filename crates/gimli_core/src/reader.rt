@@ -3,7 +3,7 @@
 ghost use Rattle.std.specs.Prelude.{◌≡◌, ℕ, ◌+◌, ◌-◌, ◌≤◌, ◌↔◌, ◌++◌, Bool, List, [], length, take, IsTrue, IfOk, IfErr, OnErr};
 ghost use Rattle.std.specs.Cow.{cow_slice_items};
 ghost use Rattle.gimli_core.specs.Numbers.{is_address_size};
-ghost use Rattle.gimli_core.specs.Reading.{seen, split_at, skip_at, truncate_at, find_at, text_at, byte_at, signed_byte_at, number_at, unsigned_at, unsigned_16_at, signed_at, word_at, initial_length_at, address_size_at};
+ghost use Rattle.gimli_core.specs.Reading.{result_map, split_at, skip_at, truncate_at, find_at, text_at, byte_at, signed_byte_at, number_at, unsigned_at, unsigned_16_at, signed_at, word_at, initial_length_at, address_size_at};
 
 use crate::common::Format;
 use crate::endianity::Endianity;
@@ -44,7 +44,7 @@ pub trait Reader: Copy {
 
     /// Lets all bytes go but the first `len`.
     fn truncate(&mut self, len: Self::Offset) -> Result<()>
-        ensures read { (seen (λ _. tt) result, bytes self.new)
+        ensures read { (result_map (λ _. tt) result, bytes self.new)
             ≡ truncate_at (Self.Offset.number len) (bytes self.old) }
         ensures order { big self.new ≡ big self.old };
 
@@ -56,17 +56,17 @@ pub trait Reader: Copy {
 
     /// How many bytes stand before the first such byte. Refused by `UnexpectedEof` where there is none.
     fn find(&self, byte: u8) -> Result<Self::Offset>
-        ensures { seen Self.Offset.number result ≡ find_at byte (bytes self.now) };
+        ensures { result_map Self.Offset.number result ≡ find_at byte (bytes self.now) };
 
     /// Lets the first `len` bytes go.
     fn skip(&mut self, len: Self::Offset) -> Result<()>
-        ensures read { (seen (λ _. tt) result, bytes self.new)
+        ensures read { (result_map (λ _. tt) result, bytes self.new)
             ≡ skip_at (Self.Offset.number len) (bytes self.old) }
         ensures order { big self.new ≡ big self.old };
 
     /// Takes the first `len` bytes, as a reader of their own.
     fn split(&mut self, len: Self::Offset) -> Result<Self>
-        ensures read { (seen bytes result, bytes self.new)
+        ensures read { (result_map bytes result, bytes self.new)
             ≡ split_at (Self.Offset.number len) (bytes self.old) }
         ensures order { big self.new ≡ big self.old }
         ensures part { IfOk result (λ part. big part ≡ big self.old) };
@@ -80,7 +80,7 @@ pub trait Reader: Copy {
     /// Takes as many bytes as the buffer has, into the buffer. Where they are missing, the buffer stays as
     /// it was too.
     fn read_slice(&mut self, buf: &mut [u8]) -> Result<()>
-        ensures read { (seen (λ _. buf.new) result, bytes self.new)
+        ensures read { (result_map (λ _. buf.new) result, bytes self.new)
             ≡ split_at (length buf.old) (bytes self.old) }
         ensures order { big self.new ≡ big self.old }
         ensures refused { OnErr result (buf.new ≡ buf.old) };
@@ -169,7 +169,7 @@ pub trait Reader: Copy {
     /// Takes the bytes before the first zero byte, as a reader of their own, and discards the zero
     /// byte. Refused by `UnexpectedEof` where there is none.
     fn read_null_terminated_slice(&mut self) -> Result<Self>
-        ensures read { (seen bytes result, bytes self.new) ≡ text_at (bytes self.old) }
+        ensures read { (result_map bytes result, bytes self.new) ≡ text_at (bytes self.old) }
         ensures order { big self.new ≡ big self.old }
         ensures part { IfOk result (λ part. big part ≡ big self.old) }
     {
@@ -246,7 +246,7 @@ pub trait Reader: Copy {
     /// has taken the first word, if it is there, and a length of eight bytes that is too large.
     #[tactic(auto, unfolding(crate::specs::Reading::initial_length_at))]
     fn read_initial_length(&mut self) -> Result<(Self::Offset, Format)>
-        ensures read { (seen (λ read. (Self.Offset.number read.0, read.1)) result, bytes self.new)
+        ensures read { (result_map (λ read. (Self.Offset.number read.0, read.1)) result, bytes self.new)
             ≡ initial_length_at (big self.old) Self.Offset.limit (bytes self.old) }
         ensures order { big self.new ≡ big self.old }
     {
@@ -302,7 +302,7 @@ pub trait Reader: Copy {
     /// too narrow; the word is taken then.
     #[tactic(auto, unfolding(crate::specs::Reading::word_at))]
     fn read_length(&mut self, format: Format) -> Result<Self::Offset>
-        ensures read { (seen Self.Offset.number result, bytes self.new)
+        ensures read { (result_map Self.Offset.number result, bytes self.new)
             ≡ word_at (big self.old) Self.Offset.limit format (bytes self.old) }
         ensures order { big self.new ≡ big self.old }
     {
@@ -321,7 +321,7 @@ pub trait Reader: Copy {
     /// Takes an offset of one word of the format. Refused by `UnsupportedOffset` where the offset type is
     /// too narrow; the word is taken then.
     fn read_offset(&mut self, format: Format) -> Result<Self::Offset>
-        ensures read { (seen Self.Offset.number result, bytes self.new)
+        ensures read { (result_map Self.Offset.number result, bytes self.new)
             ≡ word_at (big self.old) Self.Offset.limit format (bytes self.old) }
         ensures order { big self.new ≡ big self.old }
     {

@@ -6,17 +6,17 @@ use Rattle.gimli_line.specs.declared.run.instruction.LineInstruction.TheVariants
 use Rattle.gimli_line.specs.header.Parameters.{Parameters}
 use Rattle.gimli_line.specs.run.Instruction.{Ins, makes_row}
 use Rattle.gimli_line.specs.run.Registers.{sequence, nearest, is_odd, negates_statement, sets_basic_block, sets_prologue_end, sets_epilogue_begin, discriminator_operand, file_at, column_at, isa_at, is_stmt_at, line_after}
-use Rattle.gimli_line.specs.run.OperationPointer.{pointer_at, is_hidden, overflows, recent}
-use Rattle.gimli_line.specs.run.Events.{Event, row, row_at, events_behind}
-use Rattle.gimli_line.specs.run.Machine.{initial, reset_row, stepped, run}
+use Rattle.gimli_line.specs.run.OperationPointer.{pointer_at, is_under_tombstone, overflows, since_last_row}
+use Rattle.gimli_line.specs.run.Events.{Event, row, row_at, events_after}
+use Rattle.gimli_line.specs.run.Machine.{initial, reset_row, step_of, run}
 
--- the registers before a place
+-- the registers before a point
 abbrev pub registers : Parameters → List Ins → LineRow
 registers h past =
     let here = pointer_at h past in
-    let marks = recent h past in
+    let marks = since_last_row h past in
     record {
-      hidden = is_hidden h past;
+      tombstone = is_under_tombstone h past;
       address = here.address;
       op_index = here.op_index;
       file = file_at past;
@@ -37,7 +37,7 @@ turned true false = refl
 turned false d = refl
 
 -- an instruction that gives no event
-pub goes_on : (h : Parameters) (past : List Ins) (i : Ins) → overflows h past i ≡ false → makes_row i ≡ false → stepped h i (registers h past) ≡ registers h (i ∷ past)
+pub goes_on : (h : Parameters) (past : List Ins) (i : Ins) → overflows h past i ≡ false → makes_row i ≡ false → step_of h i (registers h past) ≡ registers h (i ∷ past)
 goes_on h past (Special o) fits quiet = absurd cc
 goes_on h past Copy fits quiet = absurd cc
 goes_on h past EndSequence fits quiet = absurd cc
@@ -61,47 +61,47 @@ goes_on h past (SetDiscriminator n) fits quiet = refl
 goes_on h past (UnknownExtended o r) fits quiet = refl
 
 -- after a row
-pub starts_anew : (h : Parameters) (past : List Ins) (i : Ins) → makes_row i ≡ true → reset_row h (stepped h i (registers h past)) ≡ registers h (i ∷ past)
+pub starts_anew : (h : Parameters) (past : List Ins) (i : Ins) → makes_row i ≡ true → reset_row h (step_of h i (registers h past)) ≡ registers h (i ∷ past)
 starts_anew h past (Special o) loud = refl
 starts_anew h past Copy loud = refl
 starts_anew h past EndSequence loud = refl
 starts_anew h past i loud = absurd cc
 
 -- after an overflow
-pub goes_past : (h : Parameters) (past : List Ins) (i : Ins) → overflows h past i ≡ true → reset_row h (stepped h i (registers h past)) ≡ registers h (i ∷ past)
+pub goes_past : (h : Parameters) (past : List Ins) (i : Ins) → overflows h past i ≡ true → reset_row h (step_of h i (registers h past)) ≡ registers h (i ∷ past)
 goes_past h past (Special o) large = refl
 goes_past h past (AdvancePc n) large = rw large refl
 goes_past h past ConstAddPc large = rw large refl
 goes_past h past (FixedAddPc n) large = rw large refl
 goes_past h past i large = absurd cc
 
--- the row that the machine makes where it isn't hidden
-pub row_is : (h : Parameters) (past : List Ins) (i : Ins) → makes_row i ≡ true → is_hidden h past ≡ false → stepped h i (registers h past) ≡ row_at h past i
+-- the row that the machine makes where it isn't under a tombstone
+pub row_is : (h : Parameters) (past : List Ins) (i : Ins) → makes_row i ≡ true → is_under_tombstone h past ≡ false → step_of h i (registers h past) ≡ row_at h past i
 row_is h past (Special o) loud seen = rw seen refl
 row_is h past Copy loud seen = rw seen refl
 row_is h past EndSequence loud seen = rw seen refl
 row_is h past i loud seen = absurd cc
 
-made : (h : Parameters) (past : List Ins) (i : Ins) (es : List Event) → makes_row i ≡ true → (hidden : Bool) → is_hidden h past ≡ hidden
-    → (if hidden then [] else row (stepped h i (registers h past)) ∷ []) ++ es ≡ (if not hidden then row (row_at h past i) ∷ [] else []) ++ es
+made : (h : Parameters) (past : List Ins) (i : Ins) (es : List Event) → makes_row i ≡ true → (tombstone : Bool) → is_under_tombstone h past ≡ tombstone
+    → (if tombstone then [] else row (step_of h i (registers h past)) ∷ []) ++ es ≡ (if not tombstone then row (row_at h past i) ∷ [] else []) ++ es
 made h past i es loud true e = refl
 made h past i es loud false e = rw (row_is h past i loud e) refl
 
-run_at : (h : Parameters) (past : List Ins) (i : Ins) (list : List Ins) → run h (registers h (i ∷ past)) list ≡ events_behind h (i ∷ past) list
-    → (o m : Bool) → overflows h past i ≡ o → makes_row i ≡ m → run h (registers h past) (i ∷ list) ≡ events_behind h past (i ∷ list)
+run_at : (h : Parameters) (past : List Ins) (i : Ins) (list : List Ins) → run h (registers h (i ∷ past)) list ≡ events_after h (i ∷ past) list
+    → (o m : Bool) → overflows h past i ≡ o → makes_row i ≡ m → run h (registers h past) (i ∷ list) ≡ events_after h past (i ∷ list)
 run_at h past i list rest true m large loud = rw (large, goes_past h past i large, rest) refl
-run_at h past i list rest false true fits loud = rw (fits, loud, starts_anew h past i loud, rest) (made h past i (events_behind h (i ∷ past) list) loud (is_hidden h past) refl)
+run_at h past i list rest false true fits loud = rw (fits, loud, starts_anew h past i loud, rest) (made h past i (events_after h (i ∷ past) list) loud (is_under_tombstone h past) refl)
 run_at h past i list rest false false fits quiet = rw (fits, quiet, goes_on h past i fits quiet, rest) refl
 
--- a run from the registers of a place gives the events from there on
-pub run_is : (h : Parameters) (past list : List Ins) → run h (registers h past) list ≡ events_behind h past list
+-- a run from the registers of a point gives the events from there on
+pub run_is : (h : Parameters) (past list : List Ins) → run h (registers h past) list ≡ events_after h past list
 run_is h past [] = refl
 run_is h past (i ∷ list) = run_at h past i list (run_is h (i ∷ past) list) (overflows h past i) (makes_row i) refl refl
 
 -- a run from the start gives the events of the program
-pub starts : (h : Parameters) (list : List Ins) → run h (reset_row h (initial h)) list ≡ events_behind h [] list
+pub starts : (h : Parameters) (list : List Ins) → run h (reset_row h (initial h)) list ≡ events_after h [] list
 starts h list = run_is h [] list
 
 -- after an end everything starts anew, whatever came before it
-pub anew : (h : Parameters) (past list : List Ins) → events_behind h (EndSequence ∷ past) list ≡ events_behind h [] list
+pub anew : (h : Parameters) (past list : List Ins) → events_after h (EndSequence ∷ past) list ≡ events_after h [] list
 anew h past list = sym (run_is h (EndSequence ∷ past) list) ∙ run_is h [] list

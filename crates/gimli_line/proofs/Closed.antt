@@ -5,11 +5,11 @@ use Rattle.std.proofs.lemmas.Bool.Decides.{eqb_tells}
 use Rattle.std.proofs.lemmas.List.{length-append}
 use Rattle.gimli_core.specs.declared.error.Error.{Error}
 use Rattle.gimli_core.specs.Reading.{Read, ◌>>=◌, text_at}
-use Rattle.gimli_core.specs.Production.{Production, ◌>>=◌ as ◌>>>◌, text, Each, IsOpen, closed, Reads}
+use Rattle.gimli_core.specs.Production.{Production, ◌>>=◌ as ◌>>>◌, text, Each, IsOpen, list_to_zero, Reads}
 use Rattle.gimli_core.proofs.Productions.{bind_ok, bind_fault, bind_refused, ok_parts}
 use Rattle.gimli_core.proofs.ProductionLaws.{reads_text}
 use Rattle.gimli_line.specs.header.Productions.{name}
-use Rattle.gimli_line.specs.header.TableReading.{is_closed, closed_below, closed_at}
+use Rattle.gimli_line.specs.header.TableReading.{is_closed, closed_below, list_to_zero_at}
 
 -- bytes that begin with one that isn't zero
 pub record Opens (bytes : List ℕ) : Type 0 where
@@ -119,7 +119,7 @@ module _ {A : Type 0} (l : Production A) (read : List ℕ → Read A) (r : Reads
   another more bytes is = rw is refl
 
   -- the parts of a table that was read
-  closed_found : (more : ℕ) (bytes : List ℕ) (xs : List A) (rest : List ℕ) → closed_below more read bytes ≡ (Ok xs, rest) → (front : List ℕ) × (bytes ≡ front ++ rest) × (closed l).Spells front xs
+  closed_found : (more : ℕ) (bytes : List ℕ) (xs : List A) (rest : List ℕ) → closed_below more read bytes ≡ (Ok xs, rest) → (front : List ℕ) × (bytes ≡ front ++ rest) × (list_to_zero l).Spells front xs
   unfolding closed_below
   closed_found zero bytes xs rest e = let p = ap (λ (r : Read (List A)). r.0) e in absurd cc
   closed_found (suc more) bytes xs rest e = elim (next_of bytes) [
@@ -152,7 +152,7 @@ module _ {A : Type 0} (l : Production A) (read : List ℕ → Read A) (r : Reads
       let others = closed_only xs s.1 rest more (omega arith) s.4 in
       ap (closed_below (suc more) read) regrouped ∙ here ∙ rw (first, others) refl
 
-  closed_fault : (more : ℕ) (bytes : List ℕ) (e : Error) → length bytes < more → (closed_below more read bytes).0 ≡ Err e → (closed l).Fault bytes e
+  closed_fault : (more : ℕ) (bytes : List ℕ) (e : Error) → length bytes < more → (closed_below more read bytes).0 ≡ Err e → (list_to_zero l).Fault bytes e
   unfolding closed_below
   closed_fault zero bytes e lt is = absurd (omega arith)
   closed_fault (suc more) bytes e lt is = elim (next_of bytes) [
@@ -191,14 +191,14 @@ module _ {A : Type 0} (l : Production A) (read : List ℕ → Read A) (r : Reads
       ∙ ap (λ (y : Read (List A)). y.0) here
       ∙ rw first (bind_refused (closed_below more read (s.1 ++ rest)) (λ ys left. (let r : Read (List A) = (Ok (x ∷ ys), left) in r)) e others)
 
-  pub reads_closed : Reads (closed l) (closed_at read)
+  pub reads_closed : Reads (list_to_zero l) (list_to_zero_at read)
   reads_closed = record {
     found = λ bytes xs rest e. closed_found (suc (length bytes)) bytes xs rest e;
     only = λ front xs rest s.
         let whole : front ++ rest ≡ s.0 ++ 0 ∷ rest = ap (λ (ys : List ℕ). ys ++ rest) s.1 ∙ append_assoc s.0 (0 ∷ []) rest in
-        ap (closed_at read) whole ∙ closed_only xs s.0 rest (suc (length (s.0 ++ 0 ∷ rest))) (omega arith) s.2;
+        ap (list_to_zero_at read) whole ∙ closed_only xs s.0 rest (suc (length (s.0 ++ 0 ∷ rest))) (omega arith) s.2;
     fault = λ bytes e is. closed_fault (suc (length bytes)) bytes e (omega arith) is;
     refused = λ bytes e f.
         let again = closed_refused f.0 f.1 f.2 e (suc (length (f.1 ++ f.2))) (omega arith) f.4 f.5 f.6 in
-        ap (λ (ys : List ℕ). (closed_at read ys).0) f.3 ∙ again;
+        ap (λ (ys : List ℕ). (list_to_zero_at read ys).0) f.3 ∙ again;
   }

@@ -7,25 +7,25 @@ use Rattle.gimli_core.specs.Values.{Value, udata_value}
 use Rattle.gimli_core.specs.Reading.{Read, ◌>>=◌}
 use Rattle.gimli_core.specs.declared.common.Format.{Format}
 use Rattle.gimli_core.specs.declared.attribute_value.AttributeValue.TheVariants.{String}
-use Rattle.gimli_line.specs.header.Outcome.{viewed}
+use Rattle.gimli_line.specs.header.Outcome.{read_map}
 use Rattle.gimli_line.specs.header.File.{File}
 use Rattle.gimli_line.specs.header.Header.{plain_file}
 use Rattle.gimli_line.specs.header.HeaderGrammar.{Entry, last_value, digest, path_of, file_of_entry}
 use Rattle.gimli_line.specs.header.FormReading.{form_at}
 use Rattle.gimli_line.specs.header.HeaderReading.{entry_at}
-use Rattle.gimli_line.specs.header.EntryReading.{updated, path_with, file_with, folded, folded_at}
+use Rattle.gimli_line.specs.header.EntryReading.{value_after, path_with, file_with, fold_of, folded_at}
 use Rattle.gimli_line.specs.declared.header.file_entry.FileEntryFormat.{FileEntryFormat}
 
 -- the last value of an entry, from its first value on
 last_of : {A : Type 0} (wanted : ℕ) (pick : Value → Option A) (first : A) (content : ℕ) (value : Value) (entry : Entry)
-    → last_value wanted pick first ((content, value) ∷ entry) ≡ last_value wanted pick (updated wanted pick content value first) entry
+    → last_value wanted pick first ((content, value) ∷ entry) ≡ last_value wanted pick (value_after wanted pick content value first) entry
 last_of {A} wanted pick first content value entry = at_pick (if nat_eq content wanted then pick value else None)
   where
     at_pick : (picked : Option A) → elim picked [ Some x ↦ last_value wanted pick x entry | None ↦ last_value wanted pick first entry ] ≡ last_value wanted pick (elim picked [ Some x ↦ x | None ↦ first ]) entry
     at_pick (Some x) = refl
     at_pick None = refl
 
-path_folded : (first : Value) (entry : Entry) → folded path_with first entry ≡ last_value 0x0001 Some first entry
+path_folded : (first : Value) (entry : Entry) → fold_of path_with first entry ≡ last_value 0x0001 Some first entry
 path_folded first [] = refl
 path_folded first (v ∷ entry) = path_folded (path_with first v.0 v.1) entry ∙ sym (last_of 0x0001 Some first v.0 v.1 entry)
 
@@ -40,7 +40,7 @@ parts_from first entry = record {
   source = last_value 0x2001 (λ v. Some (Some v)) first.source entry;
 }
 
-file_folded : (first : File) (entry : Entry) → folded file_with first entry ≡ parts_from first entry
+file_folded : (first : File) (entry : Entry) → fold_of file_with first entry ≡ parts_from first entry
 file_folded first [] = refl
 file_folded first (v ∷ entry) =
     let path = last_of 0x0001 Some first.path_name v.0 v.1 entry in
@@ -52,31 +52,31 @@ file_folded first (v ∷ entry) =
     file_folded (file_with first v.0 v.1) entry ∙ sym (cc)
 
 module _ (notation : Notation) (format : Format) {A : Type 0} (step : A → ℕ → Value → A) where
-  folded_is : (first : A) (formats : List FileEntryFormat) (bytes : List ℕ) → folded_at notation format step first formats bytes ≡ viewed (folded step first) (entry_at notation format formats bytes)
+  folded_is : (first : A) (formats : List FileEntryFormat) (bytes : List ℕ) → folded_at notation format step first formats bytes ≡ read_map (fold_of step first) (entry_at notation format formats bytes)
   folded_is first [] bytes = refl
   folded_is first (f ∷ formats) bytes = at_value (form_at notation format f.form.0 bytes) (λ value rest. folded_is (step first f.content_type.0 value) formats rest)
     where
-      behind : (value : Value) (r : Read Entry) → viewed (folded step (step first f.content_type.0 value)) r ≡ viewed (folded step first) (r >>= λ values left. (Ok ((f.content_type.0, value) ∷ values), left))
-      behind value (Ok values, left) = refl
-      behind value (Err e, left) = refl
+      after : (value : Value) (r : Read Entry) → read_map (fold_of step (step first f.content_type.0 value)) r ≡ read_map (fold_of step first) (r >>= λ values left. (Ok ((f.content_type.0, value) ∷ values), left))
+      after value (Ok values, left) = refl
+      after value (Err e, left) = refl
 
-      at_value : (r : Read Value) → ((value : Value) (rest : List ℕ) → folded_at notation format step (step first f.content_type.0 value) formats rest ≡ viewed (folded step (step first f.content_type.0 value)) (entry_at notation format formats rest))
-          → (r >>= λ value rest. folded_at notation format step (step first f.content_type.0 value) formats rest) ≡ viewed (folded step first) (r >>= λ value rest. entry_at notation format formats rest >>= λ values left. (Ok ((f.content_type.0, value) ∷ values), left))
-      at_value (Ok value, rest) others = others value rest ∙ behind value (entry_at notation format formats rest)
+      at_value : (r : Read Value) → ((value : Value) (rest : List ℕ) → folded_at notation format step (step first f.content_type.0 value) formats rest ≡ read_map (fold_of step (step first f.content_type.0 value)) (entry_at notation format formats rest))
+          → (r >>= λ value rest. folded_at notation format step (step first f.content_type.0 value) formats rest) ≡ read_map (fold_of step first) (r >>= λ value rest. entry_at notation format formats rest >>= λ values left. (Ok ((f.content_type.0, value) ∷ values), left))
+      at_value (Ok value, rest) others = others value rest ∙ after value (entry_at notation format formats rest)
       at_value (Err e, rest) others = refl
 
-viewed_by : {A B : Type 0} (f g : A → B) → ((x : A) → f x ≡ g x) → (r : Read A) → viewed f r ≡ viewed g r
+viewed_by : {A B : Type 0} (f g : A → B) → ((x : A) → f x ≡ g x) → (r : Read A) → read_map f r ≡ read_map g r
 viewed_by {A} {B} f g same (Ok x, rest) = ap (λ (y : B). let r : Read B = (Ok y, rest) in r) (same x)
 viewed_by f g same (Err e, rest) = refl
 
 module _ (notation : Notation) (format : Format) where
   -- from an empty path the directory is that of the entry
-  pub directory_is : (formats : List FileEntryFormat) (bytes : List ℕ) → folded_at notation format path_with (String []) formats bytes ≡ viewed path_of (entry_at notation format formats bytes)
-  directory_is formats bytes = folded_is notation format path_with (String []) formats bytes ∙ viewed_by (folded path_with (String [])) path_of (path_folded (String [])) (entry_at notation format formats bytes)
+  pub directory_is : (formats : List FileEntryFormat) (bytes : List ℕ) → folded_at notation format path_with (String []) formats bytes ≡ read_map path_of (entry_at notation format formats bytes)
+  directory_is formats bytes = folded_is notation format path_with (String []) formats bytes ∙ viewed_by (fold_of path_with (String [])) path_of (path_folded (String [])) (entry_at notation format formats bytes)
 
   -- from a file of an empty path the file is that of the entry
-  pub file_is : (formats : List FileEntryFormat) (bytes : List ℕ) → folded_at notation format file_with (plain_file [] 0 0 0) formats bytes ≡ viewed file_of_entry (entry_at notation format formats bytes)
-  file_is formats bytes = folded_is notation format file_with (plain_file [] 0 0 0) formats bytes ∙ viewed_by (folded file_with (plain_file [] 0 0 0)) file_of_entry (file_folded (plain_file [] 0 0 0)) (entry_at notation format formats bytes)
+  pub file_is : (formats : List FileEntryFormat) (bytes : List ℕ) → folded_at notation format file_with (plain_file [] 0 0 0) formats bytes ≡ read_map file_of_entry (entry_at notation format formats bytes)
+  file_is formats bytes = folded_is notation format file_with (plain_file [] 0 0 0) formats bytes ∙ viewed_by (fold_of file_with (plain_file [] 0 0 0)) file_of_entry (file_folded (plain_file [] 0 0 0)) (entry_at notation format formats bytes)
 
 -- one more value of an entry that is taken from where its format stands, as a loop does
 module _ (format : Format) (now first : Bool) (limit : ℕ) where

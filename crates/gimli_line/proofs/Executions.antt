@@ -12,15 +12,15 @@ use Rattle.gimli_line.specs.declared.run.instruction.LineInstruction.TheVariants
 use Rattle.gimli_line.specs.header.Orders.{HeaderOrders}
 use Rattle.gimli_line.specs.header.Header.{Header}
 use Rattle.gimli_line.specs.header.Parameters.{Parameters}
-use Rattle.gimli_line.specs.run.Instruction.{Ins, makes_row, defines_file, files_behind}
+use Rattle.gimli_line.specs.run.Instruction.{Ins, makes_row, defines_file, files_after}
 use Rattle.gimli_line.specs.run.InstructionReading.{standard_at, ins_at}
-use Rattle.gimli_line.specs.run.Machine.{stepped, is_refused, reset_row}
+use Rattle.gimli_line.specs.run.Machine.{step_of, is_refused, reset_row}
 use Rattle.gimli_line.specs.run.Registers.{advanced_line}
 use Rattle.gimli_line.specs.run.Execution.{Executed, ExecutedWell}
 use Rattle.gimli_line.specs.run.Rows.{StepIs, FaultIs}
 use Rattle.gimli_line.specs.run.Unread.{Unread}
 use Rattle.gimli_line.proofs.InstructionLaws.{reads_instruction}
-use Rattle.gimli_line.proofs.Runs.{state, after_quiet, after_hidden, after_seen, after_overflow, is_shorter, passes_quiet, passes_hidden, passes_seen}
+use Rattle.gimli_line.proofs.Runs.{state, after_quiet, after_tombstone, after_seen, after_overflow, is_shorter, passes_quiet, passes_tombstone, passes_seen}
 
 -- ---- the standard opcodes that are executed so, from the bytes after them
 
@@ -65,7 +65,7 @@ module _ (notation : Notation) (h : Header) (bytes rest : List ℕ) where
   standard_first (suc o) some standard read = rw (← read, eqb-suc-zero o, standard) refl
 
   abbrev pub special_executed : (opcode base : ℕ) (k : Parameters) → k ≡ h.parameters → base ≡ h.parameters.opcode_base → 0 < opcode → base ≤ opcode → (Ok opcode, rest) ≡ byte_at bytes
-      → (old new : LineRow) (refused : Bool) → new ≡ stepped k (Special opcode) old → is_refused k (Special opcode) old ≡ refused
+      → (old new : LineRow) (refused : Bool) → new ≡ step_of k (Special opcode) old → is_refused k (Special opcode) old ≡ refused
       → Executed h.parameters (ins_at notation h bytes) rest old new refused
   special_executed opcode base k same is some le read old new refused step refusal =
       let above : h.parameters.opcode_base ≤ opcode = omega (arith, le, is) in
@@ -74,20 +74,20 @@ module _ (notation : Notation) (h : Header) (bytes rest : List ℕ) where
         reading = special_first opcode some (le-leb h.parameters.opcode_base opcode above) read;
         defines = refl;
         refusal = subst (λ (p : Parameters). is_refused p (Special opcode) old ≡ refused) same refusal;
-        registers = subst (λ (p : Parameters). new ≡ stepped p (Special opcode) old) same step;
+        registers = subst (λ (p : Parameters). new ≡ step_of p (Special opcode) old) same step;
       }
 
   pub standard_executed : (opcode base : ℕ) → base ≡ h.parameters.opcode_base → 0 < opcode → opcode < base → (Ok opcode, rest) ≡ byte_at bytes
-      → (behind : List ℕ) (old new : LineRow) (made : Bool) → ExecutedWell h.parameters (standard_at notation h opcode rest) behind old new made
-      → ExecutedWell h.parameters (ins_at notation h bytes) behind old new made
-  standard_executed opcode base is some lt read behind old new made x =
+      → (after : List ℕ) (old new : LineRow) (made : Bool) → ExecutedWell h.parameters (standard_at notation h opcode rest) after old new made
+      → ExecutedWell h.parameters (ins_at notation h bytes) after old new made
+  standard_executed opcode base is some lt read after old new made x =
       let below : nat_le h.parameters.opcode_base opcode ≡ false = lt-leb h.parameters.opcode_base opcode (omega (arith, lt, is)) in
       rw (standard_first opcode some below read) x
 
 -- ---- a step of an iterator
 
 -- nothing is added to the files
-files_kept : (a : Bool) (h : Header) (i : Ins) → defines_file i ≡ false → h ≡ record h { files = files_behind a i h.files }
+files_kept : (a : Bool) (h : Header) (i : Ins) → defines_file i ≡ false → h ≡ record h { files = files_after a i h.files }
 files_kept a h (DefineFile f) none = absurd cc
 files_kept a h i none = refl
 
@@ -99,40 +99,40 @@ module _ (a : Bool) (h k : Header) (same : k ≡ h) (o : Notation) (n : ℕ) (w 
         let f = (reads_instruction s.notation k).found s.bytes x.instruction s2.bytes x.reading in
         let kept = files_kept a h x.instruction x.defines in
         let fits = subst (λ (j : Header). is_refused j.parameters x.instruction r ≡ false) same x.refusal in
-        let step = subst (λ (j : Header). r2 ≡ stepped j.parameters x.instruction r) same x.registers in (
+        let step = subst (λ (j : Header). r2 ≡ step_of j.parameters x.instruction r) same x.registers in (
           after_quiet a h k same o o n n w w r s s2 notation x.instruction f.0 f.1 f.2 h r2 kept fits (sym made) step,
           is_shorter a h k same o o n n w w r s s2 notation x.instruction f.0 f.1 f.2,
           passes_quiet a h k same o o n n w w r s s2 notation x.instruction f.0 f.1 f.2 h r2 kept fits (sym made) step,
         )
 
-    pub executed_seen : true ≡ makes_row x.instruction → r2.hidden ≡ false → StepIs (state a h o n w r s) (state a h o n w r2 s2) Made
+    pub executed_seen : true ≡ makes_row x.instruction → r2.tombstone ≡ false → StepIs (state a h o n w r s) (state a h o n w r2 s2) Made
     executed_seen made seen =
         let f = (reads_instruction s.notation k).found s.bytes x.instruction s2.bytes x.reading in
         let kept = files_kept a h x.instruction x.defines in
         let fits = subst (λ (j : Header). is_refused j.parameters x.instruction r ≡ false) same x.refusal in
-        let step = subst (λ (j : Header). r2 ≡ stepped j.parameters x.instruction r) same x.registers in
-        let seen = sym (ap (λ (q : LineRow). q.hidden) step) ∙ seen in (
+        let step = subst (λ (j : Header). r2 ≡ step_of j.parameters x.instruction r) same x.registers in
+        let seen = sym (ap (λ (q : LineRow). q.tombstone) step) ∙ seen in (
           after_seen a h k same o o n n w w r s s2 notation x.instruction f.0 f.1 f.2 h r2 kept fits (sym made) seen step,
           passes_seen a h k same o o n n w w r s s2 notation x.instruction f.0 f.1 f.2 h r2 kept fits (sym made) seen step,
         )
 
-    pub executed_hidden : true ≡ makes_row x.instruction → r2.hidden ≡ true → (r3 : LineRow) → r3 ≡ reset_row h.parameters r2
+    pub executed_under_tombstone : true ≡ makes_row x.instruction → r2.tombstone ≡ true → (r3 : LineRow) → r3 ≡ reset_row h.parameters r2
         → StepIs (state a h o n w r s) (state a h o n w r3 s2) More
-    executed_hidden made hidden r3 again =
+    executed_under_tombstone made tombstone r3 again =
         let f = (reads_instruction s.notation k).found s.bytes x.instruction s2.bytes x.reading in
         let kept = files_kept a h x.instruction x.defines in
         let fits = subst (λ (j : Header). is_refused j.parameters x.instruction r ≡ false) same x.refusal in
-        let step = subst (λ (j : Header). r2 ≡ stepped j.parameters x.instruction r) same x.registers in
-        let hidden = sym (ap (λ (q : LineRow). q.hidden) step) ∙ hidden in
+        let step = subst (λ (j : Header). r2 ≡ step_of j.parameters x.instruction r) same x.registers in
+        let tombstone = sym (ap (λ (q : LineRow). q.tombstone) step) ∙ tombstone in
         let again = again ∙ ap (λ (q : LineRow). reset_row h.parameters q) step in (
-          after_hidden a h k same o o n n w w r s s2 notation x.instruction f.0 f.1 f.2 h r3 kept fits (sym made) hidden again,
+          after_tombstone a h k same o o n n w w r s s2 notation x.instruction f.0 f.1 f.2 h r3 kept fits (sym made) tombstone again,
           is_shorter a h k same o o n n w w r s s2 notation x.instruction f.0 f.1 f.2,
-          passes_hidden a h k same o o n n w w r s s2 notation x.instruction f.0 f.1 f.2 h r3 kept fits (sym made) hidden again,
+          passes_tombstone a h k same o o n n w w r s s2 notation x.instruction f.0 f.1 f.2 h r3 kept fits (sym made) tombstone again,
         )
 
   pub executed_overflow : Executed k.parameters (ins_at s.notation k s.bytes) s2.bytes r r2 true → FaultIs (state a h o n w r s) (state a h o n w r2 s2) AddressOverflow
   executed_overflow x =
       let f = (reads_instruction s.notation k).found s.bytes x.instruction s2.bytes x.reading in
       let over = subst (λ (j : Header). is_refused j.parameters x.instruction r ≡ true) same x.refusal in
-      let step = subst (λ (j : Header). r2 ≡ stepped j.parameters x.instruction r) same x.registers in
+      let step = subst (λ (j : Header). r2 ≡ step_of j.parameters x.instruction r) same x.registers in
       inr (after_overflow a h k same o o n n w w r s s2 notation x.instruction f.0 f.1 f.2 h r2 refl over step)

@@ -8,7 +8,7 @@ use Rattle.gimli_core.specs.declared.error.Error.{Error}
 use Rattle.gimli_line.specs.header.Parameters.{Parameters}
 use Rattle.gimli_line.specs.header.File.{File}
 use Rattle.gimli_line.specs.header.Header.{UnitEntry, plain_file}
-use Rattle.gimli_line.specs.header.HeaderGrammar.{Opening, taken}
+use Rattle.gimli_line.specs.header.HeaderGrammar.{Opening, handed_value}
 use Rattle.gimli_line.specs.header.HeaderReading.{parameters_at, directories_at, file_names_at, fields_at}
 use Rattle.gimli_line.specs.declared.header.file_entry.FileEntryFormat.{FileEntryFormat}
 
@@ -52,7 +52,7 @@ module _ (big : Bool) (limit : ℕ) (entry : UnitEntry) (unit : ℕ) (opening : 
 
         pub fields_done : (file_formats : List FileEntryFormat) (files : List File) (end : List ℕ) (comp_dir : Option (List ℕ)) (comp_file : Option File)
             → file_names_at (record { big = later; limit = limit }) opening.encoding next ≡ (Ok (file_formats, files), end)
-            → comp_dir ≡ taken opening.encoding entry.directory → comp_file ≡ taken opening.encoding (option_map (λ path. plain_file path 0 0 0) entry.name)
+            → comp_dir ≡ handed_value opening.encoding entry.directory → comp_file ≡ handed_value opening.encoding (option_map (λ path. plain_file path 0 0 0) entry.name)
             → (fields_at notation entry unit opening program bytes).0 ≡ Ok (record {
               parameters = parameters;
               unit_length = unit;

@@ -491,7 +491,7 @@ no_format = record {
   refusal = MissingFileEntryFormatPath;
 }
 
--- a directory index in the place of the path
+-- a directory index in place of the path
 abbrev no_path : Refused
 no_path = record {
   given = handed 8;

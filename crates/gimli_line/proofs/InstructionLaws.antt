@@ -16,7 +16,7 @@ use Rattle.gimli_line.specs.header.Header.{Header}
 use Rattle.gimli_line.specs.header.Productions.{bytes_of, among}
 use Rattle.gimli_line.specs.header.HeaderGrammar.{file_production}
 use Rattle.gimli_line.specs.run.InstructionGrammar.{Operand, none, uleb, sleb, half, address, file, standard_opcodes, extended_opcodes, operand_production, unknown_production, standard_production, extended_operands, extended_production, instruction_production, SpellsInstruction, Decodes}
-use Rattle.gimli_line.specs.run.InstructionReading.{bytes_at, operand_at, unknown_at, standard_at, extended_operands_at, extended_at, ins_at, decoded_behind, decoded_upto, decoded_at}
+use Rattle.gimli_line.specs.run.InstructionReading.{bytes_at, operand_at, unknown_at, standard_at, extended_operands_at, extended_at, ins_at, decoded_after, decoded_upto, decoded_at}
 use Rattle.gimli_line.proofs.HeaderLaws.{reads_file, given_ok, given_err, answer_of}
 
 -- ---- the bytes of a production
@@ -134,7 +134,7 @@ module _ (notation : Notation) (h : Header) where
     | given_err e is ↦ at_fault e (ins_at notation h (b ∷ bytes)) refl is
   ]
     where
-      at_fault : (e : Error) (r : Read Ins) → r ≡ ins_at notation h (b ∷ bytes) → r.0 ≡ Err e → Decodes notation h (b ∷ bytes) (decoded_behind notation h (decoded_upto notation h more) r).0 (decoded_behind notation h (decoded_upto notation h more) r).1
+      at_fault : (e : Error) (r : Read Ins) → r ≡ ins_at notation h (b ∷ bytes) → r.0 ≡ Err e → Decodes notation h (b ∷ bytes) (decoded_after notation h (decoded_upto notation h more) r).0 (decoded_after notation h (decoded_upto notation h more) r).1
       at_fault e (Ok i, rest) same is = absurd cc
       at_fault e (Err d, rest) same is = record {
         front = [];
@@ -156,15 +156,15 @@ module _ (notation : Notation) (h : Header) where
       let whole : bytes ≡ c.rest = c.parts ∙ rw c.spelled refl in
       at_fault more bytes le (λ none. c.ended.0 (sym whole ∙ none)) (subst (λ (xs : List ℕ). (instruction_production notation h).Fault xs e) (sym whole) c.ended.1)
     where
-      behind : (b : ℕ) (bytes : List ℕ) (more : ℕ) (r : Read Ins) → r.0 ≡ Err e → ([], Some e) ≡ decoded_behind notation h (decoded_upto notation h more) r
-      behind b bytes more (Ok i, rest) is = absurd cc
-      behind b bytes more (Err d, rest) is = let same : d ≡ e = cc in rw same refl
+      after : (b : ℕ) (bytes : List ℕ) (more : ℕ) (r : Read Ins) → r.0 ≡ Err e → ([], Some e) ≡ decoded_after notation h (decoded_upto notation h more) r
+      after b bytes more (Ok i, rest) is = absurd cc
+      after b bytes more (Err d, rest) is = let same : d ≡ e = cc in rw same refl
 
       at_fault : (more : ℕ) (bytes : List ℕ) → length bytes ≤ more → bytes ≢ [] → (instruction_production notation h).Fault bytes e → ([], Some e) ≡ decoded_upto notation h more bytes
       at_fault zero [] le some f = absurd (some refl)
       at_fault zero (b ∷ bytes) le some f = absurd (omega arith)
       at_fault (suc more) [] le some f = absurd (some refl)
-      at_fault (suc more) (b ∷ bytes) le some f = behind b bytes more (ins_at notation h (b ∷ bytes)) (reads_instruction.refused (b ∷ bytes) e f)
+      at_fault (suc more) (b ∷ bytes) le some f = after b bytes more (ins_at notation h (b ∷ bytes)) (reads_instruction.refused (b ∷ bytes) e f)
   only_decoding (i ∷ list) end more bytes le c =
       let s = c.spelled in
       let some = takes_bytes s.0 i s.3 in
@@ -193,11 +193,11 @@ module _ (notation : Notation) (h : Header) where
   unfolding decoded_upto
   decoded_bounded zero bytes = omega arith
   decoded_bounded (suc more) [] = omega arith
-  decoded_bounded (suc more) (b ∷ bytes) = behind (λ rest. decoded_bounded more rest) (ins_at notation h (b ∷ bytes))
+  decoded_bounded (suc more) (b ∷ bytes) = after (λ rest. decoded_bounded more rest) (ins_at notation h (b ∷ bytes))
     where
-      behind : ((rest : List ℕ) → length (decoded_upto notation h more rest).0 ≤ more) → (r : Read Ins) → length (decoded_behind notation h (decoded_upto notation h more) r).0 ≤ suc more
-      behind bound (Ok i, rest) = omega (arith, bound rest)
-      behind bound (Err e, rest) = omega arith
+      after : ((rest : List ℕ) → length (decoded_upto notation h more rest).0 ≤ more) → (r : Read Ins) → length (decoded_after notation h (decoded_upto notation h more) r).0 ≤ suc more
+      after bound (Ok i, rest) = omega (arith, bound rest)
+      after bound (Err e, rest) = omega arith
 
   pub instructions_bounded : (bytes : List ℕ) (list : List Ins) (end : Option Error) → Decodes notation h bytes list end → length list ≤ length bytes
   instructions_bounded bytes list end c =

@@ -56,11 +56,11 @@ module _ (notation : Notation) where
   -- ---- put together
 
   then_known : {A B : Type 0} (l : Production A) (next : A → Production B) → IsKnown notation l → ((x : A) → IsKnown notation (next x)) → IsKnown notation (l >>= next)
-  then_known l next first behind = record { known = at_fault }
+  then_known l next first after = record { known = at_fault }
     where
       at_fault : (bytes : List ℕ) (e : Error) → (l >>= next).Fault bytes e → IsInstructionRefusal notation e
       at_fault bytes e (inl f) = first.known bytes e f
-      at_fault bytes e (inr f) = (behind f.0).known f.2 e f.5
+      at_fault bytes e (inr f) = (after f.0).known f.2 e f.5
 
   choose_known : {A : Type 0} (b : Bool) (l m : Production A) → IsKnown notation l → IsKnown notation m → IsKnown notation (choose b l m)
   choose_known true l m first other = first

@@ -11,8 +11,8 @@ use Rattle.gimli_core.specs.declared.common.Format.{Format}
 use Rattle.gimli_core.specs.Production.{Production, IsOpen}
 use Rattle.gimli_core.proofs.Productions.{bind_ok, bind_refused, ok_parts}
 use Rattle.gimli_core.proofs.ProductionLaws.{reads_text}
-use Rattle.gimli_line.specs.header.Outcome.{viewed}
-use Rattle.gimli_line.specs.header.TableReading.{is_closed, closed_below, closed_at}
+use Rattle.gimli_line.specs.header.Outcome.{read_map}
+use Rattle.gimli_line.specs.header.TableReading.{is_closed, closed_below, list_to_zero_at}
 use Rattle.gimli_line.specs.header.File.{File}
 use Rattle.gimli_line.specs.header.HeaderGrammar.{Entry, file_of_entry}
 use Rattle.gimli_core.specs.declared.common.Encoding.{Encoding}
@@ -35,7 +35,7 @@ pub collected_same : {A : Type 0} (r : Read (List A)) → collected [] (λ x. x)
 collected_same {A} (Ok xs, rest) = ap (λ (ys : List A). let r : Read (List A) = (Ok ys, rest) in r) (map_same xs)
 collected_same (Err e, rest) = refl
 
-pub viewed_same : {A : Type 0} (r : Read A) → viewed (λ x. x) r ≡ r
+pub viewed_same : {A : Type 0} (r : Read A) → read_map (λ x. x) r ≡ r
 viewed_same (Ok x, rest) = refl
 viewed_same (Err e, rest) = refl
 
@@ -46,13 +46,13 @@ module _ {A B : Type 0} (f : A → B) where
   regroup xs x v is (Err e, rest) = refl
 
   -- what was read, where it is seen
-  seen_item : (r : Read A) (v : B) (left : List ℕ) → (Ok v, left) ≡ viewed f r → (x : A) × (r ≡ (Ok x, left)) × (f x ≡ v)
+  seen_item : (r : Read A) (v : B) (left : List ℕ) → (Ok v, left) ≡ read_map f r → (x : A) × (r ≡ (Ok x, left)) × (f x ≡ v)
   seen_item r v left e =
       let a = bind_ok r (λ x rest. (let s : Read B = (Ok (f x), rest) in s)) v left (sym e) in
       let p = ok_parts (f a.0) v a.1 left a.3 in
       (a.0, a.2 ∙ ap (λ (xs : List ℕ). let s : Read A = (Ok a.0, xs) in s) p.1, p.0)
 
-  seen_fault : (r : Read A) (e : Error) (left : List ℕ) → (Err e, left) ≡ viewed f r → r.0 ≡ Err e
+  seen_fault : (r : Read A) (e : Error) (left : List ℕ) → (Err e, left) ≡ read_map f r → r.0 ≡ Err e
   seen_fault (Ok x, rest) e left is = let p = ap (λ (s : Read B). s.0) is in absurd cc
   seen_fault (Err d, rest) e left is = let p = ap (λ (s : Read B). s.0) is in let same : e ≡ d = cc in rw same refl
 
@@ -62,7 +62,7 @@ module _ {A B : Type 0} (f : A → B) where
   -- ---- so many of an item
 
   module _ (read : List ℕ → Read A) where
-    pub times_goes_on : (xs : List B) (count i : ℕ) (bytes : List ℕ) (v : B) (left : List ℕ) (total : Read (List B)) → i < count → (Ok v, left) ≡ viewed f (read bytes)
+    pub times_goes_on : (xs : List B) (count i : ℕ) (bytes : List ℕ) (v : B) (left : List ℕ) (total : Read (List B)) → i < count → (Ok v, left) ≡ read_map f (read bytes)
         → collected xs f (times_at (count - i) read bytes) ≡ total → collected (xs ++ v ∷ []) f (times_at (count - (i + 1)) read left) ≡ total
     times_goes_on xs count i bytes v left total lt e so_far =
         let a = seen_item (read bytes) v left e in
@@ -71,7 +71,7 @@ module _ {A B : Type 0} (f : A → B) where
         rw (k, a.1) (regroup xs a.0 v a.2 (times_at (count - (i + 1)) read left)) in
         sym one ∙ so_far
 
-    pub times_ends : (xs : List B) (count i : ℕ) (bytes : List ℕ) (e : Error) (left : List ℕ) (total : Read (List B)) → i < count → (Err e, left) ≡ viewed f (read bytes)
+    pub times_ends : (xs : List B) (count i : ℕ) (bytes : List ℕ) (e : Error) (left : List ℕ) (total : Read (List B)) → i < count → (Err e, left) ≡ read_map f (read bytes)
         → collected xs f (times_at (count - i) read bytes) ≡ total → total.0 ≡ Err e
     times_ends xs count i bytes e left total lt is so_far =
         let k : count - i ≡ suc (count - (i + 1)) = omega arith in
@@ -116,37 +116,37 @@ module _ {A B : Type 0} (f : A → B) where
         at_test false is (Err e, rest) same others = rw (is, same) refl
 
     -- an item, and the further ones
-    step : (bytes : List ℕ) (x : A) (left : List ℕ) → is_closed bytes ≡ false → read bytes ≡ (Ok x, left) → closed_at read bytes ≡ (closed_at read left >>= λ ys rest. (Ok (x ∷ ys), rest))
+    step : (bytes : List ℕ) (x : A) (left : List ℕ) → is_closed bytes ≡ false → read bytes ≡ (Ok x, left) → list_to_zero_at read bytes ≡ (list_to_zero_at read left >>= λ ys rest. (Ok (x ∷ ys), rest))
     unfolding closed_below
     step bytes x left is same =
         let fewer = shrinks bytes x left (is_open bytes is) same in
-        let further : closed_below (length bytes) read left ≡ closed_at read left = bound_free (length bytes) (suc (length left)) left fewer (omega arith) in
+        let further : closed_below (length bytes) read left ≡ list_to_zero_at read left = bound_free (length bytes) (suc (length left)) left fewer (omega arith) in
         rw (is, same) (ap (λ (s : Read (List A)). s >>= λ ys rest. (let t : Read (List A) = (Ok (x ∷ ys), rest) in t)) further)
 
-    pub closed_goes_on : (xs : List B) (bytes : List ℕ) (v : B) (left : List ℕ) (total : Read (List B)) → is_closed bytes ≡ false → (Ok v, left) ≡ viewed f (read bytes)
-        → collected xs f (closed_at read bytes) ≡ total → collected (xs ++ v ∷ []) f (closed_at read left) ≡ total
+    pub closed_goes_on : (xs : List B) (bytes : List ℕ) (v : B) (left : List ℕ) (total : Read (List B)) → is_closed bytes ≡ false → (Ok v, left) ≡ read_map f (read bytes)
+        → collected xs f (list_to_zero_at read bytes) ≡ total → collected (xs ++ v ∷ []) f (list_to_zero_at read left) ≡ total
     closed_goes_on xs bytes v left total is e so_far =
         let a = seen_item (read bytes) v left e in
-        let one : collected xs f (closed_at read bytes) ≡ collected (xs ++ v ∷ []) f (closed_at read left) =
-        ap (collected xs f) (step bytes a.0 left is a.1) ∙ regroup xs a.0 v a.2 (closed_at read left) in
+        let one : collected xs f (list_to_zero_at read bytes) ≡ collected (xs ++ v ∷ []) f (list_to_zero_at read left) =
+        ap (collected xs f) (step bytes a.0 left is a.1) ∙ regroup xs a.0 v a.2 (list_to_zero_at read left) in
         sym one ∙ so_far
 
-    pub closed_smaller : (bytes : List ℕ) (v : B) (left : List ℕ) → is_closed bytes ≡ false → (Ok v, left) ≡ viewed f (read bytes) → length left < length bytes
+    pub closed_smaller : (bytes : List ℕ) (v : B) (left : List ℕ) → is_closed bytes ≡ false → (Ok v, left) ≡ read_map f (read bytes) → length left < length bytes
     closed_smaller bytes v left is e = let a = seen_item (read bytes) v left e in shrinks bytes a.0 left (is_open bytes is) a.1
 
-    pub closed_ends : (xs : List B) (bytes : List ℕ) (e : Error) (left : List ℕ) (total : Read (List B)) → is_closed bytes ≡ false → (Err e, left) ≡ viewed f (read bytes)
-        → collected xs f (closed_at read bytes) ≡ total → total.0 ≡ Err e
+    pub closed_ends : (xs : List B) (bytes : List ℕ) (e : Error) (left : List ℕ) (total : Read (List B)) → is_closed bytes ≡ false → (Err e, left) ≡ read_map f (read bytes)
+        → collected xs f (list_to_zero_at read bytes) ≡ total → total.0 ≡ Err e
     unfolding closed_below
     closed_ends xs bytes e left total is same so_far =
         let refused = seen_fault (read bytes) e left same in
-        let inner : (closed_at read bytes).0 ≡ Err e = rw is (bind_refused (read bytes) (λ x rest. closed_below (length bytes) read rest >>= λ ys end. (let s : Read (List A) = (Ok (x ∷ ys), end) in s)) e refused) in
-        let one = bind_refused (closed_at read bytes) (λ ys rest. (let s : Read (List B) = (Ok (xs ++ map f ys), rest) in s)) e inner in
+        let inner : (list_to_zero_at read bytes).0 ≡ Err e = rw is (bind_refused (read bytes) (λ x rest. closed_below (length bytes) read rest >>= λ ys end. (let s : Read (List A) = (Ok (x ∷ ys), end) in s)) e refused) in
+        let one = bind_refused (list_to_zero_at read bytes) (λ ys rest. (let s : Read (List B) = (Ok (xs ++ map f ys), rest) in s)) e inner in
         ap (λ (r : Read (List B)). r.0) (sym so_far) ∙ one
 
-    pub closed_done : (xs : List B) (bytes left : List ℕ) (total : Read (List B)) → bytes ≡ 0 ∷ left → collected xs f (closed_at read bytes) ≡ total → total ≡ (Ok xs, left)
+    pub closed_done : (xs : List B) (bytes left : List ℕ) (total : Read (List B)) → bytes ≡ 0 ∷ left → collected xs f (list_to_zero_at read bytes) ≡ total → total ≡ (Ok xs, left)
     unfolding closed_below
     closed_done xs bytes left total is so_far =
-        let one : collected xs f (closed_at read bytes) ≡ (Ok xs, left) = rw is (none_left xs left) in
+        let one : collected xs f (list_to_zero_at read bytes) ≡ (Ok xs, left) = rw is (none_left xs left) in
         sym so_far ∙ one
 
 -- ---- what a text says of the zero byte
@@ -177,26 +177,26 @@ text_refused bytes rest e is = all_free bytes (reads_text.fault bytes e (ap (λ 
 
 -- ---- a file, whose path is read first
 
-pub named_is : (bytes path mid : List ℕ) (answer : Read File) → (Ok path, mid) ≡ text_at bytes → answer ≡ plain_file_at path mid → answer ≡ viewed (λ x. x) (named_file_at bytes)
+pub named_is : (bytes path mid : List ℕ) (answer : Read File) → (Ok path, mid) ≡ text_at bytes → answer ≡ plain_file_at path mid → answer ≡ read_map (λ x. x) (named_file_at bytes)
 named_is bytes path mid answer e is = is ∙ ap (λ (r : Read (List ℕ)). r >>= plain_file_at) e ∙ sym (viewed_same (named_file_at bytes))
 
-pub named_fault : (bytes mid : List ℕ) (e : Error) → (Err e, mid) ≡ text_at bytes → (Err e, mid) ≡ viewed (λ x. x) (named_file_at bytes)
+pub named_fault : (bytes mid : List ℕ) (e : Error) → (Err e, mid) ≡ text_at bytes → (Err e, mid) ≡ read_map (λ x. x) (named_file_at bytes)
 named_fault bytes mid e is = ap (λ (r : Read (List ℕ)). r >>= plain_file_at) is ∙ sym (viewed_same (named_file_at bytes))
 
 -- ---- the entries of a table of version 5, whose count is read first
 
 module _ (notation : Notation) (format : Format) {B : Type 0} (f : Entry → B) (formats : List FileEntryFormat) where
   pub entries_start : (bytes : List ℕ) (count : ℕ) (left : List ℕ) → (Ok count, left) ≡ unsigned_at bytes
-      → collected [] f (times_at (count - 0) (entry_at notation format formats) left) ≡ viewed (map f) (entries_at notation format formats bytes)
+      → collected [] f (times_at (count - 0) (entry_at notation format formats) left) ≡ read_map (map f) (entries_at notation format formats bytes)
   unfolding entries_at
   entries_start bytes count left is =
       let all : count - 0 ≡ count = omega arith in
-      rw all (ap (λ (r : Read ℕ). viewed (map f) (r >>= λ n rest. times_at n (entry_at notation format formats) rest)) is)
+      rw all (ap (λ (r : Read ℕ). read_map (map f) (r >>= λ n rest. times_at n (entry_at notation format formats) rest)) is)
 
 -- the order of bytes, which a loop keeps
 pub entry_kept : (format : Format) {B : Type 0} (f : Entry → B) (formats : List FileEntryFormat) (now first : Bool) (limit : ℕ) (bytes : List ℕ) (answer : Read B) → now ≡ first
-    → answer ≡ viewed f (entry_at (record { big = now; limit = limit }) format formats bytes) → answer ≡ viewed f (entry_at (record { big = first; limit = limit }) format formats bytes)
-entry_kept format f formats now first limit bytes answer same is = is ∙ ap (λ (b : Bool). viewed f (entry_at (record { big = b; limit = limit }) format formats bytes)) same
+    → answer ≡ read_map f (entry_at (record { big = now; limit = limit }) format formats bytes) → answer ≡ read_map f (entry_at (record { big = first; limit = limit }) format formats bytes)
+entry_kept format f formats now first limit bytes answer same is = is ∙ ap (λ (b : Bool). read_map f (entry_at (record { big = b; limit = limit }) format formats bytes)) same
 
 -- ---- the files of a version
 
@@ -207,10 +207,10 @@ files_up_to_4 notation encoding bytes files left none old empty is = rw (le-leb 
 
 pub files_from_5 : (now first : Bool) (limit : ℕ) (encoding : Encoding) (bytes mid : List ℕ) (formats lent : List FileEntryFormat) (files : List File) (left : List ℕ) → 4 < encoding.version
     → formats_at bytes ≡ (Ok formats, mid) → now ≡ first → lent ≡ formats
-    → viewed (map file_of_entry) (entries_at (record { big = now; limit = limit }) encoding.format lent mid) ≡ (Ok files, left) → file_names_at (record { big = first; limit = limit }) encoding bytes ≡ (Ok (formats, files), left)
+    → read_map (map file_of_entry) (entries_at (record { big = now; limit = limit }) encoding.format lent mid) ≡ (Ok files, left) → file_names_at (record { big = first; limit = limit }) encoding bytes ≡ (Ok (formats, files), left)
 unfolding file_names_at table_at
 files_from_5 now first limit encoding bytes mid formats lent files left new head kept same tail =
     let notation : Notation = record { big = first; limit = limit } in
-    let again : viewed (map file_of_entry) (entries_at notation encoding.format formats mid) ≡ (Ok files, left) = rw (← kept, ← same) tail in
+    let again : read_map (map file_of_entry) (entries_at notation encoding.format formats mid) ≡ (Ok files, left) = rw (← kept, ← same) tail in
     let a = seen_item (map file_of_entry) (entries_at notation encoding.format formats mid) files left (sym again) in
     rw (lt-leb encoding.version 4 new, head, a.1, a.2) refl

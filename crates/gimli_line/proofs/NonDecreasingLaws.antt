@@ -6,13 +6,13 @@ use Rattle.gimli_core.specs.declared.error.Error.TheVariants.{AddressOverflow}
 use Rattle.gimli_line.specs.declared.run.instruction.LineInstruction.TheVariants.{Special, AdvancePc, ConstAddPc, FixedAddPc, EndSequence, SetAddress}
 use Rattle.gimli_line.specs.header.Parameters.{Parameters}
 use Rattle.gimli_line.specs.run.Instruction.{Ins, is_end}
-use Rattle.gimli_line.specs.run.OperationPointer.{OperationPointer, operations_on, exceeds, stopped, next_pointer, pointer_at, is_hidden, overflows}
-use Rattle.gimli_line.specs.run.Events.{Event, row, fault, row_at, events_behind}
+use Rattle.gimli_line.specs.run.OperationPointer.{OperationPointer, advanced_by, is_too_large, pointer_at_overflow, next_pointer, pointer_at, is_under_tombstone, overflows}
+use Rattle.gimli_line.specs.run.Events.{Event, row, fault, row_at, events_after}
 use Rattle.gimli_line.specs.run.NonDecreasing.{NeverBelow, AreOneSequence}
 
 -- ---- a pointer that goes on isn't lower
 
-operations_rise : (parameters : Parameters) (n : ℕ) (p : OperationPointer) → p.address ≤ (operations_on parameters n p).address
+operations_rise : (parameters : Parameters) (n : ℕ) (p : OperationPointer) → p.address ≤ (advanced_by parameters n p).address
 operations_rise parameters n p = at_test (nat_eq parameters.line_encoding.maximum_operations_per_instruction 1)
   where
     at_test : (b : Bool) → p.address ≤ (if b then (let q : OperationPointer = record { address = p.address + parameters.line_encoding.minimum_instruction_length * n % 2 ^ 64; op_index = 0 } in q)
@@ -24,12 +24,12 @@ operations_rise parameters n p = at_test (nat_eq parameters.line_encoding.maximu
     at_test true = omega arith
     at_test false = omega arith
 
-advance_rises : (parameters : Parameters) (hidden : Bool) (i : Ins) (p to : OperationPointer) → (stopped i p to).address ≡ p.address → p.address ≤ to.address
-    → p.address ≤ (if hidden then p else (if exceeds parameters to then stopped i p to else to)).address
+advance_rises : (parameters : Parameters) (tombstone : Bool) (i : Ins) (p to : OperationPointer) → (pointer_at_overflow i p to).address ≡ p.address → p.address ≤ to.address
+    → p.address ≤ (if tombstone then p else (if is_too_large parameters to then pointer_at_overflow i p to else to)).address
 advance_rises parameters true i p to stays rises = omega arith
-advance_rises parameters false i p to stays rises = at_test (exceeds parameters to)
+advance_rises parameters false i p to stays rises = at_test (is_too_large parameters to)
   where
-    at_test : (b : Bool) → p.address ≤ (if b then stopped i p to else to).address
+    at_test : (b : Bool) → p.address ≤ (if b then pointer_at_overflow i p to else to).address
     at_test true = omega (arith, stays)
     at_test false = rises
 
@@ -41,14 +41,14 @@ set_rises parameters a p = at_test (nat_lt a p.address) refl (nat_le _ a)
     at_test false e true = omega arith
     at_test false e false = ltb-false a p.address e
 
-pub rises : (parameters : Parameters) (hidden : Bool) (i : Ins) (p : OperationPointer) → is_end i ≡ false → p.address ≤ (next_pointer parameters hidden i p).address
-rises parameters hidden EndSequence p inner = absurd cc
-rises parameters hidden (SetAddress a) p inner = set_rises parameters a p
-rises parameters hidden (Special o) p inner = advance_rises parameters hidden (Special o) p (operations_on parameters _ p) refl (operations_rise parameters _ p)
-rises parameters hidden (AdvancePc n) p inner = advance_rises parameters hidden (AdvancePc n) p (operations_on parameters n p) refl (operations_rise parameters n p)
-rises parameters hidden ConstAddPc p inner = advance_rises parameters hidden ConstAddPc p (operations_on parameters _ p) refl (operations_rise parameters _ p)
-rises parameters hidden (FixedAddPc n) p inner = advance_rises parameters hidden (FixedAddPc n) p (record { address = p.address + n; op_index = 0 }) refl (omega arith)
-rises parameters hidden i p inner = omega arith
+pub rises : (parameters : Parameters) (tombstone : Bool) (i : Ins) (p : OperationPointer) → is_end i ≡ false → p.address ≤ (next_pointer parameters tombstone i p).address
+rises parameters tombstone EndSequence p inner = absurd cc
+rises parameters tombstone (SetAddress a) p inner = set_rises parameters a p
+rises parameters tombstone (Special o) p inner = advance_rises parameters tombstone (Special o) p (advanced_by parameters _ p) refl (operations_rise parameters _ p)
+rises parameters tombstone (AdvancePc n) p inner = advance_rises parameters tombstone (AdvancePc n) p (advanced_by parameters n p) refl (operations_rise parameters n p)
+rises parameters tombstone ConstAddPc p inner = advance_rises parameters tombstone ConstAddPc p (advanced_by parameters _ p) refl (operations_rise parameters _ p)
+rises parameters tombstone (FixedAddPc n) p inner = advance_rises parameters tombstone (FixedAddPc n) p (record { address = p.address + n; op_index = 0 }) refl (omega arith)
+rises parameters tombstone i p inner = omega arith
 
 -- ---- rows
 
@@ -58,14 +58,14 @@ weaker low high le (row r ∷ events) n = (omega (arith, n.0), n.1)
 weaker low high le (fault e ∷ events) n = weaker low high le events n
 
 module _ (parameters : Parameters) where
-  -- what stands after a place that gives these events
-  behind_place : (past : List Ins) (i : Ins) (rest : List Event) → is_end i ≡ false → NeverBelow (pointer_at parameters (i ∷ past)).address rest
+  -- what stands after a point that gives these events
+  after_point : (past : List Ins) (i : Ins) (rest : List Event) → is_end i ≡ false → NeverBelow (pointer_at parameters (i ∷ past)).address rest
       → (o m : Bool) → NeverBelow (pointer_at parameters past).address
       ((if o then fault AddressOverflow ∷ [] else (if m then row (row_at parameters past i) ∷ [] else [])) ++ rest)
-  behind_place past i rest inner n o m = at_test o m
+  after_point past i rest inner n o m = at_test o m
     where
       up : (pointer_at parameters past).address ≤ (pointer_at parameters (i ∷ past)).address
-      up = rises parameters (is_hidden parameters past) i (pointer_at parameters past) inner
+      up = rises parameters (is_under_tombstone parameters past) i (pointer_at parameters past) inner
 
       here : (row_at parameters past i).address ≡ (pointer_at parameters (i ∷ past)).address
       here = rw inner refl
@@ -75,20 +75,20 @@ module _ (parameters : Parameters) where
       at_test false true = (omega (arith, up, here), weaker (row_at parameters past i).address (pointer_at parameters (i ∷ past)).address (omega (arith, here)) rest n)
       at_test false false = weaker (pointer_at parameters past).address (pointer_at parameters (i ∷ past)).address up rest n
 
-  -- the last place, which may be an end
-  last_place : (past : List Ins) (i : Ins) → (e o m : Bool) → is_end i ≡ e
+  -- the last point, which may be an end
+  last_point : (past : List Ins) (i : Ins) → (e o m : Bool) → is_end i ≡ e
       → NeverBelow (pointer_at parameters past).address ((if o then fault AddressOverflow ∷ [] else (if m then row (row_at parameters past i) ∷ [] else [])) ++ [])
-  last_place past i false o m inner = behind_place past i [] inner tt o m
-  last_place past i true true m closes = tt
-  last_place past i true false true closes =
+  last_point past i false o m inner = after_point past i [] inner tt o m
+  last_point past i true true m closes = tt
+  last_point past i true false true closes =
       let here : (row_at parameters past i).address ≡ (pointer_at parameters past).address = rw closes refl in
       (omega (arith, here), tt)
-  last_place past i true false false closes = tt
+  last_point past i true false false closes = tt
 
-  pub non_decreasing : (past list : List Ins) → AreOneSequence list → NeverBelow (pointer_at parameters past).address (events_behind parameters past list)
+  pub non_decreasing : (past list : List Ins) → AreOneSequence list → NeverBelow (pointer_at parameters past).address (events_after parameters past list)
   non_decreasing past [] one = tt
-  non_decreasing past (i ∷ []) one = last_place past i (is_end i) (overflows parameters past i) _ refl
-  non_decreasing past (i ∷ j ∷ list) one = behind_place past i (events_behind parameters (i ∷ past) (j ∷ list)) one.0 (non_decreasing (i ∷ past) (j ∷ list) one.1) (overflows parameters past i) _
+  non_decreasing past (i ∷ []) one = last_point past i (is_end i) (overflows parameters past i) _ refl
+  non_decreasing past (i ∷ j ∷ list) one = after_point past i (events_after parameters (i ∷ past) (j ∷ list)) one.0 (non_decreasing (i ∷ past) (j ∷ list) one.1) (overflows parameters past i) _
 
-  pub never_down : (past list : List Ins) → AreOneSequence list → NeverBelow 0 (events_behind parameters past list)
-  never_down past list one = weaker 0 (pointer_at parameters past).address (omega arith) (events_behind parameters past list) (non_decreasing past list one)
+  pub never_down : (past list : List Ins) → AreOneSequence list → NeverBelow 0 (events_after parameters past list)
+  never_down past list one = weaker 0 (pointer_at parameters past).address (omega arith) (events_after parameters past list) (non_decreasing past list one)

@@ -110,7 +110,7 @@ meets p read decoding events =
 -- a row of the first file, at the left edge
 abbrev blank : ℕ → ℕ → ℕ → LineRow
 blank address op_index line = record {
-  hidden = false;
+  tombstone = false;
   address = address;
   op_index = op_index;
   file = 1;
@@ -154,7 +154,7 @@ demo_unit = record {
   events = at 0x1000 0 1 false ∷ at 0x1004 0 3 false ∷ at 0x1008 0 3 true ∷ [];
 }
 
--- an end that is hidden
+-- an end that is under a tombstone
 abbrev tombstone_in_a_sequence : Program
 tombstone_in_a_sequence = record {
   given = handed 4;
@@ -167,7 +167,7 @@ tombstone_in_a_sequence = record {
   events = at 1 0 1 false ∷ at 0 0 1 false ∷ at 0 0 1 true ∷ [];
 }
 
--- a sequence that is hidden as a whole
+-- a sequence that is under a tombstone as a whole
 abbrev tombstone_between_sequences : Program
 tombstone_between_sequences = record {
   given = handed 4;
@@ -259,7 +259,7 @@ fixed_advance_of_several_operations = record {
   events = at 6 0 1 false ∷ at 6 0 1 true ∷ [];
 }
 
--- what is hidden moves the line and no address
+-- what is under a tombstone moves the line and no address
 abbrev set_address_that_goes_back : Program
 set_address_that_goes_back = record {
   given = handed 4;

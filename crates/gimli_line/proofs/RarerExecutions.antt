@@ -11,7 +11,7 @@ use Rattle.gimli_line.specs.header.Header.{Header}
 use Rattle.gimli_line.specs.header.Parameters.{Parameters}
 use Rattle.gimli_line.specs.run.Instruction.{Ins, defines_file}
 use Rattle.gimli_line.specs.run.InstructionReading.{standard_at, extended_at, extended_operands_at, ins_at}
-use Rattle.gimli_line.specs.run.Machine.{stepped, is_refused}
+use Rattle.gimli_line.specs.run.Machine.{step_of, is_refused}
 use Rattle.gimli_line.specs.run.Execution.{Executed, ExecutedWell}
 use Rattle.gimli_line.proofs.Executions.{standard_first}
 
@@ -19,16 +19,16 @@ use Rattle.gimli_line.proofs.Executions.{standard_first}
 
 module _ (notation : Notation) (h : Header) (bytes rest : List ℕ) where
   abbrev pub below_executed : (opcode base : ℕ) (k : Parameters) → k ≡ h.parameters → base ≡ h.parameters.opcode_base → 0 < opcode → opcode < base → (Ok opcode, rest) ≡ byte_at bytes
-      → (i : Ins) (behind : List ℕ) → standard_at notation h opcode rest ≡ (Ok i, behind) → defines_file i ≡ false
-      → (old new : LineRow) (refused : Bool) → new ≡ stepped k i old → is_refused k i old ≡ refused → Executed h.parameters (ins_at notation h bytes) behind old new refused
-  below_executed opcode base k same is some lt read i behind found defines old new refused step refusal =
+      → (i : Ins) (after : List ℕ) → standard_at notation h opcode rest ≡ (Ok i, after) → defines_file i ≡ false
+      → (old new : LineRow) (refused : Bool) → new ≡ step_of k i old → is_refused k i old ≡ refused → Executed h.parameters (ins_at notation h bytes) after old new refused
+  below_executed opcode base k same is some lt read i after found defines old new refused step refusal =
       let below : nat_le h.parameters.opcode_base opcode ≡ false = lt-leb h.parameters.opcode_base opcode (omega (arith, lt, is)) in
       record {
         instruction = i;
         reading = standard_first notation h bytes rest opcode some below read ∙ found;
         defines = defines;
         refusal = subst (λ (p : Parameters). is_refused p i old ≡ refused) same refusal;
-        registers = subst (λ (p : Parameters). new ≡ stepped p i old) same step;
+        registers = subst (λ (p : Parameters). new ≡ step_of p i old) same step;
       }
 
 module _ (notation : Notation) (h : Header) (bytes : List ℕ) (opcode : ℕ) where
@@ -42,9 +42,9 @@ module _ (notation : Notation) (h : Header) (bytes : List ℕ) (opcode : ℕ) wh
 
 -- ---- extended opcodes
 
-module _ (notation : Notation) (h : Header) (bytes behind inside rest : List ℕ) (size : ℕ) where
+module _ (notation : Notation) (h : Header) (bytes after inside rest : List ℕ) (size : ℕ) where
   -- the length was taken, and then that many bytes
-  pub opened : (Ok size, behind) ≡ offset_at notation.limit unsigned_at bytes → (Ok inside, rest) ≡ split_at size behind
+  pub opened : (Ok size, after) ≡ offset_at notation.limit unsigned_at bytes → (Ok inside, rest) ≡ split_at size after
       → extended_at notation h bytes ≡ (within_at inside byte_at rest >>= λ opened left. extended_operands_at notation h opened.0 opened.1 left)
   unfolding extended_at
   opened length part = rw (← length, ← part) refl
@@ -66,8 +66,8 @@ module _ (notation : Notation) (h : Header) (inside operands rest : List ℕ) (o
   sets_discriminator is n left operand = rw (← read, is) (record { instruction = SetDiscriminator n; reading = rw (← operand) refl; defines = refl; refusal = refl; registers = refl }, refl)
 
   pub sets_address : opcode ≡ 2 → (a : ℕ) (left : List ℕ) → (Ok a, left) ≡ number_at notation.big h.parameters.encoding.address_size operands
-      → (k : Parameters) → k ≡ h.parameters → (new : LineRow) → new ≡ stepped k (SetAddress a) r
+      → (k : Parameters) → k ≡ h.parameters → (new : LineRow) → new ≡ step_of k (SetAddress a) r
       → ExecutedWell h.parameters (within_at inside byte_at rest >>= λ opened left. extended_operands_at notation h opened.0 opened.1 left) rest r new false
   unfolding extended_operands_at
   sets_address is a left operand k same new step =
-      rw (← read, is) (record { instruction = SetAddress a; reading = rw (← operand) refl; defines = refl; refusal = refl; registers = subst (λ (p : Parameters). new ≡ stepped p (SetAddress a) r) same step }, refl)
+      rw (← read, is) (record { instruction = SetAddress a; reading = rw (← operand) refl; defines = refl; refusal = refl; registers = subst (λ (p : Parameters). new ≡ step_of p (SetAddress a) r) same step }, refl)

@@ -9,14 +9,14 @@ use Rattle.gimli_line.specs.declared.run.row.LineRow.{LineRow}
 use Rattle.gimli_line.specs.header.File.{File}
 use Rattle.gimli_line.specs.header.Header.{Header}
 use Rattle.gimli_line.specs.header.Parameters.{Parameters}
-use Rattle.gimli_line.specs.run.Instruction.{Ins, makes_row, files_behind}
+use Rattle.gimli_line.specs.run.Instruction.{Ins, makes_row, files_after}
 use Rattle.gimli_line.specs.run.InstructionGrammar.{Decodes}
-use Rattle.gimli_line.specs.run.InstructionReading.{ins_at, decoded_at, decoded_behind, decoded_upto}
-use Rattle.gimli_line.specs.run.OperationPointer.{is_hidden, overflows}
-use Rattle.gimli_line.specs.run.Machine.{is_refused, stepped}
-use Rattle.gimli_line.specs.run.Events.{Event, Events, row, fault, row_at, events_at, events_behind, end_events}
-use Rattle.gimli_line.specs.run.EventsWithFiles.{EventWithFiles, EventsWithFiles, with_files, files_at, events_with_files_behind, step_events, next_registers, events_with_files_from}
-use Rattle.gimli_line.specs.run.Progress.{ready}
+use Rattle.gimli_line.specs.run.InstructionReading.{ins_at, decoded_at, decoded_after, decoded_upto}
+use Rattle.gimli_line.specs.run.OperationPointer.{is_under_tombstone, overflows}
+use Rattle.gimli_line.specs.run.Machine.{is_refused, step_of}
+use Rattle.gimli_line.specs.run.Events.{Event, Events, row, fault, row_at, events_at, events_after, end_events}
+use Rattle.gimli_line.specs.run.EventsWithFiles.{EventWithFiles, EventsWithFiles, with_files, files_at, events_with_files_after, step_events, next_registers, events_with_files_from}
+use Rattle.gimli_line.specs.run.Progress.{with_reset_row}
 use Rattle.gimli_line.specs.run.RunState.{RunState}
 use Rattle.gimli_line.specs.run.Rows.{events_left}
 use Rattle.gimli_line.proofs.InstructionLaws.{one_decoding}
@@ -31,27 +31,27 @@ one_at_most false false r = omega arith
 length_with_files : (files : List File) (events : List Event) → length (with_files files events) ≡ length events
 length_with_files files events = length-map events (λ e. record { event = e; files = files })
 
-few_behind : (parameters : Parameters) (past list : List Ins) → length (events_behind parameters past list) ≤ length list
-few_behind parameters past [] = omega arith
-few_behind parameters past (i ∷ list) =
+few_after : (parameters : Parameters) (past list : List Ins) → length (events_after parameters past list) ≤ length list
+few_after parameters past [] = omega arith
+few_after parameters past (i ∷ list) =
     omega (
       arith,
-      length-append (events_at parameters past i) (events_behind parameters (i ∷ past) list),
-      one_at_most (overflows parameters past i) (makes_row i && not (is_hidden parameters past)) (row_at parameters past i),
-      few_behind parameters (i ∷ past) list,
+      length-append (events_at parameters past i) (events_after parameters (i ∷ past) list),
+      one_at_most (overflows parameters past i) (makes_row i && not (is_under_tombstone parameters past)) (row_at parameters past i),
+      few_after parameters (i ∷ past) list,
     )
 
 few_with_files : (appends : Bool) (h : Header) (past list : List Ins) (end : Option Error)
-    → length (events_with_files_behind appends h past list end) ≤ length list + length (end_events end)
+    → length (events_with_files_after appends h past list end) ≤ length list + length (end_events end)
 few_with_files appends h past [] end = omega (arith, length_with_files (files_at appends h.files past) (end_events end))
 few_with_files appends h past (i ∷ list) end =
     let files = files_at appends h.files past in
     let here = events_at h.parameters past i in
     omega (
       arith,
-      length-append (with_files files here) (events_with_files_behind appends h (i ∷ past) list end),
+      length-append (with_files files here) (events_with_files_after appends h (i ∷ past) list end),
       length_with_files files here,
-      one_at_most (overflows h.parameters past i) (makes_row i && not (is_hidden h.parameters past)) (row_at h.parameters past i),
+      one_at_most (overflows h.parameters past i) (makes_row i && not (is_under_tombstone h.parameters past)) (row_at h.parameters past i),
       few_with_files appends h (i ∷ past) list end,
     )
 
@@ -60,13 +60,13 @@ few_from : (appends : Bool) (parameters : Parameters) (r : LineRow) (files : Lis
 few_from appends parameters r files [] end = omega (arith, length_with_files files (end_events end))
 few_from appends parameters r files (i ∷ list) end =
     let here = step_events parameters i r in
-    let later = events_with_files_from appends parameters (next_registers parameters i r) (files_behind appends i files) list end in
+    let later = events_with_files_from appends parameters (next_registers parameters i r) (files_after appends i files) list end in
     omega (
       arith,
       length-append (with_files files here) later,
       length_with_files files here,
-      one_at_most (is_refused parameters i r) (makes_row i && not r.hidden) (stepped parameters i r),
-      few_from appends parameters (next_registers parameters i r) (files_behind appends i files) list end,
+      one_at_most (is_refused parameters i r) (makes_row i && not r.tombstone) (step_of parameters i r),
+      few_from appends parameters (next_registers parameters i r) (files_after appends i files) list end,
     )
 
 -- ---- no more instructions than bytes; where the end is refused, a byte is left for it
@@ -76,12 +76,12 @@ module _ (notation : Notation) (h : Header) where
   unfolding decoded_upto
   upto_bounded zero bytes = omega arith
   upto_bounded (suc more) [] = omega arith
-  upto_bounded (suc more) (b ∷ bytes) = behind (λ rest. upto_bounded more rest) (ins_at notation h (b ∷ bytes))
+  upto_bounded (suc more) (b ∷ bytes) = after (λ rest. upto_bounded more rest) (ins_at notation h (b ∷ bytes))
     where
-      behind : ((rest : List ℕ) → length (decoded_upto notation h more rest).0 + length (end_events (decoded_upto notation h more rest).1) ≤ more) → (r : Read Ins)
-          → length (decoded_behind notation h (decoded_upto notation h more) r).0 + length (end_events (decoded_behind notation h (decoded_upto notation h more) r).1) ≤ suc more
-      behind bound (Ok i, rest) = omega (arith, bound rest)
-      behind bound (Err e, rest) = omega arith
+      after : ((rest : List ℕ) → length (decoded_upto notation h more rest).0 + length (end_events (decoded_upto notation h more rest).1) ≤ more) → (r : Read Ins)
+          → length (decoded_after notation h (decoded_upto notation h more) r).0 + length (end_events (decoded_after notation h (decoded_upto notation h more) r).1) ≤ suc more
+      after bound (Ok i, rest) = omega (arith, bound rest)
+      after bound (Err e, rest) = omega arith
 
   taken_bounded : (bytes : List ℕ) → length (decoded_at notation h bytes).0 + length (end_events (decoded_at notation h bytes).1) ≤ length bytes
   taken_bounded bytes = upto_bounded (length bytes) bytes
@@ -99,8 +99,8 @@ module _ (notation : Notation) (h : Header) where
       omega (
         arith,
         ap length given.given,
-        length-append (events_behind h.parameters [] given.list) (end_events given.end),
-        few_behind h.parameters [] given.list,
+        length-append (events_after h.parameters [] given.list) (end_events given.end),
+        few_after h.parameters [] given.list,
         decoded_bounded bytes given.list given.end given.decoding,
       )
 
@@ -110,6 +110,6 @@ module _ (notation : Notation) (h : Header) where
 
 pub left_bounded : (rows : RunState) → length (events_left rows) ≤ length rows.unread.bytes
 left_bounded rows =
-    let a = ready rows in
+    let a = with_reset_row rows in
     let taken = decoded_at a.unread.notation a.fixed a.unread.bytes in
     omega (arith, few_from a.appends a.fixed.parameters a.row a.files taken.0 taken.1, taken_bounded a.unread.notation a.fixed a.unread.bytes)

@@ -7,10 +7,10 @@ use Rattle.gimli_line.specs.declared.run.row.LineRow.{LineRow}
 use Rattle.gimli_line.specs.header.Header.{Header}
 use Rattle.gimli_line.specs.run.Events.{row, fault}
 use Rattle.gimli_line.specs.run.EventsWithFiles.{EventWithFiles}
-use Rattle.gimli_line.specs.run.Progress.{ready}
+use Rattle.gimli_line.specs.run.Progress.{with_reset_row}
 use Rattle.gimli_line.specs.run.RunState.{RunState}
 use Rattle.gimli_line.specs.run.Rows.{events_left, FaultIs, GivesRowsAlone, IsRow}
-use Rattle.gimli_line.specs.run.Sequences.{Part, events_of, resumed, IsSequence, ResumesToRows}
+use Rattle.gimli_line.specs.run.Sequences.{Part, events_of, events_of_part, IsSequence, ResumesToRows}
 
 -- a fault is no row
 no_row : (e : Error) (r : LineRow) → fault e ≡ row r → ⊥
@@ -25,7 +25,7 @@ rest_alone old new e appends first alone = record {
 pub end_alone : (old new : RunState) → new.appends ≡ old.appends → events_left new ≡ [] → GivesRowsAlone old → GivesRowsAlone new
 end_alone old new appends none alone = record { complete = appends ∙ alone.complete; rows = subst (All IsRow) (sym none) (All-nil IsRow) }
 
-pub never_refused_alone : (old new : RunState) (e : Error) → new.appends ≡ old.appends → FaultIs (ready old) new e → GivesRowsAlone old → ⊥
+pub never_refused_alone : (old new : RunState) (e : Error) → new.appends ≡ old.appends → FaultIs (with_reset_row old) new e → GivesRowsAlone old → ⊥
 never_refused_alone old new e appends (inl memory) alone = let same : true ≡ false = sym memory.1.appends ∙ appends ∙ alone.complete in absurd cc
 never_refused_alone old new e appends (inr comes) alone =
     let first = All-head IsRow _ (events_left new) (subst (All IsRow) comes.0 alone.rows) in no_row e first.0 first.1
@@ -53,7 +53,7 @@ are_rows (e ∷ events) (r ∷ rows) last same = All-cons IsRow e events (r, at_
     at_tail : events_of events ≡ map row rows ++ row last ∷ []
     at_tail = cc
 
-pub resume_to_rows : (h : Header) (parts : List Part) → AllByRecursion (λ s. IsSequence (resumed h s) s.start s.end) parts → All (ResumesToRows h) parts
+pub resume_to_rows : (h : Header) (parts : List Part) → AllByRecursion (λ s. IsSequence (events_of_part h s) s.start s.end) parts → All (ResumesToRows h) parts
 resume_to_rows h [] each = All-nil (ResumesToRows h)
 resume_to_rows h (s ∷ parts) each =
     All-cons (ResumesToRows h) s parts (record { complete = refl; rows = are_rows _ each.0.rows each.0.last each.0.given }) (resume_to_rows h parts each.1)

@@ -9,18 +9,18 @@ use Rattle.gimli_line.specs.declared.run.row.LineRow.{LineRow}
 use Rattle.gimli_line.specs.declared.run.instruction.LineInstruction.TheVariants.{Special, Copy, EndSequence, DefineFile}
 use Rattle.gimli_line.specs.header.Parameters.{Parameters}
 use Rattle.gimli_line.specs.header.Orders.{HeaderOrders, AreOneOrder}
-use Rattle.gimli_line.specs.header.Header.{Header, bare}
-use Rattle.gimli_line.specs.run.Instruction.{files_behind}
+use Rattle.gimli_line.specs.header.Header.{Header, without_files}
+use Rattle.gimli_line.specs.run.Instruction.{files_after}
 use Rattle.gimli_line.specs.run.Instruction.{Ins, makes_row, defines_file}
 use Rattle.gimli_line.specs.header.File.{File}
 use Rattle.gimli_line.specs.run.InstructionGrammar.{SpellsInstruction, instruction_production, IsEnd, Decodes}
 use Rattle.gimli_line.specs.run.InstructionReading.{decoded_upto, decoded_at}
 use Rattle.gimli_line.specs.run.Events.{Event, row}
-use Rattle.gimli_line.specs.run.Machine.{stepped, reset_row, is_refused}
+use Rattle.gimli_line.specs.run.Machine.{step_of, reset_row, is_refused}
 use Rattle.gimli_line.specs.run.EventsWithFiles.{EventWithFiles, step_events, next_registers}
 use Rattle.gimli_line.specs.run.Unread.{Unread}
 use Rattle.gimli_line.specs.run.RunState.{RunState}
-use Rattle.gimli_line.specs.run.Progress.{Progress, ready, events_from, registers_behind, files_from}
+use Rattle.gimli_line.specs.run.Progress.{Progress, with_reset_row, events_from, registers_from, files_from}
 use Rattle.gimli_line.specs.run.Rows.{live_events, events_left, files_at_end, IsOfOneOrder, WantsMemory, FaultComes, FaultIs}
 use Rattle.gimli_line.proofs.InstructionLaws.{is_decoded, one_decoding, takes_bytes}
 
@@ -54,42 +54,42 @@ decodes_on n h bytes (i ∷ list) front rest parts s =
     decoded_some n h bytes i s.0 (s.1 ++ rest) whole s.3 ∙ ap (λ (c : List Ins × Option Error). (i ∷ c.0, c.1)) (decodes_on n h (s.1 ++ rest) list s.1 rest refl s.4)
 
 -- the files of a header mean nothing to its program
-pub bare_decoding : (notation : Notation) (h : Header) (bytes : List ℕ) (list : List Ins) (end : Option Error) → Decodes notation (bare h) bytes list end → Decodes notation h bytes list end
+pub bare_decoding : (notation : Notation) (h : Header) (bytes : List ℕ) (list : List Ins) (end : Option Error) → Decodes notation (without_files h) bytes list end → Decodes notation h bytes list end
 bare_decoding notation h bytes list end c = record { front = c.front; rest = c.rest; parts = c.parts; spelled = each c.front list c.spelled; ended = end_is end c.ended }
   where
-    each : (front : List ℕ) (list : List Ins) → Each (SpellsInstruction notation (bare h)) front list → Each (SpellsInstruction notation h) front list
+    each : (front : List ℕ) (list : List Ins) → Each (SpellsInstruction notation (without_files h)) front list → Each (SpellsInstruction notation h) front list
     each front [] s = s
     each front (i ∷ list) s = (s.0, s.1, s.2, s.3, each s.1 list s.4)
 
-    end_is : (end : Option Error) → IsEnd notation (bare h) c.rest end → IsEnd notation h c.rest end
+    end_is : (end : Option Error) → IsEnd notation (without_files h) c.rest end → IsEnd notation h c.rest end
     end_is None e = e
     end_is (Some d) e = e
 
 -- ---- instructions that make a row or are refused
 
--- such an instruction hides what was hidden before it
-special_hidden : (h : Parameters) (o : ℕ) (r : LineRow) → (stepped h (Special o) r).hidden ≡ r.hidden
-special_hidden h o r = refl
+-- such an instruction is a tombstone for what was under a tombstone before it
+special_keeps_tombstone : (h : Parameters) (o : ℕ) (r : LineRow) → (step_of h (Special o) r).tombstone ≡ r.tombstone
+special_keeps_tombstone h o r = refl
 
-pub keeps_hidden : (h : Parameters) (i : Ins) (r : LineRow) → makes_row i ≡ true → (stepped h i r).hidden ≡ r.hidden
-keeps_hidden h (Special o) r made = special_hidden h o r
-keeps_hidden h Copy r made = refl
-keeps_hidden h EndSequence r made = refl
-keeps_hidden h i r made = absurd cc
+pub keeps_tombstone : (h : Parameters) (i : Ins) (r : LineRow) → makes_row i ≡ true → (step_of h i r).tombstone ≡ r.tombstone
+keeps_tombstone h (Special o) r made = special_keeps_tombstone h o r
+keeps_tombstone h Copy r made = refl
+keeps_tombstone h EndSequence r made = refl
+keeps_tombstone h i r made = absurd cc
 
 -- and defines no file
-pub no_file_at_row : (a : Bool) (i : Ins) (files : List File) → makes_row i ≡ true → files_behind a i files ≡ files
+pub no_file_at_row : (a : Bool) (i : Ins) (files : List File) → makes_row i ≡ true → files_after a i files ≡ files
 no_file_at_row a (DefineFile f) files made = absurd cc
 no_file_at_row a i files made = refl
 
-pub no_file_at_refusal : (a : Bool) (h : Parameters) (i : Ins) (r : LineRow) (files : List File) → is_refused h i r ≡ true → files_behind a i files ≡ files
+pub no_file_at_refusal : (a : Bool) (h : Parameters) (i : Ins) (r : LineRow) (files : List File) → is_refused h i r ≡ true → files_after a i files ≡ files
 no_file_at_refusal a h (DefineFile f) r files large = absurd cc
 no_file_at_refusal a h i r files large = refl
 
 -- ---- a state of an iterator, whose program has the header h
 
 abbrev pub state : Bool → Header → Notation → ℕ → HeaderOrders → LineRow → Unread → RunState
-state a h o n w r s = record { fixed = bare h; files = h.files; appends = a; notation = o; offset = n; orders = w; row = r; unread = s }
+state a h o n w r s = record { fixed = without_files h; files = h.files; appends = a; notation = o; offset = n; orders = w; row = r; unread = s }
 
 abbrev pub events : Event → Header → EventWithFiles
 events e h = record { event = e; files = h.files }
@@ -107,7 +107,7 @@ pub none_left : (a : RunState) → a.unread.bytes ≡ [] → live_events a ≡ [
 none_left a e = rw (decoded_none a.unread.notation a.fixed a.unread.bytes e) refl
 
 pub none_to_come : (a : RunState) → a.unread.bytes ≡ [] → events_left a ≡ []
-none_to_come a e = none_left (ready a) e
+none_to_come a e = none_left (with_reset_row a) e
 
 pub end_here : (a : RunState) → a.unread.bytes ≡ [] → files_at_end a ≡ a.files
 end_here a e = rw (decoded_none a.unread.notation a.fixed a.unread.bytes e) refl
@@ -117,75 +117,75 @@ module _ (a : Bool) (h k : Header) (same : k ≡ h) (o o2 : Notation) (n n2 : �
   pub after_fault : (e : Error) → s.bytes ≢ [] → s2.bytes ≡ [] → (instruction_production s.notation k).Fault s.bytes e → (r2 : LineRow)
       → FaultComes (state a h o n w r s) (state a h o2 n2 w2 r2 s2) e
   after_fault e some empty f r2 =
-      let last = decoded_fault s.notation (bare h) s.bytes e some (rw same at f) in
+      let last = decoded_fault s.notation (without_files h) s.bytes e some (rw same at f) in
       (rw (last, none_to_come (state a h o2 n2 w2 r2 s2) empty) refl, rw (last, end_here (state a h o2 n2 w2 r2 s2) empty) refl, λ _. empty)
 
   module _ (notation : s2.notation ≡ s.notation) (i : Ins) (front : List ℕ) (parts : s.bytes ≡ front ++ s2.bytes) (spelled : SpellsInstruction s.notation k front i) where
-    first_decoded : decoded_at s.notation (bare h) s.bytes ≡ (i ∷ (decoded_at s.notation (bare h) s2.bytes).0, (decoded_at s.notation (bare h) s2.bytes).1)
-    first_decoded = decoded_some s.notation (bare h) s.bytes i front s2.bytes parts (rw same at spelled)
+    first_decoded : decoded_at s.notation (without_files h) s.bytes ≡ (i ∷ (decoded_at s.notation (without_files h) s2.bytes).0, (decoded_at s.notation (without_files h) s2.bytes).1)
+    first_decoded = decoded_some s.notation (without_files h) s.bytes i front s2.bytes parts (rw same at spelled)
 
     pub is_shorter : length s2.bytes < length s.bytes
     is_shorter = omega (arith, takes_bytes s.notation k front i spelled, length-append front s2.bytes, ap length parts)
 
     -- one instruction is passed over
-    pub passes_one : (h2 : Header) (r2 : LineRow) (events : List Event) → h2 ≡ record h { files = files_behind a i h.files } → step_events h.parameters i r ≡ events
+    pub passes_one : (h2 : Header) (r2 : LineRow) (events : List Event) → h2 ≡ record h { files = files_after a i h.files } → step_events h.parameters i r ≡ events
         → r2 ≡ next_registers h.parameters i r → Progress (state a h o n w r s) (state a h2 o2 n2 w2 r2 s2) events
-    passes_one h2 r2 events behind given next = record {
+    passes_one h2 r2 events after given next = record {
       list = i ∷ [];
       front = front;
       parts = parts;
       spelled = (front, [], sym (append-nil front), rw same at spelled, refl);
       notation = notation;
-      fixed = ap bare behind;
+      fixed = ap without_files after;
       appends = refl;
       given = append-nil (step_events h.parameters i r) ∙ given;
       registers = next;
-      files = ap (λ (k : Header). k.files) behind;
+      files = ap (λ (k : Header). k.files) after;
     }
 
-    module _ (h2 : Header) (r2 : LineRow) (behind : h2 ≡ record h { files = files_behind a i h.files }) (fits : is_refused h.parameters i r ≡ false) where
-      pub passes_quiet : makes_row i ≡ false → r2 ≡ stepped h.parameters i r → Progress (state a h o n w r s) (state a h2 o2 n2 w2 r2 s2) []
-      passes_quiet made row_is = passes_one h2 r2 [] behind (rw (fits, made) refl) (rw (fits, made) row_is)
+    module _ (h2 : Header) (r2 : LineRow) (after : h2 ≡ record h { files = files_after a i h.files }) (fits : is_refused h.parameters i r ≡ false) where
+      pub passes_quiet : makes_row i ≡ false → r2 ≡ step_of h.parameters i r → Progress (state a h o n w r s) (state a h2 o2 n2 w2 r2 s2) []
+      passes_quiet made row_is = passes_one h2 r2 [] after (rw (fits, made) refl) (rw (fits, made) row_is)
 
-      pub passes_hidden : makes_row i ≡ true → (stepped h.parameters i r).hidden ≡ true → r2 ≡ reset_row h.parameters (stepped h.parameters i r) → Progress (state a h o n w r s) (state a h2 o2 n2 w2 r2 s2) []
-      passes_hidden made hidden row_is =
-          let was : r.hidden ≡ true = sym (keeps_hidden h.parameters i r made) ∙ hidden in
-          passes_one h2 r2 [] behind (rw (fits, made, was) refl) (rw (fits, made) row_is)
+      pub passes_tombstone : makes_row i ≡ true → (step_of h.parameters i r).tombstone ≡ true → r2 ≡ reset_row h.parameters (step_of h.parameters i r) → Progress (state a h o n w r s) (state a h2 o2 n2 w2 r2 s2) []
+      passes_tombstone made tombstone row_is =
+          let was : r.tombstone ≡ true = sym (keeps_tombstone h.parameters i r made) ∙ tombstone in
+          passes_one h2 r2 [] after (rw (fits, made, was) refl) (rw (fits, made) row_is)
 
-      pub passes_seen : makes_row i ≡ true → (stepped h.parameters i r).hidden ≡ false → r2 ≡ stepped h.parameters i r
-          → Progress (state a h o n w r s) (ready (state a h2 o2 n2 w2 r2 s2)) (row r2 ∷ [])
+      pub passes_seen : makes_row i ≡ true → (step_of h.parameters i r).tombstone ≡ false → r2 ≡ step_of h.parameters i r
+          → Progress (state a h o n w r s) (with_reset_row (state a h2 o2 n2 w2 r2 s2)) (row r2 ∷ [])
       passes_seen made seen row_is =
-          let was : r.hidden ≡ false = sym (keeps_hidden h.parameters i r made) ∙ seen in
-          let parameters : h2.parameters ≡ h.parameters = ap (λ (k : Header). k.parameters) behind in
+          let was : r.tombstone ≡ false = sym (keeps_tombstone h.parameters i r made) ∙ seen in
+          let parameters : h2.parameters ≡ h.parameters = ap (λ (k : Header). k.parameters) after in
           let given : step_events h.parameters i r ≡ row r2 ∷ [] =
-          rw (fits, made) (ap (λ (b : Bool). if not b then row (stepped h.parameters i r) ∷ [] else []) was ∙ ap (λ (q : LineRow). row q ∷ []) (sym row_is)) in
-          passes_one h2 (reset_row h2.parameters r2) (row r2 ∷ []) behind given (rw (fits, made, parameters, row_is) refl)
+          rw (fits, made) (ap (λ (b : Bool). if not b then row (step_of h.parameters i r) ∷ [] else []) was ∙ ap (λ (q : LineRow). row q ∷ []) (sym row_is)) in
+          passes_one h2 (reset_row h2.parameters r2) (row r2 ∷ []) after given (rw (fits, made, parameters, row_is) refl)
 
     module _ (h2 : Header) (r2 : LineRow) where
-      pub after_quiet : h2 ≡ record h { files = files_behind a i h.files } → is_refused h.parameters i r ≡ false → makes_row i ≡ false → r2 ≡ stepped h.parameters i r
+      pub after_quiet : h2 ≡ record h { files = files_after a i h.files } → is_refused h.parameters i r ≡ false → makes_row i ≡ false → r2 ≡ step_of h.parameters i r
           → live_events (state a h o n w r s) ≡ live_events (state a h2 o2 n2 w2 r2 s2)
-      after_quiet behind fits made row_is = rw (first_decoded, behind, row_is, notation, fits, made) refl
+      after_quiet after fits made row_is = rw (first_decoded, after, row_is, notation, fits, made) refl
 
-      pub after_hidden : h2 ≡ record h { files = files_behind a i h.files } → is_refused h.parameters i r ≡ false → makes_row i ≡ true → (stepped h.parameters i r).hidden ≡ true
-          → r2 ≡ reset_row h.parameters (stepped h.parameters i r) → live_events (state a h o n w r s) ≡ live_events (state a h2 o2 n2 w2 r2 s2)
-      after_hidden behind fits made hidden row_is =
-          let was : r.hidden ≡ true = sym (keeps_hidden h.parameters i r made) ∙ hidden in
-          rw (first_decoded, behind, row_is, notation, fits, made, was) refl
+      pub after_tombstone : h2 ≡ record h { files = files_after a i h.files } → is_refused h.parameters i r ≡ false → makes_row i ≡ true → (step_of h.parameters i r).tombstone ≡ true
+          → r2 ≡ reset_row h.parameters (step_of h.parameters i r) → live_events (state a h o n w r s) ≡ live_events (state a h2 o2 n2 w2 r2 s2)
+      after_tombstone after fits made tombstone row_is =
+          let was : r.tombstone ≡ true = sym (keeps_tombstone h.parameters i r made) ∙ tombstone in
+          rw (first_decoded, after, row_is, notation, fits, made, was) refl
 
-      pub after_seen : h2 ≡ record h { files = files_behind a i h.files } → is_refused h.parameters i r ≡ false → makes_row i ≡ true → (stepped h.parameters i r).hidden ≡ false
-          → r2 ≡ stepped h.parameters i r → live_events (state a h o n w r s) ≡ events (row r2) h2 ∷ events_left (state a h2 o2 n2 w2 r2 s2)
-      after_seen behind fits made hidden row_is =
-          let was : r.hidden ≡ false = sym (keeps_hidden h.parameters i r made) ∙ hidden in
-          let files : files_behind a i h.files ≡ h.files = no_file_at_row a i h.files made in
-          rw (first_decoded, behind, row_is, notation, fits, made, was, files) refl
+      pub after_seen : h2 ≡ record h { files = files_after a i h.files } → is_refused h.parameters i r ≡ false → makes_row i ≡ true → (step_of h.parameters i r).tombstone ≡ false
+          → r2 ≡ step_of h.parameters i r → live_events (state a h o n w r s) ≡ events (row r2) h2 ∷ events_left (state a h2 o2 n2 w2 r2 s2)
+      after_seen after fits made tombstone row_is =
+          let was : r.tombstone ≡ false = sym (keeps_tombstone h.parameters i r made) ∙ tombstone in
+          let files : files_after a i h.files ≡ h.files = no_file_at_row a i h.files made in
+          rw (first_decoded, after, row_is, notation, fits, made, was, files) refl
 
-      pub after_overflow : h2 ≡ h → is_refused h.parameters i r ≡ true → r2 ≡ stepped h.parameters i r
+      pub after_overflow : h2 ≡ h → is_refused h.parameters i r ≡ true → r2 ≡ step_of h.parameters i r
           → FaultComes (state a h o n w r s) (state a h2 o2 n2 w2 r2 s2) AddressOverflow
       after_overflow kept large row_is =
-          let files : files_behind a i h.files ≡ h.files = no_file_at_refusal a h.parameters i r h.files large in
-          let behind = (decoded_at s.notation (bare h) s2.bytes).0 in
-          let at_end : files_at_end (state a h o n w r s) ≡ files_from a h.files behind =
-          ap (λ (c : List Ins × Option Error). files_from a h.files c.0) first_decoded ∙ ap (λ (fs : List File). files_from a fs behind) files in
+          let files : files_after a i h.files ≡ h.files = no_file_at_refusal a h.parameters i r h.files large in
+          let after = (decoded_at s.notation (without_files h) s2.bytes).0 in
+          let at_end : files_at_end (state a h o n w r s) ≡ files_from a h.files after =
+          ap (λ (c : List Ins × Option Error). files_from a h.files c.0) first_decoded ∙ ap (λ (fs : List File). files_from a fs after) files in
           (rw (first_decoded, kept, row_is, notation, large, files) refl, rw (kept, notation) (sym at_end), λ other. absurd (other refl))
 
 -- ---- errors
@@ -229,25 +229,25 @@ passes_still a b unread fixed appends registers files = record {
   files = files;
 }
 
-each_joined : (n : Notation) (h : Header) (front behind : List ℕ) (list more : List Ins) → Each (SpellsInstruction n h) front list → Each (SpellsInstruction n h) behind more
-    → Each (SpellsInstruction n h) (front ++ behind) (list ++ more)
-each_joined n h front behind [] more s t = rw s t
-each_joined n h front behind (i ∷ list) more s t =
-    (s.0, s.1 ++ behind, ap (λ (xs : List ℕ). xs ++ behind) s.2 ∙ append_assoc s.0 s.1 behind, s.3, each_joined n h s.1 behind list more s.4 t)
+each_joined : (n : Notation) (h : Header) (front after : List ℕ) (list more : List Ins) → Each (SpellsInstruction n h) front list → Each (SpellsInstruction n h) after more
+    → Each (SpellsInstruction n h) (front ++ after) (list ++ more)
+each_joined n h front after [] more s t = rw s t
+each_joined n h front after (i ∷ list) more s t =
+    (s.0, s.1 ++ after, ap (λ (xs : List ℕ). xs ++ after) s.2 ∙ append_assoc s.0 s.1 after, s.3, each_joined n h s.1 after list more s.4 t)
 
-pub events_joined : (h : Parameters) (r : LineRow) (list more : List Ins) → events_from h r (list ++ more) ≡ events_from h r list ++ events_from h (registers_behind h r list) more
+pub events_joined : (h : Parameters) (r : LineRow) (list more : List Ins) → events_from h r (list ++ more) ≡ events_from h r list ++ events_from h (registers_from h r list) more
 events_joined h r [] more = refl
 events_joined h r (i ∷ list) more =
     ap (λ (es : List Event). step_events h i r ++ es) (events_joined h (next_registers h i r) list more)
-    ∙ sym (append_assoc (step_events h i r) (events_from h (next_registers h i r) list) (events_from h (registers_behind h (next_registers h i r) list) more))
+    ∙ sym (append_assoc (step_events h i r) (events_from h (next_registers h i r) list) (events_from h (registers_from h (next_registers h i r) list) more))
 
-registers_joined : (h : Parameters) (r : LineRow) (list more : List Ins) → registers_behind h r (list ++ more) ≡ registers_behind h (registers_behind h r list) more
+registers_joined : (h : Parameters) (r : LineRow) (list more : List Ins) → registers_from h r (list ++ more) ≡ registers_from h (registers_from h r list) more
 registers_joined h r [] more = refl
 registers_joined h r (i ∷ list) more = registers_joined h (next_registers h i r) list more
 
 files_joined : (a : Bool) (files : List File) (list more : List Ins) → files_from a files (list ++ more) ≡ files_from a (files_from a files list) more
 files_joined a files [] more = refl
-files_joined a files (i ∷ list) more = files_joined a (files_behind a i files) list more
+files_joined a files (i ∷ list) more = files_joined a (files_after a i files) list more
 
 pub passes_both : (a b c : RunState) (es fs : List Event) → Progress a b es → Progress b c fs → Progress a c (es ++ fs)
 passes_both a b c es fs p q = record {
@@ -260,7 +260,7 @@ passes_both a b c es fs p q = record {
   appends = q.appends ∙ p.appends;
   given =
       events_joined a.fixed.parameters a.row p.list q.list
-      ∙ ap (λ (xs : List Event). xs ++ events_from a.fixed.parameters (registers_behind a.fixed.parameters a.row p.list) q.list) p.given
+      ∙ ap (λ (xs : List Event). xs ++ events_from a.fixed.parameters (registers_from a.fixed.parameters a.row p.list) q.list) p.given
       ∙ ap (λ (xs : List Event). es ++ xs) (rw (p.fixed, p.registers) at q.given);
   registers = rw (p.fixed, p.registers) at q.registers ∙ sym (registers_joined a.fixed.parameters a.row p.list q.list);
   files = rw (p.appends, p.files) at q.files ∙ sym (files_joined a.appends a.files p.list q.list);
@@ -269,9 +269,9 @@ passes_both a b c es fs p q = record {
 -- the files at the end are the same after what was passed over
 pub same_end : (a b : RunState) (es : List Event) → Progress a b es → files_at_end b ≡ files_at_end a
 same_end a b es p =
-    let behind = (decoded_at a.unread.notation a.fixed b.unread.bytes).0 in
-    let there : files_at_end b ≡ files_from a.appends (files_from a.appends a.files p.list) behind = rw (p.notation, p.fixed, p.appends, p.files) refl in
-    there ∙ sym (files_joined a.appends a.files p.list behind)
+    let after = (decoded_at a.unread.notation a.fixed b.unread.bytes).0 in
+    let there : files_at_end b ≡ files_from a.appends (files_from a.appends a.files p.list) after = rw (p.notation, p.fixed, p.appends, p.files) refl in
+    there ∙ sym (files_joined a.appends a.files p.list after)
     ∙ ap (λ (c : List Ins × Option Error). files_from a.appends a.files c.0) (sym (decodes_on a.unread.notation a.fixed a.unread.bytes p.list p.front b.unread.bytes p.parts p.spelled))
 
 -- ---- refusals
@@ -281,7 +281,7 @@ pub wants : (a : Bool) (h k : Header) → k ≡ h → (o o2 : Notation) (n n2 : 
     → SpellsInstruction s.notation k front i → defines_file i ≡ true → (h2 : Header) (r2 : LineRow) (s2 : Unread) → s2.bytes ≡ [] → h2 ≡ h → a ≡ true
     → WantsMemory (state a h o n w r s) (state a h2 o2 n2 w2 r2 s2)
 wants a h k same o o2 n n2 w w2 r s i front rest parts spelled defines h2 r2 s2 empty kept appends = record {
-  place = state a h o n w r s;
+  point = state a h o n w r s;
   passed = passes_none (state a h o n w r s) (state a h o n w r s) refl;
   definition = i;
   front = front;
@@ -296,12 +296,12 @@ wants a h k same o o2 n n2 w w2 r s i front rest parts spelled defines h2 r2 s2 
 }
 
 -- a refusal after instructions that give nothing
-pub refused_behind : (a b c : RunState) (e : Error) → live_events a ≡ live_events b → Progress a b [] → FaultIs b c e → FaultIs a c e
-refused_behind a b c e events passed (inl m) = inl (
+pub refused_after : (a b c : RunState) (e : Error) → live_events a ≡ live_events b → Progress a b [] → FaultIs b c e → FaultIs a c e
+refused_after a b c e events passed (inl m) = inl (
   m.0,
   record {
-    place = m.1.place;
-    passed = passes_both a b m.1.place [] [] passed m.1.passed;
+    point = m.1.point;
+    passed = passes_both a b m.1.point [] [] passed m.1.passed;
     definition = m.1.definition;
     front = m.1.front;
     rest = m.1.rest;
@@ -314,7 +314,7 @@ refused_behind a b c e events passed (inl m) = inl (
     empty = m.1.empty;
   },
 )
-refused_behind a b c e events passed (inr f) = inr (events ∙ f.0, f.1 ∙ same_end a b [] passed, f.2)
+refused_after a b c e events passed (inr f) = inr (events ∙ f.0, f.1 ∙ same_end a b [] passed, f.2)
 
 -- where no bytes are left nothing is refused
 pub never_refused : (a b : RunState) (e : Error) → a.unread.bytes ≡ [] → FaultIs a b e → ⊥
@@ -322,10 +322,10 @@ never_refused a b e empty (inl m) =
     let w = m.1 in
     omega (
       arith,
-      takes_bytes w.place.unread.notation w.place.fixed w.front w.definition w.spelled,
+      takes_bytes w.point.unread.notation w.point.fixed w.front w.definition w.spelled,
       length-append w.front w.rest,
       ap length w.parts,
-      length-append w.passed.front w.place.unread.bytes,
+      length-append w.passed.front w.point.unread.bytes,
       ap length w.passed.parts,
       ap length empty,
     )

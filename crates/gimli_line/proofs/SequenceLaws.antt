@@ -9,21 +9,21 @@ use Rattle.gimli_core.specs.declared.error.Error.{Error}
 use Rattle.gimli_line.specs.declared.run.row.LineRow.{LineRow}
 use Rattle.gimli_line.specs.header.Parameters.{Parameters}
 use Rattle.gimli_line.specs.header.Orders.{HeaderOrders, no_orders}
-use Rattle.gimli_line.specs.header.Header.{Header, bare}
-use Rattle.gimli_line.specs.run.Instruction.{files_behind}
+use Rattle.gimli_line.specs.header.Header.{Header, without_files}
+use Rattle.gimli_line.specs.run.Instruction.{files_after}
 use Rattle.gimli_line.specs.run.Instruction.{Ins, makes_row}
 use Rattle.gimli_line.specs.header.File.{File}
 use Rattle.gimli_line.specs.run.InstructionGrammar.{SpellsInstruction}
 use Rattle.gimli_line.specs.run.InstructionReading.{decoded_at}
 use Rattle.gimli_line.specs.run.OperationPointer.{overflows}
-use Rattle.gimli_line.specs.run.Events.{Event, row, fault, events_at, events_behind, end_events, program_events, defined_files, behind, ends_sequence, through_last_end}
+use Rattle.gimli_line.specs.run.Events.{Event, row, fault, events_at, events_after, end_events, program_events, defined_files, past_at_end, ends_sequence, through_last_end}
 use Rattle.gimli_line.specs.run.Machine.{initial, reset_row}
 use Rattle.gimli_line.specs.run.EventsWithFiles.{EventWithFiles, with_files, events_with_files_from, step_events, next_registers}
-use Rattle.gimli_line.specs.run.Unread.{Unread, in_front}
+use Rattle.gimli_line.specs.run.Unread.{Unread, front_of}
 use Rattle.gimli_line.specs.run.RunState.{RunState}
-use Rattle.gimli_line.specs.run.Progress.{Progress, ready, events_from, registers_behind}
-use Rattle.gimli_line.specs.run.Rows.{live_events, events_left, started, event_of}
-use Rattle.gimli_line.specs.run.Sequences.{Part, events_of, resumed, first_address, IsSequence, AreSequences, HasFirstFault}
+use Rattle.gimli_line.specs.run.Progress.{Progress, with_reset_row, events_from, registers_from}
+use Rattle.gimli_line.specs.run.Rows.{live_events, events_left, start_of_run, event_of}
+use Rattle.gimli_line.specs.run.Sequences.{Part, events_of, events_of_part, first_address, IsSequence, AreSequences, HasFirstFault}
 use Rattle.gimli_line.specs.run.SequenceSplit.{SequenceSplit, with_row, RowSplit, with_kept_row}
 use Rattle.gimli_line.proofs.Backwards.{registers}
 use Rattle.gimli_line.proofs.EventsWithFilesLaws.{gives, goes, files_from_start}
@@ -40,19 +40,19 @@ pub events_without_files : (a : Bool) (h : Parameters) (r : LineRow) (files : Li
     → events_of (events_with_files_from a h r files list end) ≡ events_from h r list ++ end_events end
 events_without_files a h r files [] end = events_of_at files (end_events end)
 events_without_files a h r files (i ∷ list) end =
-    map-append (λ (t : EventWithFiles). t.event) (with_files files (step_events h i r)) (events_with_files_from a h (next_registers h i r) (files_behind a i files) list end)
-    ∙ ap (λ (xs : List Event). xs ++ events_of (events_with_files_from a h (next_registers h i r) (files_behind a i files) list end)) (events_of_at files (step_events h i r))
-    ∙ ap (λ (xs : List Event). step_events h i r ++ xs) (events_without_files a h (next_registers h i r) (files_behind a i files) list end)
+    map-append (λ (t : EventWithFiles). t.event) (with_files files (step_events h i r)) (events_with_files_from a h (next_registers h i r) (files_after a i files) list end)
+    ∙ ap (λ (xs : List Event). xs ++ events_of (events_with_files_from a h (next_registers h i r) (files_after a i files) list end)) (events_of_at files (step_events h i r))
+    ∙ ap (λ (xs : List Event). step_events h i r ++ xs) (events_without_files a h (next_registers h i r) (files_after a i files) list end)
     ∙ sym (append_assoc (step_events h i r) (events_from h (next_registers h i r) list) (end_events end))
 
 -- the machine's events are those found by looking back
-from_registers : (h : Parameters) (past list : List Ins) → events_from h (registers h past) list ≡ events_behind h past list
+from_registers : (h : Parameters) (past list : List Ins) → events_from h (registers h past) list ≡ events_after h past list
 from_registers h past [] = refl
 from_registers h past (i ∷ list) =
     rw (gives h past i (overflows h past i) (makes_row i) refl refl, goes h past i (overflows h past i) (makes_row i) refl refl)
     (ap (λ (xs : List Event). events_at h past i ++ xs) (from_registers h (i ∷ past) list))
 
-pub from_start : (h : Parameters) (list : List Ins) → events_from h (initial h) list ≡ events_behind h [] list
+pub from_start : (h : Parameters) (list : List Ins) → events_from h (initial h) list ≡ events_after h [] list
 from_start h list = from_registers h [] list
 
 -- ---- through the last end
@@ -68,27 +68,27 @@ through_none : (events : List Event) → list_any ends_sequence events ≡ false
 through_none [] none = refl
 through_none (e ∷ events) none = rw none refl
 
-one_ends : (rows : List LineRow) (last : LineRow) (behind : List Event) → last.end_sequence ≡ true
-    → list_any ends_sequence ((map row rows ++ row last ∷ []) ++ behind) ≡ true
-one_ends [] last behind closed = rw closed refl
-one_ends (r ∷ rows) last behind closed = at_test r.end_sequence (one_ends rows last behind closed)
+one_ends : (rows : List LineRow) (last : LineRow) (past_at_end : List Event) → last.end_sequence ≡ true
+    → list_any ends_sequence ((map row rows ++ row last ∷ []) ++ past_at_end) ≡ true
+one_ends [] last past_at_end closed = rw closed refl
+one_ends (r ∷ rows) last past_at_end closed = at_test r.end_sequence (one_ends rows last past_at_end closed)
   where
     at_test : (b : Bool) → {c : Bool} → c ≡ true → (b || c) ≡ true
     at_test true e = refl
     at_test false e = e
 
-through_one : (rows : List LineRow) (last : LineRow) (behind : List Event) → last.end_sequence ≡ true
-    → through_last_end ((map row rows ++ row last ∷ []) ++ behind) ≡ (map row rows ++ row last ∷ []) ++ through_last_end behind
-through_one [] last behind closed = rw (one_ends [] last behind closed) refl
-through_one (r ∷ rows) last behind closed =
-    rw (one_ends (r ∷ rows) last behind closed) (ap (λ (xs : List Event). row r ∷ xs) (through_one rows last behind closed))
+through_one : (rows : List LineRow) (last : LineRow) (past_at_end : List Event) → last.end_sequence ≡ true
+    → through_last_end ((map row rows ++ row last ∷ []) ++ past_at_end) ≡ (map row rows ++ row last ∷ []) ++ through_last_end past_at_end
+through_one [] last past_at_end closed = rw (one_ends [] last past_at_end closed) refl
+through_one (r ∷ rows) last past_at_end closed =
+    rw (one_ends (r ∷ rows) last past_at_end closed) (ap (λ (xs : List Event). row r ∷ xs) (through_one rows last past_at_end closed))
 
 -- ---- sequences that are closed
 
 -- a sequence whose instructions give these events
 pub record Closed (h : Header) (s : Part) (events : List Event) : Type 0 where
   list : List Ins
-  decoding : decoded_at s.unread.notation (bare h) s.unread.bytes ≡ (list, None)
+  decoding : decoded_at s.unread.notation (without_files h) s.unread.bytes ≡ (list, None)
   given : events_from h.parameters (initial h.parameters) list ≡ events
   is : IsSequence events s.start s.end
 
@@ -113,43 +113,43 @@ kept_push h [] kept s rows all one = (rows, [], ap (λ (xs : List (List LineRow)
 kept_push h (t ∷ parts) kept s rows all one =
     (all.0, all.1 ++ rows ∷ [], ap (λ (xs : List (List LineRow)). xs ++ rows ∷ []) all.2, all.3, kept_push h parts all.1 s rows all.4 one)
 
-through_events : (events : List Event) (start end : ℕ) → IsSequence events start end → (behind : List Event) → through_last_end (events ++ behind) ≡ events ++ through_last_end behind
-through_events events start end is behind = rw is.given (through_one is.rows is.last behind is.ended)
+through_events : (events : List Event) (start end : ℕ) → IsSequence events start end → (past_at_end : List Event) → through_last_end (events ++ past_at_end) ≡ events ++ through_last_end past_at_end
+through_events events start end is past_at_end = rw is.given (through_one is.rows is.last past_at_end is.ended)
 
-through_closed : (h : Header) (parts : List Part) (joined : List Event) → AllClosed h parts joined → (behind : List Event)
-    → through_last_end (joined ++ behind) ≡ joined ++ through_last_end behind
-through_closed h [] joined all behind = rw all refl
-through_closed h (s ∷ parts) joined all behind =
-    ap (λ (xs : List Event). through_last_end (xs ++ behind)) all.2
-    ∙ ap through_last_end (append_assoc all.0 all.1 behind)
-    ∙ through_events all.0 s.start s.end all.3.is (all.1 ++ behind)
-    ∙ ap (λ (xs : List Event). all.0 ++ xs) (through_closed h parts all.1 all.4 behind)
-    ∙ sym (append_assoc all.0 all.1 (through_last_end behind))
-    ∙ ap (λ (xs : List Event). xs ++ through_last_end behind) (sym all.2)
+through_closed : (h : Header) (parts : List Part) (joined : List Event) → AllClosed h parts joined → (past_at_end : List Event)
+    → through_last_end (joined ++ past_at_end) ≡ joined ++ through_last_end past_at_end
+through_closed h [] joined all past_at_end = rw all refl
+through_closed h (s ∷ parts) joined all past_at_end =
+    ap (λ (xs : List Event). through_last_end (xs ++ past_at_end)) all.2
+    ∙ ap through_last_end (append_assoc all.0 all.1 past_at_end)
+    ∙ through_events all.0 s.start s.end all.3.is (all.1 ++ past_at_end)
+    ∙ ap (λ (xs : List Event). all.0 ++ xs) (through_closed h parts all.1 all.4 past_at_end)
+    ∙ sym (append_assoc all.0 all.1 (through_last_end past_at_end))
+    ∙ ap (λ (xs : List Event). xs ++ through_last_end past_at_end) (sym all.2)
 
 -- what is resumed over the header with whatever files
 module _ (h c : Header) (files : List File) (c_is : c ≡ record h { files = files }) where
-  resumed_is : (s : Part) (events : List Event) → Closed h s events → resumed c s ≡ events
+  resumed_is : (s : Part) (events : List Event) → Closed h s events → events_of_part c s ≡ events
   resumed_is s events one =
       rw (c_is, one.decoding) (events_without_files false h.parameters (initial h.parameters) files one.list None ∙ append-nil (events_from h.parameters (initial h.parameters) one.list) ∙ one.given)
 
-  all_sequences : (parts : List Part) (joined : List Event) → AllClosed h parts joined → AllByRecursion (λ s. IsSequence (resumed c s) s.start s.end) parts
+  all_sequences : (parts : List Part) (joined : List Event) → AllClosed h parts joined → AllByRecursion (λ s. IsSequence (events_of_part c s) s.start s.end) parts
   all_sequences [] joined all = tt
   all_sequences (s ∷ parts) joined all =
       (subst (λ (es : List Event). IsSequence es s.start s.end) (sym (resumed_is s all.0 all.3)) all.3.is, all_sequences parts all.1 all.4)
 
-  all_joined : (parts : List Part) (joined : List Event) → AllClosed h parts joined → flat_map (resumed c) parts ≡ joined
+  all_joined : (parts : List Part) (joined : List Event) → AllClosed h parts joined → flat_map (events_of_part c) parts ≡ joined
   all_joined [] joined all = sym all
   all_joined (s ∷ parts) joined all = rw (resumed_is s all.0 all.3, all_joined parts all.1 all.4) (sym all.2)
 
-  all_kept : (parts : List Part) (rows : List (List LineRow)) → AllKept h parts rows → map (map row) rows ≡ map (resumed c) parts
+  all_kept : (parts : List Part) (rows : List (List LineRow)) → AllKept h parts rows → map (map row) rows ≡ map (events_of_part c) parts
   all_kept [] rows all = rw all refl
   all_kept (s ∷ parts) rows all = rw (all.2, resumed_is s (map row all.0) all.3, all_kept parts all.1 all.4) refl
 
 -- the rows of each sequence, where it gives them, are what it gives when it is resumed
 pub rows_are_kept : (n : Notation) (h c : Header) (parts : List Part) (rows : List (List LineRow)) → AreSequences n h c parts → AllKept h parts rows
-    → map (map row) rows ≡ map (resumed c) parts
-rows_are_kept n h c parts rows are all = all_kept h c (defined_files h.files (behind [] are.list)) are.files parts rows all
+    → map (map row) rows ≡ map (events_of_part c) parts
+rows_are_kept n h c parts rows are all = all_kept h c (defined_files h.files (past_at_end [] are.list)) are.files parts rows all
 
 -- ---- the state of the split after some rows
 
@@ -158,9 +158,9 @@ first_of [] = None
 first_of (r ∷ rows) = Some r.address
 
 abbrev began : Header → Notation → ℕ → List File → Unread → RunState
-began h o n files unread = record { fixed = bare h; files = files; appends = true; notation = o; offset = n; orders = no_orders; row = initial h.parameters; unread = unread }
+began h o n files unread = record { fixed = without_files h; files = files; appends = true; notation = o; offset = n; orders = no_orders; row = initial h.parameters; unread = unread }
 
-pub record Splitting (h : Header) (k : SequenceSplit) (done : List LineRow) (place : RunState) : Type 0 where
+pub record Splitting (h : Header) (k : SequenceSplit) (done : List LineRow) (point : RunState) : Type 0 where
   joined : List Event
   rows : List LineRow
   order : Notation
@@ -170,9 +170,9 @@ pub record Splitting (h : Header) (k : SequenceSplit) (done : List LineRow) (pla
   closed : AllClosed h k.parts joined
   unended : AreOpen rows
   start_is : k.start ≡ first_of rows
-  passes : Progress (began h order offset files k.unread) place (map row rows)
+  passes : Progress (began h order offset files k.unread) point (map row rows)
 
-pub starts_splitting : (h : Header) (o : Notation) (n : ℕ) (w : HeaderOrders) (unread : Unread) → Splitting h (record { parts = []; unread = unread; start = None }) [] (ready (started true h o n w unread))
+pub starts_splitting : (h : Header) (o : Notation) (n : ℕ) (w : HeaderOrders) (unread : Unread) → Splitting h (record { parts = []; unread = unread; start = None }) [] (with_reset_row (start_of_run true h o n w unread))
 starts_splitting h o n w unread = record {
   order = o;
   offset = n;
@@ -183,17 +183,17 @@ starts_splitting h o n w unread = record {
   closed = refl;
   unended = tt;
   start_is = refl;
-  passes = passes_still (began h o n h.files unread) (ready (started true h o n w unread)) refl refl refl refl refl;
+  passes = passes_still (began h o n h.files unread) (with_reset_row (start_of_run true h o n w unread)) refl refl refl refl refl;
 }
 
 -- the same, with the rows of each sequence
-pub record Keeping (h : Header) (k : SequenceSplit) (kept : RowSplit) (done : List LineRow) (place : RunState) : Type 0 where
-  pub splitting : Splitting h k done place
+pub record Keeping (h : Header) (k : SequenceSplit) (kept : RowSplit) (done : List LineRow) (point : RunState) : Type 0 where
+  pub splitting : Splitting h k done point
   pub unended : splitting.rows ≡ kept.unended
   pub closed : AllKept h k.parts kept.closed
 
 pub starts_keeping : (h : Header) (o : Notation) (n : ℕ) (w : HeaderOrders) (unread : Unread)
-    → Keeping h (record { parts = []; unread = unread; start = None }) (record { closed = []; unended = [] }) [] (ready (started true h o n w unread))
+    → Keeping h (record { parts = []; unread = unread; start = None }) (record { closed = []; unended = [] }) [] (with_reset_row (start_of_run true h o n w unread))
 unfolding starts_splitting
 starts_keeping h o n w unread = record { splitting = starts_splitting h o n w unread; unended = refl; closed = refl }
 
@@ -215,15 +215,15 @@ anew_at_end parameters r e = rw e refl
 front_at : (bytes front rest : List ℕ) → bytes ≡ front ++ rest → take (length bytes - length rest) bytes ≡ front
 front_at bytes front rest parts = rw parts (take_at front rest (length (front ++ rest) - length rest) (omega (arith, length-append front rest)))
 
-module _ (h : Header) (k : SequenceSplit) (done : List LineRow) (place next : RunState) (c : Splitting h k done place) (p : Progress place (ready next) (row next.row ∷ [])) where
-  whole : Progress (began h c.order c.offset c.files k.unread) (ready next) (map row c.rows ++ row next.row ∷ [])
-  whole = passes_both (began h c.order c.offset c.files k.unread) place (ready next) (map row c.rows) (row next.row ∷ []) c.passes p
+module _ (h : Header) (k : SequenceSplit) (done : List LineRow) (point next : RunState) (c : Splitting h k done point) (p : Progress point (with_reset_row next) (row next.row ∷ [])) where
+  whole : Progress (began h c.order c.offset c.files k.unread) (with_reset_row next) (map row c.rows ++ row next.row ∷ [])
+  whole = passes_both (began h c.order c.offset c.files k.unread) point (with_reset_row next) (map row c.rows) (row next.row ∷ []) c.passes p
 
   more_done : map row (done ++ next.row ∷ []) ≡ c.joined ++ (map row c.rows ++ row next.row ∷ [])
   more_done =
       map-append row done (next.row ∷ []) ∙ ap (λ (xs : List Event). xs ++ row next.row ∷ []) c.done_is ∙ append_assoc c.joined (map row c.rows) (row next.row ∷ [])
 
-  goes_open : next.row.end_sequence ≡ false → Splitting h (record k { start = Some (unwrap_or k.start next.row.address) }) (done ++ next.row ∷ []) (ready next)
+  goes_open : next.row.end_sequence ≡ false → Splitting h (record k { start = Some (unwrap_or k.start next.row.address) }) (done ++ next.row ∷ []) (with_reset_row next)
   goes_open e = record {
     joined = c.joined;
     rows = c.rows ++ next.row ∷ [];
@@ -234,11 +234,11 @@ module _ (h : Header) (k : SequenceSplit) (done : List LineRow) (place next : Ru
     closed = c.closed;
     unended = open_push c.rows next.row c.unended e;
     start_is = first_push c.rows next.row k.start c.start_is;
-    passes = subst (λ (es : List Event). Progress (began h c.order c.offset c.files k.unread) (ready next) es) (sym (map-append row c.rows (next.row ∷ []))) whole;
+    passes = subst (λ (es : List Event). Progress (began h c.order c.offset c.files k.unread) (with_reset_row next) es) (sym (map-append row c.rows (next.row ∷ []))) whole;
   }
 
   abbrev ended : Part
-  ended = record { start = unwrap_or k.start 0; end = next.row.address; unread = in_front k.unread next.unread }
+  ended = record { start = unwrap_or k.start 0; end = next.row.address; unread = front_of k.unread next.unread }
 
   front_is : take (length k.unread.bytes - length next.unread.bytes) k.unread.bytes ≡ whole.front
   front_is = front_at k.unread.bytes whole.front next.unread.bytes whole.parts
@@ -246,7 +246,7 @@ module _ (h : Header) (k : SequenceSplit) (done : List LineRow) (place next : Ru
   closes : next.row.end_sequence ≡ true → Closed h ended (map row c.rows ++ row next.row ∷ [])
   closes e = record {
     list = whole.list;
-    decoding = rw front_is (sym (one_decoding k.unread.notation (bare h) whole.front whole.list None (record { front = whole.front; rest = []; parts = sym (append-nil whole.front); spelled = whole.spelled; ended = refl })));
+    decoding = rw front_is (sym (one_decoding k.unread.notation (without_files h) whole.front whole.list None (record { front = whole.front; rest = []; parts = sym (append-nil whole.front); spelled = whole.spelled; ended = refl })));
     given = whole.given;
     is = record {
       rows = c.rows;
@@ -259,7 +259,7 @@ module _ (h : Header) (k : SequenceSplit) (done : List LineRow) (place next : Ru
     };
   }
 
-  goes_closed : next.row.end_sequence ≡ true → Splitting h (record { parts = k.parts ++ ended ∷ []; unread = next.unread; start = None }) (done ++ next.row ∷ []) (ready next)
+  goes_closed : next.row.end_sequence ≡ true → Splitting h (record { parts = k.parts ++ ended ∷ []; unread = next.unread; start = None }) (done ++ next.row ∷ []) (with_reset_row next)
   goes_closed e = record {
     joined = c.joined ++ (map row c.rows ++ row next.row ∷ []);
     rows = [];
@@ -270,19 +270,19 @@ module _ (h : Header) (k : SequenceSplit) (done : List LineRow) (place next : Ru
     closed = closed_push h k.parts c.joined ended (map row c.rows ++ row next.row ∷ []) c.closed (closes e);
     unended = tt;
     start_is = refl;
-    passes = passes_still (began h next.notation next.offset next.files next.unread) (ready next) refl whole.fixed whole.appends (anew_at_end next.fixed.parameters next.row e ∙ ap (λ (x : Header). initial x.parameters) whole.fixed) refl;
+    passes = passes_still (began h next.notation next.offset next.files next.unread) (with_reset_row next) refl whole.fixed whole.appends (anew_at_end next.fixed.parameters next.row e ∙ ap (λ (x : Header). initial x.parameters) whole.fixed) refl;
   }
 
-  pub goes_splitting : Splitting h (with_row next.row next.unread k) (done ++ next.row ∷ []) (ready next)
+  pub goes_splitting : Splitting h (with_row next.row next.unread k) (done ++ next.row ∷ []) (with_reset_row next)
   goes_splitting = at_test next.row.end_sequence refl
     where
       at_test : (b : Bool) → next.row.end_sequence ≡ b → Splitting h (if b then record { parts = k.parts ++ ended ∷ []; unread = next.unread; start = None }
-          else record k { start = Some (unwrap_or k.start next.row.address) }) (done ++ next.row ∷ []) (ready next)
+          else record k { start = Some (unwrap_or k.start next.row.address) }) (done ++ next.row ∷ []) (with_reset_row next)
       at_test true e = goes_closed e
       at_test false e = goes_open e
 
   pub goes_keeping : (kept : RowSplit) → c.rows ≡ kept.unended → AllKept h k.parts kept.closed
-      → Keeping h (with_row next.row next.unread k) (with_kept_row next.row kept) (done ++ next.row ∷ []) (ready next)
+      → Keeping h (with_row next.row next.unread k) (with_kept_row next.row kept) (done ++ next.row ∷ []) (with_reset_row next)
   unfolding goes_open goes_closed
   goes_keeping kept same all = at_test next.row.end_sequence refl
     where
@@ -294,7 +294,7 @@ module _ (h : Header) (k : SequenceSplit) (done : List LineRow) (place next : Ru
 
       at_test : (b : Bool) → next.row.end_sequence ≡ b
           → Keeping h (if b then record { parts = k.parts ++ ended ∷ []; unread = next.unread; start = None } else record k { start = Some (unwrap_or k.start next.row.address) })
-          (if b then record { closed = kept.closed ++ whole_rows ∷ []; unended = [] } else record kept { unended = whole_rows }) (done ++ next.row ∷ []) (ready next)
+          (if b then record { closed = kept.closed ++ whole_rows ∷ []; unended = [] } else record kept { unended = whole_rows }) (done ++ next.row ∷ []) (with_reset_row next)
       at_test true e = record {
         splitting = goes_closed e;
         unended = refl;
@@ -322,11 +322,11 @@ row_takes a b e es p = at_list p.list p.front p.parts p.spelled p.given
 
 -- ---- the end of a run without a fault
 
-module _ (n : Notation) (offset : ℕ) (h c : Header) (k : SequenceSplit) (done : List LineRow) (place last : RunState) where
+module _ (n : Notation) (offset : ℕ) (h c : Header) (k : SequenceSplit) (done : List LineRow) (point last : RunState) where
   abbrev whole_program : Unread
   whole_program = record { bytes = h.program; notation = n }
 
-  pub are_sequences : Splitting h k done place → Progress (ready (started true h n offset no_orders whole_program)) last (map row done) → last.unread.bytes ≡ [] → bare c ≡ last.fixed → c.files ≡ last.files
+  pub are_sequences : Splitting h k done point → Progress (with_reset_row (start_of_run true h n offset no_orders whole_program)) last (map row done) → last.unread.bytes ≡ [] → without_files c ≡ last.fixed → c.files ≡ last.files
       → AreSequences n h c k.parts
   are_sequences splitting p empty fixed files = record {
     list = p.list;
@@ -334,17 +334,17 @@ module _ (n : Notation) (offset : ℕ) (h c : Header) (k : SequenceSplit) (done 
     rows = done;
     given = given;
     files = c_is;
-    each = all_sequences h c (defined_files h.files (behind [] p.list)) c_is k.parts splitting.joined splitting.closed;
+    each = all_sequences h c (defined_files h.files (past_at_end [] p.list)) c_is k.parts splitting.joined splitting.closed;
     joined =
-        all_joined h c (defined_files h.files (behind [] p.list)) c_is k.parts splitting.joined splitting.closed
+        all_joined h c (defined_files h.files (past_at_end [] p.list)) c_is k.parts splitting.joined splitting.closed
         ∙ sym (ap through_last_end (given ∙ splitting.done_is) ∙ through_closed h k.parts splitting.joined splitting.closed (map row splitting.rows)
         ∙ ap (λ (xs : List Event). splitting.joined ++ xs) (through_none (map row splitting.rows) (none_ends splitting.rows splitting.unended)) ∙ append-nil splitting.joined);
   }
     where
       given : program_events h.parameters p.list None ≡ map row done
-      given = append-nil (events_behind h.parameters [] p.list) ∙ sym (from_start h.parameters p.list) ∙ p.given
+      given = append-nil (events_after h.parameters [] p.list) ∙ sym (from_start h.parameters p.list) ∙ p.given
 
-      c_is : c ≡ record h { files = defined_files h.files (behind [] p.list) }
+      c_is : c ≡ record h { files = defined_files h.files (past_at_end [] p.list) }
       c_is =
           ap (λ (b : Header). let k : Header = record b { files = c.files } in k) (fixed ∙ p.fixed)
           ∙ ap (λ (fs : List File). let k : Header = record h { files = fs } in k) (files ∙ p.files ∙ files_from_start true h.files p.list)
@@ -358,28 +358,28 @@ events_live a = let c = decoded_at a.unread.notation a.fixed a.unread.bytes in e
 pub passes_left : (a b : RunState) (es : List Event) → Progress a b es → events_of (live_events a) ≡ es ++ events_of (live_events b)
 passes_left a b es p =
     let c = decoded_at a.unread.notation a.fixed b.unread.bytes in
-    let there : events_of (live_events b) ≡ events_from a.fixed.parameters (registers_behind a.fixed.parameters a.row p.list) c.0 ++ end_events c.1 =
+    let there : events_of (live_events b) ≡ events_from a.fixed.parameters (registers_from a.fixed.parameters a.row p.list) c.0 ++ end_events c.1 =
     events_live b ∙ rw (p.notation, p.fixed, p.registers) refl in
     events_live a
     ∙ ap (λ (d : List Ins × Option Error). events_from a.fixed.parameters a.row d.0 ++ end_events d.1) (decodes_on a.unread.notation a.fixed a.unread.bytes p.list p.front b.unread.bytes p.parts p.spelled)
     ∙ ap (λ (xs : List Event). xs ++ end_events c.1) (events_joined a.fixed.parameters a.row p.list c.0)
-    ∙ append_assoc (events_from a.fixed.parameters a.row p.list) (events_from a.fixed.parameters (registers_behind a.fixed.parameters a.row p.list) c.0) (end_events c.1)
-    ∙ ap (λ (xs : List Event). xs ++ (events_from a.fixed.parameters (registers_behind a.fixed.parameters a.row p.list) c.0 ++ end_events c.1)) p.given
+    ∙ append_assoc (events_from a.fixed.parameters a.row p.list) (events_from a.fixed.parameters (registers_from a.fixed.parameters a.row p.list) c.0) (end_events c.1)
+    ∙ ap (λ (xs : List Event). xs ++ (events_from a.fixed.parameters (registers_from a.fixed.parameters a.row p.list) c.0 ++ end_events c.1)) p.given
     ∙ ap (λ (xs : List Event). es ++ xs) (sym there)
 
-pub has_first_fault : (n : Notation) (offset : ℕ) (h : Header) (done : List LineRow) (old new : RunState) (e : Error) → Progress (ready (started true h n offset no_orders (record { bytes = h.program; notation = n }))) (ready old) (map row done)
+pub has_first_fault : (n : Notation) (offset : ℕ) (h : Header) (done : List LineRow) (old new : RunState) (e : Error) → Progress (with_reset_row (start_of_run true h n offset no_orders (record { bytes = h.program; notation = n }))) (with_reset_row old) (map row done)
     → events_left old ≡ event_of (fault e) new ∷ events_left new → HasFirstFault n h e
 has_first_fault n offset h done old new e p is =
-    let c = decoded_at n (bare h) h.program in
+    let c = decoded_at n (without_files h) h.program in
     record {
       list = c.0;
       end = c.1;
-      decoding = bare_decoding n h h.program c.0 c.1 (is_decoded n (bare h) h.program);
+      decoding = bare_decoding n h h.program c.0 c.1 (is_decoded n (without_files h) h.program);
       rows = done;
       rest = events_of (events_left new);
       given =
           ap (λ (xs : List Event). xs ++ end_events c.1) (sym (from_start h.parameters c.0))
-          ∙ sym (events_live (ready (started true h n offset no_orders (record { bytes = h.program; notation = n }))))
-          ∙ passes_left (ready (started true h n offset no_orders (record { bytes = h.program; notation = n }))) (ready old) (map row done) p
+          ∙ sym (events_live (with_reset_row (start_of_run true h n offset no_orders (record { bytes = h.program; notation = n }))))
+          ∙ passes_left (with_reset_row (start_of_run true h n offset no_orders (record { bytes = h.program; notation = n }))) (with_reset_row old) (map row done) p
           ∙ ap (λ (t : List EventWithFiles). map row done ++ events_of t) is;
     }

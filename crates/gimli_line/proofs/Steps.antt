@@ -6,25 +6,25 @@ use Rattle.gimli_core.specs.declared.error.Error.{Error}
 use Rattle.gimli_line.specs.declared.run.rows.Step.{Step}
 use Rattle.gimli_line.specs.declared.run.rows.Step.TheVariants.{Done, Made, More}
 use Rattle.gimli_line.specs.run.Events.{row}
-use Rattle.gimli_line.specs.run.Progress.{Progress, ready}
+use Rattle.gimli_line.specs.run.Progress.{Progress, with_reset_row}
 use Rattle.gimli_line.specs.run.RunState.{RunState}
 use Rattle.gimli_line.specs.run.Rows.{live_events, StepIs, FaultIs}
-use Rattle.gimli_line.proofs.Runs.{passes_both, refused_behind}
+use Rattle.gimli_line.proofs.Runs.{passes_both, refused_after}
 
 module _ (a b c : RunState) (events : live_events a ≡ live_events b) (passed : Progress a b []) where
-  pub step_behind : (s : Step) → StepIs b c s → StepIs a c s
-  step_behind Done d = (events ∙ d.0, d.1, passes_both a b c [] [] passed d.2)
-  step_behind Made m = (events ∙ m.0, passes_both a b (ready c) [] (row c.row ∷ []) passed m.1)
-  step_behind More m = (
+  pub step_after : (s : Step) → StepIs b c s → StepIs a c s
+  step_after Done d = (events ∙ d.0, d.1, passes_both a b c [] [] passed d.2)
+  step_after Made m = (events ∙ m.0, passes_both a b (with_reset_row c) [] (row c.row ∷ []) passed m.1)
+  step_after More m = (
     events ∙ m.0,
     omega (arith, m.1, length-append passed.front b.unread.bytes, ap length passed.parts),
     passes_both a b c [] [] passed m.2,
   )
 
-  pub answer_behind : (r : Result Step Error) → IfOk r (StepIs b c) → IfOk r (StepIs a c)
-  answer_behind (Ok s) x = step_behind s x
-  answer_behind (Err e) x = tt
+  pub answer_after : (r : Result Step Error) → IfOk r (StepIs b c) → IfOk r (StepIs a c)
+  answer_after (Ok s) x = step_after s x
+  answer_after (Err e) x = tt
 
-  pub refusal_behind : (r : Result Step Error) → IfErr r (FaultIs b c) → IfErr r (FaultIs a c)
-  refusal_behind (Ok s) x = tt
-  refusal_behind (Err e) x = refused_behind a b c e events passed x
+  pub refusal_after : (r : Result Step Error) → IfErr r (FaultIs b c) → IfErr r (FaultIs a c)
+  refusal_after (Ok s) x = tt
+  refusal_after (Err e) x = refused_after a b c e events passed x

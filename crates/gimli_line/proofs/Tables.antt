@@ -14,7 +14,7 @@ use Rattle.gimli_core.specs.declared.error.Error.{Error}
 use Rattle.gimli_core.proofs.Productions.{bind_refused}
 use Rattle.gimli_line.specs.header.File.{File}
 use Rattle.gimli_line.specs.header.FormReading.{form_at}
-use Rattle.gimli_line.specs.header.Outcome.{viewed}
+use Rattle.gimli_line.specs.header.Outcome.{read_map}
 use Rattle.gimli_line.specs.header.HeaderGrammar.{path_of, file_of_entry}
 use Rattle.gimli_line.specs.header.HeaderReading.{paths_at, files_at, format_at, formats_at, entries_at, directory_entries_at, file_entries_at, table_at, directories_at, file_names_at}
 use Rattle.gimli_line.specs.header.EntryReading.{path_with, folded_at}
@@ -82,19 +82,19 @@ module _ {X : Type 0} (see : X → Value) (content : ℕ) (test : Bool) (told : 
 
 -- ---- the tables of a version
 
-paired : {A B F : Type 0} (f : A → B) (none : List F) (r : Read A) → (r >>= λ x rest. (let s : Read (List F × B) = (Ok (none, f x), rest) in s)) ≡ (viewed f r >>= λ y rest. (Ok (none, y), rest))
+paired : {A B F : Type 0} (f : A → B) (none : List F) (r : Read A) → (r >>= λ x rest. (let s : Read (List F × B) = (Ok (none, f x), rest) in s)) ≡ (read_map f r >>= λ y rest. (Ok (none, y), rest))
 paired f none (Ok x, rest) = refl
 paired f none (Err e, rest) = refl
 
 module _ {F A B : Type 0} (f : A → B) (read : List F → List ℕ → Read (List A)) where
   inner_viewed : (formats : List F) (r : Read (List A))
-      → ((r >>= λ xs rest. (let s : Read (List F × List A) = (Ok (formats, xs), rest) in s)) >>= λ table rest. (let t : Read (List F × List B) = (Ok (table.0, map f table.1), rest) in t)) ≡ (viewed (map f) r >>= λ ys rest. (Ok (formats, ys), rest))
+      → ((r >>= λ xs rest. (let s : Read (List F × List A) = (Ok (formats, xs), rest) in s)) >>= λ table rest. (let t : Read (List F × List B) = (Ok (table.0, map f table.1), rest) in t)) ≡ (read_map (map f) r >>= λ ys rest. (Ok (formats, ys), rest))
   inner_viewed formats (Ok xs, rest) = refl
   inner_viewed formats (Err e, rest) = refl
 
   table_viewed : (r : Read (List F))
       → ((r >>= λ formats rest. read formats rest >>= λ xs end. (let s : Read (List F × List A) = (Ok (formats, xs), end) in s)) >>= λ table rest. (let t : Read (List F × List B) = (Ok (table.0, map f table.1), rest) in t))
-      ≡ (r >>= λ formats rest. viewed (map f) (read formats rest) >>= λ ys end. (Ok (formats, ys), end))
+      ≡ (r >>= λ formats rest. read_map (map f) (read formats rest) >>= λ ys end. (Ok (formats, ys), end))
   table_viewed (Ok formats, rest) = inner_viewed formats (read formats rest)
   table_viewed (Err e, rest) = refl
 
@@ -113,7 +113,7 @@ module _ {F B : Type 0} (r : Read (List F)) (read : List F → List ℕ → Read
 
 -- directories up to an empty one
 abbrev strings_at : List ℕ → Read (List Value)
-strings_at bytes = viewed (map String) (paths_at bytes)
+strings_at bytes = read_map (map String) (paths_at bytes)
 
 module _ (notation : Notation) (encoding : Encoding) (bytes : List ℕ) where
   directories_4 : encoding.version ≤ 4 → directories_at notation encoding bytes ≡ (strings_at bytes >>= λ ys rest. (Ok ([], ys), rest))

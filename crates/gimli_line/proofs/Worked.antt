@@ -30,7 +30,7 @@ rules_3 = record {
 -- a row of the first file, at the left edge
 abbrev blank : ℕ → ℕ → ℕ → LineRow
 blank address op_index line = record {
-  hidden = false;
+  tombstone = false;
   address = address;
   op_index = op_index;
   file = 1;
@@ -102,25 +102,25 @@ pub least_tombstone : program_events (rules_13 4 1) (SetAddress 0xffff_fffe ∷ 
     ≡ at 0xffff_fffd 0 1 false ∷ at 0xffff_fffd 0 1 true ∷ []
 least_tombstone = refl
 
--- a hidden part stands still: its advances move nothing, so the set address after it doesn't go back
-pub hidden_part_stands_still : program_events (rules_13 4 1) (SetAddress 0x10 ∷ Copy ∷ SetAddress 8 ∷ AdvancePc 0x30 ∷ SetAddress 0x20 ∷ Copy ∷ EndSequence ∷ []) None
+-- a part under a tombstone stands still: its advances move nothing, so the set address after it doesn't go back
+pub part_under_tombstone_stands_still : program_events (rules_13 4 1) (SetAddress 0x10 ∷ Copy ∷ SetAddress 8 ∷ AdvancePc 0x30 ∷ SetAddress 0x20 ∷ Copy ∷ EndSequence ∷ []) None
     ≡ at 0x10 0 1 false ∷ at 0x20 0 1 false ∷ at 0x20 0 1 true ∷ []
-hidden_part_stands_still = refl
+part_under_tombstone_stands_still = refl
 
--- a set address that hides is no address: the next one is compared with the address before both
+-- a set address that is a tombstone is no address: the next one is compared with the address before both
 pub hiding_address_is_none : program_events (rules_13 4 1) (SetAddress 0x10 ∷ Copy ∷ SetAddress 8 ∷ SetAddress 0x0c ∷ Copy ∷ EndSequence ∷ []) None
     ≡ at 0x10 0 1 false ∷ []
 hiding_address_is_none = refl
 
--- nothing overflows in a hidden part
-pub hidden_part_overflows_not : program_events (rules_13 1 1) (AdvancePc 0xf0 ∷ Copy ∷ SetAddress 0xff ∷ AdvancePc 0x20 ∷ Copy ∷ EndSequence ∷ []) None
+-- nothing overflows in a part under a tombstone
+pub part_under_tombstone_overflows_not : program_events (rules_13 1 1) (AdvancePc 0xf0 ∷ Copy ∷ SetAddress 0xff ∷ AdvancePc 0x20 ∷ Copy ∷ EndSequence ∷ []) None
     ≡ at 0xf0 0 1 false ∷ []
-hidden_part_overflows_not = refl
+part_under_tombstone_overflows_not = refl
 
--- a hidden row takes its marks with it
-pub marks_of_a_hidden_row : program_events (rules_13 4 1) (SetAddress 0xffff_ffff ∷ SetDiscriminator 5 ∷ SetBasicBlock ∷ Copy ∷ SetAddress 0x10 ∷ Copy ∷ []) None
+-- a row under a tombstone takes its marks with it
+pub marks_of_a_row_under_tombstone : program_events (rules_13 4 1) (SetAddress 0xffff_ffff ∷ SetDiscriminator 5 ∷ SetBasicBlock ∷ Copy ∷ SetAddress 0x10 ∷ Copy ∷ []) None
     ≡ at 0x10 0 1 false ∷ []
-marks_of_a_hidden_row = refl
+marks_of_a_row_under_tombstone = refl
 
 -- so does an overflow
 pub marks_of_an_overflow : program_events (rules_13 1 1) (AdvancePc 255 ∷ SetDiscriminator 5 ∷ SetPrologueEnd ∷ SetEpilogueBegin ∷ AdvancePc 1 ∷ Copy ∷ []) None
@@ -146,7 +146,7 @@ statement_negated_twice = refl
 pub constant_advance : program_events (rules_13 4 1) (ConstAddPc ∷ Copy ∷ []) None ≡ at 17 0 1 false ∷ []
 constant_advance = refl
 
--- an address that is set to itself hides nothing
+-- an address that is set to itself is no tombstone
 pub same_address : program_events (rules_13 4 1) (SetAddress 0x10 ∷ Copy ∷ SetAddress 0x10 ∷ EndSequence ∷ []) None
     ≡ at 0x10 0 1 false ∷ at 0x10 0 1 true ∷ []
 same_address = refl

@@ -1,13 +1,13 @@
 //! The section `.debug_line`, from which line programs are read.
 
 ghost use Rattle.std.specs.Prelude.{◌≡◌, IfErr, IfOk, IsTrue, drop, option_map};
-ghost use Rattle.gimli_core.specs.Notation.{noted};
+ghost use Rattle.gimli_core.specs.Notation.{notation_of};
 ghost use Rattle.gimli_core.specs.Numbers.{is_address_size};
 ghost use Rattle.gimli_core.specs.declared.attribute_value.AttributeValue.TheVariants.{String};
 ghost use Rattle.gimli_line.specs.header.Header.{HasOneOrder, unit_entry};
-ghost use Rattle.gimli_line.specs.header.HeaderGrammar.{taken};
+ghost use Rattle.gimli_line.specs.header.HeaderGrammar.{handed_value};
 ghost use Rattle.gimli_line.specs.UnitAt.{HasUnitAt, IsUnitRefusal};
-ghost use Rattle.gimli_line.specs.run.Unread.{unread};
+ghost use Rattle.gimli_line.specs.run.Unread.{unread_of};
 
 use crate::header::program_header::LineProgramHeader;
 use crate::run::program::IncompleteLineProgram;
@@ -55,18 +55,18 @@ impl<R: Reader> DebugLine<R> {
         comp_name: Option<R>,
     ) -> Result<IncompleteLineProgram<R>>
         requires { IsTrue (is_address_size address_size) }
-        ensures unit { IfOk result (HasUnitAt (unread R.bytes R.big R.Offset.limit self.now)
+        ensures unit { IfOk result (HasUnitAt (unread_of R.bytes R.big R.Offset.limit self.now)
             (R.Offset.number offset.0) (unit_entry R.bytes address_size comp_dir comp_name)) }
-        ensures refusal { IfErr result (IsUnitRefusal (unread R.bytes R.big R.Offset.limit self.now)
+        ensures refusal { IfErr result (IsUnitRefusal (unread_of R.bytes R.big R.Offset.limit self.now)
             (R.Offset.number offset.0) (unit_entry R.bytes address_size comp_dir comp_name)) }
         ensures notation { IfOk result
-            (λ program. program.notation ≡ noted (R.big self.now) R.Offset.limit) }
+            (λ program. program.notation ≡ notation_of (R.big self.now) R.Offset.limit) }
         ensures offset { IfOk result (λ program. program.offset ≡ offset) }
         ensures order { IfOk result (HasOneOrder R.big) }
         ensures directory { IfOk result (λ program. program.comp_dir
-            ≡ taken program.meaning.parameters.encoding comp_dir) }
+            ≡ handed_value program.meaning.parameters.encoding comp_dir) }
         ensures name { IfOk result (λ program. option_map (λ file. file.path_name) program.comp_file
-            ≡ taken program.meaning.parameters.encoding (option_map String comp_name)) }
+            ≡ handed_value program.meaning.parameters.encoding (option_map String comp_name)) }
     {
         let mut input = self.input_at(offset.0);
         let header = LineProgramHeader::parse(

@@ -13,14 +13,14 @@ ghost use Rattle.gimli_line.specs.header.Header.{Header, UnitEntry};
 ghost use Rattle.gimli_line.specs.header.Orders.{HeaderOrders};
 ghost use Rattle.gimli_line.specs.header.HeaderParts.{ComparesParts, ComparesSeen, entry_count, parts_of};
 ghost use Rattle.gimli_line.specs.header.HeaderGrammar.{SpellsUnit, HasHeaderFault, HasUnit, HasNoUnit, HaveCountedEntries};
-ghost use Rattle.gimli_line.specs.run.Events.{Event, Events, events_behind, row_at, GivesRow};
+ghost use Rattle.gimli_line.specs.run.Events.{Event, Events, events_after, row_at, GivesRow};
 ghost use Rattle.gimli_line.specs.run.Instruction.{Ins, ins_by};
-ghost use Rattle.gimli_line.specs.run.EventsWithFiles.{EventsWithFiles, events_with_files_behind, machine_events, registers_after, registers_at};
+ghost use Rattle.gimli_line.specs.run.EventsWithFiles.{EventsWithFiles, events_with_files_after, machine_events, registers_after, registers_at};
 ghost use Rattle.gimli_line.specs.run.InstructionGrammar.{Decodes, AreDecodedOnce, instruction_production, IsInstructionRefusal};
 ghost use Rattle.gimli_line.specs.run.InstructionReading.{decoded_at};
-ghost use Rattle.gimli_line.specs.run.OperationPointer.{OperationPointer, IsPointerList, pointers, is_hidden, overflows};
+ghost use Rattle.gimli_line.specs.run.OperationPointer.{OperationPointer, IsPointerList, pointers, is_under_tombstone, overflows};
 ghost use Rattle.gimli_line.specs.run.RunState.{RunState};
-ghost use Rattle.gimli_line.specs.run.Rows.{events_left, started};
+ghost use Rattle.gimli_line.specs.run.Rows.{events_left, start_of_run};
 ghost use Rattle.gimli_line.specs.run.Started.{GivesEvents, GivesFiles};
 ghost use Rattle.gimli_line.specs.run.Unread.{Unread};
 ghost use Rattle.gimli_line.specs.run.Machine.{run, initial, is_refused};
@@ -110,22 +110,22 @@ pub fn tables_are_bounded()
 /// with the files of the header at each. So do rows at the start of a sequence, by the bytes that are to come.
 pub fn machine_gives_events()
     ensures without_files { (parameters : Parameters) (list : List Ins) →
-        run parameters (initial parameters) list ≡ events_behind parameters [] list }
+        run parameters (initial parameters) list ≡ events_after parameters [] list }
     ensures machine { (appends : Bool) (h : Header) (list : List Ins) (end : Option Error) →
-        machine_events appends h list end ≡ events_with_files_behind appends h [] list end }
-    ensures started { (appends : Bool) (h : Header) (notation : Notation) (o : ℕ)
+        machine_events appends h list end ≡ events_with_files_after appends h [] list end }
+    ensures start_of_run { (appends : Bool) (h : Header) (notation : Notation) (o : ℕ)
         (orders : HeaderOrders) (unread : Unread)
-        → GivesEvents appends h unread (started appends h notation o orders unread) }
+        → GivesEvents appends h unread (start_of_run appends h notation o orders unread) }
     ensures files { (appends : Bool) (h : Header) (notation : Notation) (o : ℕ)
         (orders : HeaderOrders) (unread : Unread)
-        → GivesFiles appends h unread (started appends h notation o orders unread) }
+        → GivesFiles appends h unread (start_of_run appends h notation o orders unread) }
 {}
 
-/// Between two ends of sequences, whether their rows are hidden or not, and from the start to the first, the addresses
-/// of rows never go down.
+/// Between two ends of sequences, whether their rows are under a tombstone or not, and from the start to the first,
+/// the addresses of rows never go down.
 pub fn addresses_never_go_down()
     ensures { (parameters : Parameters) (past list : List Ins) → AreOneSequence list
-        → NeverBelow 0 (events_behind parameters past list) }
+        → NeverBelow 0 (events_after parameters past list) }
 {}
 
 /// Columns are compared by their numbers; the left edge, which stands for 0, is below them all.
@@ -332,12 +332,12 @@ pub fn instructions_are_taken()
 {}
 
 /// The registers that the machine has after a past are what looking back says: which instruction is refused, what is
-/// hidden, and which row a place makes that isn't hidden.
+/// under a tombstone, and which row a place makes that isn't under a tombstone.
 pub fn registers_look_back()
     ensures refused { (parameters : Parameters) (past : List Ins) (i : Ins) →
         is_refused parameters i (registers_after parameters past) ≡ overflows parameters past i }
-    ensures hidden { (parameters : Parameters) (past : List Ins) →
-        (registers_after parameters past).hidden ≡ is_hidden parameters past }
+    ensures tombstone { (parameters : Parameters) (past : List Ins) →
+        (registers_after parameters past).tombstone ≡ is_under_tombstone parameters past }
     ensures row { (parameters : Parameters) (past : List Ins) (i : Ins) →
         GivesRow parameters past i → registers_at parameters past i ≡ row_at parameters past i }
 {}

@@ -1,8 +1,8 @@
 //! The units of a section, one after the other.
 
 ghost use Rattle.std.specs.Prelude.{◌≡◌, ◌↔◌, Err, IsTrue};
-ghost use Rattle.gimli_core.specs.Notation.{noted};
-ghost use Rattle.gimli_core.specs.Reading.{seen};
+ghost use Rattle.gimli_core.specs.Notation.{notation_of};
+ghost use Rattle.gimli_core.specs.Reading.{result_map};
 ghost use Rattle.gimli_line.specs.UnitReading.{after_unit, any_unit_at};
 
 use crate::debug_line::DebugLine;
@@ -14,8 +14,8 @@ use std::marker::Model;
 /// Takes a unit: its length, and as many bytes as that says. Returns the latter.
 #[tactic(auto, unfolding(crate::specs::UnitReading::any_unit_at))]
 fn split_unit<R: Reader>(input: &mut R) -> Result<R>
-    ensures { (seen R.bytes result, R.bytes input.new)
-        ≡ any_unit_at (noted (R.big input.old) R.Offset.limit) (R.bytes input.old) }
+    ensures { (result_map R.bytes result, R.bytes input.new)
+        ≡ any_unit_at (notation_of (R.big input.old) R.Offset.limit) (R.bytes input.old) }
 {
     let (length, _format) = input.read_initial_length()?;
     input.split(length)
@@ -24,7 +24,7 @@ fn split_unit<R: Reader>(input: &mut R) -> Result<R>
 /// Lets the unit in front go; all bytes where they begin with no unit.
 fn skip_unit<R: Reader>(input: &mut R)
     ensures { R.bytes input.new
-        ≡ after_unit (any_unit_at (noted (R.big input.old) R.Offset.limit) (R.bytes input.old)) }
+        ≡ after_unit (any_unit_at (notation_of (R.big input.old) R.Offset.limit) (R.bytes input.old)) }
 {
     if split_unit(input).is_err() {
         input.empty();
@@ -67,19 +67,19 @@ pub struct LineUnits<R: Reader> {
 
 impl<R: Reader> Model for LineUnits<R> {
     ghost use Rattle.std.specs.Prelude.{IsTrue, None, drop, length};
-    ghost use Rattle.gimli_core.specs.Notation.{noted};
+    ghost use Rattle.gimli_core.specs.Notation.{notation_of};
     ghost use Rattle.gimli_core.specs.Numbers.{is_address_size};
     ghost use Rattle.gimli_line.specs.header.Header.{unit_entry};
-    ghost use Rattle.gimli_line.specs.run.Unread.{unread};
+    ghost use Rattle.gimli_line.specs.run.Unread.{unread_of};
     ghost use Rattle.gimli_line.specs.UnitReading.{offsets_at};
     ghost use Rattle.gimli_line.specs.Units.{UnitWalk};
 
     ghost Value = { UnitWalk };
 
     ghost view = { λ a. record {
-      section = unread R.bytes R.big R.Offset.limit a.section;
+      section = unread_of R.bytes R.big R.Offset.limit a.section;
       entry = unit_entry R.bytes a.address_size None None;
-      offsets = offsets_at (noted (R.big a.section) R.Offset.limit) (length (R.bytes a.section))
+      offsets = offsets_at (notation_of (R.big a.section) R.Offset.limit) (length (R.bytes a.section))
           (drop (R.Offset.number a.offset.0) (R.bytes a.section));
     } };
 
@@ -88,19 +88,19 @@ impl<R: Reader> Model for LineUnits<R> {
 
 impl<R: Reader> DebugLine<R> {
     ghost use Rattle.std.specs.Prelude.{◌≡◌, IsTrue, None};
-    ghost use Rattle.gimli_core.specs.Notation.{noted};
+    ghost use Rattle.gimli_core.specs.Notation.{notation_of};
     ghost use Rattle.gimli_core.specs.Numbers.{is_address_size};
     ghost use Rattle.gimli_line.specs.header.Header.{unit_entry};
-    ghost use Rattle.gimli_line.specs.run.Unread.{unread};
+    ghost use Rattle.gimli_line.specs.run.Unread.{unread_of};
     ghost use Rattle.gimli_line.specs.Units.{AreUnits};
 
     /// The units of the section, from its start on. Each is read as `program` reads the one at its offset, with the
     /// handed address size and no directory or name. Requires an address size of 1, 2, 4 or 8.
     pub fn units(&self, alloc: Global, address_size: u8) -> LineUnits<R>
         requires { IsTrue (is_address_size address_size) }
-        ensures section { result.section ≡ unread R.bytes R.big R.Offset.limit self.now }
+        ensures section { result.section ≡ unread_of R.bytes R.big R.Offset.limit self.now }
         ensures entry { result.entry ≡ unit_entry R.bytes address_size None None }
-        ensures offsets { AreUnits (noted (R.big self.now) R.Offset.limit) 0 (R.bytes self.now) result.offsets }
+        ensures offsets { AreUnits (notation_of (R.big self.now) R.Offset.limit) 0 (R.bytes self.now) result.offsets }
     {
         LineUnits {
             section: DebugLine::from(*self.reader()),

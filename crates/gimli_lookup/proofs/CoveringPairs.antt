@@ -8,7 +8,7 @@ use Rattle.std.proofs.lemmas.Option.{get_or_from_slice_get, slice_get_within}
 use Rattle.gimli_line.specs.declared.run.row.LineRow.{LineRow}
 use Rattle.gimli_lookup.specs.declared.steps.Step.{Step}
 use Rattle.gimli_lookup.specs.FirstPair.{IsPairAt, HasNoPair}
-use Rattle.gimli_lookup.specs.Covering.{last_address, range, is_between, covers, covering_place, covering_probes}
+use Rattle.gimli_lookup.specs.Covering.{last_address, range, is_between, covers, covering_index, covering_probes}
 use Rattle.gimli_lookup.specs.Probes.{never_go_down, binary_digits}
 use Rattle.gimli_lookup.specs.Steps.{step_at, AreJoined, AreStepsOf}
 use Rattle.gimli_lookup.proofs.Pairs.{rises}
@@ -69,25 +69,25 @@ by_test true n o p q e = refl
 by_test false n o p q e = e
 
 pub covering_append : (a first : ℕ) (xs ys : List (List LineRow))
-    → covering_place a first (xs ++ ys) ≡ option_or (covering_place a first xs) (covering_place a (first + length xs) ys)
-covering_append a first [] ys = ap (λ (n : ℕ). covering_place a n ys) (omega arith)
+    → covering_index a first (xs ++ ys) ≡ option_or (covering_index a first xs) (covering_index a (first + length xs) ys)
+covering_append a first [] ys = ap (λ (n : ℕ). covering_index a n ys) (omega arith)
 covering_append a first (x ∷ xs) ys =
     let same : first + 1 + length xs ≡ first + suc (length xs) = omega arith in
-    by_test (covers a x) first (covering_place a (first + 1) (xs ++ ys)) (covering_place a (first + 1) xs) (covering_place a (first + suc (length xs)) ys)
-    (covering_append a (first + 1) xs ys ∙ ap (λ (n : ℕ). option_or (covering_place a (first + 1) xs) (covering_place a n ys)) same)
+    by_test (covers a x) first (covering_index a (first + 1) (xs ++ ys)) (covering_index a (first + 1) xs) (covering_index a (first + suc (length xs)) ys)
+    (covering_append a (first + 1) xs ys ∙ ap (λ (n : ℕ). option_or (covering_index a (first + 1) xs) (covering_index a n ys)) same)
 
 -- the sequence at a place covers the address, and none before it does
-pub record IsFirstCovering (a first : ℕ) (sequences : List (List LineRow)) (place : ℕ) : Type 0 where
-  pub at_least : first ≤ place
-  pub within : place - first < length sequences
-  pub is : (d : List LineRow) → covers a (slice_index_or sequences (place - first) d) ≡ true
-  pub none_earlier : (k : ℕ) (d : List LineRow) → k < place - first → covers a (slice_index_or sequences k d) ≡ false
-  pub probes : (d : List LineRow) → covering_probes a sequences ≡ binary_digits (length (slice_index_or sequences (place - first) d))
+pub record IsFirstCovering (a first : ℕ) (sequences : List (List LineRow)) (index : ℕ) : Type 0 where
+  pub at_least : first ≤ index
+  pub within : index - first < length sequences
+  pub is : (d : List LineRow) → covers a (slice_index_or sequences (index - first) d) ≡ true
+  pub none_earlier : (k : ℕ) (d : List LineRow) → k < index - first → covers a (slice_index_or sequences k d) ≡ false
+  pub probes : (d : List LineRow) → covering_probes a sequences ≡ binary_digits (length (slice_index_or sequences (index - first) d))
 
 pub cases_covering : (a first : ℕ) (sequences : List (List LineRow))
-    → MatchOption (covering_place a first sequences) (All (λ (rows : List LineRow). covers a rows ≡ false) sequences) (IsFirstCovering a first sequences)
+    → MatchOption (covering_index a first sequences) (All (λ (rows : List LineRow). covers a rows ≡ false) sequences) (IsFirstCovering a first sequences)
 cases_covering a first [] = λ k d lt. absurd (omega arith)
-cases_covering a first (rows ∷ later) = by_cover (covers a rows) refl (covering_place a (first + 1) later) (cases_covering a (first + 1) later)
+cases_covering a first (rows ∷ later) = by_cover (covers a rows) refl (covering_index a (first + 1) later) (cases_covering a (first + 1) later)
   where
     by_cover : (b : Bool) → covers a rows ≡ b → (o : Option ℕ)
         → MatchOption o (All (λ (r : List LineRow). covers a r ≡ false) later) (IsFirstCovering a (first + 1) later)
@@ -107,8 +107,8 @@ cases_covering a first (rows ∷ later) = by_cover (covers a rows) refl (coverin
         all : (k : ℕ) (d : List LineRow) → k < length (rows ∷ later) → covers a (slice_index_or (rows ∷ later) k d) ≡ false
         all zero d lt = isnt
         all (suc k) d lt = h k d (omega arith)
-    by_cover false isnt (Some place) h =
-        let after : place - first ≡ suc (place - (first + 1)) = omega (arith, h.at_least) in
+    by_cover false isnt (Some index) h =
+        let after : index - first ≡ suc (index - (first + 1)) = omega (arith, h.at_least) in
         record {
           at_least = omega (arith, h.at_least);
           within = omega (arith, h.within, after);
@@ -118,7 +118,7 @@ cases_covering a first (rows ∷ later) = by_cover (covers a rows) refl (coverin
               ∙ h.probes d ∙ ap (λ (k : ℕ). binary_digits (length (slice_index_or (rows ∷ later) k d))) (sym after);
         }
       where
-        earlier : place - first ≡ suc (place - (first + 1)) → (k : ℕ) (d : List LineRow) → k < place - first → covers a (slice_index_or (rows ∷ later) k d) ≡ false
+        earlier : index - first ≡ suc (index - (first + 1)) → (k : ℕ) (d : List LineRow) → k < index - first → covers a (slice_index_or (rows ∷ later) k d) ≡ false
         earlier after zero d lt = isnt
         earlier after (suc k) d lt = h.none_earlier k d (omega arith)
 
@@ -140,7 +140,7 @@ joined_steps first xs ys left right steps of_left of_right joined = record {
   in_order = joined.in_order;
   value = λ a. joined.value a
       ∙ ap (λ (o : Option ℕ). option_or o (step_at a right)) (of_left.value a)
-      ∙ ap (option_or (covering_place a first xs)) (of_right.value a)
+      ∙ ap (option_or (covering_index a first xs)) (of_right.value a)
       ∙ sym (covering_append a first xs ys);
   ended = joined.ended;
   few = omega (arith, joined.size, of_left.few, of_right.few, length-append xs ys);

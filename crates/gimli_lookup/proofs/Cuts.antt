@@ -61,17 +61,17 @@ passes_none a = record {
   known = (All-nil (HasNoPair a), refl);
 }
 
-module _ (a : ℕ) (rows : List LineRow) (row : LineRow) (before behind : PairSearch)
-    (goes : (ended : List (List LineRow)) (unended : List LineRow) → Knows a ended unended before → Knows a ended (unended ++ row ∷ []) behind)
+module _ (a : ℕ) (rows : List LineRow) (row : LineRow) (before after : PairSearch)
+    (goes : (ended : List (List LineRow)) (unended : List LineRow) → Knows a ended unended before → Knows a ended (unended ++ row ∷ []) after)
     (passed : HasPassed a rows before) where
-  pub passes_open : row.end_sequence ≡ false → HasPassed a (rows ++ row ∷ []) behind
+  pub passes_open : row.end_sequence ≡ false → HasPassed a (rows ++ row ∷ []) after
   passes_open open_still = record {
     sequences = passed.sequences;
     cut = longer rows passed.sequences passed.cut row open_still;
     known = goes passed.sequences passed.cut.unended passed.known;
   }
 
-  pub passes_end : (after_end : PairSearch) → ((a : ℕ) (ended : List (List LineRow)) (unended : List LineRow) → Knows a ended unended behind → Knows a (ended ++ unended ∷ []) [] after_end)
+  pub passes_end : (after_end : PairSearch) → ((a : ℕ) (ended : List (List LineRow)) (unended : List LineRow) → Knows a ended unended after → Knows a (ended ++ unended ∷ []) [] after_end)
       → row.end_sequence ≡ true → HasPassed a (rows ++ row ∷ []) after_end
   passes_end after_end closes ends = record {
     sequences = passed.sequences ++ (passed.cut.unended ++ row ∷ []) ∷ [];

@@ -7,14 +7,14 @@ use Rattle.gimli_core.specs.declared.error.Error.{Error}
 use Rattle.gimli_line.specs.declared.run.instruction.LineInstruction.TheVariants.{DefineFile}
 use Rattle.gimli_line.specs.declared.run.row.LineRow.{LineRow}
 use Rattle.gimli_line.specs.header.File.{File}
-use Rattle.gimli_line.specs.header.Header.{Header, bare}
+use Rattle.gimli_line.specs.header.Header.{Header, without_files}
 use Rattle.gimli_line.specs.header.Orders.{HeaderOrders}
 use Rattle.gimli_line.specs.header.Parameters.{Parameters}
 use Rattle.gimli_line.specs.run.Events.{Event, fault, end_events}
 use Rattle.gimli_line.specs.run.EventsWithFiles.{EventWithFiles, with_files, events_with_files_from, step_events, next_registers}
-use Rattle.gimli_line.specs.run.Instruction.{Ins, defines_file, files_behind}
+use Rattle.gimli_line.specs.run.Instruction.{Ins, defines_file, files_after}
 use Rattle.gimli_line.specs.run.InstructionReading.{decoded_at}
-use Rattle.gimli_line.specs.run.Progress.{ready, files_from}
+use Rattle.gimli_line.specs.run.Progress.{with_reset_row, files_from}
 use Rattle.gimli_line.specs.run.Rows.{WantsMemory, events_left, files_at_end, whole_run}
 use Rattle.gimli_line.specs.run.RunState.{RunState}
 use Rattle.gimli_line.proofs.InstructionLaws.{is_decoded}
@@ -23,22 +23,22 @@ use Rattle.gimli_lookup.specs.Run.{DefinesFile}
 
 -- ---- a list of files only grows
 
-one_keeps : (a : Bool) (i : Ins) (files : List File) → length files ≤ length (files_behind a i files)
+one_keeps : (a : Bool) (i : Ins) (files : List File) → length files ≤ length (files_after a i files)
 one_keeps true (DefineFile f) files = omega (arith, length-append files (f ∷ []))
 one_keeps false (DefineFile f) files = omega arith
 one_keeps a i files = omega arith
 
 all_keep : (a : Bool) (files : List File) (list : List Ins) → length files ≤ length (files_from a files list)
 all_keep a files [] = omega arith
-all_keep a files (i ∷ list) = omega (arith, one_keeps a i files, all_keep a (files_behind a i files) list)
+all_keep a files (i ∷ list) = omega (arith, one_keeps a i files, all_keep a (files_after a i files) list)
 
-one_grows : (i : Ins) (files : List File) → defines_file i ≡ true → length files < length (files_behind true i files)
+one_grows : (i : Ins) (files : List File) → defines_file i ≡ true → length files < length (files_after true i files)
 one_grows (DefineFile f) files defines = omega (arith, length-append files (f ∷ []))
 one_grows i files defines = absurd cc
 
 all_grow : (files : List File) (before : List Ins) (i : Ins) (rest : List Ins) → defines_file i ≡ true → length files < length (files_from true files (before ++ i ∷ rest))
-all_grow files [] i rest defines = omega (arith, one_grows i files defines, all_keep true (files_behind true i files) rest)
-all_grow files (j ∷ before) i rest defines = omega (arith, one_keeps true j files, all_grow (files_behind true j files) before i rest defines)
+all_grow files [] i rest defines = omega (arith, one_grows i files defines, all_keep true (files_after true i files) rest)
+all_grow files (j ∷ before) i rest defines = omega (arith, one_keeps true j files, all_grow (files_after true j files) before i rest defines)
 
 heads : (x y : EventWithFiles) (xs ys : List EventWithFiles) → x ∷ xs ≡ y ∷ ys → x ≡ y
 heads x y xs ys is = cc
@@ -61,13 +61,13 @@ at_first : (a : Bool) (h : Parameters) (r : LineRow) (files : List File) (list :
     → events_with_files_from a h r files list end ≡ e ∷ rest → length files ≤ length e.files
 at_first a h r files [] end e rest is = at_end files end e rest is
 at_first a h r files (i ∷ list) end e rest is =
-    at_events files (step_events h i r) (events_with_files_from a h (next_registers h i r) (files_behind a i files) list end) e rest is
-    (λ later. omega (arith, one_keeps a i files, at_first a h (next_registers h i r) (files_behind a i files) list end e rest later))
+    at_events files (step_events h i r) (events_with_files_from a h (next_registers h i r) (files_after a i files) list end) e rest is
+    (λ later. omega (arith, one_keeps a i files, at_first a h (next_registers h i r) (files_after a i files) list end e rest later))
 
 pub row_keeps : (old : RunState) (e : EventWithFiles) (rest : List EventWithFiles) → events_left old ≡ e ∷ rest → length old.files ≤ length e.files
 row_keeps old e rest is =
     let c = decoded_at old.unread.notation old.fixed old.unread.bytes in
-    at_first old.appends old.fixed.parameters (ready old).row old.files c.0 c.1 e rest is
+    at_first old.appends old.fixed.parameters (with_reset_row old).row old.files c.0 c.1 e rest is
 
 -- ---- a file for which memory was missing is in the list at the end
 
@@ -77,15 +77,15 @@ wanted old new appends w =
     let h = old.fixed in
     let spelled = rw (w.passed.notation, w.passed.fixed) at w.spelled in
     let after = (decoded_at n h w.rest).0 in
-    let here = decoded_some n h w.place.unread.bytes w.definition w.front w.rest w.parts spelled in
-    let whole = decodes_on n h old.unread.bytes w.passed.list w.passed.front w.place.unread.bytes w.passed.parts w.passed.spelled in
+    let here = decoded_some n h w.index.unread.bytes w.definition w.front w.rest w.parts spelled in
+    let whole = decodes_on n h old.unread.bytes w.passed.list w.passed.front w.index.unread.bytes w.passed.parts w.passed.spelled in
     let list : (decoded_at n h old.unread.bytes).0 ≡ w.passed.list ++ w.definition ∷ after =
     ap (λ (c : List Ins × Option Error). c.0) whole ∙ ap (λ (c : List Ins × Option Error). w.passed.list ++ c.0) here in
     rw (appends, list) (all_grow old.files w.passed.list w.definition after w.defines)
 
 -- ---- a program that defines no file
 
-no_file : (a : Bool) (files : List File) (i : Ins) → defines_file i ≡ false → files_behind a i files ≡ files
+no_file : (a : Bool) (files : List File) (i : Ins) → defines_file i ≡ false → files_after a i files ≡ files
 no_file a files (DefineFile f) none = absurd cc
 no_file a files i none = refl
 
@@ -100,22 +100,22 @@ no_files a files (i ∷ list) none =
     ap (λ (fs : List File). files_from a fs list) (no_file a files i both.0) ∙ no_files a files list both.1
 
 pub defines : (notation : Notation) (h : Header) (offset : ℕ) (orders : HeaderOrders) (first old new : RunState) → first ≡ whole_run h notation offset orders
-    → files_at_end old ≡ files_at_end first → length first.files ≤ length old.files → new.appends ≡ old.appends → WantsMemory (ready old) new → DefinesFile notation h
-defines notation h offset orders first old new start same few appends w = at_test (list_any defines_file (decoded_at notation (bare h) h.program).0) refl
+    → files_at_end old ≡ files_at_end first → length first.files ≤ length old.files → new.appends ≡ old.appends → WantsMemory (with_reset_row old) new → DefinesFile notation h
+defines notation h offset orders first old new start same few appends w = at_test (list_any defines_file (decoded_at notation (without_files h) h.program).0) refl
   where
-    at_test : (b : Bool) → list_any defines_file (decoded_at notation (bare h) h.program).0 ≡ b → DefinesFile notation h
+    at_test : (b : Bool) → list_any defines_file (decoded_at notation (without_files h) h.program).0 ≡ b → DefinesFile notation h
     at_test true some = record {
-      list = (decoded_at notation (bare h) h.program).0;
-      end = (decoded_at notation (bare h) h.program).1;
-      decoding = bare_decoding notation h h.program (decoded_at notation (bare h) h.program).0 (decoded_at notation (bare h) h.program).1 (is_decoded notation (bare h) h.program);
+      list = (decoded_at notation (without_files h) h.program).0;
+      end = (decoded_at notation (without_files h) h.program).1;
+      decoding = bare_decoding notation h h.program (decoded_at notation (without_files h) h.program).0 (decoded_at notation (without_files h) h.program).1 (is_decoded notation (without_files h) h.program);
       defines = some;
     }
     at_test false none =
-        let all = no_files true h.files (decoded_at notation (bare h) h.program).0 none in
+        let all = no_files true h.files (decoded_at notation (without_files h) h.program).0 none in
         absurd (omega (
           arith,
           few,
-          wanted (ready old) new (sym appends ∙ w.appends) w,
+          wanted (with_reset_row old) new (sym appends ∙ w.appends) w,
           ap (λ (fs : List File). length fs) same,
           ap (λ (s : RunState). length (files_at_end s)) start,
           ap (λ (fs : List File). length fs) all,

@@ -7,7 +7,7 @@ use Rattle.gimli_core.specs.Notation.{Notation}
 use Rattle.gimli_line.specs.declared.run.row.LineRow.{LineRow}
 use Rattle.gimli_line.specs.header.Header.{Header}
 use Rattle.gimli_line.specs.run.Events.{Event, row, ends_sequence, through_last_end}
-use Rattle.gimli_line.specs.run.Sequences.{Part, resumed, IsSequence, AreSequences}
+use Rattle.gimli_line.specs.run.Sequences.{Part, events_of_part, IsSequence, AreSequences}
 use Rattle.gimli_lookup.specs.Cut.{HaveNoEnd, EndOnce}
 use Rattle.gimli_lookup.specs.Run.{AreRowsOfSequences}
 use Rattle.gimli_lookup.proofs.KeptRows.{joined_same}
@@ -59,12 +59,12 @@ same_cons : {X : Type 0} (x y : X) (xs ys : List X) → x ∷ xs ≡ y ∷ ys �
 same_cons x y xs ys is = (cc, cc)
 
 -- each has one end row, the last
-each_once : (c : Header) (rows : List (List LineRow)) (parts : List Part) → AllByRecursion (λ s. IsSequence (resumed c s) s.start s.end) parts
-    → map (map row) rows ≡ map (resumed c) parts → AllByRecursion EndOnce rows
+each_once : (c : Header) (rows : List (List LineRow)) (parts : List Part) → AllByRecursion (λ s. IsSequence (events_of_part c s) s.start s.end) parts
+    → map (map row) rows ≡ map (events_of_part c) parts → AllByRecursion EndOnce rows
 each_once c [] parts each same = tt
 each_once c (x ∷ rows) [] each same = absurd cc
 each_once c (x ∷ rows) (s ∷ parts) each same =
-    let both = same_cons (map row x) (resumed c s) (map (map row) rows) (map (resumed c) parts) same in
+    let both = same_cons (map row x) (events_of_part c s) (map (map row) rows) (map (events_of_part c) parts) same in
     let one = each.0 in (
       record {
         front = one.rows;
@@ -82,7 +82,7 @@ map_joined (x ∷ rows) =
     map-append row x (flat_map (λ sequence. sequence) rows) ∙ ap (λ (es : List Event). map row x ++ es) (map_joined rows)
 
 pub are_cut : (notation : Notation) (h c : Header) (parts : List Part) (rows : List (List LineRow)) → AreSequences notation h c parts
-    → map (map row) rows ≡ map (resumed c) parts → AreRowsOfSequences notation h rows
+    → map (map row) rows ≡ map (events_of_part c) parts → AreRowsOfSequences notation h rows
 are_cut notation h c parts rows are same =
     let t = through are.rows in
     let joined : flat_map (λ sequence. sequence) rows ≡ t.front = same_rows (flat_map (λ sequence. sequence) rows) t.front

@@ -99,7 +99,7 @@ same_sequences once notation h s t x y =
 not_none : (a : ℕ) (s : List (List LineRow)) (x y : LineRow) → IsFirstPair a s x y → All (HasNoPair a) s → ⊥
 not_none a s x y f none =
     let within : length f.earlier < length s = omega (arith, ap (λ (t : List (List LineRow)). length t) f.parts, length-append f.earlier (f.rows ∷ f.later)) in
-    subst (HasNoPair a) (stands_there a s x y f f.rows) (none (length f.earlier) f.rows within) f.is_first.place x y f.is_first.is_pair
+    subst (HasNoPair a) (stands_there a s x y f f.rows) (none (length f.earlier) f.rows within) f.is_first.index x y f.is_first.is_pair
 
 same_found : (a : ℕ) (s : List (List LineRow)) (x y : Option (LineRow × LineRow)) → IsFirstFound a s x → IsFirstFound a s y → x ≡ y
 same_found a s None None f g = refl

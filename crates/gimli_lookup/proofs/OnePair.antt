@@ -20,20 +20,20 @@ not_earlier a s x y z w f g lt =
     sym (get_or_append_left g.earlier (g.rows ∷ g.later) d (length f.earlier) lt)
     ∙ sym (ap (λ (t : List (List LineRow)). slice_index_or t (length f.earlier) d) g.parts)
     ∙ stands_there a s x y f d in
-    subst (HasNoPair a) there (g.none_earlier (length f.earlier) d lt) f.is_first.place x y f.is_first.is_pair
+    subst (HasNoPair a) there (g.none_earlier (length f.earlier) d lt) f.is_first.index x y f.is_first.is_pair
 
 same_rows : (a : ℕ) (s : List (List LineRow)) (x y z w : LineRow) (f : IsFirstPair a s x y) (g : IsFirstPair a s z w) → length f.earlier ≡ length g.earlier → f.rows ≡ g.rows
 same_rows a s x y z w f g same =
     sym (stands_there a s x y f f.rows) ∙ ap (λ (k : ℕ). slice_index_or s k f.rows) same ∙ stands_there a s z w g f.rows
 
 same_pair : (a : ℕ) (rows : List LineRow) (x y z w : LineRow) → IsFirstPairOf a rows x y → IsFirstPairOf a rows z w → (x ≡ z) × (y ≡ w)
-same_pair a rows x y z w f g = elim (cases_order f.place g.place) [
+same_pair a rows x y z w f g = elim (cases_order f.index g.index) [
   | inl same ↦ (
     same_Some x z (sym f.is_pair.first ∙ ap (slice_get rows) same ∙ g.is_pair.first),
     same_Some y w (sym f.is_pair.second ∙ ap (λ (k : ℕ). slice_get rows (k + 1)) same ∙ g.is_pair.second),
   )
-  | inr (inl less) ↦ absurd (g.none_before f.place x y less f.is_pair)
-  | inr (inr more) ↦ absurd (f.none_before g.place z w more g.is_pair)
+  | inr (inl less) ↦ absurd (g.none_before f.index x y less f.is_pair)
+  | inr (inr more) ↦ absurd (f.none_before g.index z w more g.is_pair)
 ]
 
 pub one_pair : (a : ℕ) (s : List (List LineRow)) (x y z w : LineRow) → IsFirstPair a s x y → IsFirstPair a s z w → (x ≡ z) × (y ≡ w)

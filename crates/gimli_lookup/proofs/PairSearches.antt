@@ -7,7 +7,7 @@ use Rattle.std.proofs.lemmas.Option.{slice_get_within, same_Some}
 use Rattle.gimli_line.specs.declared.run.row.LineRow.{LineRow}
 use Rattle.gimli_lookup.specs.FirstPair.{IsPairAt, HasNoPair, IsFirstPairOf, IsFirstPair}
 
--- ---- rows, and more behind them
+-- ---- rows, and more after them
 
 get_left : (xs ys : List LineRow) (k : ℕ) → k < length xs → slice_get (xs ++ ys) k ≡ slice_get xs k
 get_left [] ys k lt = absurd (omega arith)
@@ -38,10 +38,10 @@ pair_within a rows more k x y lt p = record {
 
 pub first_stays : (a : ℕ) (rows more : List LineRow) (x y : LineRow) → IsFirstPairOf a rows x y → IsFirstPairOf a (rows ++ more) x y
 first_stays a rows more x y f =
-    let there = slice_get_within rows (f.place + 1) y f.is_pair.second in
+    let there = slice_get_within rows (f.index + 1) y f.is_pair.second in
     record {
-      place = f.place;
-      is_pair = pair_stays a rows more f.place x y f.is_pair;
+      index = f.index;
+      is_pair = pair_stays a rows more f.index x y f.is_pair;
       none_before = λ k z w lt p. f.none_before k z w lt (pair_within a rows more k z w (omega (arith, there)) p);
     }
 
@@ -70,7 +70,7 @@ module _ (a : ℕ) (front : List LineRow) (last row : LineRow) (none : HasNoPair
 
   pub pair_comes : last.address ≤ a → a < row.address → IsFirstPairOf a ((front ++ last ∷ []) ++ row ∷ []) last row
   pair_comes from before = record {
-    place = length front;
+    index = length front;
     is_pair = record {
       first = last_there;
       second = row_there;

@@ -44,77 +44,77 @@ never_below_next lowest address (r ∷ rows) i lt is =
 
 -- ---- round the first address that is above
 
-module _ (a : ℕ) (rows : List LineRow) (place : ℕ) (before : (k : ℕ) (d : LineRow) → k < place → (slice_index_or rows k d).address ≤ a)
-    (behind : (k : ℕ) (d : LineRow) → place ≤ k → k < length rows → a < (slice_index_or rows k d).address) where
-  only_there : (k : ℕ) (x y : LineRow) → IsPairAt a rows k x y → k + 1 ≡ place
+module _ (a : ℕ) (rows : List LineRow) (index : ℕ) (before : (k : ℕ) (d : LineRow) → k < index → (slice_index_or rows k d).address ≤ a)
+    (after : (k : ℕ) (d : LineRow) → index ≤ k → k < length rows → a < (slice_index_or rows k d).address) where
+  only_there : (k : ℕ) (x y : LineRow) → IsPairAt a rows k x y → k + 1 ≡ index
   only_there k x y p =
       let there = slice_get_within rows k x p.first in
       let first : (slice_index_or rows k x).address ≡ x.address = ap (λ (r : LineRow). r.address) (get_or_from_slice_get rows k x x p.first) in
       let second : (slice_index_or rows (k + 1) x).address ≡ y.address = ap (λ (r : LineRow). r.address) (get_or_from_slice_get rows (k + 1) y x p.second) in
-      let low : k + 1 < place → ⊥ = λ lt. absurd (omega (arith, before (k + 1) x lt, second, p.before)) in
-      let high : place ≤ k → ⊥ = λ le. absurd (omega (arith, behind k x le there, first, p.from)) in
+      let low : k + 1 < index → ⊥ = λ lt. absurd (omega (arith, before (k + 1) x lt, second, p.before)) in
+      let high : index ≤ k → ⊥ = λ le. absurd (omega (arith, after k x le there, first, p.from)) in
       by_order low high
     where
-      by_order : (k + 1 < place → ⊥) → (place ≤ k → ⊥) → k + 1 ≡ place
-      by_order low high = elim (cases_order (k + 1) place) [
+      by_order : (k + 1 < index → ⊥) → (index ≤ k → ⊥) → k + 1 ≡ index
+      by_order low high = elim (cases_order (k + 1) index) [
         | inl same ↦ same
         | inr (inl lt) ↦ absurd (low lt)
         | inr (inr gt) ↦ absurd (high (omega arith))
       ]
 
-  pub none_at_edge : (place ≡ 0) ⊎ (place ≡ length rows) → HasNoPair a rows
+  pub none_at_edge : (index ≡ 0) ⊎ (index ≡ length rows) → HasNoPair a rows
   none_at_edge (inl zero_is) k x y p = absurd (omega (arith, only_there k x y p))
   none_at_edge (inr all) k x y p = absurd (omega (arith, only_there k x y p, slice_get_within rows (k + 1) y p.second))
 
-  pub first_there : (x y : LineRow) → 0 < place → place < length rows → slice_get rows (place - 1) ≡ Some x → slice_get rows place ≡ Some y → IsFirstPairOf a rows x y
+  pub first_there : (x y : LineRow) → 0 < index → index < length rows → slice_get rows (index - 1) ≡ Some x → slice_get rows index ≡ Some y → IsFirstPairOf a rows x y
   first_there x y some within first second =
-      let same : place - 1 + 1 ≡ place = omega arith in
+      let same : index - 1 + 1 ≡ index = omega arith in
       record {
-        place = place - 1;
+        index = index - 1;
         is_pair = record {
           first = first;
           second = ap (slice_get rows) same ∙ second;
-          from = subst (λ (r : LineRow). r.address ≤ a) (get_or_from_slice_get rows (place - 1) x x first) (before (place - 1) x (omega arith));
-          before = subst (λ (r : LineRow). a < r.address) (get_or_from_slice_get rows place y x second) (behind place x (omega arith) within);
+          from = subst (λ (r : LineRow). r.address ≤ a) (get_or_from_slice_get rows (index - 1) x x first) (before (index - 1) x (omega arith));
+          before = subst (λ (r : LineRow). a < r.address) (get_or_from_slice_get rows index y x second) (after index x (omega arith) within);
         };
         none_before = λ k z w lt p. absurd (omega (arith, only_there k z w p));
       }
 
 -- ---- row by row
 
-pub first_scanned : (a : ℕ) (rows : List LineRow) (place : ℕ) (x y : LineRow) → 0 < place
-    → ((k : ℕ) (d : LineRow) → k + 1 ≡ place → (slice_index_or rows k d).address ≤ a) → a < (slice_index_or rows place y).address
-    → slice_get rows (place - 1) ≡ Some x → slice_get rows place ≡ Some y → ((k : ℕ) (z w : LineRow) → k + 1 < place → IsPairAt a rows k z w → ⊥)
+pub first_scanned : (a : ℕ) (rows : List LineRow) (index : ℕ) (x y : LineRow) → 0 < index
+    → ((k : ℕ) (d : LineRow) → k + 1 ≡ index → (slice_index_or rows k d).address ≤ a) → a < (slice_index_or rows index y).address
+    → slice_get rows (index - 1) ≡ Some x → slice_get rows index ≡ Some y → ((k : ℕ) (z w : LineRow) → k + 1 < index → IsPairAt a rows k z w → ⊥)
     → IsFirstPairOf a rows x y
-first_scanned a rows place x y some from above first second none =
-    let same : place - 1 + 1 ≡ place = omega arith in
+first_scanned a rows index x y some from above first second none =
+    let same : index - 1 + 1 ≡ index = omega arith in
     record {
-      place = place - 1;
+      index = index - 1;
       is_pair = record {
         first = first;
         second = ap (slice_get rows) same ∙ second;
-        from = subst (λ (r : LineRow). r.address ≤ a) (get_or_from_slice_get rows (place - 1) x x first) (from (place - 1) x same);
-        before = subst (λ (r : LineRow). a < r.address) (get_or_from_slice_get rows place y y second) above;
+        from = subst (λ (r : LineRow). r.address ≤ a) (get_or_from_slice_get rows (index - 1) x x first) (from (index - 1) x same);
+        before = subst (λ (r : LineRow). a < r.address) (get_or_from_slice_get rows index y y second) above;
       };
       none_before = λ k z w lt p. none k z w (omega arith) p;
     }
 
-pub none_more : (a : ℕ) (rows : List LineRow) (place : ℕ) → ((k : ℕ) (x y : LineRow) → k + 1 < place → IsPairAt a rows k x y → ⊥)
-    → ((k : ℕ) (d : LineRow) → k + 1 ≡ place → a < (slice_index_or rows k d).address) ⊎ ((d : LineRow) → (slice_index_or rows place d).address ≤ a)
-    → (k : ℕ) (x y : LineRow) → k + 1 < place + 1 → IsPairAt a rows k x y → ⊥
-none_more a rows place none apart k x y lt p = elim (cases_order (k + 1) place) [
-  | inl same ↦ at_place same apart
+pub none_more : (a : ℕ) (rows : List LineRow) (index : ℕ) → ((k : ℕ) (x y : LineRow) → k + 1 < index → IsPairAt a rows k x y → ⊥)
+    → ((k : ℕ) (d : LineRow) → k + 1 ≡ index → a < (slice_index_or rows k d).address) ⊎ ((d : LineRow) → (slice_index_or rows index d).address ≤ a)
+    → (k : ℕ) (x y : LineRow) → k + 1 < index + 1 → IsPairAt a rows k x y → ⊥
+none_more a rows index none apart k x y lt p = elim (cases_order (k + 1) index) [
+  | inl same ↦ at_index same apart
   | inr (inl less) ↦ none k x y less p
   | inr (inr more) ↦ absurd (omega arith)
 ]
   where
-    at_place : k + 1 ≡ place → ((k : ℕ) (d : LineRow) → k + 1 ≡ place → a < (slice_index_or rows k d).address) ⊎ ((d : LineRow) → (slice_index_or rows place d).address ≤ a) → ⊥
-    at_place same (inl above) =
+    at_index : k + 1 ≡ index → ((k : ℕ) (d : LineRow) → k + 1 ≡ index → a < (slice_index_or rows k d).address) ⊎ ((d : LineRow) → (slice_index_or rows index d).address ≤ a) → ⊥
+    at_index same (inl above) =
         let first : (slice_index_or rows k x).address ≡ x.address = ap (λ (r : LineRow). r.address) (get_or_from_slice_get rows k x x p.first) in
         absurd (omega (arith, above k x same, first, p.from))
-    at_place same (inr from) =
-        let second : (slice_index_or rows place y).address ≡ y.address =
-        ap (λ (r : LineRow). r.address) (get_or_from_slice_get rows place y y (ap (slice_get rows) (sym same) ∙ p.second)) in
+    at_index same (inr from) =
+        let second : (slice_index_or rows index y).address ≡ y.address =
+        ap (λ (r : LineRow). r.address) (get_or_from_slice_get rows index y y (ap (slice_get rows) (sym same) ∙ p.second)) in
         absurd (omega (arith, from y, second, p.before))
 
 -- ---- one sequence after the other
@@ -133,10 +133,10 @@ first_found a sequences i rows x y lt item none first = record {
 
 -- a sequence with a pair has rows
 pub has_rows : (a : ℕ) (rows : List LineRow) (x y : LineRow) → IsFirstPairOf a rows x y → 0 < length rows
-has_rows a rows x y first = omega (arith, slice_get_within rows first.place x first.is_pair.first)
+has_rows a rows x y first = omega (arith, slice_get_within rows first.index x first.is_pair.first)
 
 -- the sequence of a first pair is one of those
-pub first_pair_of_place : (a : ℕ) (sequences : List (List LineRow)) (place : ℕ) (x y : LineRow) → IsFirstPairIn a sequences place x y → IsFirstPair a sequences x y
-first_pair_of_place a sequences place x y first =
-    first_found a sequences place first.rows x y (slice_get_within sequences place first.rows first.there)
-    (sym (get_or_from_slice_get sequences place first.rows first.rows first.there)) first.none_earlier first.is_first
+pub first_pair_of_index : (a : ℕ) (sequences : List (List LineRow)) (index : ℕ) (x y : LineRow) → IsFirstPairIn a sequences index x y → IsFirstPair a sequences x y
+first_pair_of_index a sequences index x y first =
+    first_found a sequences index first.rows x y (slice_get_within sequences index first.rows first.there)
+    (sym (get_or_from_slice_get sequences index first.rows first.rows first.there)) first.none_earlier first.is_first

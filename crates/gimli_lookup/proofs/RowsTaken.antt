@@ -8,7 +8,7 @@ use Rattle.gimli_line.specs.declared.run.row.LineRow.{LineRow}
 use Rattle.gimli_line.specs.header.File.{File}
 use Rattle.gimli_line.specs.run.Events.{row}
 use Rattle.gimli_line.specs.run.EventsWithFiles.{EventWithFiles}
-use Rattle.gimli_line.specs.run.Progress.{ready}
+use Rattle.gimli_line.specs.run.Progress.{with_reset_row}
 use Rattle.gimli_line.specs.run.RunState.{RunState}
 use Rattle.gimli_line.specs.run.Rows.{events_left, files_at_end, KeepsHeader, RowIs, EndIs, FaultIs}
 use Rattle.gimli_line.specs.run.Sequences.{events_of}
@@ -77,7 +77,7 @@ to_end first old new from to t keeps next = record {
 }
 
 pub to_fault : (first old new : RunState) (from to : SequenceCut) (e : Error) → TakesIn first old from to → KeepsHeader old new → (e ≡ OutOfMemory → ⊥)
-    → FaultIs (ready old) new e → AreTaken first new (Some e) from to
+    → FaultIs (with_reset_row old) new e → AreTaken first new (Some e) from to
 to_fault first old new from to e t keeps other (inl memory) = absurd (other memory.0)
 to_fault first old new from to e t keeps other (inr comes) = record {
   rows = t.rows;
@@ -93,7 +93,7 @@ fewer old new r files next = omega (arith, ap length next.0)
 
 -- a refusal that isn't for memory is the first fault
 pub fault_taken : (first old new : RunState) (from to : SequenceCut) (e : Error) (answer : Result (Option Error) Error) → TakesIn first old from to → KeepsHeader old new
-    → FaultIs (ready old) new e → IfOk answer (λ found. (found ≡ Some e) × (e ≢ OutOfMemory)) → IfOk answer (λ found. AreTaken first new found from to)
+    → FaultIs (with_reset_row old) new e → IfOk answer (λ found. (found ≡ Some e) × (e ≢ OutOfMemory)) → IfOk answer (λ found. AreTaken first new found from to)
 fault_taken first old new from to e (Ok found) t keeps is as_is =
     subst (λ (o : Option Error). AreTaken first new o from to) (sym as_is.0) (to_fault first old new from to e t keeps as_is.1 is)
 fault_taken first old new from to e (Err d) t keeps is as_is = tt

@@ -7,8 +7,8 @@ use Rattle.gimli_core.specs.declared.error.Error.{Error}
 use Rattle.gimli_line.specs.declared.run.row.LineRow.{LineRow}
 use Rattle.gimli_line.specs.header.File.{File}
 use Rattle.gimli_line.specs.header.Header.{Header}
-use Rattle.gimli_line.specs.run.Events.{Event, row, fault, Events, events_at, events_behind, end_events}
-use Rattle.gimli_line.specs.run.EventsWithFiles.{EventWithFiles, EventsWithFiles, with_files, files_at, events_with_files_behind}
+use Rattle.gimli_line.specs.run.Events.{Event, row, fault, Events, events_at, events_after, end_events}
+use Rattle.gimli_line.specs.run.EventsWithFiles.{EventWithFiles, EventsWithFiles, with_files, files_at, events_with_files_after}
 use Rattle.gimli_line.specs.run.Instruction.{Ins}
 use Rattle.gimli_line.specs.run.Sequences.{events_of, HasFirstFault}
 
@@ -18,23 +18,23 @@ events_of_at : (files : List File) (es : List Event) → events_of (with_files f
 events_of_at files [] = refl
 events_of_at files (e ∷ es) = ap (λ (xs : List Event). e ∷ xs) (events_of_at files es)
 
-events_of_behind : (a : Bool) (h : Header) (past list : List Ins) (end : Option Error)
-    → events_of (events_with_files_behind a h past list end) ≡ events_behind h.parameters past list ++ end_events end
-events_of_behind a h past [] end = events_of_at (files_at a h.files past) (end_events end)
-events_of_behind a h past (i ∷ list) end =
+events_of_after : (a : Bool) (h : Header) (past list : List Ins) (end : Option Error)
+    → events_of (events_with_files_after a h past list end) ≡ events_after h.parameters past list ++ end_events end
+events_of_after a h past [] end = events_of_at (files_at a h.files past) (end_events end)
+events_of_after a h past (i ∷ list) end =
     let files = files_at a h.files past in
     let here = events_at h.parameters past i in
-    map-append (λ (t : EventWithFiles). t.event) (with_files files here) (events_with_files_behind a h (i ∷ past) list end)
-    ∙ ap (λ (xs : List Event). xs ++ events_of (events_with_files_behind a h (i ∷ past) list end)) (events_of_at files here)
-    ∙ ap (λ (xs : List Event). here ++ xs) (events_of_behind a h (i ∷ past) list end)
-    ∙ sym (append_assoc here (events_behind h.parameters (i ∷ past) list) (end_events end))
+    map-append (λ (t : EventWithFiles). t.event) (with_files files here) (events_with_files_after a h (i ∷ past) list end)
+    ∙ ap (λ (xs : List Event). xs ++ events_of (events_with_files_after a h (i ∷ past) list end)) (events_of_at files here)
+    ∙ ap (λ (xs : List Event). here ++ xs) (events_of_after a h (i ∷ past) list end)
+    ∙ sym (append_assoc here (events_after h.parameters (i ∷ past) list) (end_events end))
 
 -- ---- after some rows
 
 module _ (notation : Notation) (h : Header) (events left : List EventWithFiles) (rows : List LineRow) (given : EventsWithFiles notation true h h.program events)
     (so_far : events_of events ≡ map row rows ++ events_of left) where
-  whole : events_of events ≡ events_behind h.parameters [] given.list ++ end_events given.end
-  whole = ap events_of given.given ∙ events_of_behind true h [] given.list given.end
+  whole : events_of events ≡ events_after h.parameters [] given.list ++ end_events given.end
+  whole = ap events_of given.given ∙ events_of_after true h [] given.list given.end
 
   -- nothing comes: these are all rows
   pub run_ended : left ≡ [] → Events notation h h.program (map row rows)

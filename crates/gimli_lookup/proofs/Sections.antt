@@ -23,12 +23,12 @@ pub record HasPlaces (from end : ℕ) (u : ListedUnit) : Type 0 where
   pub order : u.first ≤ u.end
   pub ends : u.end ≤ end
 
-pub has_places : (from : ℕ) (units : List ListedUnit) (end : ℕ) (k : ℕ) (d : ListedUnit) → AreAdjacent from units end → k < length units
+pub has_indexes : (from : ℕ) (units : List ListedUnit) (end : ℕ) (k : ℕ) (d : ListedUnit) → AreAdjacent from units end → k < length units
     → HasPlaces from end (slice_index_or units k d)
-has_places from [] end k d are lt = absurd (omega arith)
-has_places from (u ∷ units) end zero d are lt = record { starts = omega (arith, are.0); order = are.1; ends = up_to_end u.end units end are.2 }
-has_places from (u ∷ units) end (suc k) d are lt =
-    let later : HasPlaces u.end end (slice_index_or units k d) = has_places u.end units end k d are.2 (omega arith) in
+has_indexes from [] end k d are lt = absurd (omega arith)
+has_indexes from (u ∷ units) end zero d are lt = record { starts = omega (arith, are.0); order = are.1; ends = up_to_end u.end units end are.2 }
+has_indexes from (u ∷ units) end (suc k) d are lt =
+    let later : HasPlaces u.end end (slice_index_or units k d) = has_indexes u.end units end k d are.2 (omega arith) in
     record { starts = omega (arith, are.0, are.1, later.starts); order = later.order; ends = later.ends }
 
 -- the sequences of the unit at a place
@@ -62,9 +62,9 @@ have_all sequences units are = have_rest sequences 0 units are
 
 -- ---- the unit of a sequence
 
-pub has_units : (units : List ListedUnit) (end place : ℕ) → AreAdjacent 0 units end → place < end → 0 < length units
-has_units [] end place are lt = absurd (omega (arith, are, lt))
-has_units (u ∷ units) end place are lt = omega arith
+pub has_units : (units : List ListedUnit) (end index : ℕ) → AreAdjacent 0 units end → index < end → 0 < length units
+has_units [] end index are lt = absurd (omega (arith, are, lt))
+has_units (u ∷ units) end index are lt = omega arith
 
 pub starts_at : (from : ℕ) (units : List ListedUnit) (end : ℕ) (d : ListedUnit) → AreAdjacent from units end → 0 < length units → (slice_index_or units 0 d).first ≡ from
 starts_at from [] end d are some = absurd (omega arith)
@@ -93,7 +93,7 @@ pub earlier_ends : (from : ℕ) (units : List ListedUnit) (end j k : ℕ) (d e :
 earlier_ends from [] end j k d e are lt within = absurd (omega arith)
 earlier_ends from (u ∷ units) end j zero d e are lt within = absurd (omega arith)
 earlier_ends from (u ∷ units) end zero (suc k) d e are lt within =
-    let later : HasPlaces u.end end (slice_index_or units k e) = has_places u.end units end k e are.2 (omega arith) in
+    let later : HasPlaces u.end end (slice_index_or units k e) = has_indexes u.end units end k e are.2 (omega arith) in
     later.starts
 earlier_ends from (u ∷ units) end (suc j) (suc k) d e are lt within = earlier_ends u.end units end j k d e are.2 (omega arith) (omega arith)
 

@@ -55,9 +55,9 @@ more_before a steps i s lt item above =
 
 -- ---- the last step that counts
 
-pub at_place : (a : ℕ) (steps : List Step) (n : ℕ) → n ≤ length steps → ((k : ℕ) (d : Step) → n ≤ k → k < length steps → a < (slice_index_or steps k d).from)
+pub at_index : (a : ℕ) (steps : List Step) (n : ℕ) → n ≤ length steps → ((k : ℕ) (d : Step) → n ≤ k → k < length steps → a < (slice_index_or steps k d).from)
     → step_at a steps ≡ step_at a (take n steps)
-at_place a steps n within after =
+at_index a steps n within after =
     ap (step_at a) (sym (take-append-drop n steps))
     ∙ fold-append (at_step a) None (take n steps) (drop n steps)
     ∙ before_all a (step_at a (take n steps)) (drop n steps)
@@ -65,11 +65,11 @@ at_place a steps n within after =
     subst (λ (s : Step). a < s.from) (sym (get_or-drop n steps k d)) (after (n + k) d (omega arith) (omega (arith, lt, length-drop n steps))))
 
 pub none_before : (a : ℕ) (steps : List Step) → ((k : ℕ) (d : Step) → 0 ≤ k → k < length steps → a < (slice_index_or steps k d).from) → step_at a steps ≡ None
-none_before a steps after = at_place a steps 0 (omega arith) after
+none_before a steps after = at_index a steps 0 (omega arith) after
 
 pub last_before : (a : ℕ) (steps : List Step) (n : ℕ) (s : Step) → n < length steps → slice_index_or steps n s ≡ s → s.from ≤ a
     → ((k : ℕ) (d : Step) → n + 1 ≤ k → k < length steps → a < (slice_index_or steps k d).from) → step_at a steps ≡ s.sequence
-last_before a steps n s lt item le after = at_place a steps (n + 1) (omega arith) after ∙ more_from a steps n s lt item le
+last_before a steps n s lt item le after = at_index a steps (n + 1) (omega arith) after ∙ more_from a steps n s lt item le
 
 -- ---- order
 

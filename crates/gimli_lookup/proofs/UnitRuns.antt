@@ -10,8 +10,8 @@ use Rattle.gimli_line.specs.header.File.{File}
 use Rattle.gimli_line.specs.header.Header.{Header}
 use Rattle.gimli_line.specs.header.Orders.{HeaderOrders}
 use Rattle.gimli_line.specs.run.Instruction.{Ins}
-use Rattle.gimli_line.specs.run.Events.{Events, Event, row, events_at, events_behind, end_events}
-use Rattle.gimli_line.specs.run.EventsWithFiles.{EventWithFiles, EventsWithFiles, FilesAtEnd, with_files, files_at, events_with_files_behind}
+use Rattle.gimli_line.specs.run.Events.{Events, Event, row, events_at, events_after, end_events}
+use Rattle.gimli_line.specs.run.EventsWithFiles.{EventWithFiles, EventsWithFiles, FilesAtEnd, with_files, files_at, events_with_files_after}
 use Rattle.gimli_line.specs.run.RunState.{RunState}
 use Rattle.gimli_line.specs.run.Rows.{events_left, files_at_end, whole_run}
 use Rattle.gimli_line.specs.run.Sequences.{events_of}
@@ -26,16 +26,16 @@ events_of_at : (files : List File) (es : List Event) → events_of (with_files f
 events_of_at files [] = refl
 events_of_at files (e ∷ es) = ap (λ (xs : List Event). e ∷ xs) (events_of_at files es)
 
-events_of_behind : (a : Bool) (h : Header) (past list : List Ins) (end : Option Error)
-    → events_of (events_with_files_behind a h past list end) ≡ events_behind h.parameters past list ++ end_events end
-events_of_behind a h past [] end = events_of_at (files_at a h.files past) (end_events end)
-events_of_behind a h past (i ∷ list) end =
+events_of_after : (a : Bool) (h : Header) (past list : List Ins) (end : Option Error)
+    → events_of (events_with_files_after a h past list end) ≡ events_after h.parameters past list ++ end_events end
+events_of_after a h past [] end = events_of_at (files_at a h.files past) (end_events end)
+events_of_after a h past (i ∷ list) end =
     let files = files_at a h.files past in
     let here = events_at h.parameters past i in
-    map-append (λ (t : EventWithFiles). t.event) (with_files files here) (events_with_files_behind a h (i ∷ past) list end)
-    ∙ ap (λ (xs : List Event). xs ++ events_of (events_with_files_behind a h (i ∷ past) list end)) (events_of_at files here)
-    ∙ ap (λ (xs : List Event). here ++ xs) (events_of_behind a h (i ∷ past) list end)
-    ∙ sym (append_assoc here (events_behind h.parameters (i ∷ past) list) (end_events end))
+    map-append (λ (t : EventWithFiles). t.event) (with_files files here) (events_with_files_after a h (i ∷ past) list end)
+    ∙ ap (λ (xs : List Event). xs ++ events_of (events_with_files_after a h (i ∷ past) list end)) (events_of_at files here)
+    ∙ ap (λ (xs : List Event). here ++ xs) (events_of_after a h (i ∷ past) list end)
+    ∙ sym (append_assoc here (events_after h.parameters (i ∷ past) list) (end_events end))
 
 pub events_alone : (notation : Notation) (appends : Bool) (h : Header) (bytes : List ℕ) (events : List EventWithFiles)
     → EventsWithFiles notation appends h bytes events → Events notation h bytes (events_of events)
@@ -43,7 +43,7 @@ events_alone notation appends h bytes events tells = record {
   list = tells.list;
   end = tells.end;
   decoding = tells.decoding;
-  given = ap events_of tells.given ∙ events_of_behind appends h [] tells.list tells.end;
+  given = ap events_of tells.given ∙ events_of_after appends h [] tells.list tells.end;
 }
 
 -- ---- what comes before the first fault

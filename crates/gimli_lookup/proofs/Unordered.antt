@@ -8,9 +8,9 @@ use Rattle.std.proofs.lemmas.Option.{slice_get-get_or, slice_get_within}
 use Rattle.gimli_line.specs.declared.run.row.LineRow.{LineRow}
 use Rattle.gimli_lookup.specs.declared.steps.Step.{Step}
 use Rattle.gimli_lookup.specs.FirstPair.{HasNoPair, IsFirstPairOf, IsFirstPairIn}
-use Rattle.gimli_lookup.specs.Covering.{covers, covering_place, scan_probes, IsLookedInto}
+use Rattle.gimli_lookup.specs.Covering.{covers, covering_index, scan_probes, IsLookedInto}
 use Rattle.gimli_lookup.specs.Probes.{never_go_down}
-use Rattle.gimli_lookup.specs.Steps.{step_at, places_out_of_order, HaveNoUnorderedPair, IsFirstUnorderedPair}
+use Rattle.gimli_lookup.specs.Steps.{step_at, indexes_out_of_order, HaveNoUnorderedPair, IsFirstUnorderedPair}
 use Rattle.gimli_lookup.proofs.CoveringPairs.{IsFirstCovering, cases_covering, uncovered_has_none}
 
 -- what holds of each sequence before a place
@@ -23,61 +23,61 @@ all_taken P sequences n within each k d lt =
 -- ---- the places of the sequences whose addresses go down
 
 -- the next of the places
-pub record IsNextUnordered (first : ℕ) (sequences : List (List LineRow)) (place : ℕ) (places : List ℕ) : Type 0 where
-  pub at_least : first ≤ place
-  pub within : place - first < length sequences
-  pub down : (d : List LineRow) → never_go_down (slice_index_or sequences (place - first) d) ≡ false
-  pub between : (k : ℕ) (d : List LineRow) → k < place - first → never_go_down (slice_index_or sequences k d) ≡ true
-  pub others : places ≡ places_out_of_order (place + 1) (drop (place + 1 - first) sequences)
+pub record IsNextUnordered (first : ℕ) (sequences : List (List LineRow)) (index : ℕ) (indexes : List ℕ) : Type 0 where
+  pub at_least : first ≤ index
+  pub within : index - first < length sequences
+  pub down : (d : List LineRow) → never_go_down (slice_index_or sequences (index - first) d) ≡ false
+  pub between : (k : ℕ) (d : List LineRow) → k < index - first → never_go_down (slice_index_or sequences k d) ≡ true
+  pub others : indexes ≡ indexes_out_of_order (index + 1) (drop (index + 1 - first) sequences)
 
-pub next_unordered : (first : ℕ) (sequences : List (List LineRow)) (place : ℕ) (places : List ℕ) → place ∷ places ≡ places_out_of_order first sequences
-    → IsNextUnordered first sequences place places
-next_unordered first [] place places is = cc
-next_unordered first (rows ∷ later) place places is = by_order (never_go_down rows) refl (next_unordered (first + 1) later place places) is
+pub next_unordered : (first : ℕ) (sequences : List (List LineRow)) (index : ℕ) (indexes : List ℕ) → index ∷ indexes ≡ indexes_out_of_order first sequences
+    → IsNextUnordered first sequences index indexes
+next_unordered first [] index indexes is = cc
+next_unordered first (rows ∷ later) index indexes is = by_order (never_go_down rows) refl (next_unordered (first + 1) later index indexes) is
   where
     by_order : (b : Bool) → never_go_down rows ≡ b
-        → (place ∷ places ≡ places_out_of_order (first + 1) later → IsNextUnordered (first + 1) later place places)
-        → place ∷ places ≡ cond b (places_out_of_order (first + 1) later) (first ∷ places_out_of_order (first + 1) later)
-        → IsNextUnordered first (rows ∷ later) place places
+        → (index ∷ indexes ≡ indexes_out_of_order (first + 1) later → IsNextUnordered (first + 1) later index indexes)
+        → index ∷ indexes ≡ cond b (indexes_out_of_order (first + 1) later) (first ∷ indexes_out_of_order (first + 1) later)
+        → IsNextUnordered first (rows ∷ later) index indexes
     by_order true order later_next e =
         let h = later_next e in
-        let after : place - first ≡ suc (place - (first + 1)) = omega (arith, h.at_least) in
-        let rest_after : place + 1 - first ≡ suc (place + 1 - (first + 1)) = omega (arith, h.at_least) in
+        let after : index - first ≡ suc (index - (first + 1)) = omega (arith, h.at_least) in
+        let rest_after : index + 1 - first ≡ suc (index + 1 - (first + 1)) = omega (arith, h.at_least) in
         record {
           at_least = omega (arith, h.at_least);
           within = omega (arith, h.within, after);
           down = λ d. ap (λ (k : ℕ). never_go_down (slice_index_or (rows ∷ later) k d)) after ∙ h.down d;
           between = earlier h after;
-          others = h.others ∙ ap (λ (k : ℕ). places_out_of_order (place + 1) (drop k (rows ∷ later))) (sym rest_after);
+          others = h.others ∙ ap (λ (k : ℕ). indexes_out_of_order (index + 1) (drop k (rows ∷ later))) (sym rest_after);
         }
       where
-        earlier : IsNextUnordered (first + 1) later place places → place - first ≡ suc (place - (first + 1)) → (k : ℕ) (d : List LineRow) → k < place - first
+        earlier : IsNextUnordered (first + 1) later index indexes → index - first ≡ suc (index - (first + 1)) → (k : ℕ) (d : List LineRow) → k < index - first
             → never_go_down (slice_index_or (rows ∷ later) k d) ≡ true
         earlier h after zero d lt = order
         earlier h after (suc k) d lt = h.between k d (omega arith)
     by_order false goes_down later_next e =
-        let same : place ≡ first = cc in
-        let rest : places ≡ places_out_of_order (first + 1) later = cc in
-        let none : place - first ≡ zero = omega arith in
-        let one : place + 1 - first ≡ suc zero = omega arith in
+        let same : index ≡ first = cc in
+        let rest : indexes ≡ indexes_out_of_order (first + 1) later = cc in
+        let none : index - first ≡ zero = omega arith in
+        let one : index + 1 - first ≡ suc zero = omega arith in
         record {
           at_least = omega arith;
           within = omega arith;
           down = λ d. ap (λ (k : ℕ). never_go_down (slice_index_or (rows ∷ later) k d)) none ∙ goes_down;
           between = λ k d lt. absurd (omega arith);
           others = rest
-              ∙ ap (λ (k : ℕ). places_out_of_order (k + 1) later) (sym same)
-              ∙ ap (λ (k : ℕ). places_out_of_order (place + 1) (drop k (rows ∷ later))) (sym one);
+              ∙ ap (λ (k : ℕ). indexes_out_of_order (k + 1) later) (sym same)
+              ∙ ap (λ (k : ℕ). indexes_out_of_order (index + 1) (drop k (rows ∷ later))) (sym one);
         }
 
-pub none_unordered : (first : ℕ) (sequences : List (List LineRow)) → [] ≡ places_out_of_order first sequences
+pub none_unordered : (first : ℕ) (sequences : List (List LineRow)) → [] ≡ indexes_out_of_order first sequences
     → (k : ℕ) (d : List LineRow) → k < length sequences → never_go_down (slice_index_or sequences k d) ≡ true
 none_unordered first [] is k d lt = absurd (omega arith)
 none_unordered first (rows ∷ later) is k d lt = by_order (never_go_down rows) refl (none_unordered (first + 1) later) is k d lt
   where
     by_order : (b : Bool) → never_go_down rows ≡ b
-        → ([] ≡ places_out_of_order (first + 1) later → (k : ℕ) (d : List LineRow) → k < length later → never_go_down (slice_index_or later k d) ≡ true)
-        → [] ≡ cond b (places_out_of_order (first + 1) later) (first ∷ places_out_of_order (first + 1) later)
+        → ([] ≡ indexes_out_of_order (first + 1) later → (k : ℕ) (d : List LineRow) → k < length later → never_go_down (slice_index_or later k d) ≡ true)
+        → [] ≡ cond b (indexes_out_of_order (first + 1) later) (first ∷ indexes_out_of_order (first + 1) later)
         → (k : ℕ) (d : List LineRow) → k < length (rows ∷ later) → never_go_down (slice_index_or (rows ∷ later) k d) ≡ true
     by_order true order later_order e zero d lt = order
     by_order true order later_order e (suc k) d lt = later_order e k d (omega arith)
@@ -108,39 +108,39 @@ down_some (r ∷ rows) goes_down = omega arith
 pub record Scanned (a : ℕ) (sequences : List (List LineRow)) (left : List ℕ) (at_start now : ℕ) : Type 0 where
   pub from : ℕ
   pub within : from ≤ length sequences
-  pub places : left ≡ places_out_of_order from (drop from sequences)
+  pub indexes : left ≡ indexes_out_of_order from (drop from sequences)
   pub none : (k : ℕ) (d : List LineRow) → k < from → never_go_down (slice_index_or sequences k d) ≡ false → HasNoPair a (slice_index_or sequences k d)
   pub grows : at_start ≤ now
   pub at_least : 0 < sum_by scan_probes (take from sequences) → at_start < now
   pub at_most : now ≤ at_start + sum_by scan_probes (take from sequences)
 
-pub scan_start : (a : ℕ) (sequences : List (List LineRow)) (places : List ℕ) (n : ℕ) → places ≡ places_out_of_order 0 sequences → Scanned a sequences places n n
-scan_start a sequences places n is = record {
+pub scan_start : (a : ℕ) (sequences : List (List LineRow)) (indexes : List ℕ) (n : ℕ) → indexes ≡ indexes_out_of_order 0 sequences → Scanned a sequences indexes n n
+scan_start a sequences indexes n is = record {
   from = 0;
   within = omega arith;
-  places = is;
+  indexes = is;
   none = λ k d lt. absurd (omega arith);
   grows = omega arith;
   at_least = λ some. absurd (omega arith);
   at_most = omega arith;
 }
 
-module _ (a : ℕ) (sequences : List (List LineRow)) (place : ℕ) (others : List ℕ) (at_start now : ℕ) (scanned : Scanned a sequences (place ∷ others) at_start now) where
-  next : IsNextUnordered scanned.from (drop scanned.from sequences) place others
-  next = next_unordered scanned.from (drop scanned.from sequences) place others scanned.places
+module _ (a : ℕ) (sequences : List (List LineRow)) (index : ℕ) (others : List ℕ) (at_start now : ℕ) (scanned : Scanned a sequences (index ∷ others) at_start now) where
+  next : IsNextUnordered scanned.from (drop scanned.from sequences) index others
+  next = next_unordered scanned.from (drop scanned.from sequences) index others scanned.indexes
 
-  pub next_within : place < length sequences
+  pub next_within : index < length sequences
   next_within = omega (arith, next.within, next.at_least, length-drop scanned.from sequences)
 
-  pub next_down : (d : List LineRow) → never_go_down (slice_index_or sequences place d) ≡ false
+  pub next_down : (d : List LineRow) → never_go_down (slice_index_or sequences index d) ≡ false
   next_down d =
-      let there : scanned.from + (place - scanned.from) ≡ place = omega (arith, next.at_least) in
+      let there : scanned.from + (index - scanned.from) ≡ index = omega (arith, next.at_least) in
       ap (λ (k : ℕ). never_go_down (slice_index_or sequences k d)) (sym there)
-      ∙ ap never_go_down (sym (get_or-drop scanned.from sequences (place - scanned.from) d))
+      ∙ ap never_go_down (sym (get_or-drop scanned.from sequences (index - scanned.from) d))
       ∙ next.down d
 
   -- those before the place have no pair, if their addresses go down
-  pub none_before : (k : ℕ) (d : List LineRow) → k < place → never_go_down (slice_index_or sequences k d) ≡ false → HasNoPair a (slice_index_or sequences k d)
+  pub none_before : (k : ℕ) (d : List LineRow) → k < index → never_go_down (slice_index_or sequences k d) ≡ false → HasNoPair a (slice_index_or sequences k d)
   none_before k d lt goes_down = elim (cases_lt k scanned.from) [
     | inl before ↦ scanned.none k d before goes_down
     | inr after ↦
@@ -152,33 +152,33 @@ module _ (a : ℕ) (sequences : List (List LineRow)) (place : ℕ) (others : Lis
         absurd (true≢false (sym order ∙ goes_down))
   ]
 
-  so_far : sum_by scan_probes (take scanned.from sequences) ≤ sum_by scan_probes (take place sequences)
+  so_far : sum_by scan_probes (take scanned.from sequences) ≤ sum_by scan_probes (take index sequences)
   so_far =
       omega (
         arith,
-        sum_by-take-le scan_probes (take place sequences) scanned.from,
-        ap (sum_by scan_probes) (take-take scanned.from place sequences (next.at_least)),
+        sum_by-take-le scan_probes (take index sequences) scanned.from,
+        ap (sum_by scan_probes) (take-take scanned.from index sequences (next.at_least)),
       )
 
   -- the count can grow by the rows at the place
-  pub next_fits : (rows : List LineRow) → rows ≡ slice_index_or sequences place rows → at_start + sum_by length sequences < 2 ^ 64 → now + length rows < 2 ^ 64
+  pub next_fits : (rows : List LineRow) → rows ≡ slice_index_or sequences index rows → at_start + sum_by length sequences < 2 ^ 64 → now + length rows < 2 ^ 64
   next_fits rows item fits =
       omega (
         arith,
         scanned.at_most,
         so_far,
-        sum_by_more_le_part scan_probes length sequences place rows next_within scan_few,
+        sum_by_more_le_part scan_probes length sequences index rows next_within scan_few,
         ap (λ (r : List LineRow). length r) item,
       )
 
-  module _ (rows : List LineRow) (item : rows ≡ slice_index_or sequences place rows) (later : ℕ) (grows : now ≤ later) (at_least : 0 < length rows → now < later) (at_most : later ≤ now + length rows) where
-    counted : later ≤ at_start + (sum_by scan_probes (take place sequences) + scan_probes (slice_index_or sequences place rows))
+  module _ (rows : List LineRow) (item : rows ≡ slice_index_or sequences index rows) (later : ℕ) (grows : now ≤ later) (at_least : 0 < length rows → now < later) (at_most : later ≤ now + length rows) where
+    counted : later ≤ at_start + (sum_by scan_probes (take index sequences) + scan_probes (slice_index_or sequences index rows))
     counted =
         omega (
           arith,
           scanned.at_most,
           so_far,
-          scan_down (slice_index_or sequences place rows) (next_down rows),
+          scan_down (slice_index_or sequences index rows) (next_down rows),
           ap (λ (r : List LineRow). length r) item,
         )
 
@@ -194,26 +194,26 @@ module _ (a : ℕ) (sequences : List (List LineRow)) (place : ℕ) (others : Lis
         omega (
           arith,
           counted,
-          sum_by_more scan_probes sequences place rows next_within,
-          sum_by-take-le scan_probes sequences (place + 1),
+          sum_by_more scan_probes sequences index rows next_within,
+          sum_by-take-le scan_probes sequences (index + 1),
         )
 
     pub scan_more : HasNoPair a rows → Scanned a sequences others at_start later
     scan_more none = record {
-      from = place + 1;
+      from = index + 1;
       within = omega (arith, next_within);
-      places = next.others ∙ ap (places_out_of_order (place + 1)) (dropped place next.at_least);
-      none = λ k d lt goes_down. elim (cases_lt k place) [
+      indexes = next.others ∙ ap (indexes_out_of_order (index + 1)) (dropped index next.at_least);
+      none = λ k d lt goes_down. elim (cases_lt k index) [
         | inl before ↦ none_before k d before goes_down
         | inr after ↦
-            let same : k ≡ place = omega arith in
+            let same : k ≡ index = omega arith in
             let there : rows ≡ slice_index_or sequences k d =
-            item ∙ get_or_default sequences place rows d next_within ∙ ap (λ (j : ℕ). slice_index_or sequences j d) (sym same) in
+            item ∙ get_or_default sequences index rows d next_within ∙ ap (λ (j : ℕ). slice_index_or sequences j d) (sym same) in
             subst (HasNoPair a) there none
       ];
       grows = omega (arith, grows, scanned.grows);
       at_least = λ some. more_at_least;
-      at_most = omega (arith, counted, sum_by_more scan_probes sequences place rows next_within);
+      at_most = omega (arith, counted, sum_by_more scan_probes sequences index rows next_within);
     }
       where
         dropped : (p : ℕ) → scanned.from ≤ p → drop (p + 1 - scanned.from) (drop scanned.from sequences) ≡ drop (p + 1) sequences
@@ -221,18 +221,18 @@ module _ (a : ℕ) (sequences : List (List LineRow)) (place : ℕ) (others : Lis
             let same : scanned.from + (p + 1 - scanned.from) ≡ p + 1 = omega arith in
             drop-drop (p + 1 - scanned.from) scanned.from sequences ∙ ap (λ (k : ℕ). drop k sequences) same
 
-  pub first_unordered : (end : ℕ) (rows : List LineRow) (x y : LineRow) → place < end → rows ≡ slice_index_or sequences place rows → IsFirstPairOf a rows x y
-      → IsFirstUnorderedPair a end sequences place x y
+  pub first_unordered : (end : ℕ) (rows : List LineRow) (x y : LineRow) → index < end → rows ≡ slice_index_or sequences index rows → IsFirstPairOf a rows x y
+      → IsFirstUnorderedPair a end sequences index x y
   first_unordered end rows x y before item first = record {
     rows = rows;
     before_end = before;
-    there = slice_get-get_or sequences place rows next_within ∙ ap (λ (r : List LineRow). Some r) (sym item);
-    none_earlier = all_taken (λ (r : List LineRow). never_go_down r ≡ false → HasNoPair a r) sequences place (omega (arith, next_within)) none_before;
+    there = slice_get-get_or sequences index rows next_within ∙ ap (λ (r : List LineRow). Some r) (sym item);
+    none_earlier = all_taken (λ (r : List LineRow). never_go_down r ≡ false → HasNoPair a r) sequences index (omega (arith, next_within)) none_before;
     is_first = first;
   }
 
   -- an end at or before the place
-  pub none_before_end : (end : ℕ) → end ≤ place → HaveNoUnorderedPair a (take end sequences)
+  pub none_before_end : (end : ℕ) → end ≤ index → HaveNoUnorderedPair a (take end sequences)
   none_before_end end le =
       all_taken (λ (r : List LineRow). never_go_down r ≡ false → HasNoPair a r) sequences end (omega (arith, next_within))
       (λ k d lt goes_down. none_before k d (omega arith) goes_down)
@@ -241,7 +241,7 @@ module _ (a : ℕ) (sequences : List (List LineRow)) (place : ℕ) (others : Lis
 
 module _ (a : ℕ) (sequences : List (List LineRow)) (at_start now : ℕ) (scanned : Scanned a sequences [] at_start now) where
   ordered_after : (k : ℕ) (d : List LineRow) → k < length (drop scanned.from sequences) → never_go_down (slice_index_or (drop scanned.from sequences) k d) ≡ true
-  ordered_after = none_unordered scanned.from (drop scanned.from sequences) scanned.places
+  ordered_after = none_unordered scanned.from (drop scanned.from sequences) scanned.indexes
 
   none_at_all : (k : ℕ) (d : List LineRow) → k < length sequences → never_go_down (slice_index_or sequences k d) ≡ false → HasNoPair a (slice_index_or sequences k d)
   none_at_all k d lt goes_down = elim (cases_lt k scanned.from) [
@@ -292,31 +292,31 @@ none_before_covering a end sequences within uncovered none =
     let same = get_or-take end sequences k d lt in
     subst (HasNoPair a) same (none k d inside (ap never_go_down same ∙ goes_down))))
 
-pub first_of_unordered : (a end : ℕ) (sequences : List (List LineRow)) (place : ℕ) (x y : LineRow) → NoneCovers a end sequences
-    → IsFirstUnorderedPair a end sequences place x y → IsFirstPairIn a sequences place x y
-first_of_unordered a end sequences place x y uncovered first =
-    let within : place ≤ length sequences = omega (arith, slice_get_within sequences place first.rows first.there) in
+pub first_of_unordered : (a end : ℕ) (sequences : List (List LineRow)) (index : ℕ) (x y : LineRow) → NoneCovers a end sequences
+    → IsFirstUnorderedPair a end sequences index x y → IsFirstPairIn a sequences index x y
+first_of_unordered a end sequences index x y uncovered first =
+    let within : index ≤ length sequences = omega (arith, slice_get_within sequences index first.rows first.there) in
     record {
       rows = first.rows;
       there = first.there;
-      none_earlier = none_before_covering a place sequences within (λ k d lt. uncovered k d (omega (arith, first.before_end))) first.none_earlier;
+      none_earlier = none_before_covering a index sequences within (λ k d lt. uncovered k d (omega (arith, first.before_end))) first.none_earlier;
       is_first = first.is_first;
     }
 
-pub first_of_covering : (a : ℕ) (sequences : List (List LineRow)) (place : ℕ) (rows : List LineRow) (x y : LineRow) → place < length sequences
-    → rows ≡ slice_index_or sequences place rows → NoneCovers a place sequences → HaveNoUnorderedPair a (take place sequences) → IsFirstPairOf a rows x y
-    → IsFirstPairIn a sequences place x y
-first_of_covering a sequences place rows x y within item uncovered none first = record {
+pub first_of_covering : (a : ℕ) (sequences : List (List LineRow)) (index : ℕ) (rows : List LineRow) (x y : LineRow) → index < length sequences
+    → rows ≡ slice_index_or sequences index rows → NoneCovers a index sequences → HaveNoUnorderedPair a (take index sequences) → IsFirstPairOf a rows x y
+    → IsFirstPairIn a sequences index x y
+first_of_covering a sequences index rows x y within item uncovered none first = record {
   rows = rows;
-  there = slice_get-get_or sequences place rows within ∙ ap (λ (r : List LineRow). Some r) (sym item);
-  none_earlier = none_before_covering a place sequences (omega arith) uncovered none;
+  there = slice_get-get_or sequences index rows within ∙ ap (λ (r : List LineRow). Some r) (sym item);
+  none_earlier = none_before_covering a index sequences (omega arith) uncovered none;
   is_first = first;
 }
 
 -- ---- the counts of a search
 
 -- a sequence that covers some address gives steps, and one whose addresses go down gives rows to scan
-pub looked_into : (sequences : List (List LineRow)) (steps : List Step) → ((a : ℕ) → step_at a steps ≡ covering_place a 0 sequences)
+pub looked_into : (sequences : List (List LineRow)) (steps : List Step) → ((a : ℕ) → step_at a steps ≡ covering_index a 0 sequences)
     → Any IsLookedInto sequences → (0 < length steps) ⊎ (0 < sum_by scan_probes sequences)
 looked_into sequences (s ∷ steps) value some = inl (omega arith)
 looked_into sequences [] value some = inr (by_kind some.4)
@@ -332,24 +332,24 @@ looked_into sequences [] value some = inr (by_kind some.4)
         omega (arith, get_or-le-sum_by scan_probes sequences some.0 some.1 some.2, there, down_some some.1 goes_down)
 
 -- a step says something, so there is one
-pub some_steps : (a : ℕ) (steps : List Step) (place : ℕ) → step_at a steps ≡ Some place → 0 < length steps
-some_steps a [] place is = cc
-some_steps a (s ∷ steps) place is = omega arith
+pub some_steps : (a : ℕ) (steps : List Step) (index : ℕ) → step_at a steps ≡ Some index → 0 < length steps
+some_steps a [] index is = cc
+some_steps a (s ∷ steps) index is = omega arith
 
 -- the rows of an ordered sequence and all that are scanned are rows of different sequences
-pub scan_and_rows : (sequences : List (List LineRow)) (place : ℕ) (rows : List LineRow) → place < length sequences → rows ≡ slice_index_or sequences place rows
+pub scan_and_rows : (sequences : List (List LineRow)) (index : ℕ) (rows : List LineRow) → index < length sequences → rows ≡ slice_index_or sequences index rows
     → never_go_down rows ≡ true → sum_by scan_probes sequences + length rows ≤ sum_by length sequences
-scan_and_rows sequences place rows within item order =
+scan_and_rows sequences index rows within item order =
     let here = ap (λ (r : List LineRow). length r) item in
-    let none = scan_ordered (slice_index_or sequences place rows) (ap never_go_down (sym item) ∙ order) in
+    let none = scan_ordered (slice_index_or sequences index rows) (ap never_go_down (sym item) ∙ order) in
     omega (
       arith,
       here,
       none,
-      sum_by-take-drop scan_probes sequences place,
-      sum_by-drop_more scan_probes sequences place rows within,
-      sum_by-take-drop length sequences place,
-      sum_by-drop_more length sequences place rows within,
-      sum_by-le-sum_by scan_probes length (take place sequences) scan_few,
-      sum_by-le-sum_by scan_probes length (drop (place + 1) sequences) scan_few,
+      sum_by-take-drop scan_probes sequences index,
+      sum_by-drop_more scan_probes sequences index rows within,
+      sum_by-take-drop length sequences index,
+      sum_by-drop_more length sequences index rows within,
+      sum_by-le-sum_by scan_probes length (take index sequences) scan_few,
+      sum_by-le-sum_by scan_probes length (drop (index + 1) sequences) scan_few,
     )

@@ -2,7 +2,7 @@
 use Rattle.std.proofs.Common.{◌≡◌, ℕ, Bool, true, false, ◌&&◌, ◌||◌, if◌then◌else◌, nat_eq, List, [], ◌∷◌, ◌++◌, Ok, Err, refl, sym, ap, ◌∙◌, append_assoc}
 use Rattle.std.specs.Prelude.{Result}
 use Rattle.std.specs.Char.{is_ascii_alphabetic}
-use Rattle.gimli_core.specs.Reading.{seen}
+use Rattle.gimli_core.specs.Reading.{result_map}
 use Rattle.gimli_line.specs.header.File.{File}
 use Rattle.gimli_lookup.specs.Strings.{Strings, string_of}
 use Rattle.gimli_lookup.specs.Paths.{Paths, is_separator, is_absolute, separator_after, path_in, path_from, ◌>>=◌, directory_string, directory_path, file_path, EndsWithOwnPath, HasAbsoluteRoot}
@@ -40,7 +40,7 @@ IsAbsolute r = (path : List ℕ) → r ≡ Ok path → is_absolute path ≡ true
 absolute_from : (directory : Result (List ℕ) PathError) (own : List ℕ) → IsAbsolute directory → IsAbsolute (path_from directory own)
 absolute_from directory own absolute = at_test (is_absolute own) refl directory absolute
   where
-    at_test : (b : Bool) → is_absolute own ≡ b → (d : Result (List ℕ) PathError) → IsAbsolute d → IsAbsolute (if b then Ok own else seen (λ base. path_in base own) d)
+    at_test : (b : Bool) → is_absolute own ≡ b → (d : Result (List ℕ) PathError) → IsAbsolute d → IsAbsolute (if b then Ok own else result_map (λ base. path_in base own) d)
     at_test true test d all path is = let same : own ≡ path = cc in ap is_absolute (sym same) ∙ test
     at_test false test (Ok base) all path is =
         let same : path_in base own ≡ path = cc in
@@ -71,7 +71,7 @@ absolute_path p f path root is =
 own_last : (directory : Result (List ℕ) PathError) (own path : List ℕ) → path_from directory own ≡ Ok path → (front : List ℕ) × (path ≡ front ++ own)
 own_last directory own path is = at_test (is_absolute own) directory is
   where
-    at_test : (b : Bool) (d : Result (List ℕ) PathError) → (if b then Ok own else seen (λ base. path_in base own) d) ≡ Ok path → (front : List ℕ) × (path ≡ front ++ own)
+    at_test : (b : Bool) (d : Result (List ℕ) PathError) → (if b then Ok own else result_map (λ base. path_in base own) d) ≡ Ok path → (front : List ℕ) × (path ≡ front ++ own)
     at_test true d is = ([], cc)
     at_test false (Ok base) is = (base ++ separator_after base, cc)
     at_test false (Err e) is = absurd cc

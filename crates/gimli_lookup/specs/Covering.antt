@@ -24,9 +24,9 @@ abbrev pub covers : ℕ → List LineRow → Bool
 covers a rows = never_go_down rows && is_between a (range rows)
 
 -- the place of the first sequence that covers an address, where the first of these has the place `first`
-abbrev pub covering_place : ℕ → ℕ → List (List LineRow) → Option ℕ
-covering_place a first [] = None
-covering_place a first (rows ∷ later) = if covers a rows then Some first else covering_place a (first + 1) later
+abbrev pub covering_index : ℕ → ℕ → List (List LineRow) → Option ℕ
+covering_index a first [] = None
+covering_index a first (rows ∷ later) = if covers a rows then Some first else covering_index a (first + 1) later
 
 -- the most probes by halves among the rows of the first sequence that covers an address
 abbrev pub covering_probes : ℕ → List (List LineRow) → ℕ

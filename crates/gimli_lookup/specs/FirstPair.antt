@@ -4,21 +4,21 @@ use Rattle.std.specs.Prelude.{◌≡◌, ◌≤◌, ◌<◌, ◌+◌, ℕ, List,
 use Rattle.gimli_line.specs.declared.run.row.LineRow.{LineRow}
 
 -- x stands at a place among the rows of a sequence and y right after it, x's address is at most a, and y's above a
-pub record IsPairAt (a : ℕ) (rows : List LineRow) (place : ℕ) (x y : LineRow) : Type 0 where
-  pub first : slice_get rows place ≡ Some x
-  pub second : slice_get rows (place + 1) ≡ Some y
+pub record IsPairAt (a : ℕ) (rows : List LineRow) (index : ℕ) (x y : LineRow) : Type 0 where
+  pub first : slice_get rows index ≡ Some x
+  pub second : slice_get rows (index + 1) ≡ Some y
   pub from : x.address ≤ a
   pub before : a < y.address
 
 -- no place among the rows of a sequence has such a pair
 abbrev pub HasNoPair : ℕ → List LineRow → Type 0
-HasNoPair a rows = (place : ℕ) (x y : LineRow) → IsPairAt a rows place x y → ⊥
+HasNoPair a rows = (index : ℕ) (x y : LineRow) → IsPairAt a rows index x y → ⊥
 
 -- x and y are such a pair, and no place before theirs has one
 pub record IsFirstPairOf (a : ℕ) (rows : List LineRow) (x y : LineRow) : Type 0 where
-  pub place : ℕ
-  pub is_pair : IsPairAt a rows place x y
-  pub none_before : (k : ℕ) (z w : LineRow) → k < place → IsPairAt a rows k z w → ⊥
+  pub index : ℕ
+  pub is_pair : IsPairAt a rows index x y
+  pub none_before : (k : ℕ) (z w : LineRow) → k < index → IsPairAt a rows k z w → ⊥
 
 -- x and y are the first such pair of the first sequence that has one
 pub record IsFirstPair (a : ℕ) (sequences : List (List LineRow)) (x y : LineRow) : Type 0 where

@@ -3,7 +3,7 @@
 use Rattle.std.specs.Prelude.{◌≡◌, ℕ, ◌-◌, Bool, false, ◌&&◌, ◌||◌, nat_eq, nat_le, if◌then◌else◌, List, [], ◌∷◌, ◌++◌, length, slice_get, Option, unwrap_or, Result, Ok, Err, IsTrue}
 use Rattle.std.specs.Char.{is_ascii_alphabetic}
 use Rattle.std.specs.Option.{option_map_or}
-use Rattle.gimli_core.specs.Reading.{seen}
+use Rattle.gimli_core.specs.Reading.{result_map}
 use Rattle.gimli_line.specs.declared.run.row.LineRow.{LineRow}
 use Rattle.gimli_line.specs.header.File.{File}
 use Rattle.gimli_line.specs.header.Header.{Header, directory_of, file_of}
@@ -41,7 +41,7 @@ path_in directory path = directory ++ separator_after directory ++ path
 
 -- an absolute path as it is, and a relative one in a directory, which is looked for only then
 abbrev pub path_from : Result (List ℕ) PathError → List ℕ → Result (List ℕ) PathError
-path_from directory path = if is_absolute path then Ok path else seen (λ base. path_in base path) directory
+path_from directory path = if is_absolute path then Ok path else result_map (λ base. path_in base path) directory
 
 -- ---- paths of a header
 

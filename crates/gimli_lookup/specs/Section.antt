@@ -32,8 +32,8 @@ pub record ListedUnit : Type 0 where
   pub end : ℕ
 
 -- a unit without its header
-abbrev pub headless : ListedUnit → ListedUnit
-headless u = record u { header = None }
+abbrev pub without_header : ListedUnit → ListedUnit
+without_header u = record u { header = None }
 
 -- a unit with its sequences
 pub record KeptUnit : Type 0 where
@@ -50,7 +50,7 @@ with_sequences sequences u = record { unit = u; sequences = take (u.end - u.firs
 
 -- a unit without its header, with the same sequences
 abbrev pub unit_without_header : KeptUnit → KeptUnit
-unit_without_header u = record u { unit = headless u.unit }
+unit_without_header u = record u { unit = without_header u.unit }
 
 -- the units have the sequences of these places, one unit after the other
 abbrev pub AreAdjacent : ℕ → List ListedUnit → ℕ → Type 0
@@ -58,10 +58,10 @@ AreAdjacent from [] end = from ≡ end
 AreAdjacent from (u ∷ units) end = (u.first ≡ from) × (u.first ≤ u.end) × AreAdjacent u.end units end
 
 -- x and y are the first adjacent rows round an address in the unit at a place, and no unit before it has any
-pub record IsFirstPairOfUnit (a : ℕ) (units : List KeptUnit) (place : ℕ) (x y : LineRow) : Type 0 where
+pub record IsFirstPairOfUnit (a : ℕ) (units : List KeptUnit) (index : ℕ) (x y : LineRow) : Type 0 where
   pub unit : KeptUnit
-  pub there : slice_get units place ≡ Some unit
-  pub none_earlier : All (λ u. All (HasNoPair a) u.sequences) (take place units)
+  pub there : slice_get units index ≡ Some unit
+  pub none_earlier : All (λ u. All (HasNoPair a) u.sequences) (take index units)
   pub is_first : IsFirstPair a unit.sequences x y
 
 -- what is kept of a program, or of its refusal

@@ -5,7 +5,7 @@ use Rattle.std.specs.Option.{option_or}
 use Rattle.gimli_line.specs.declared.run.row.LineRow.{LineRow}
 use Rattle.gimli_lookup.specs.declared.steps.Step.{Step}
 use Rattle.gimli_lookup.specs.declared.index.Index.{Index}
-use Rattle.gimli_lookup.specs.Covering.{covering_place}
+use Rattle.gimli_lookup.specs.Covering.{covering_index}
 use Rattle.gimli_lookup.specs.FirstPair.{HasNoPair, IsFirstPairOf}
 use Rattle.gimli_lookup.specs.Probes.{never_go_down}
 
@@ -33,20 +33,20 @@ pub record AreJoined (left right steps : List Step) : Type 0 where
 -- `first`; after the last step none does, and a sequence has two steps at most
 pub record AreStepsOf (first : ℕ) (sequences : List (List LineRow)) (steps : List Step) : Type 0 where
   pub in_order : AreInOrder steps
-  pub value : (a : ℕ) → step_at a steps ≡ covering_place a first sequences
+  pub value : (a : ℕ) → step_at a steps ≡ covering_index a first sequences
   pub ended : last_step steps ≡ None
   pub few : length steps ≤ 2 * length sequences
 
 -- the places of the sequences whose addresses go down, the first of these sequences having the place `first`
-abbrev pub places_out_of_order : ℕ → List (List LineRow) → List ℕ
-places_out_of_order first [] = []
-places_out_of_order first (rows ∷ later) =
-    if never_go_down rows then places_out_of_order (first + 1) later else first ∷ places_out_of_order (first + 1) later
+abbrev pub indexes_out_of_order : ℕ → List (List LineRow) → List ℕ
+indexes_out_of_order first [] = []
+indexes_out_of_order first (rows ∷ later) =
+    if never_go_down rows then indexes_out_of_order (first + 1) later else first ∷ indexes_out_of_order (first + 1) later
 
 -- an index of these sequences. All probes that a search of them takes can be counted
 pub record IsIndexOf (index : Index) (sequences : List (List LineRow)) : Type 0 where
   pub steps : AreStepsOf 0 sequences index.steps.items
-  pub unordered : index.unordered.items ≡ places_out_of_order 0 sequences
+  pub unordered : index.unordered.items ≡ indexes_out_of_order 0 sequences
   pub countable : 2 ^ 8 + sum_by length sequences < 2 ^ 64
 
 -- none of these sequences has both addresses that go down and a pair round the address

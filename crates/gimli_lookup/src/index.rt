@@ -6,7 +6,7 @@ ghost use Rattle.gimli_lookup.specs.declared.steps.Step.{Step};
 ghost use Rattle.gimli_lookup.specs.FirstPair.{HasNoPair, IsFirstPairIn};
 ghost use Rattle.gimli_lookup.specs.Covering.{covering_probes, scan_probes, IsLookedInto};
 ghost use Rattle.gimli_lookup.specs.Probes.{binary_digits};
-ghost use Rattle.gimli_lookup.specs.Steps.{step_at, places_out_of_order, AreInOrder, HaveNoUnorderedPair, IsFirstUnorderedPair, IsIndexOf};
+ghost use Rattle.gimli_lookup.specs.Steps.{step_at, indexes_out_of_order, AreInOrder, HaveNoUnorderedPair, IsFirstUnorderedPair, IsIndexOf};
 
 use crate::kept_rows::KeptRows;
 use crate::search;
@@ -46,36 +46,36 @@ fn are_countable(sequences: &[KeptRows]) -> bool
 }
 
 /// The places of the sequences whose addresses go down. Fails only with `OutOfMemory`.
-fn unordered_places(alloc: Global, sequences: &[KeptRows]) -> Result<Vec<usize>>
-    ensures ok { IfOk result (λ places. places.items ≡ places_out_of_order 0 sequences.now) }
+fn unordered_indexes(alloc: Global, sequences: &[KeptRows]) -> Result<Vec<usize>>
+    ensures ok { IfOk result (λ indexes. indexes.items ≡ indexes_out_of_order 0 sequences.now) }
     ensures err { IfErr result (λ e. e ≡ Error.OutOfMemory) }
 {
-    let mut places = Vec::new(alloc);
-    for place in 0..sequences.len() {
-        let rows = &sequences[place];
-        if !rows.never_go_down() && places.push(place).is_err() {
+    let mut indexes = Vec::new(alloc);
+    for index in 0..sequences.len() {
+        let rows = &sequences[index];
+        if !rows.never_go_down() && indexes.push(index).is_err() {
             return Err(Error::OutOfMemory);
         }
     }
-    Ok(places)
+    Ok(indexes)
 }
 
 /// The address of a step, which is a probe.
-fn address_of_step(steps: &[Step], place: usize, probes: &mut u64) -> u64
-    requires place { place < length steps.now }
+fn address_of_step(steps: &[Step], index: usize, probes: &mut u64) -> u64
+    requires index { index < length steps.now }
     requires count { probes.old + 1 < 2 ^ 64 }
-    ensures address { (d : Step) → result ≡ (slice_index_or steps.now place d).from }
+    ensures address { (d : Step) → result ≡ (slice_index_or steps.now index d).from }
     ensures counted { probes.new ≡ probes.old + 1 }
 {
     *probes += 1;
-    steps[place].from
+    steps[index].from
 }
 
 /// The number of steps whose address is at most `a`, found by halves.
 fn steps_up_to(steps: &[Step], a: u64, probes: &mut u64) -> usize
     requires order { AreInOrder steps.now }
     requires count { probes.old + length steps.now < 2 ^ 64 }
-    ensures place { result ≤ length steps.now }
+    ensures index { result ≤ length steps.now }
     ensures before { (k : ℕ) (d : Step) → k < result → (slice_index_or steps.now k d).from ≤ a }
     ensures after { (k : ℕ) (d : Step) → result ≤ k → k < length steps.now
         → a < (slice_index_or steps.now k d).from }
@@ -115,13 +115,13 @@ fn sequence_at(steps: &[Step], a: u64, probes: &mut u64) -> Option<usize>
 /// The first rows that cover `a`, of the sequences whose addresses go down and that stand before `end`; None where there
 /// are none. Each is searched row by row.
 fn find_unordered(
-    places: &[usize],
+    indexes: &[usize],
     sequences: &[KeptRows],
     end: usize,
     a: u64,
     probes: &mut u64,
 ) -> Option<Found>
-    requires places { places.now ≡ places_out_of_order 0 sequences.now }
+    requires indexes { indexes.now ≡ indexes_out_of_order 0 sequences.now }
     requires end { end ≤ length sequences.now }
     requires count { probes.old + sum_by length sequences.now < 2 ^ 64 }
     ensures found { MatchOption result (HaveNoUnorderedPair a (take end sequences.now))
@@ -131,13 +131,13 @@ fn find_unordered(
         → probes.old < probes.new }
     ensures at_most { probes.new ≤ probes.old + sum_by scan_probes sequences.now }
 {
-    for place in places {
-        if end <= *place {
+    for index in indexes {
+        if end <= *index {
             return None;
         }
-        if let Some((row, next)) = search::find_by_scan(&sequences[*place], a, probes) {
+        if let Some((row, next)) = search::find_by_scan(&sequences[*index], a, probes) {
             return Some(Found {
-                sequence: *place,
+                sequence: *index,
                 row,
                 next,
             });
@@ -156,7 +156,7 @@ impl Index {
             return Err(Error::OutOfMemory);
         }
         let steps = steps_of(alloc, sequences, 0)?;
-        let unordered = unordered_places(alloc, sequences)?;
+        let unordered = unordered_indexes(alloc, sequences)?;
         Ok(Index { steps, unordered })
     }
 

@@ -67,33 +67,33 @@ impl KeptRows {
     }
 
     /// The address of the row at a place, which is a probe. Requires a place of a row, and that the count can grow.
-    pub(crate) fn address(&self, place: usize, probes: &mut u64) -> u64
-        requires place { place < length self.now }
+    pub(crate) fn address(&self, index: usize, probes: &mut u64) -> u64
+        requires index { index < length self.now }
         requires count { probes.old + 1 < 2 ^ 64 }
-        ensures address { (d : LineRow) → result ≡ (slice_index_or self.now place d).address }
+        ensures address { (d : LineRow) → result ≡ (slice_index_or self.now index d).address }
         ensures counted { probes.new ≡ probes.old + 1 }
     {
         *probes += 1;
-        self.rows.address(place)
+        self.rows.address(index)
     }
 
     /// The row at a place, which is no probe. Requires a place of a row.
-    pub(crate) fn row(&self, place: usize) -> LineRow
-        requires { place < length self.now }
-        ensures { slice_get self.now place ≡ Some result }
+    pub(crate) fn row(&self, index: usize) -> LineRow
+        requires { index < length self.now }
+        ensures { slice_get self.now index ≡ Some result }
     {
-        self.rows.get(place).unwrap()
+        self.rows.get(index).unwrap()
     }
 
     /// The row before a place, and the one at it. Requires a place of a row that isn't the first.
-    pub(crate) fn pair(&self, place: usize) -> (LineRow, LineRow)
-        requires first { 0 < place }
-        requires place { place < length self.now }
-        ensures first { slice_get self.now (place - 1) ≡ Some result.0 }
-        ensures second { slice_get self.now place ≡ Some result.1 }
+    pub(crate) fn pair(&self, index: usize) -> (LineRow, LineRow)
+        requires first { 0 < index }
+        requires index { index < length self.now }
+        ensures first { slice_get self.now (index - 1) ≡ Some result.0 }
+        ensures second { slice_get self.now index ≡ Some result.1 }
     {
-        let first = self.rows.get(place - 1).unwrap();
-        let second = self.rows.get(place).unwrap();
+        let first = self.rows.get(index - 1).unwrap();
+        let second = self.rows.get(index).unwrap();
         (first, second)
     }
 

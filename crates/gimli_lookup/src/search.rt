@@ -13,9 +13,9 @@ use gimli_line::LineRow;
 fn first_above(rows: &KeptRows, a: u64, probes: &mut u64) -> usize
     requires order { never_go_down rows.now ≡ true }
     requires count { probes.old + length rows.now < 2 ^ 64 }
-    ensures place { result ≤ length rows.now }
+    ensures index { result ≤ length rows.now }
     ensures before { (k : ℕ) (d : LineRow) → k < result → (slice_index_or rows.now k d).address ≤ a }
-    ensures behind { (k : ℕ) (d : LineRow) → result ≤ k → k < length rows.now
+    ensures after { (k : ℕ) (d : LineRow) → result ≤ k → k < length rows.now
         → a < (slice_index_or rows.now k d).address }
     ensures grows { probes.old ≤ probes.new }
     ensures at_least { 0 < length rows.now → probes.old < probes.new }
@@ -48,11 +48,11 @@ pub(crate) fn find_by_halves(
     ensures at_least { 0 < length rows.now → probes.old < probes.new }
     ensures at_most { probes.new ≤ probes.old + binary_digits (length rows.now) }
 {
-    let place = first_above(rows, a, probes);
-    if place == 0 || place == rows.len() {
+    let index = first_above(rows, a, probes);
+    if index == 0 || index == rows.len() {
         return None;
     }
-    Some(rows.pair(place))
+    Some(rows.pair(index))
 }
 
 /// The first rows that cover `a`, found row by row.
@@ -65,10 +65,10 @@ pub(crate) fn find_by_scan(rows: &KeptRows, a: u64, probes: &mut u64) -> Option<
     ensures at_most { probes.new ≤ probes.old + length rows.now }
 {
     let mut is_from = false;
-    for place in 0..rows.len() {
-        let address = rows.address(place, probes);
+    for index in 0..rows.len() {
+        let address = rows.address(index, probes);
         if is_from && a < address {
-            return Some(rows.pair(place));
+            return Some(rows.pair(index));
         }
         is_from = address <= a;
     }

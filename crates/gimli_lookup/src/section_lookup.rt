@@ -1,15 +1,15 @@
 //! The rows of all units of a section, kept so that those that cover an address are found.
 
 ghost use Rattle.std.specs.Prelude.{◌≡◌, ◌<◌, ◌≤◌, ◌+◌, ◌-◌, ◌*◌, ◌++◌, ◌∷◌, [], ℕ, length, map, drop, sum_by, take, slice_index_or, All, Any, IfErr, IfOk, IfSome, IsTrue, MatchOption, None};
-ghost use Rattle.gimli_core.specs.Notation.{noted};
+ghost use Rattle.gimli_core.specs.Notation.{notation_of};
 ghost use Rattle.gimli_core.specs.Numbers.{is_address_size};
 ghost use Rattle.gimli_line.specs.Units.{AreUnits};
 ghost use Rattle.gimli_line.specs.header.Header.{unit_entry};
-ghost use Rattle.gimli_line.specs.run.Unread.{unread};
+ghost use Rattle.gimli_line.specs.run.Unread.{unread_of};
 ghost use Rattle.gimli_lookup.specs.Covering.{covering_probes, scan_probes, IsLookedInto};
 ghost use Rattle.gimli_lookup.specs.FirstPair.{HasNoPair, IsFirstPair};
 ghost use Rattle.gimli_lookup.specs.Probes.{binary_digits};
-ghost use Rattle.gimli_lookup.specs.Section.{all_sequences, headless, unit_without_header, AreAdjacent, IsFirstPairOfUnit, KeptUnit, ListedUnit};
+ghost use Rattle.gimli_lookup.specs.Section.{all_sequences, without_header, unit_without_header, AreAdjacent, IsFirstPairOfUnit, KeptUnit, ListedUnit};
 ghost use Rattle.gimli_lookup.specs.SectionUnits.{IsUnitOf};
 
 use crate::index::Index;
@@ -41,7 +41,7 @@ fn unit_of<R: Reader>(units: &[UnitLookup<R>], sequence: usize) -> usize
     let mut high = units.len();
     'halves: while high - low > 1 {
         let middle = low + (high - low) / 2;
-        if units[middle].places().start <= sequence {
+        if units[middle].indexes().start <= sequence {
             low = middle;
         } else {
             high = middle;
@@ -66,7 +66,7 @@ fn without_headers<E: Endianity>(
     alloc: Global,
     units: Vec<UnitLookup<EndianSlice<'_, E>>>,
 ) -> Result<Vec<UnitLookup<EndianSlice<'static, E>>>>
-    ensures ok { IfOk result (λ bare. bare.items ≡ map headless units.entry.items) }
+    ensures ok { IfOk result (λ bare. bare.items ≡ map without_header units.entry.items) }
     ensures err { IfErr result (λ e. e ≡ Error.OutOfMemory) }
 {
     let mut bare = Vec::new(alloc);
@@ -122,9 +122,9 @@ impl<R: Reader> SectionLookup<R> {
         lowest: u64,
     ) -> Result<SectionLookup<R>>
         requires { IsTrue (is_address_size address_size) }
-        ensures offsets { IfOk result (λ units. AreUnits (noted (R.big section.now) R.Offset.limit) 0
+        ensures offsets { IfOk result (λ units. AreUnits (notation_of (R.big section.now) R.Offset.limit) 0
             (R.bytes section.now) (map (λ u. u.unit.offset) units)) }
-        ensures units { IfOk result (All (IsUnitOf (unread R.bytes R.big R.Offset.limit section.now)
+        ensures units { IfOk result (All (IsUnitOf (unread_of R.bytes R.big R.Offset.limit section.now)
             (unit_entry R.bytes address_size None None) lowest)) }
         ensures err { IfErr result (λ e. e ≡ Error.OutOfMemory) }
     {
@@ -198,8 +198,8 @@ impl<R: Reader> SectionLookup<R> {
         requires { unit < length self.now }
         ensures { (d : KeptUnit) → result.now ≡ (slice_index_or self.now unit d).sequences }
     {
-        let places = self.units[unit].places();
-        part(self.sequences.as_slice(), places.start, places.end)
+        let indexes = self.units[unit].indexes();
+        part(self.sequences.as_slice(), indexes.start, indexes.end)
     }
 }
 

@@ -106,7 +106,7 @@ impl<R: Reader> UnitLookup<R> {
     }
 
     /// The places of the sequences among those of all units.
-    pub(crate) fn places(&self) -> Range<usize>
+    pub(crate) fn indexes(&self) -> Range<usize>
         ensures start { result.start ≡ self.now.first }
         ensures end { result.end ≡ self.now.end }
     {
@@ -122,11 +122,11 @@ impl<R: Reader> UnitLookup<R> {
 }
 
 impl<'i, E: Endianity> UnitLookup<EndianSlice<'i, E>> {
-    ghost use Rattle.gimli_lookup.specs.Section.{headless};
+    ghost use Rattle.gimli_lookup.specs.Section.{without_header};
 
     /// The unit without its header, which is what lends bytes of the section.
     pub(crate) fn without_header(self) -> UnitLookup<EndianSlice<'static, E>>
-        ensures { result ≡ headless self.entry }
+        ensures { result ≡ without_header self.entry }
     {
         let UnitLookup {
             offset,

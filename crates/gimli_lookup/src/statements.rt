@@ -62,8 +62,8 @@ fn append_in(rows: &KeptRows, files: &[u64], line: u64, addresses: &mut Vec<u64>
     ensures err { IfErr result (λ e. e ≡ Error.OutOfMemory) }
 {
     let mut has_address = false;
-    for place in 0..rows.len() {
-        let row = rows.row(place);
+    for index in 0..rows.len() {
+        let row = rows.row(index);
         if !is_of_line(&row, files, line) {
             has_address = false;
         } else if row.is_stmt() && !has_address {
@@ -121,8 +121,8 @@ fn first_line_in(rows: &KeptRows, files: &[u64], asked: u64) -> Option<u64>
     ensures { IsFirstWith (λ l. has_statement (is_among files.now) l rows.now) asked result }
 {
     let mut first = None;
-    for place in 0..rows.len() {
-        first = lesser(first, statement_line(&rows.row(place), files, asked));
+    for index in 0..rows.len() {
+        first = lesser(first, statement_line(&rows.row(index), files, asked));
     }
     first
 }

@@ -115,9 +115,9 @@ fn join(alloc: Global, mut left: Vec<Step>, mut right: Vec<Step>) -> Result<Vec<
 
 /// The steps of one sequence: from its first address on it covers addresses, and from its last on none. It has no steps
 /// where it covers no address, or where its addresses go down.
-fn steps_of_one(rows: &KeptRows, place: usize) -> Option<(Step, Step)>
-    ensures { MatchOption result (AreStepsOf place (rows.now ∷ []) [])
-        (λ steps. AreStepsOf place (rows.now ∷ []) (steps.0 ∷ steps.1 ∷ [])) }
+fn steps_of_one(rows: &KeptRows, index: usize) -> Option<(Step, Step)>
+    ensures { MatchOption result (AreStepsOf index (rows.now ∷ []) [])
+        (λ steps. AreStepsOf index (rows.now ∷ []) (steps.0 ∷ steps.1 ∷ [])) }
 {
     if !rows.never_go_down() {
         return None;
@@ -128,7 +128,7 @@ fn steps_of_one(rows: &KeptRows, place: usize) -> Option<(Step, Step)>
     }
     let covered = Step {
         from: first,
-        sequence: Some(place),
+        sequence: Some(index),
     };
     let uncovered = Step {
         from: last,

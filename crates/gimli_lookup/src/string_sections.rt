@@ -1,7 +1,7 @@
 //! The strings that values of a header stand for.
 
 ghost use Rattle.std.specs.Prelude.{◌≡◌};
-ghost use Rattle.gimli_core.specs.Reading.{seen};
+ghost use Rattle.gimli_core.specs.Reading.{result_map};
 ghost use Rattle.gimli_core.specs.Values.{value_seen};
 ghost use Rattle.gimli_lookup.specs.Strings.{strings, string_at, string_of};
 
@@ -21,7 +21,7 @@ impl<R: Reader> StringSections<R> {
     /// The string that a value stands for, without its zero byte (DWARF 5, section 7.5.5). One that stands in the value
     /// needs no section. Refused as `PathError` says. Takes no memory.
     pub fn attr_line_string(&self, value: AttributeValue<R>) -> Result<R, PathError>
-        ensures { seen R.bytes result
+        ensures { result_map R.bytes result
             ≡ string_of (strings R.bytes self.now) (value_seen R.bytes R.Offset.number value) }
     {
         match value {
@@ -37,7 +37,7 @@ impl<R: Reader> StringSections<R> {
 
 /// The string of a section at an offset, up to its zero byte.
 fn string_at<R: Reader>(section: R, offset: R::Offset) -> Result<R, PathError>
-    ensures { seen R.bytes result ≡ string_at (R.bytes section) (R.Offset.number offset) }
+    ensures { result_map R.bytes result ≡ string_at (R.bytes section) (R.Offset.number offset) }
 {
     let mut bytes = section;
     if bytes.skip(offset).is_err() || bytes.is_empty() {

@@ -17,7 +17,7 @@ use Rattle.gimli_line.proofs.InstructionLaws.{one_decoding}
 use Rattle.gimli_build.specs.LineText.{bytes_in}
 use Rattle.gimli_build.specs.Tables.{File}
 use Rattle.gimli_build.specs.Built.{Built}
-use Rattle.gimli_build.specs.Stored.{stored}
+use Rattle.gimli_build.specs.Stored.{stored_details}
 use Rattle.gimli_build.specs.Items.{AddressesFit}
 use Rattle.gimli_build.specs.SameRow.{RowsMatch}
 use Rattle.gimli_build.specs.Texts.{Sections, IsText, IsOptionalText, OneByOne}
@@ -78,7 +78,7 @@ file_same s p strings line_strings read built answer is also =
     (also.timestamp ∙ is.timestamp)
     (also.size ∙ is.size)
     (also.md5 ∙ is.md5)
-    (optional_same s read.source (stored p strings line_strings built.1).source answer.source is.source also.source)
+    (optional_same s read.source (stored_details p strings line_strings built.1).source answer.source is.source also.source)
 
 -- ---- one run
 
@@ -104,8 +104,8 @@ no_fault_among [] [] e rest is = cc
 no_fault_among (r ∷ rows) [] e rest is = cc
 no_fault_among [] (s ∷ others) e rest is = cc
 no_fault_among (r ∷ rows) (s ∷ others) e rest is =
-    let behind : map row rows ≡ map row others ++ fault e ∷ rest = cc in
-    no_fault_among rows others e rest behind
+    let later : map row rows ≡ map row others ++ fault e ∷ rest = cc in
+    no_fault_among rows others e rest later
 
 -- a program that gives rows has no first fault, and its rows are answered unless memory is missing
 rows_refused : (notation : Notation) (h : Header) (rows : List ReadRow) (e : ConvertError) → Events notation h h.program (map row rows) → IsRunRefusal notation h e → e ≡ NoMemory

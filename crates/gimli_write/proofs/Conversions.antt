@@ -11,28 +11,28 @@ use Rattle.gimli_build.specs.Texts.{Sections}
 use Rattle.gimli_write.specs.declared.convert_error.ConvertError.{ConvertError}
 use Rattle.gimli_write.specs.convert.Texts.{◌>>=◌, IsRefusedBy, source_path}
 use Rattle.gimli_write.specs.convert.Lists.{Converted, Lists, lists_with, version_of, with_path, directory_added, FileParts, file_parts, with_parts, file_added, all_added}
-use Rattle.gimli_write.specs.convert.Preparation.{Handed, prepared, started_lists, first_texts, encoding_of, working_directory, source_file, line_encoding_of}
-use Rattle.gimli_write.specs.convert.Offers.{Reading, stops, defines, offers, file_id, row_in, built_row, row_offered, place_offered, defines_first, after_definitions}
+use Rattle.gimli_write.specs.convert.Preparation.{Handed, lists_of_header, started_lists, first_texts, encoding_of, working_directory, source_file, line_encoding_of}
+use Rattle.gimli_write.specs.convert.Offers.{Reading, stops, defines, offers, file_id, row_in, built_row, row_offered, row_or_end_offered, defines_first, after_definitions}
 use Rattle.gimli_write.specs.declared.convert.run.SourceRow.{SourceRow}
 use Rattle.gimli_write.specs.declared.convert.offer.ConvertLineRow.TheVariants.{Row, EndSequence}
 use Rattle.gimli_write.specs.convert.SourceState.{SourceState, reading_from, reading_upon, reading_left}
-use Rattle.gimli_write.specs.convert.LastLists.{lacks_file, behind_row}
+use Rattle.gimli_write.specs.convert.LastLists.{lacks_file, lists_after_row}
 use Rattle.gimli_write.specs.convert.KeptLists.{source_last, last_lists}
-use Rattle.gimli_write.specs.convert.ConversionState.{ConversionState, plain, IsReadRefusal}
+use Rattle.gimli_write.specs.convert.ConversionState.{ConversionState, without_built, IsReadRefusal}
 
 -- ---- lists without what is built
 
-pub plain_file : (s : Sections) (lists : Lists) (f : File) → file_added s (plain lists) f ≡ (file_added s lists f >>= λ next. Ok (plain next))
+pub plain_file : (s : Sections) (lists : Lists) (f : File) → file_added s (without_built lists) f ≡ (file_added s lists f >>= λ next. Ok (without_built next))
 plain_file s lists f = by (file_parts (version_of lists) s lists.directory_ids f)
   where
-    by : (r : Result FileParts ConvertError) → (r >>= λ parts. Ok (with_parts (plain lists) f parts)) ≡ ((r >>= λ parts. Ok (with_parts lists f parts)) >>= λ next. Ok (plain next))
+    by : (r : Result FileParts ConvertError) → (r >>= λ parts. Ok (with_parts (without_built lists) f parts)) ≡ ((r >>= λ parts. Ok (with_parts lists f parts)) >>= λ next. Ok (without_built next))
     by (Ok parts) = refl
     by (Err e) = refl
 
-pub plain_directory : (s : Sections) (lists : Lists) (v : Value) → directory_added s (plain lists) v ≡ (directory_added s lists v >>= λ next. Ok (plain next))
+pub plain_directory : (s : Sections) (lists : Lists) (v : Value) → directory_added s (without_built lists) v ≡ (directory_added s lists v >>= λ next. Ok (without_built next))
 plain_directory s lists v = by (source_path (version_of lists) s v)
   where
-    by : (r : Result (List ℕ) ConvertError) → (r >>= λ path. Ok (with_path (plain lists) path)) ≡ ((r >>= λ path. Ok (with_path lists path)) >>= λ next. Ok (plain next))
+    by : (r : Result (List ℕ) ConvertError) → (r >>= λ path. Ok (with_path (without_built lists) path)) ≡ ((r >>= λ path. Ok (with_path lists path)) >>= λ next. Ok (without_built next))
     by (Ok path) = refl
     by (Err e) = refl
 
@@ -44,16 +44,16 @@ stops_there sections s e (i ∷ list) end = refl
 
 module _ (sections : Sections) (s : SourceState) (lists : Lists) (f : File) where
   -- after it
-  pub file_taken : (next : Lists) → file_added sections lists f ≡ Ok next → reading_upon sections s (file_added sections (plain lists) f) ≡ reading_left sections s (plain next)
-  file_taken next is = ap (reading_upon sections s) (plain_file sections lists f ∙ ap (λ (r : Result Lists ConvertError). r >>= λ n. Ok (plain n)) is)
+  pub file_taken : (next : Lists) → file_added sections lists f ≡ Ok next → reading_upon sections s (file_added sections (without_built lists) f) ≡ reading_left sections s (without_built next)
+  file_taken next is = ap (reading_upon sections s) (plain_file sections lists f ∙ ap (λ (r : Result Lists ConvertError). r >>= λ n. Ok (without_built n)) is)
 
-  pub file_refused : (e : ConvertError) → file_added sections lists f ≡ Err e → reading_upon sections s (file_added sections (plain lists) f) ≡ stops e
+  pub file_refused : (e : ConvertError) → file_added sections lists f ≡ Err e → reading_upon sections s (file_added sections (without_built lists) f) ≡ stops e
   file_refused e is =
-      ap (reading_upon sections s) (plain_file sections lists f ∙ ap (λ (r : Result Lists ConvertError). r >>= λ n. Ok (plain n)) is)
+      ap (reading_upon sections s) (plain_file sections lists f ∙ ap (λ (r : Result Lists ConvertError). r >>= λ n. Ok (without_built n)) is)
       ∙ stops_there sections s e (decoded_at s.unread.notation s.header s.unread.bytes).0 (decoded_at s.unread.notation s.header s.unread.bytes).1
 
   -- its refusal, where other files are defined before it
-  pub file_refusal : (now old : Reading) (e : ConvertError) → now ≡ defines (reading_upon sections s (file_added sections (plain lists) f))
+  pub file_refusal : (now old : Reading) (e : ConvertError) → now ≡ defines (reading_upon sections s (file_added sections (without_built lists) f))
       → after_definitions now ≡ after_definitions old → (defines_first now ≡ true → defines_first old ≡ true)
       → IsRefusedBy (file_added sections lists f) e → IsReadRefusal old e
   file_refusal now old e here left first (inl memory) = inr (memory, first (ap defines_first here))
@@ -68,20 +68,20 @@ bound (Err e) f y is = absurd cc
 ok_same : {A : Type 0} (x y : A) → ◌≡◌ {A = Result A ConvertError} (Ok x) (Ok y) → x ≡ y
 ok_same x y is = cc
 
-module _ {A : Type 0} (add : Lists → A → Result Lists ConvertError) (commutes : (lists : Lists) (x : A) → add (plain lists) x ≡ (add lists x >>= λ next. Ok (plain next))) where
-  one_plain : (lists next : Lists) (x : A) → plain lists ≡ lists → add lists x ≡ Ok next → plain next ≡ next
+module _ {A : Type 0} (add : Lists → A → Result Lists ConvertError) (commutes : (lists : Lists) (x : A) → add (without_built lists) x ≡ (add lists x >>= λ next. Ok (without_built next))) where
+  one_plain : (lists next : Lists) (x : A) → without_built lists ≡ lists → add lists x ≡ Ok next → without_built next ≡ next
   one_plain lists next x is added =
-      ok_same (plain next) next
-      (sym (commutes lists x ∙ ap (λ (r : Result Lists ConvertError). r >>= λ n. Ok (plain n)) added)
+      ok_same (without_built next) next
+      (sym (commutes lists x ∙ ap (λ (r : Result Lists ConvertError). r >>= λ n. Ok (without_built n)) added)
       ∙ ap (λ (l : Lists). add l x) is ∙ added)
 
-  all_plain : (xs : List A) (lists next : Lists) → plain lists ≡ lists → all_added add xs lists ≡ Ok next → plain next ≡ next
-  all_plain [] lists next is added = subst (λ (l : Lists). plain l ≡ l) (ok_same lists next added) is
+  all_plain : (xs : List A) (lists next : Lists) → without_built lists ≡ lists → all_added add xs lists ≡ Ok next → without_built next ≡ next
+  all_plain [] lists next is added = subst (λ (l : Lists). without_built l ≡ l) (ok_same lists next added) is
   all_plain (x ∷ xs) lists next is added =
       let one = bound (add lists x) (all_added add xs) next added in
       all_plain xs one.0 next (one_plain lists one.0 x is one.1) one.2
 
-pub prepared_plain : (sections : Sections) (h : Header) (given : Handed) (line_strings : List (List ℕ)) (lists : Lists) → prepared sections h given line_strings ≡ Ok lists → plain lists ≡ lists
+pub prepared_plain : (sections : Sections) (h : Header) (given : Handed) (line_strings : List (List ℕ)) (lists : Lists) → lists_of_header sections h given line_strings ≡ Ok lists → without_built lists ≡ lists
 prepared_plain sections h given line_strings lists is =
     let encoding = encoding_of h given in
     let directory = bound (working_directory encoding.version sections h) _ lists is in
@@ -97,13 +97,13 @@ prepared_plain sections h given line_strings lists is =
 -- ---- rows
 
 module _ (version : ℕ) (lists : Lists) (r : SourceRow) (rest : Reading) (ends_not : r.row.end_sequence ≡ false) where
-  by_file : place_offered version lists r rest ≡ row_offered (built_row version lists r) lists rest
+  by_file : row_or_end_offered version lists r rest ≡ row_offered (built_row version lists r) lists rest
   by_file = ap (λ (b : Bool). if b then offers (EndSequence r.address_offset) lists rest else row_offered (built_row version lists r) lists rest) ends_not
 
-  pub row_taken : (file : ℕ) → Ok file ≡ file_id version lists r.row.file → place_offered version lists r rest ≡ offers (Row (row_in r file)) lists rest
+  pub row_taken : (file : ℕ) → Ok file ≡ file_id version lists r.row.file → row_or_end_offered version lists r rest ≡ offers (Row (row_in r file)) lists rest
   row_taken file is = by_file ∙ ap (λ (x : Result ℕ ConvertError). row_offered (x >>= λ n. Ok (row_in r n)) lists rest) (sym is)
 
-  pub row_refused : (e : ConvertError) → Err e ≡ file_id version lists r.row.file → place_offered version lists r rest ≡ stops e
+  pub row_refused : (e : ConvertError) → Err e ≡ file_id version lists r.row.file → row_or_end_offered version lists r rest ≡ stops e
   row_refused e is = by_file ∙ ap (λ (x : Result ℕ ConvertError). row_offered (x >>= λ n. Ok (row_in r n)) lists rest) (sym is)
 
   -- so a file has its number, or none has
@@ -143,13 +143,13 @@ module _ (sections : Sections) (source : SourceState) (lists : Converted) (addre
   pub held_last : taken ≡ None → lacks_file version_here now r ≡ false
       → last_lists (conversion sections source lists after taken failed) line_strings ≡ last_lists (conversion sections source lists address held failed) line_strings
   held_last none found =
-      ap (λ (o : Option SourceRow). if is_some failed then now else behind_row version_here now o rest) none
-      ∙ sym (ap (λ (o : Option SourceRow). if is_some failed then now else behind_row version_here now o rest) is
+      ap (λ (o : Option SourceRow). if is_some failed then now else lists_after_row version_here now o rest) none
+      ∙ sym (ap (λ (o : Option SourceRow). if is_some failed then now else lists_after_row version_here now o rest) is
       ∙ ap (λ (b : Bool). if is_some failed then now else (if b then now else rest)) found)
 
   -- no file has its number
   pub held_stops : failed ≡ None → lacks_file version_here now r ≡ true → now ≡ last_lists (conversion sections source lists address held failed) line_strings
   held_stops well lacks =
-      sym (ap (λ (o : Option ConvertError). if is_some o then now else behind_row version_here now held rest) well
-      ∙ ap (λ (o : Option SourceRow). behind_row version_here now o rest) is
+      sym (ap (λ (o : Option ConvertError). if is_some o then now else lists_after_row version_here now held rest) well
+      ∙ ap (λ (o : Option SourceRow). lists_after_row version_here now o rest) is
       ∙ ap (λ (b : Bool). if b then now else rest) lacks)

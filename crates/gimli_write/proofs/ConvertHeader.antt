@@ -8,7 +8,7 @@ use Rattle.gimli_build.specs.Texts.{Sections}
 use Rattle.gimli_write.specs.declared.convert_error.ConvertError.{ConvertError}
 use Rattle.gimli_write.specs.convert.Texts.{◌>>=◌, IsRefusedBy}
 use Rattle.gimli_write.specs.convert.Lists.{Converted, Lists, lists_with, directory_added, file_added, all_added}
-use Rattle.gimli_write.specs.convert.Preparation.{working_directory, SourceFile, source_file, line_encoding_of, first_texts, started_lists, Handed, encoding_of, prepared}
+use Rattle.gimli_write.specs.convert.Preparation.{working_directory, SourceFile, source_file, line_encoding_of, first_texts, started_lists, Handed, encoding_of, lists_of_header}
 use Rattle.gimli_write.proofs.ConvertSteps.{done_first, refused_first, refused_same}
 
 -- lists whose parts are these
@@ -55,7 +55,7 @@ module _ (s : Sections) (h : Header) (given : Handed) (line_strings : List (List
   abbrev pub listed : Lists → Result Lists ConvertError
   listed lists = all_added (directory_added s) h.directories lists >>= λ between. all_added (file_added s) h.files between
 
-  whole : (begun >>= λ lists. listed lists) ≡ prepared s h given line_strings
+  whole : (begun >>= λ lists. listed lists) ≡ lists_of_header s h given line_strings
   whole =
       fourth_step (working_directory encoding.version s h) (source_file encoding.version s h given.name) (line_encoding_of h.parameters.line_encoding given.line_encoding)
       begun_lists (λ lists. listed lists)
@@ -65,12 +65,12 @@ module _ (s : Sections) (h : Header) (given : Handed) (line_strings : List (List
       all_added (directory_added s) h.directories (started_lists encoding e h (first_texts encoding.version line_strings directory file))
       >>= λ lists. all_added (file_added s) h.files lists) target
 
-  pub refused_at_start : (e : ConvertError) → IsRefusedBy begun e → IsRefusedBy (prepared s h given line_strings) e
+  pub refused_at_start : (e : ConvertError) → IsRefusedBy begun e → IsRefusedBy (lists_of_header s h given line_strings) e
   refused_at_start e refused =
-      refused_same (begun >>= λ lists. listed lists) (prepared s h given line_strings) e whole (refused_first begun (λ lists. listed lists) e refused)
+      refused_same (begun >>= λ lists. listed lists) (lists_of_header s h given line_strings) e whole (refused_first begun (λ lists. listed lists) e refused)
 
-  pub at_listed : (lists : Lists) → begun ≡ Ok lists → listed lists ≡ prepared s h given line_strings
+  pub at_listed : (lists : Lists) → begun ≡ Ok lists → listed lists ≡ lists_of_header s h given line_strings
   at_listed lists start = sym (done_first begun (λ lists. listed lists) lists start) ∙ whole
 
-  pub refused_at_listed : (lists : Lists) (e : ConvertError) → begun ≡ Ok lists → IsRefusedBy (listed lists) e → IsRefusedBy (prepared s h given line_strings) e
-  refused_at_listed lists e start refused = refused_same (listed lists) (prepared s h given line_strings) e (at_listed lists start) refused
+  pub refused_at_listed : (lists : Lists) (e : ConvertError) → begun ≡ Ok lists → IsRefusedBy (listed lists) e → IsRefusedBy (lists_of_header s h given line_strings) e
+  refused_at_listed lists e start refused = refused_same (listed lists) (lists_of_header s h given line_strings) e (at_listed lists start) refused

@@ -8,7 +8,7 @@ use Rattle.gimli_core.specs.Values.{Value}
 use Rattle.gimli_line.specs.header.File.{File}
 use Rattle.gimli_bytes.specs.Texts.{KeepsTexts}
 use Rattle.gimli_build.specs.LineText.{LineText, made_text, made_table}
-use Rattle.gimli_build.specs.Tables.{with_directory, place_of_directory, with_file, place_of_file}
+use Rattle.gimli_build.specs.Tables.{with_directory, index_of_directory, with_file, index_of_file}
 use Rattle.gimli_build.specs.Texts.{Sections}
 use Rattle.gimli_write.specs.declared.convert_error.ConvertError.{ConvertError}
 use Rattle.gimli_write.specs.convert.Texts.{◌>>=◌, IsRefusedBy, source_path}
@@ -39,7 +39,7 @@ pub directory_is_added : (s : Sections) (lists : Lists) (v : Value) (path : List
     → text ≡ made_text (version_of lists) lists.line_strings path → line_strings ≡ made_table (version_of lists) lists.line_strings path
     → directory_added s lists v ≡ Ok (record lists {
       program = record lists.program { directories = with_directory lists.program.directories text };
-      directory_ids = lists.directory_ids ++ place_of_directory lists.program.directories text ∷ [];
+      directory_ids = lists.directory_ids ++ index_of_directory lists.program.directories text ∷ [];
       line_strings = line_strings;
     })
 directory_is_added s lists v path text line_strings is made after =
@@ -55,7 +55,7 @@ pub parts_are_added : (lists : Lists) (f : File) (parts : FileParts) (path : Lin
         files = with_file lists.program.files (path, parts.directory)
             (Some (record { timestamp = f.timestamp; size = f.size; md5 = f.md5; source = source }));
       };
-      file_ids = lists.file_ids ++ place_of_file lists.program.files (path, parts.directory) ∷ [];
+      file_ids = lists.file_ids ++ index_of_file lists.program.files (path, parts.directory) ∷ [];
       line_strings = line_strings;
     }
 parts_are_added lists f parts path source paths line_strings made after source_made source_after =

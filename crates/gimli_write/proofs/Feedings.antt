@@ -15,11 +15,11 @@ use Rattle.gimli_write.specs.declared.convert.offer.ConvertLineRow.{ConvertLineR
 use Rattle.gimli_write.specs.convert.Texts.{◌>>=◌, IsRefusedBy}
 use Rattle.gimli_write.specs.convert.Lists.{Lists}
 use Rattle.gimli_write.specs.convert.Offers.{Reading, ends, stops, defines, offers, address_offered, reading_at, with_definition, after_definitions, Reads}
-use Rattle.gimli_write.specs.convert.Preparation.{prepared}
+use Rattle.gimli_write.specs.convert.Preparation.{lists_of_header}
 use Rattle.gimli_write.specs.convert.Sources.{Source}
 use Rattle.gimli_write.specs.convert.SourceState.{reading_left}
-use Rattle.gimli_write.specs.convert.Feeding.{Conversion, fed, with_tables, converted, without_items}
-use Rattle.gimli_write.specs.convert.ConversionState.{ConversionState, lists_of, version_of_source, held_first, unless_failed, still_to_read, AddsFiles, IsReadRefusal, IsConverted, with_program}
+use Rattle.gimli_write.specs.convert.Feeding.{Conversion, after_item, with_tables, outcome_of, without_items}
+use Rattle.gimli_write.specs.convert.ConversionState.{ConversionState, lists_of, version_of_source, after_held, unless_failed, still_to_read, AddsFiles, IsReadRefusal, IsConverted, with_program}
 use Rattle.gimli_write.proofs.ConvertSteps.{refused_first, refused_same}
 
 -- how much a reading hands out
@@ -44,7 +44,7 @@ one_fewer old rest item lists hands =
     omega (arith, e)
 
 module _ (m : ℕ → Option Address) where
-  pub converted_after : (r : Reading) (p : Built) → converted m (after_definitions r) p ≡ converted m r p
+  pub converted_after : (r : Reading) (p : Built) → outcome_of m (after_definitions r) p ≡ outcome_of m r p
   converted_after (defines rest) p = converted_after rest p
   converted_after (ends lists) p = refl
   converted_after (stops e) p = refl
@@ -52,10 +52,10 @@ module _ (m : ℕ → Option Address) where
 
   -- nor does one at a place
   pub definition_passed : (parameters : Parameters) (lists : Lists) (past : List Ins) (i : Ins) (rest : Reading) (p : Built)
-      → converted m (reading_at parameters lists past i (with_definition i rest)) p ≡ converted m (reading_at parameters lists past i rest) p
+      → outcome_of m (reading_at parameters lists past i (with_definition i rest)) p ≡ outcome_of m (reading_at parameters lists past i rest) p
   definition_passed parameters lists past (DefineFile f) rest p = by (overflows parameters past (DefineFile f))
     where
-      by : (o : Bool) → converted m (if o then stops (Read AddressOverflow) else defines rest) p ≡ converted m (if o then stops (Read AddressOverflow) else rest) p
+      by : (o : Bool) → outcome_of m (if o then stops (Read AddressOverflow) else defines rest) p ≡ outcome_of m (if o then stops (Read AddressOverflow) else rest) p
       by true = refl
       by false = refl
   definition_passed parameters lists past i rest p = refl
@@ -67,7 +67,7 @@ abbrev still_with : ConversionState → List (List ℕ) → Built → Reading
 still_with c line_strings p =
     let lists : Lists = record { program = p; directory_ids = c.lists.directory_ids; file_ids = c.lists.file_ids; line_strings = line_strings } in
     unless_failed c.failed (address_offered c.address lists
-    (held_first (version_of_source c) lists c.held (reading_left c.sections c.source lists)))
+    (after_held (version_of_source c) lists c.held (reading_left c.sections c.source lists)))
 
 pub same_left : (c d : ConversionState) (line_strings : List (List ℕ)) → d ≡ with_program d.lists.program c → without_items d.lists.program ≡ without_items c.lists.program
     → still_to_read d line_strings ≡ still_to_read c line_strings
@@ -84,18 +84,18 @@ tables_are old new adds =
 
 module _ (m : ℕ → Option Address) (old mid : ConversionState) (before after : List (List ℕ)) where
   module _ (row : ConvertLineRow) (hands : after_definitions (still_to_read old before) ≡ offers row (lists_of mid after) (still_to_read mid after)) (adds : AddsFiles old.lists.program mid.lists.program) where
-    handed_first : converted m (still_to_read old before) old.lists.program ≡ (fed m row mid.lists.program >>= λ next. converted m (still_to_read mid after) next)
+    handed_first : outcome_of m (still_to_read old before) old.lists.program ≡ (after_item m row mid.lists.program >>= λ next. outcome_of m (still_to_read mid after) next)
     handed_first =
         sym (converted_after m (still_to_read old before) old.lists.program)
-        ∙ ap (λ (r : Reading). converted m r old.lists.program) hands
-        ∙ ap (λ (p : Built). fed m row p >>= λ next. converted m (still_to_read mid after) next) (tables_are old.lists.program mid.lists.program adds)
+        ∙ ap (λ (r : Reading). outcome_of m r old.lists.program) hands
+        ∙ ap (λ (p : Built). after_item m row p >>= λ next. outcome_of m (still_to_read mid after) next) (tables_are old.lists.program mid.lists.program adds)
 
-    pub fed_next : (new : ConversionState) → fed m row mid.lists.program ≡ Ok new.lists.program → new ≡ with_program new.lists.program mid
+    pub fed_next : (new : ConversionState) → after_item m row mid.lists.program ≡ Ok new.lists.program → new ≡ with_program new.lists.program mid
         → without_items new.lists.program ≡ without_items mid.lists.program
-        → converted m (still_to_read new after) new.lists.program ≡ converted m (still_to_read old before) old.lists.program
+        → outcome_of m (still_to_read new after) new.lists.program ≡ outcome_of m (still_to_read old before) old.lists.program
     fed_next new is kept items =
-        ap (λ (r : Reading). converted m r new.lists.program) (same_left mid new after kept items)
-        ∙ sym (handed_first ∙ ap (λ (r : Result Built ConvertError). r >>= λ next. converted m (still_to_read mid after) next) is)
+        ap (λ (r : Reading). outcome_of m r new.lists.program) (same_left mid new after kept items)
+        ∙ sym (handed_first ∙ ap (λ (r : Result Built ConvertError). r >>= λ next. outcome_of m (still_to_read mid after) next) is)
 
     pub fed_fewer : (new : ConversionState) → new ≡ with_program new.lists.program mid → without_items new.lists.program ≡ without_items mid.lists.program
         → offer_count (still_to_read new after) < offer_count (still_to_read old before)
@@ -103,46 +103,46 @@ module _ (m : ℕ → Option Address) (old mid : ConversionState) (before after 
         subst (λ (r : Reading). offer_count r < offer_count (still_to_read old before)) (sym (same_left mid new after kept items))
         (one_fewer (still_to_read old before) (still_to_read mid after) row (lists_of mid after) hands)
 
-    pub feed_refused : (e : ConvertError) → IsRefusedBy (fed m row mid.lists.program) e → IsRefusedBy (converted m (still_to_read old before) old.lists.program) e
+    pub feed_refused : (e : ConvertError) → IsRefusedBy (after_item m row mid.lists.program) e → IsRefusedBy (outcome_of m (still_to_read old before) old.lists.program) e
     feed_refused e refused =
-        refused_same (fed m row mid.lists.program >>= λ next. converted m (still_to_read mid after) next) (converted m (still_to_read old before) old.lists.program) e
-        (sym handed_first) (refused_first (fed m row mid.lists.program) (λ next. converted m (still_to_read mid after) next) e refused)
+        refused_same (after_item m row mid.lists.program >>= λ next. outcome_of m (still_to_read mid after) next) (outcome_of m (still_to_read old before) old.lists.program) e
+        (sym handed_first) (refused_first (after_item m row mid.lists.program) (λ next. outcome_of m (still_to_read mid after) next) e refused)
 
-  pub read_refused : (e : ConvertError) → IsReadRefusal (still_to_read old before) e → IsRefusedBy (converted m (still_to_read old before) old.lists.program) e
-  read_refused e (inl is) = inr (sym (converted_after m (still_to_read old before) old.lists.program) ∙ ap (λ (r : Reading). converted m r old.lists.program) is)
+  pub read_refused : (e : ConvertError) → IsReadRefusal (still_to_read old before) e → IsRefusedBy (outcome_of m (still_to_read old before) old.lists.program) e
+  read_refused e (inl is) = inr (sym (converted_after m (still_to_read old before) old.lists.program) ∙ ap (λ (r : Reading). outcome_of m r old.lists.program) is)
   read_refused e (inr memory) = inl memory.0
 
   module _ (end : after_definitions (still_to_read old before) ≡ ends (lists_of mid after)) (adds : AddsFiles old.lists.program mid.lists.program) where
     last : (unended : Bool) → mid.lists.program.in_sequence ≡ unended
-        → converted m (still_to_read old before) old.lists.program
+        → outcome_of m (still_to_read old before) old.lists.program
         ≡ (if unended then Err MissingLineEndSequence else Ok (record { program = mid.lists.program; file_ids = mid.lists.file_ids; line_strings = after }))
     last unended is =
         sym (converted_after m (still_to_read old before) old.lists.program)
-        ∙ ap (λ (r : Reading). converted m r old.lists.program) end
+        ∙ ap (λ (r : Reading). outcome_of m r old.lists.program) end
         ∙ ap (λ (b : Bool). let r : Result Conversion ConvertError = if b then Err MissingLineEndSequence else Ok (record { program = with_tables (lists_of mid after) old.lists.program; file_ids = mid.lists.file_ids; line_strings = after }) in r)
         (sym (ap (λ (p : Built). p.in_sequence) adds) ∙ is)
         ∙ ap (λ (p : Built). let r : Result Conversion ConvertError = if unended then Err MissingLineEndSequence else Ok (record { program = p; file_ids = mid.lists.file_ids; line_strings = after }) in r)
         (tables_are old.lists.program mid.lists.program adds)
 
-    pub left_open : mid.lists.program.in_sequence ≡ true → converted m (still_to_read old before) old.lists.program ≡ Err MissingLineEndSequence
+    pub left_open : mid.lists.program.in_sequence ≡ true → outcome_of m (still_to_read old before) old.lists.program ≡ Err MissingLineEndSequence
     left_open is = last true is
 
     pub converted_all : mid.lists.program.in_sequence ≡ false
-        → converted m (still_to_read old before) old.lists.program ≡ Ok (record { program = mid.lists.program; file_ids = mid.lists.file_ids; line_strings = after })
+        → outcome_of m (still_to_read old before) old.lists.program ≡ Ok (record { program = mid.lists.program; file_ids = mid.lists.file_ids; line_strings = after })
     converted_all is = last false is
 
 -- ---- a whole conversion
 
 module _ (m : ℕ → Option Address) (s : Source) (line_strings : List (List ℕ)) where
-  pub all_converted : (first : Lists) (reading : Reading) (outcome : Result Conversion ConvertError) → prepared s.sections s.header s.given line_strings ≡ Ok first
-      → Reads s.notation s.sections s.header first s.header.program reading → converted m reading first.program ≡ outcome → IsConverted m s line_strings outcome
+  pub all_converted : (first : Lists) (reading : Reading) (outcome : Result Conversion ConvertError) → lists_of_header s.sections s.header s.given line_strings ≡ Ok first
+      → Reads s.notation s.sections s.header first s.header.program reading → outcome_of m reading first.program ≡ outcome → IsConverted m s line_strings outcome
   all_converted first reading outcome is reads comes = (reading, rw is (reads, comes))
 
-  pub header_refused : (e : ConvertError) → IsRefusedBy (prepared s.sections s.header s.given line_strings) e → (e ≡ OutOfMemory) ⊎ IsConverted m s line_strings (Err e)
+  pub header_refused : (e : ConvertError) → IsRefusedBy (lists_of_header s.sections s.header s.given line_strings) e → (e ≡ OutOfMemory) ⊎ IsConverted m s line_strings (Err e)
   header_refused e (inl memory) = inl memory
   header_refused e (inr is) = inr (stops e, rw is refl)
 
-  pub rows_refused : (first : Lists) (reading : Reading) (e : ConvertError) → prepared s.sections s.header s.given line_strings ≡ Ok first → Reads s.notation s.sections s.header first s.header.program reading
-      → IsRefusedBy (converted m reading first.program) e → (e ≡ OutOfMemory) ⊎ IsConverted m s line_strings (Err e)
+  pub rows_refused : (first : Lists) (reading : Reading) (e : ConvertError) → lists_of_header s.sections s.header s.given line_strings ≡ Ok first → Reads s.notation s.sections s.header first s.header.program reading
+      → IsRefusedBy (outcome_of m reading first.program) e → (e ≡ OutOfMemory) ⊎ IsConverted m s line_strings (Err e)
   rows_refused first reading e is reads (inl memory) = inl memory
   rows_refused first reading e is reads (inr refused) = inr (all_converted first reading (Err e) is reads refused)

@@ -6,37 +6,37 @@ use Rattle.gimli_build.specs.declared.built.row.LineRow.{LineRow}
 use Rattle.gimli_write.specs.declared.convert.offer.ConvertLineRow.TheVariants.{SetAddress, Row}
 use Rattle.gimli_write.specs.convert.Lists.{Lists}
 use Rattle.gimli_write.specs.convert.Offers.{Reading, ends, stops, defines, offers, address_offered, after_definitions}
-use Rattle.gimli_write.specs.convert.Sequences.{gathered, sequence_with}
+use Rattle.gimli_write.specs.convert.Sequences.{sequence_from, sequence_with}
 use Rattle.gimli_write.specs.convert.Texts.{IsRefusedBy}
-use Rattle.gimli_write.specs.convert.ConversionState.{ConversionState, lists_of, version_of_source, held_first, unless_failed, source_left, still_to_read, IsReadRefusal, AddsFiles}
+use Rattle.gimli_write.specs.convert.ConversionState.{ConversionState, lists_of, version_of_source, after_held, unless_failed, source_left, still_to_read, IsReadRefusal, AddsFiles}
 use Rattle.gimli_write.specs.declared.convert_error.ConvertError.{ConvertError}
 use Rattle.gimli_write.specs.declared.convert_error.ConvertError.TheVariants.{MissingLineEndSequence}
 use Rattle.gimli_write.specs.declared.convert.sequence.ConvertLineSequenceEnd.TheVariants.{Address}
 
 -- files that are defined give no row
-pub gathered_after : (start : Option ℕ) (rows : List LineRow) (r : Reading) → gathered start rows (after_definitions r) ≡ gathered start rows r
+pub gathered_after : (start : Option ℕ) (rows : List LineRow) (r : Reading) → sequence_from start rows (after_definitions r) ≡ sequence_from start rows r
 gathered_after start rows (defines rest) = gathered_after start rows rest
 gathered_after start rows (ends lists) = refl
 gathered_after start rows (stops e) = refl
 gathered_after start rows (offers item lists rest) = refl
 
 -- what is gathered, by what is read after them
-pub gathered_first : (start : Option ℕ) (rows : List LineRow) (old next : Reading) → after_definitions old ≡ next → gathered start rows old ≡ gathered start rows next
-gathered_first start rows old next is = sym (gathered_after start rows old) ∙ ap (gathered start rows) is
+pub gathered_first : (start : Option ℕ) (rows : List LineRow) (old next : Reading) → after_definitions old ≡ next → sequence_from start rows old ≡ sequence_from start rows next
+gathered_first start rows old next is = sym (gathered_after start rows old) ∙ ap (sequence_from start rows) is
 
 -- after a row
 pub row_gathered : (start : Option ℕ) (rows more : List LineRow) (row : LineRow) (old rest : Reading) (lists : Lists) → after_definitions old ≡ offers (Row row) lists rest → more ≡ rows ++ row ∷ []
-    → gathered start more rest ≡ gathered start rows old
-row_gathered start rows more row old rest lists hands more_is = ap (λ (r : List LineRow). gathered start r rest) more_is ∙ sym (gathered_first start rows old (offers (Row row) lists rest) hands)
+    → sequence_from start more rest ≡ sequence_from start rows old
+row_gathered start rows more row old rest lists hands more_is = ap (λ (r : List LineRow). sequence_from start r rest) more_is ∙ sym (gathered_first start rows old (offers (Row row) lists rest) hands)
 
 -- after an address, before the first row
 pub address_gathered : (start : Option ℕ) (rows : List LineRow) (a : ℕ) (old rest : Reading) (lists : Lists) → after_definitions old ≡ offers (SetAddress a) lists rest → rows ≡ []
-    → gathered (Some a) rows rest ≡ gathered start rows old
+    → sequence_from (Some a) rows rest ≡ sequence_from start rows old
 address_gathered start rows a old rest lists hands none = rw none (sym (gathered_first start [] old (offers (SetAddress a) lists rest) hands))
 
 -- an address after a row is where a sequence ends, and is read again
 pub address_ends : (start : Option ℕ) (rows : List LineRow) (a : ℕ) (old rest : Reading) (lists : Lists) → after_definitions old ≡ offers (SetAddress a) lists rest
-    → nat_eq (length rows) 0 ≡ false → gathered start rows old ≡ Ok (Some (sequence_with start rows (Address a)), offers (SetAddress a) lists rest)
+    → nat_eq (length rows) 0 ≡ false → sequence_from start rows old ≡ Ok (Some (sequence_with start rows (Address a)), offers (SetAddress a) lists rest)
 address_ends start [] a old rest lists hands some = absurd cc
 address_ends start (row ∷ rows) a old rest lists hands some = gathered_first start (row ∷ rows) old (offers (SetAddress a) lists rest) hands
 
@@ -49,7 +49,7 @@ module _ (c d : ConversionState) (line_strings : List (List ℕ)) (a : ℕ) wher
       lists = lists_of c line_strings
 
       rest : Reading
-      rest = held_first (version_of_source c) lists c.held (source_left c line_strings)
+      rest = after_held (version_of_source c) lists c.held (source_left c line_strings)
 
       by : (failed : Option ConvertError) (address : Option ℕ) → failed ≡ None → address ≡ None
           → offers (SetAddress a) lists (unless_failed failed (address_offered address lists rest)) ≡ unless_failed failed (address_offered (Some a) lists rest)
@@ -59,16 +59,16 @@ module _ (c d : ConversionState) (line_strings : List (List ℕ)) (a : ℕ) wher
 
 -- the end of what is read
 pub nothing_gathered : (start : Option ℕ) (rows : List LineRow) (old rest : Reading) (lists : Lists) → after_definitions old ≡ ends lists → rest ≡ ends lists → rows ≡ []
-    → gathered start rows old ≡ Ok (None, rest)
+    → sequence_from start rows old ≡ Ok (None, rest)
 nothing_gathered start rows old rest lists end left none = rw (none, left) (gathered_first start [] old (ends lists) end)
 
 pub rows_left : (start : Option ℕ) (rows : List LineRow) (old : Reading) (lists : Lists) → after_definitions old ≡ ends lists → nat_eq (length rows) 0 ≡ false
-    → gathered start rows old ≡ Err MissingLineEndSequence
+    → sequence_from start rows old ≡ Err MissingLineEndSequence
 rows_left start [] old lists end some = absurd cc
 rows_left start (row ∷ rows) old lists end some = gathered_first start (row ∷ rows) old (ends lists) end
 
 -- a refusal
-pub gather_refused : (start : Option ℕ) (rows : List LineRow) (old : Reading) (e : ConvertError) → IsReadRefusal old e → IsRefusedBy (gathered start rows old) e
+pub gather_refused : (start : Option ℕ) (rows : List LineRow) (old : Reading) (e : ConvertError) → IsReadRefusal old e → IsRefusedBy (sequence_from start rows old) e
 gather_refused start rows old e (inl is) = inr (gathered_first start rows old (stops e) is)
 gather_refused start rows old e (inr memory) = inl memory.0
 

@@ -13,7 +13,7 @@ use Rattle.gimli_core.specs.declared.common.LineEncoding.{LineEncoding}
 use Rattle.gimli_line.specs.header.File.{File}
 use Rattle.gimli_line.specs.header.Header.{Header, directory_of, from_one}
 use Rattle.gimli_build.specs.LineText.{LineText, line_text_eq, made_text, made_table}
-use Rattle.gimli_build.specs.Tables.{with_directory, place_of_directory}
+use Rattle.gimli_build.specs.Tables.{with_directory, index_of_directory}
 use Rattle.gimli_build.specs.FirstTables.{first_directories}
 use Rattle.gimli_build.specs.Texts.{Sections, IsText}
 use Rattle.gimli_build.proofs.TableLemmas.{directory_found}
@@ -101,7 +101,7 @@ grown_cases (z ∷ xs) x y (suc i) is = elim (grown_cases xs x y i is) [ inl so 
 pub record IsDirectoryId (version : ℕ) (line_strings : List (List ℕ)) (directories : List LineText) (path : List ℕ) (id : ℕ) : Type 0 where
   pub made : IsMade version line_strings path
   pub present : list_any (line_text_eq (made_text version line_strings path)) directories ≡ true
-  pub place : id ≡ place_of_directory directories (made_text version line_strings path)
+  pub place : id ≡ index_of_directory directories (made_text version line_strings path)
 
 pub longer_texts : (version : ℕ) (old new : List (List ℕ)) (directories : List LineText) (path : List ℕ) (id : ℕ) → HasMade version old new
     → IsDirectoryId version old directories path id → IsDirectoryId version new directories path id
@@ -110,7 +110,7 @@ longer_texts version old new directories path id has so =
     record {
       made = has.there path so.made;
       present = subst (λ (t : LineText). list_any (line_text_eq t) directories ≡ true) same so.present;
-      place = subst (λ (t : LineText). id ≡ place_of_directory directories t) same so.place;
+      place = subst (λ (t : LineText). id ≡ index_of_directory directories t) same so.place;
     }
 
 more_directories : (version : ℕ) (line_strings : List (List ℕ)) (directories : List LineText) (t : LineText) (path : List ℕ) (id : ℕ)
@@ -129,7 +129,7 @@ pub directory_there : (version : ℕ) (line_strings : List (List ℕ)) (director
 directory_there version line_strings directories path id so =
     let t = made_text version line_strings path in
     ap (slice_get directories) so.place
-    ∙ subst (λ (ds : List LineText). slice_get ds (place_of_directory directories t) ≡ Some t) (ap (λ (b : Bool). if b then directories else directories ++ t ∷ []) so.present) (directory_found directories t)
+    ∙ subst (λ (ds : List LineText). slice_get ds (index_of_directory directories t) ≡ Some t) (ap (λ (b : Bool). if b then directories else directories ++ t ∷ []) so.present) (directory_found directories t)
 
 -- so one id has one path
 pub one_path : (version : ℕ) (line_strings : List (List ℕ)) (directories : List LineText) (a b : List ℕ) (id : ℕ)
@@ -164,17 +164,17 @@ module _ (sections : Sections) (h : Header) where
       let text = made_text version lists.line_strings path in
       let same : made_text version after path ≡ text = is_same version lists.line_strings path in
       let there = list_any (line_text_eq text) lists.program.directories in
-      let new : IsDirectoryId version after (with_directory lists.program.directories text) path (place_of_directory lists.program.directories text) = record {
+      let new : IsDirectoryId version after (with_directory lists.program.directories text) path (index_of_directory lists.program.directories text) = record {
         made = is_made version lists.line_strings path;
         present = subst (λ (x : LineText). list_any (line_text_eq x) (with_directory lists.program.directories text) ≡ true) (sym same)
             (own_any (line_text_eq text) there lists.program.directories text refl (same_text text));
-        place = subst (λ (x : LineText). place_of_directory lists.program.directories text ≡ place_of_directory (with_directory lists.program.directories text) x) (sym same)
+        place = subst (λ (x : LineText). index_of_directory lists.program.directories text ≡ index_of_directory (with_directory lists.program.directories text) x) (sym same)
             (sym (own_place (line_text_eq text) there lists.program.directories text refl (same_text text)));
       } in
       let read : IsText sections v path = text_read sections v path (source_path_of version sections v path t.1) in
       subst (λ (l : Lists). AreDirectories sections h l × (length l.directory_ids ≡ length lists.directory_ids + 1)) (same_ok (with_path lists path) next t.2) (
         record {
-          each = λ d id at. elim (grown_cases lists.directory_ids (place_of_directory lists.program.directories text) id d at) [
+          each = λ d id at. elim (grown_cases lists.directory_ids (index_of_directory lists.program.directories text) id d at) [
             | inl old ↦
                 let before = so.each d id old in (
                   before.0,
@@ -189,7 +189,7 @@ module _ (sections : Sections) (h : Header) where
             )
           ];
         },
-        length-append lists.directory_ids (place_of_directory lists.program.directories text ∷ []),
+        length-append lists.directory_ids (index_of_directory lists.program.directories text ∷ []),
       )
 
   directories_next : (done rest : List Value) (lists last : Lists) → h.directories ≡ done ++ rest
@@ -232,11 +232,11 @@ module _ (sections : Sections) (h : Header) where
           let t = made_text encoding.version line_strings directory in
           let same = sym (is_same encoding.version line_strings directory) in
           let found : list_any (line_text_eq t) (t ∷ []) ≡ true = or_left (line_text_eq t t) false (same_text t) in
-          let at : 0 ≡ place_of_directory (t ∷ []) t = rw (same_text t) refl in
+          let at : 0 ≡ index_of_directory (t ∷ []) t = rw (same_text t) refl in
           record {
             made = is_made encoding.version line_strings directory;
             present = subst (λ (x : LineText). list_any (line_text_eq x) (t ∷ []) ≡ true) same found;
-            place = subst (λ (x : LineText). 0 ≡ place_of_directory (t ∷ []) x) same at;
+            place = subst (λ (x : LineText). 0 ≡ index_of_directory (t ∷ []) x) same at;
           }
 
       with_own : (last : List (List ℕ)) (working : LineText) (own : Option LineText) (old : Bool) → IsDirectoryId encoding.version last (working ∷ []) directory 0

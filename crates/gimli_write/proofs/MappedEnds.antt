@@ -10,11 +10,11 @@ use Rattle.gimli_core.specs.declared.error.Error.TheVariants.{AddressOverflow}
 use Rattle.gimli_bytes.specs.declared.address.Address.{Address}
 use Rattle.gimli_line.specs.header.Header.{Header}
 use Rattle.gimli_line.specs.header.Parameters.{Parameters}
-use Rattle.gimli_line.specs.run.Events.{defined_files, behind}
+use Rattle.gimli_line.specs.run.Events.{defined_files, past_at_end}
 use Rattle.gimli_line.specs.run.Instruction.{Ins, makes_row}
-use Rattle.gimli_line.specs.run.OperationPointer.{is_hidden, overflows}
+use Rattle.gimli_line.specs.run.OperationPointer.{is_under_tombstone, overflows}
 use Rattle.gimli_build.specs.Calls.{after_address, after_row, after_end}
-use Rattle.gimli_build.specs.Built.{Built, previous_place}
+use Rattle.gimli_build.specs.Built.{Built, previous_position}
 use Rattle.gimli_build.specs.Conditions.{CanWrite}
 use Rattle.gimli_build.specs.LineText.{LineText, IsWithin}
 use Rattle.gimli_build.specs.Tables.{File as BuiltFile}
@@ -28,10 +28,10 @@ use Rattle.gimli_write.specs.declared.convert.offer.ConvertLineRow.{ConvertLineR
 use Rattle.gimli_write.specs.declared.convert.offer.ConvertLineRow.TheVariants as offer
 use Rattle.gimli_write.specs.convert.Texts.{◌>>=◌, source_path}
 use Rattle.gimli_write.specs.convert.Lists.{Lists, version_of, with_path, directory_added, file_added}
-use Rattle.gimli_write.specs.convert.Preparation.{Handed, encoding_of, first_ids, prepared}
-use Rattle.gimli_write.specs.convert.Offers.{Reading, stops, offers, source_row, built_row, address_offered, row_offered, place_offered, offered, reading_at, end_reading, upon, lists_at, with_definition, reading_behind, Reads}
+use Rattle.gimli_write.specs.convert.Preparation.{Handed, encoding_of, first_ids, lists_of_header}
+use Rattle.gimli_write.specs.convert.Offers.{Reading, stops, offers, source_row, built_row, address_offered, row_offered, row_or_end_offered, source_row_offered, reading_at, end_reading, with_lists, lists_at, with_definition, reading_after, Reads}
 use Rattle.gimli_write.specs.convert.Mapped.{AreFilesMapped}
-use Rattle.gimli_write.specs.convert.Feeding.{Conversion, converted, with_tables, can_build}
+use Rattle.gimli_write.specs.convert.Feeding.{Conversion, outcome_of, with_tables, can_build}
 use Rattle.gimli_write.proofs.Feedings.{definition_passed}
 use Rattle.gimli_write.proofs.MappedDirectories.{AreDirectories, directories_prepared, directories_stay}
 use Rattle.gimli_write.proofs.MappedFiles.{AreFiles, files_next, files_defined}
@@ -61,59 +61,59 @@ module _ (convert_address : ℕ → Option Address) (c : Conversion) where
   -- a conversion goes on with a rest, from a program of the same kind
   record GoesOn (rest : Reading) (p : Built) : Type 0 where
     next : Built
-    is : converted convert_address rest next ≡ Ok c
+    is : outcome_of convert_address rest next ≡ Ok c
     is_none : next.is_none ≡ p.is_none
     encoding : next.encoding ≡ p.encoding
     line_encoding : next.line_encoding ≡ p.line_encoding
 
-  item_goes : (o : ConvertLineRow) (lists : Lists) (rest : Reading) (p : Built) → converted convert_address (offers o lists rest) p ≡ Ok c → GoesOn rest p
+  item_goes : (o : ConvertLineRow) (lists : Lists) (rest : Reading) (p : Built) → outcome_of convert_address (offers o lists rest) p ≡ Ok c → GoesOn rest p
   item_goes (offer.SetAddress a) lists rest p is = by (convert_address a) is
     where
-      by : (o : Option Address) → ((ok_or o InvalidAddress >>= λ m. Ok (after_address m (with_tables lists p))) >>= λ n. converted convert_address rest n) ≡ Ok c → GoesOn rest p
+      by : (o : Option Address) → ((ok_or o InvalidAddress >>= λ m. Ok (after_address m (with_tables lists p))) >>= λ n. outcome_of convert_address rest n) ≡ Ok c → GoesOn rest p
       by None so = absurd cc
       by (Some m) so = record { next = after_address m (with_tables lists p); is = so; is_none = refl; encoding = refl; line_encoding = refl }
-  item_goes (offer.Row r) lists rest p is = by (can_build p.line_encoding (previous_place p.items) (item.Row r)) is
+  item_goes (offer.Row r) lists rest p is = by (can_build p.line_encoding (previous_position p.items) (item.Row r)) is
     where
-      by : (b : Bool) → ((if b then Ok (after_row r (with_tables lists p)) else Err UnsupportedLineInstruction) >>= λ n. converted convert_address rest n) ≡ Ok c → GoesOn rest p
+      by : (b : Bool) → ((if b then Ok (after_row r (with_tables lists p)) else Err UnsupportedLineInstruction) >>= λ n. outcome_of convert_address rest n) ≡ Ok c → GoesOn rest p
       by false so = absurd cc
       by true so = record { next = after_row r (with_tables lists p); is = so; is_none = refl; encoding = refl; line_encoding = refl }
-  item_goes (offer.EndSequence offset) lists rest p is = by (can_build p.line_encoding (previous_place p.items) (item.End offset p.row.op_index)) is
+  item_goes (offer.EndSequence offset) lists rest p is = by (can_build p.line_encoding (previous_position p.items) (item.End offset p.row.op_index)) is
     where
-      by : (b : Bool) → ((if b then Ok (after_end offset (with_tables lists p)) else Err UnsupportedLineInstruction) >>= λ n. converted convert_address rest n) ≡ Ok c → GoesOn rest p
+      by : (b : Bool) → ((if b then Ok (after_end offset (with_tables lists p)) else Err UnsupportedLineInstruction) >>= λ n. outcome_of convert_address rest n) ≡ Ok c → GoesOn rest p
       by false so = absurd cc
       by true so = record { next = after_end offset (with_tables lists p); is = so; is_none = refl; encoding = refl; line_encoding = refl }
 
-  place_goes : (version : ℕ) (lists : Lists) (r : SourceRow) (rest : Reading) (p : Built) → converted convert_address (place_offered version lists r rest) p ≡ Ok c → GoesOn rest p
+  place_goes : (version : ℕ) (lists : Lists) (r : SourceRow) (rest : Reading) (p : Built) → outcome_of convert_address (row_or_end_offered version lists r rest) p ≡ Ok c → GoesOn rest p
   place_goes version lists r rest p is = by r.row.end_sequence is
     where
-      built : (o : Result LineRow ConvertError) → converted convert_address (row_offered o lists rest) p ≡ Ok c → GoesOn rest p
+      built : (o : Result LineRow ConvertError) → outcome_of convert_address (row_offered o lists rest) p ≡ Ok c → GoesOn rest p
       built (Ok row) so = item_goes (offer.Row row) lists rest p so
       built (Err e) so = absurd cc
 
-      by : (b : Bool) → converted convert_address (if b then offers (offer.EndSequence r.address_offset) lists rest else row_offered (built_row version lists r) lists rest) p ≡ Ok c → GoesOn rest p
+      by : (b : Bool) → outcome_of convert_address (if b then offers (offer.EndSequence r.address_offset) lists rest else row_offered (built_row version lists r) lists rest) p ≡ Ok c → GoesOn rest p
       by true so = item_goes (offer.EndSequence r.address_offset) lists rest p so
       by false so = built (built_row version lists r) so
 
-  offered_goes : (version : ℕ) (lists : Lists) (r : SourceRow) (rest : Reading) (p : Built) → converted convert_address (offered version lists r rest) p ≡ Ok c → GoesOn rest p
+  offered_goes : (version : ℕ) (lists : Lists) (r : SourceRow) (rest : Reading) (p : Built) → outcome_of convert_address (source_row_offered version lists r rest) p ≡ Ok c → GoesOn rest p
   offered_goes version lists r rest p is = by r.set_address is
     where
-      by : (o : Option ℕ) → converted convert_address (address_offered o lists (place_offered version lists r rest)) p ≡ Ok c → GoesOn rest p
+      by : (o : Option ℕ) → outcome_of convert_address (address_offered o lists (row_or_end_offered version lists r rest)) p ≡ Ok c → GoesOn rest p
       by None so = place_goes version lists r rest p so
       by (Some a) so =
-          let first = item_goes (offer.SetAddress a) lists (place_offered version lists r rest) p so in
+          let first = item_goes (offer.SetAddress a) lists (row_or_end_offered version lists r rest) p so in
           let second = place_goes version lists r rest first.next first.is in
           record { next = second.next; is = second.is; is_none = second.is_none ∙ first.is_none; encoding = second.encoding ∙ first.encoding; line_encoding = second.line_encoding ∙ first.line_encoding }
 
-  at_goes : (parameters : Parameters) (lists : Lists) (past : List Ins) (i : Ins) (rest : Reading) (p : Built) → converted convert_address (reading_at parameters lists past i rest) p ≡ Ok c → GoesOn rest p
-  at_goes parameters lists past i rest p is = by (overflows parameters past i) (makes_row i && not (is_hidden parameters past)) is
+  at_goes : (parameters : Parameters) (lists : Lists) (past : List Ins) (i : Ins) (rest : Reading) (p : Built) → outcome_of convert_address (reading_at parameters lists past i rest) p ≡ Ok c → GoesOn rest p
+  at_goes parameters lists past i rest p is = by (overflows parameters past i) (makes_row i && not (is_under_tombstone parameters past)) is
     where
-      by : (o m : Bool) → converted convert_address (if o then stops (Read AddressOverflow) else (if m then offered parameters.encoding.version lists (source_row parameters past i) rest else rest)) p ≡ Ok c → GoesOn rest p
+      by : (o m : Bool) → outcome_of convert_address (if o then stops (Read AddressOverflow) else (if m then source_row_offered parameters.encoding.version lists (source_row parameters past i) rest else rest)) p ≡ Ok c → GoesOn rest p
       by true m so = absurd cc
       by false true so = offered_goes parameters.encoding.version lists (source_row parameters past i) rest p so
       by false false so = record { next = p; is = so; is_none = refl; encoding = refl; line_encoding = refl }
 
   nothing_goes : (sections : Sections) (first : Lists) (past : List Ins) (end : Option Error) (there : Result Lists ConvertError) (p : Built) → lists_at sections first past ≡ there
-      → converted convert_address (upon there (end_reading end)) p ≡ Ok c → Outcome sections first past p c
+      → outcome_of convert_address (with_lists there (end_reading end)) p ≡ Ok c → Outcome sections first past p c
   nothing_goes sections first past end (Err e) p at is = absurd cc
   nothing_goes sections first past (Some e) (Ok lists) p at is = absurd cc
   nothing_goes sections first past None (Ok lists) p at is = by p.in_sequence is
@@ -129,17 +129,17 @@ module _ (convert_address : ℕ → Option Address) (c : Conversion) where
           })
 
   pub outcome : (sections : Sections) (parameters : Parameters) (first : Lists) (past list : List Ins) (end : Option Error) (p : Built)
-      → converted convert_address (reading_behind sections parameters first past list end) p ≡ Ok c → Outcome sections first (behind past list) p c
+      → outcome_of convert_address (reading_after sections parameters first past list end) p ≡ Ok c → Outcome sections first (past_at_end past list) p c
   outcome sections parameters first past [] end p is = nothing_goes sections first past end (lists_at sections first past) p refl is
   outcome sections parameters first past (i ∷ list) end p is = by (λ p so. outcome sections parameters first (i ∷ past) list end p so) (lists_at sections first past) is
     where
-      by : ((p : Built) → converted convert_address (reading_behind sections parameters first (i ∷ past) list end) p ≡ Ok c → Outcome sections first (behind (i ∷ past) list) p c)
+      by : ((p : Built) → outcome_of convert_address (reading_after sections parameters first (i ∷ past) list end) p ≡ Ok c → Outcome sections first (past_at_end (i ∷ past) list) p c)
           → (there : Result Lists ConvertError)
-          → converted convert_address (upon there (λ lists. reading_at parameters lists past i (with_definition i (reading_behind sections parameters first (i ∷ past) list end)))) p ≡ Ok c
-          → Outcome sections first (behind (i ∷ past) list) p c
+          → outcome_of convert_address (with_lists there (λ lists. reading_at parameters lists past i (with_definition i (reading_after sections parameters first (i ∷ past) list end)))) p ≡ Ok c
+          → Outcome sections first (past_at_end (i ∷ past) list) p c
       by rest (Err e) so = absurd cc
       by rest (Ok lists) so =
-          let others = reading_behind sections parameters first (i ∷ past) list end in
+          let others = reading_after sections parameters first (i ∷ past) list end in
           let on = at_goes parameters lists past i others p (sym (definition_passed convert_address parameters lists past i others p) ∙ so) in
           let after = rest on.next on.is in
           record {
@@ -158,10 +158,10 @@ no_file sections lists next v is =
 
 module _ (notation : Notation) (sections : Sections) (h : Header) (given : Handed) (line_strings : List (List ℕ)) (first : Lists) (bytes : List ℕ) (reading : Reading)
     (convert_address : ℕ → Option Address) (c : Conversion)
-    (ready : prepared sections h given line_strings ≡ Ok first) (reads : Reads notation sections h first bytes reading)
-    (is : converted convert_address reading first.program ≡ Ok c) where
-  pub comes : Outcome sections first (behind [] reads.list) first.program c
-  comes = outcome convert_address c sections h.parameters first [] reads.list reads.end first.program (ap (λ (r : Reading). converted convert_address r first.program) (sym reads.given) ∙ is)
+    (ready : lists_of_header sections h given line_strings ≡ Ok first) (reads : Reads notation sections h first bytes reading)
+    (is : outcome_of convert_address reading first.program ≡ Ok c) where
+  pub comes : Outcome sections first (past_at_end [] reads.list) first.program c
+  comes = outcome convert_address c sections h.parameters first [] reads.list reads.end first.program (ap (λ (r : Reading). outcome_of convert_address r first.program) (sym reads.given) ∙ is)
 
   pub encoding_kept : c.program.encoding ≡ encoding_of h given
   encoding_kept = comes.kind.encoding ∙ (prepared_ready [] sections h given line_strings first ready).encoding_is
@@ -172,7 +172,7 @@ module _ (notation : Notation) (sections : Sections) (h : Header) (given : Hande
       let encoding = encoding_of h given in
       let start : IsReady strings encoding first = prepared_ready strings sections h given line_strings first ready in
       let last : IsReady strings encoding f.lists =
-      lists_at_keeps (IsReady strings encoding) sections first (λ l n d a so. file_ready strings encoding sections l n d a so) (behind [] reads.list) f.lists f.there start in
+      lists_at_keeps (IsReady strings encoding) sections first (λ l n d a so. file_ready strings encoding sections l n d a so) (past_at_end [] reads.list) f.lists f.there start in
       let files : All (CanKeep strings c.line_strings c.program.encoding.version) c.program.files =
       subst (λ (t : List (List ℕ)). All (CanKeep strings t c.program.encoding.version) c.program.files) (sym f.line_strings)
       (subst (λ (files : List BuiltFile). All (CanKeep strings f.lists.line_strings c.program.encoding.version) files) (sym f.files)
@@ -197,10 +197,10 @@ module _ (notation : Notation) (sections : Sections) (h : Header) (given : Hande
       all_added_keeps (AreDirectories sections h) (file_added sections) (λ l n f a so. directories_stay sections h l n f a so) h.files p.with_directories first p.files
       (directories_prepared sections h given line_strings first p)
 
-  pub files_same : (strings : List (List ℕ)) → AreFilesMapped sections h (defined_files h.files (behind [] reads.list)) strings c
+  pub files_same : (strings : List (List ℕ)) → AreFilesMapped sections h (defined_files h.files (past_at_end [] reads.list)) strings c
   files_same strings =
       let f = comes.finished in
-      let past = behind [] reads.list in
+      let past = past_at_end [] reads.list in
       files_mapped sections h strings f.lists (defined_files h.files past) c
       (lists_at_keeps (AreDirectories sections h) sections first (λ l n d a so. directories_stay sections h l n d a so) past f.lists f.there directories_are)
       (files_defined sections h first past f.lists f.there files_are)

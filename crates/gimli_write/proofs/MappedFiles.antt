@@ -13,11 +13,11 @@ use Rattle.gimli_line.specs.header.Header.{Header}
 use Rattle.gimli_line.specs.run.Events.{defined_files}
 use Rattle.gimli_line.specs.run.Instruction.{Ins}
 use Rattle.gimli_build.specs.LineText.{LineText, made_text, made_table}
-use Rattle.gimli_build.specs.Tables.{FileKey, Details, File as BuiltFile, key_eq, has_file, place_of_file, with_details, with_file, keys_of}
+use Rattle.gimli_build.specs.Tables.{FileKey, Details, File as BuiltFile, key_eq, has_file, index_of_file, with_details, with_file, keys_of}
 use Rattle.gimli_build.specs.Texts.{Sections, OneByOne}
 use Rattle.gimli_build.proofs.TableLemmas.{file_found_at, file_keeps, file_others, some_within}
 use Rattle.gimli_write.specs.convert.Lists.{Lists, version_of, FileParts, file_parts, with_parts, file_added, all_added}
-use Rattle.gimli_write.specs.convert.Offers.{defined, lists_at}
+use Rattle.gimli_write.specs.convert.Offers.{lists_after_definition, lists_at}
 use Rattle.gimli_write.specs.convert.Preparation.{first_ids}
 use Rattle.gimli_write.proofs.MappedLists.{took, same_ok, sources_table}
 use Rattle.gimli_write.proofs.MappedTexts.{place_stays, place_new, any_stays, any_new, place_none, last_element, same_key, IsMade, HasMade, has_then, is_made, is_same, table_has, made_apart}
@@ -77,47 +77,47 @@ module _ (files : List BuiltFile) (k : FileKey) (d : Details) where
   old_any : (l : FileKey) → has_file files l ≡ true → has_file (with_file files k (Some d)) l ≡ true
   old_any l is = by (has_file files k)
     where
-      by : (b : Bool) → has_file (if b then with_details files (place_of_file files k) d else files ++ (k, d) ∷ []) l ≡ true
-      by true = details_any (key_eq l) files (place_of_file files k) d ∙ is
+      by : (b : Bool) → has_file (if b then with_details files (index_of_file files k) d else files ++ (k, d) ∷ []) l ≡ true
+      by true = details_any (key_eq l) files (index_of_file files k) d ∙ is
       by false = any_stays (λ f. key_eq l f.0) files ((k, d) ∷ []) is
 
-  old_place : (l : FileKey) → has_file files l ≡ true → place_of_file (with_file files k (Some d)) l ≡ place_of_file files l
+  old_place : (l : FileKey) → has_file files l ≡ true → index_of_file (with_file files k (Some d)) l ≡ index_of_file files l
   old_place l is = by (has_file files k)
     where
-      by : (b : Bool) → place_of_file (if b then with_details files (place_of_file files k) d else files ++ (k, d) ∷ []) l ≡ place_of_file files l
-      by true = details_place (key_eq l) files (place_of_file files k) d
+      by : (b : Bool) → index_of_file (if b then with_details files (index_of_file files k) d else files ++ (k, d) ∷ []) l ≡ index_of_file files l
+      by true = details_place (key_eq l) files (index_of_file files k) d
       by false = place_stays (λ f. key_eq l f.0) files ((k, d) ∷ []) is
 
   -- the one that is added is there, at its place
   new_any : has_file (with_file files k (Some d)) k ≡ true
   new_any = by (has_file files k) refl
     where
-      by : (b : Bool) → has_file files k ≡ b → has_file (if b then with_details files (place_of_file files k) d else files ++ (k, d) ∷ []) k ≡ true
-      by true is = details_any (key_eq k) files (place_of_file files k) d ∙ is
+      by : (b : Bool) → has_file files k ≡ b → has_file (if b then with_details files (index_of_file files k) d else files ++ (k, d) ∷ []) k ≡ true
+      by true is = details_any (key_eq k) files (index_of_file files k) d ∙ is
       by false is = any_new (λ f. key_eq k f.0) files (k, d) (same_key k)
 
-  new_place : place_of_file (with_file files k (Some d)) k ≡ place_of_file files k
+  new_place : index_of_file (with_file files k (Some d)) k ≡ index_of_file files k
   new_place = by (has_file files k) refl
     where
-      by : (b : Bool) → has_file files k ≡ b → place_of_file (if b then with_details files (place_of_file files k) d else files ++ (k, d) ∷ []) k ≡ place_of_file files k
-      by true is = details_place (key_eq k) files (place_of_file files k) d
+      by : (b : Bool) → has_file files k ≡ b → index_of_file (if b then with_details files (index_of_file files k) d else files ++ (k, d) ∷ []) k ≡ index_of_file files k
+      by true is = details_place (key_eq k) files (index_of_file files k) d
       by false is = place_new (λ f. key_eq k f.0) files (k, d) (same_key k) is
 
   -- with the details that are handed
-  new_entry : slice_get (with_file files k (Some d)) (place_of_file files k) ≡ Some (k, d)
+  new_entry : slice_get (with_file files k (Some d)) (index_of_file files k) ≡ Some (k, d)
   new_entry = by (has_file files k) refl (file_found_at files k (Some d))
     where
       there : (o : Option BuiltFile) → option_map (λ f. f.0) (option_map (λ f. let g : BuiltFile = (f.0, d) in g) o) ≡ Some k → option_map (λ f. let g : BuiltFile = (f.0, d) in g) o ≡ Some (k, d)
       there (Some f) is = let same : f.0 ≡ k = cc in ap (λ (l : FileKey). let o : Option BuiltFile = Some (l, d) in o) same
       there None is = absurd cc
 
-      by : (b : Bool) → has_file files k ≡ b → slice_get (keys_of (if b then with_details files (place_of_file files k) d else files ++ (k, d) ∷ [])) (place_of_file files k) ≡ Some k
-          → slice_get (if b then with_details files (place_of_file files k) d else files ++ (k, d) ∷ []) (place_of_file files k) ≡ Some (k, d)
+      by : (b : Bool) → has_file files k ≡ b → slice_get (keys_of (if b then with_details files (index_of_file files k) d else files ++ (k, d) ∷ [])) (index_of_file files k) ≡ Some k
+          → slice_get (if b then with_details files (index_of_file files k) d else files ++ (k, d) ∷ []) (index_of_file files k) ≡ Some (k, d)
       by true is found =
-          let n = place_of_file files k in
+          let n = index_of_file files k in
           details_at files n d
           ∙ there (slice_get files n) (ap (option_map (λ f. f.0)) (sym (details_at files n d)) ∙ sym (slice_get-map (λ (f : BuiltFile). f.0) (with_details files n d) n) ∙ found)
-      by false is found = last_element files (k, d) (place_of_file files k) (place_none (λ f. key_eq k f.0) files is)
+      by false is found = last_element files (k, d) (index_of_file files k) (place_none (λ f. key_eq k f.0) files is)
 
   -- another file keeps its details
   other_entry : (l : FileKey) (e : Details) (i : ℕ) → slice_get files i ≡ Some (l, e) → l ≢ k → slice_get (with_file files k (Some d)) i ≡ Some (l, e)
@@ -169,7 +169,7 @@ pub record IsFileOf (sections : Sections) (version : ℕ) (line_strings : List (
   pub parts_are : HasParts sections version directory_ids parts f
   pub made : IsMade version line_strings parts.path
   pub present : has_file files (made_text version line_strings parts.path, parts.directory) ≡ true
-  pub place : id ≡ place_of_file files (made_text version line_strings parts.path, parts.directory)
+  pub place : id ≡ index_of_file files (made_text version line_strings parts.path, parts.directory)
   pub details : Details
   pub entry : slice_get files id ≡ Some ((made_text version line_strings parts.path, parts.directory), details)
   pub last : File
@@ -178,9 +178,9 @@ pub record IsFileOf (sections : Sections) (version : ℕ) (line_strings : List (
   pub same : SamePaths last_parts parts
   pub known : IsKnown version line_strings last last_parts.source details
   pub before : List File
-  pub behind : List File
-  pub split : source ≡ before ++ last ∷ behind
-  pub none_behind : AllByRecursion (HasOthers sections version directory_ids parts) behind
+  pub later : List File
+  pub split : source ≡ before ++ last ∷ later
+  pub none_after : AllByRecursion (HasOthers sections version directory_ids parts) later
 
 known_longer : (version : ℕ) (old new : List (List ℕ)) (f : File) (source : Option (List ℕ)) (d : Details) → HasMade version old new → IsKnown version old f source d → IsKnown version new f source d
 known_longer version old new f (Some text) d has so = record {
@@ -203,90 +203,90 @@ source_there version paths None = tt
 -- ---- one more file
 
 module _ (sections : Sections) (lists : Lists) (g : File) (added : FileParts) (added_are : HasParts sections (version_of lists) lists.directory_ids added g) where
-  abbrev paths_behind : List (List ℕ)
-  paths_behind = made_table (version_of lists) lists.line_strings added.path
+  abbrev paths_after : List (List ℕ)
+  paths_after = made_table (version_of lists) lists.line_strings added.path
 
-  abbrev texts_behind : List (List ℕ)
-  texts_behind = sources_table (version_of lists) (made_table (version_of lists) lists.line_strings added.path) added.source
+  abbrev texts_after : List (List ℕ)
+  texts_after = sources_table (version_of lists) (made_table (version_of lists) lists.line_strings added.path) added.source
 
   abbrev key_of : FileKey
   key_of = (made_text (version_of lists) lists.line_strings added.path, added.directory)
 
   abbrev details_of : Details
-  details_of = record { timestamp = g.timestamp; size = g.size; md5 = g.md5; source = option_map (made_text (version_of lists) paths_behind) added.source }
+  details_of = record { timestamp = g.timestamp; size = g.size; md5 = g.md5; source = option_map (made_text (version_of lists) paths_after) added.source }
 
-  abbrev files_behind_it : List BuiltFile
-  files_behind_it = with_file lists.program.files key_of (Some details_of)
+  abbrev files_after_it : List BuiltFile
+  files_after_it = with_file lists.program.files key_of (Some details_of)
 
-  texts_stay : HasMade (version_of lists) lists.line_strings texts_behind
+  texts_stay : HasMade (version_of lists) lists.line_strings texts_after
   texts_stay =
-      has_then (version_of lists) lists.line_strings paths_behind texts_behind (table_has (version_of lists) lists.line_strings added.path) (sources_has (version_of lists) paths_behind added.source)
+      has_then (version_of lists) lists.line_strings paths_after texts_after (table_has (version_of lists) lists.line_strings added.path) (sources_has (version_of lists) paths_after added.source)
 
-  own_made : IsMade (version_of lists) texts_behind added.path
-  own_made = (sources_has (version_of lists) paths_behind added.source).there added.path (is_made (version_of lists) lists.line_strings added.path)
+  own_made : IsMade (version_of lists) texts_after added.path
+  own_made = (sources_has (version_of lists) paths_after added.source).there added.path (is_made (version_of lists) lists.line_strings added.path)
 
-  own_same : made_text (version_of lists) texts_behind added.path ≡ made_text (version_of lists) lists.line_strings added.path
-  own_same = (sources_has (version_of lists) paths_behind added.source).same added.path (is_made (version_of lists) lists.line_strings added.path) ∙ is_same (version_of lists) lists.line_strings added.path
+  own_same : made_text (version_of lists) texts_after added.path ≡ made_text (version_of lists) lists.line_strings added.path
+  own_same = (sources_has (version_of lists) paths_after added.source).same added.path (is_made (version_of lists) lists.line_strings added.path) ∙ is_same (version_of lists) lists.line_strings added.path
 
-  own_known : IsKnown (version_of lists) texts_behind g added.source details_of
+  own_known : IsKnown (version_of lists) texts_after g added.source details_of
   own_known = record {
     timestamp = refl;
     size = refl;
     md5 = refl;
-    source_is = source_known (version_of lists) paths_behind added.source;
-    source_made = source_there (version_of lists) paths_behind added.source;
+    source_is = source_known (version_of lists) paths_after added.source;
+    source_made = source_there (version_of lists) paths_after added.source;
   }
 
   -- the new file
-  file_new : (source : List File) → IsFileOf sections (version_of lists) texts_behind lists.directory_ids files_behind_it (source ++ g ∷ []) g (place_of_file lists.program.files key_of)
+  file_new : (source : List File) → IsFileOf sections (version_of lists) texts_after lists.directory_ids files_after_it (source ++ g ∷ []) g (index_of_file lists.program.files key_of)
   file_new source =
       let to = λ (t : LineText). let k : FileKey = (t, added.directory) in k in
       record {
         parts = added;
         parts_are = added_are;
         made = own_made;
-        present = subst (λ (t : LineText). has_file files_behind_it (to t) ≡ true) (sym own_same) (new_any lists.program.files key_of details_of);
-        place = subst (λ (t : LineText). place_of_file lists.program.files key_of ≡ place_of_file files_behind_it (to t)) (sym own_same) (sym (new_place lists.program.files key_of details_of));
+        present = subst (λ (t : LineText). has_file files_after_it (to t) ≡ true) (sym own_same) (new_any lists.program.files key_of details_of);
+        place = subst (λ (t : LineText). index_of_file lists.program.files key_of ≡ index_of_file files_after_it (to t)) (sym own_same) (sym (new_place lists.program.files key_of details_of));
         details = details_of;
-        entry = subst (λ (t : LineText). slice_get files_behind_it (place_of_file lists.program.files key_of) ≡ Some (to t, details_of)) (sym own_same) (new_entry lists.program.files key_of details_of);
+        entry = subst (λ (t : LineText). slice_get files_after_it (index_of_file lists.program.files key_of) ≡ Some (to t, details_of)) (sym own_same) (new_entry lists.program.files key_of details_of);
         last = g;
         last_parts = added;
         last_are = added_are;
         same = (refl, refl);
         known = own_known;
         before = source;
-        behind = [];
+        later = [];
         split = refl;
-        none_behind = tt;
+        none_after = tt;
       }
 
   -- a file that was there
   file_old : (source : List File) (f : File) (id : ℕ) → IsFileOf sections (version_of lists) lists.line_strings lists.directory_ids lists.program.files source f id
-      → IsFileOf sections (version_of lists) texts_behind lists.directory_ids files_behind_it (source ++ g ∷ []) f id
+      → IsFileOf sections (version_of lists) texts_after lists.directory_ids files_after_it (source ++ g ∷ []) f id
   file_old source f id so = elim (same_paths added so.parts) [ inl same ↦ taken same | inr other ↦ left other ]
     where
-      text_same : made_text (version_of lists) texts_behind so.parts.path ≡ made_text (version_of lists) lists.line_strings so.parts.path
+      text_same : made_text (version_of lists) texts_after so.parts.path ≡ made_text (version_of lists) lists.line_strings so.parts.path
       text_same = texts_stay.same so.parts.path so.made
 
-      present : has_file files_behind_it (made_text (version_of lists) texts_behind so.parts.path, so.parts.directory) ≡ true
+      present : has_file files_after_it (made_text (version_of lists) texts_after so.parts.path, so.parts.directory) ≡ true
       present =
-          subst (λ (t : LineText). has_file files_behind_it (t, so.parts.directory) ≡ true) (sym text_same)
+          subst (λ (t : LineText). has_file files_after_it (t, so.parts.directory) ≡ true) (sym text_same)
           (old_any lists.program.files key_of details_of (made_text (version_of lists) lists.line_strings so.parts.path, so.parts.directory) so.present)
 
-      place : id ≡ place_of_file files_behind_it (made_text (version_of lists) texts_behind so.parts.path, so.parts.directory)
+      place : id ≡ index_of_file files_after_it (made_text (version_of lists) texts_after so.parts.path, so.parts.directory)
       place =
-          subst (λ (t : LineText). id ≡ place_of_file files_behind_it (t, so.parts.directory)) (sym text_same)
+          subst (λ (t : LineText). id ≡ index_of_file files_after_it (t, so.parts.directory)) (sym text_same)
           (so.place ∙ sym (old_place lists.program.files key_of details_of (made_text (version_of lists) lists.line_strings so.parts.path, so.parts.directory) so.present))
 
       -- the added file has its paths
-      taken : SamePaths added so.parts → IsFileOf sections (version_of lists) texts_behind lists.directory_ids files_behind_it (source ++ g ∷ []) f id
+      taken : SamePaths added so.parts → IsFileOf sections (version_of lists) texts_after lists.directory_ids files_after_it (source ++ g ∷ []) f id
       taken same =
           let text : made_text (version_of lists) lists.line_strings added.path ≡ made_text (version_of lists) lists.line_strings so.parts.path = ap (made_text (version_of lists) lists.line_strings) same.0 in
-          let key : key_of ≡ (made_text (version_of lists) texts_behind so.parts.path, so.parts.directory) =
-          ap (λ (t : LineText). let k : FileKey = (t, added.directory) in k) (text ∙ sym text_same) ∙ ap (λ (n : ℕ). let k : FileKey = (made_text (version_of lists) texts_behind so.parts.path, n) in k) same.1 in
+          let key : key_of ≡ (made_text (version_of lists) texts_after so.parts.path, so.parts.directory) =
+          ap (λ (t : LineText). let k : FileKey = (t, added.directory) in k) (text ∙ sym text_same) ∙ ap (λ (n : ℕ). let k : FileKey = (made_text (version_of lists) texts_after so.parts.path, n) in k) same.1 in
           let old_key : key_of ≡ (made_text (version_of lists) lists.line_strings so.parts.path, so.parts.directory) =
           ap (λ (t : LineText). let k : FileKey = (t, added.directory) in k) text ∙ ap (λ (n : ℕ). let k : FileKey = (made_text (version_of lists) lists.line_strings so.parts.path, n) in k) same.1 in
-          let at : place_of_file lists.program.files key_of ≡ id = ap (place_of_file lists.program.files) old_key ∙ sym so.place in
+          let at : index_of_file lists.program.files key_of ≡ id = ap (index_of_file lists.program.files) old_key ∙ sym so.place in
           record {
             parts = so.parts;
             parts_are = so.parts_are;
@@ -295,25 +295,25 @@ module _ (sections : Sections) (lists : Lists) (g : File) (added : FileParts) (a
             place = place;
             details = details_of;
             entry =
-                subst (λ (n : ℕ). slice_get files_behind_it n ≡ Some ((made_text (version_of lists) texts_behind so.parts.path, so.parts.directory), details_of)) at
-                (subst (λ (k : FileKey). slice_get files_behind_it (place_of_file lists.program.files key_of) ≡ Some (k, details_of)) key (new_entry lists.program.files key_of details_of));
+                subst (λ (n : ℕ). slice_get files_after_it n ≡ Some ((made_text (version_of lists) texts_after so.parts.path, so.parts.directory), details_of)) at
+                (subst (λ (k : FileKey). slice_get files_after_it (index_of_file lists.program.files key_of) ≡ Some (k, details_of)) key (new_entry lists.program.files key_of details_of));
             last = g;
             last_parts = added;
             last_are = added_are;
             same = same;
             known = own_known;
             before = source;
-            behind = [];
+            later = [];
             split = refl;
-            none_behind = tt;
+            none_after = tt;
           }
 
       -- the added file has others
-      left : (SamePaths added so.parts → ⊥) → IsFileOf sections (version_of lists) texts_behind lists.directory_ids files_behind_it (source ++ g ∷ []) f id
+      left : (SamePaths added so.parts → ⊥) → IsFileOf sections (version_of lists) texts_after lists.directory_ids files_after_it (source ++ g ∷ []) f id
       left other =
           let apart : (let k : FileKey = (made_text (version_of lists) lists.line_strings so.parts.path, so.parts.directory) in k) ≢ key_of = λ is.
-          let text : made_text (version_of lists) texts_behind so.parts.path ≡ made_text (version_of lists) texts_behind added.path = text_same ∙ ap (λ (k : FileKey). k.0) is ∙ sym own_same in
-          other (sym (made_apart (version_of lists) texts_behind so.parts.path added.path (texts_stay.there so.parts.path so.made) own_made text), sym (ap (λ (k : FileKey). k.1) is)) in
+          let text : made_text (version_of lists) texts_after so.parts.path ≡ made_text (version_of lists) texts_after added.path = text_same ∙ ap (λ (k : FileKey). k.0) is ∙ sym own_same in
+          other (sym (made_apart (version_of lists) texts_after so.parts.path added.path (texts_stay.there so.parts.path so.made) own_made text), sym (ap (λ (k : FileKey). k.1) is)) in
           record {
             parts = so.parts;
             parts_are = so.parts_are;
@@ -322,17 +322,17 @@ module _ (sections : Sections) (lists : Lists) (g : File) (added : FileParts) (a
             place = place;
             details = so.details;
             entry =
-                subst (λ (t : LineText). slice_get files_behind_it id ≡ Some ((t, so.parts.directory), so.details)) (sym text_same)
+                subst (λ (t : LineText). slice_get files_after_it id ≡ Some ((t, so.parts.directory), so.details)) (sym text_same)
                 (other_entry lists.program.files key_of details_of (made_text (version_of lists) lists.line_strings so.parts.path, so.parts.directory) so.details id so.entry apart);
             last = so.last;
             last_parts = so.last_parts;
             last_are = so.last_are;
             same = so.same;
-            known = known_longer (version_of lists) lists.line_strings texts_behind so.last so.last_parts.source so.details texts_stay so.known;
+            known = known_longer (version_of lists) lists.line_strings texts_after so.last so.last_parts.source so.details texts_stay so.known;
             before = so.before;
-            behind = so.behind ++ g ∷ [];
-            split = ap (λ (l : List File). l ++ g ∷ []) so.split ∙ append_assoc so.before (so.last ∷ so.behind) (g ∷ []);
-            none_behind = all_push (HasOthers sections (version_of lists) lists.directory_ids so.parts) so.behind g so.none_behind (record { own = added; own_is = added_are; other = other });
+            later = so.later ++ g ∷ [];
+            split = ap (λ (l : List File). l ++ g ∷ []) so.split ∙ append_assoc so.before (so.last ∷ so.later) (g ∷ []);
+            none_after = all_push (HasOthers sections (version_of lists) lists.directory_ids so.parts) so.later g so.none_after (record { own = added; own_is = added_are; other = other });
           }
 
 -- ---- all files
@@ -355,12 +355,12 @@ file_next sections h lists next g source is so =
     let d : Details = record { timestamp = g.timestamp; size = g.size; md5 = g.md5; source = option_map (made_text version paths) parts.source } in
     let R = IsFileOf sections version after lists.directory_ids (with_file lists.program.files k (Some d)) (source ++ g ∷ []) in
     subst (λ (l : Lists). AreFiles sections h l (source ++ g ∷ [])) (same_ok (with_parts lists g parts) next t.2) (record {
-      ids = so.ids ++ place_of_file lists.program.files k ∷ [];
+      ids = so.ids ++ index_of_file lists.program.files k ∷ [];
       ids_are =
-          ap (λ (l : List ℕ). l ++ place_of_file lists.program.files k ∷ []) so.ids_are
-          ∙ append_assoc (first_ids h.parameters.encoding.version) so.ids (place_of_file lists.program.files k ∷ []);
+          ap (λ (l : List ℕ). l ++ index_of_file lists.program.files k ∷ []) so.ids_are
+          ∙ append_assoc (first_ids h.parameters.encoding.version) so.ids (index_of_file lists.program.files k ∷ []);
       each =
-          one_by_one_push R source so.ids g (place_of_file lists.program.files k)
+          one_by_one_push R source so.ids g (index_of_file lists.program.files k)
           (one_by_one_map (IsFileOf sections version lists.line_strings lists.directory_ids lists.program.files source) R (file_old sections lists g parts t.1 source) source so.ids so.each)
           (file_new sections lists g parts t.1 source);
     })
@@ -379,9 +379,9 @@ pub files_defined : (sections : Sections) (h : Header) (first : Lists) (past : L
     → AreFiles sections h first h.files → AreFiles sections h lists (defined_files h.files past)
 files_defined sections h first [] lists is so = subst (λ (l : Lists). AreFiles sections h l h.files) (same_ok first lists is) so
 files_defined sections h first (i ∷ past) lists is so =
-    let t = took (lists_at sections first past) (λ l. defined sections l i) lists is in
+    let t = took (lists_at sections first past) (λ l. lists_after_definition sections l i) lists is in
     one i t.0 t.2 (files_defined sections h first past t.0 t.1 so)
   where
-    one : (i : Ins) (before : Lists) → defined sections before i ≡ Ok lists → AreFiles sections h before (defined_files h.files past) → AreFiles sections h lists (defined_files h.files (i ∷ past))
+    one : (i : Ins) (before : Lists) → lists_after_definition sections before i ≡ Ok lists → AreFiles sections h before (defined_files h.files past) → AreFiles sections h lists (defined_files h.files (i ∷ past))
     one (DefineFile f) before at q = file_next sections h before lists f (defined_files h.files past) at q
     one i before at q = subst (λ (l : Lists). AreFiles sections h l (defined_files h.files past)) (same_ok before lists at) q

@@ -9,7 +9,7 @@ use Rattle.gimli_bytes.specs.Texts.{KeepsTexts, with_text}
 use Rattle.gimli_bytes.proofs.TextLemmas.{with_text-KeepsTexts}
 use Rattle.gimli_line.specs.declared.run.row.LineRow.{LineRow as ReadRow}
 use Rattle.gimli_line.specs.header.Header.{Header}
-use Rattle.gimli_line.specs.run.Events.{Event, row, Events, program_events, defined_files, behind}
+use Rattle.gimli_line.specs.run.Events.{Event, row, Events, program_events, defined_files, past_at_end}
 use Rattle.gimli_line.specs.run.EventsWithFiles.{FilesAtEnd}
 use Rattle.gimli_line.specs.header.File.{File}
 use Rattle.gimli_line.specs.run.Instruction.{Ins}
@@ -20,15 +20,15 @@ use Rattle.gimli_build.specs.Items.{AddressesFit}
 use Rattle.gimli_build.specs.LineText.{LineText, Inline, InStrings, InLineStrings, IsWithin, bytes_in}
 use Rattle.gimli_build.specs.SameRow.{RowsMatch}
 use Rattle.gimli_build.specs.Texts.{OneByOne}
-use Rattle.gimli_build.specs.Version5Tables.{needs_empty, first_form, sources, line_strings_behind}
+use Rattle.gimli_build.specs.Version5Tables.{needs_empty, first_form, sources, line_strings_after}
 use Rattle.gimli_write.specs.RoundTrip.{FileAnswer, built_file}
 use Rattle.gimli_write.specs.declared.convert_error.ConvertError.{ConvertError}
 use Rattle.gimli_write.specs.convert.ConversionState.{IsConverted}
-use Rattle.gimli_write.specs.convert.Feeding.{Conversion, converted}
+use Rattle.gimli_write.specs.convert.Feeding.{Conversion, outcome_of}
 use Rattle.gimli_write.specs.convert.Lists.{Lists}
 use Rattle.gimli_write.specs.convert.Mapped.{CanBeFaithful, IsMapped, IsReadAs, AreRowsMapped, HasPaths, AreFilesMapped, AreFilesReadAs, HasConstantAddresses}
 use Rattle.gimli_write.specs.convert.Offers.{Reading, Reads}
-use Rattle.gimli_write.specs.convert.Preparation.{encoding_of, prepared}
+use Rattle.gimli_write.specs.convert.Preparation.{encoding_of, lists_of_header}
 use Rattle.gimli_write.specs.convert.Sources.{Source}
 use Rattle.gimli_write.specs.convert.DoneConversions.{UnitReadBack, UnitGives}
 use Rattle.gimli_write.proofs.ConvertSteps.{kept_self}
@@ -39,16 +39,16 @@ use Rattle.gimli_write.proofs.MappedPrograms.{rows_mapped, addresses_fit, consta
 record WasConverted (convert_address : ℕ → Option Address) (s : Source) (line_strings : List (List ℕ)) (c : Conversion) : Type 0 where
   reading : Reading
   first : Lists
-  ready : prepared s.sections s.header s.given line_strings ≡ Ok first
+  ready : lists_of_header s.sections s.header s.given line_strings ≡ Ok first
   reads : Reads s.notation s.sections s.header first s.header.program reading
-  is : converted convert_address reading first.program ≡ Ok c
+  is : outcome_of convert_address reading first.program ≡ Ok c
 
 was_converted : (convert_address : ℕ → Option Address) (s : Source) (line_strings : List (List ℕ)) (c : Conversion)
     → IsConverted convert_address s line_strings (Ok c) → WasConverted convert_address s line_strings c
-was_converted convert_address s line_strings c so = by (prepared s.sections s.header s.given line_strings) refl so.1
+was_converted convert_address s line_strings c so = by (lists_of_header s.sections s.header s.given line_strings) refl so.1
   where
-    by : (r : Result Lists ConvertError) → prepared s.sections s.header s.given line_strings ≡ r
-        → MatchResult r (λ first. Reads s.notation s.sections s.header first s.header.program so.0 × (converted convert_address so.0 first.program ≡ Ok c)) (λ e. (let o : Result Conversion ConvertError = Ok c in o) ≡ Err e)
+    by : (r : Result Lists ConvertError) → lists_of_header s.sections s.header s.given line_strings ≡ r
+        → MatchResult r (λ first. Reads s.notation s.sections s.header first s.header.program so.0 × (outcome_of convert_address so.0 first.program ≡ Ok c)) (λ e. (let o : Result Conversion ConvertError = Ok c in o) ≡ Err e)
         → WasConverted convert_address s line_strings c
     by (Ok first) ready m = record { reading = so.0; first = first; ready = ready; reads = m.0; is = m.1 }
     by (Err e) ready m = absurd cc
@@ -76,8 +76,8 @@ bytes_longer strings old new (Inline bytes) keeps within = refl
 bytes_longer strings old new (InStrings i) keeps within = refl
 bytes_longer strings old new (InLineStrings i) keeps within = ap (λ (o : Option (List ℕ)). unwrap_or o []) (keeps.text i within)
 
-keeps_behind : (p : Built) (line_strings : List (List ℕ)) → KeepsTexts line_strings (line_strings_behind p line_strings)
-keeps_behind p line_strings = by (needs_empty p && nat_eq (first_form (sources p.files)) 0x1f)
+keeps_after : (p : Built) (line_strings : List (List ℕ)) → KeepsTexts line_strings (line_strings_after p line_strings)
+keeps_after p line_strings = by (needs_empty p && nat_eq (first_form (sources p.files)) 0x1f)
   where
     by : (b : Bool) → KeepsTexts line_strings (if b then with_text line_strings [] else line_strings)
     by true = with_text-KeepsTexts line_strings []
@@ -111,7 +111,7 @@ module _ (convert_address : ℕ → Option Address) (s : Source) (line_strings :
         let w = was_converted convert_address s line_strings c so in
         record {
           rows = mapped_rows;
-          source_files = defined_files s.header.files (behind [] w.reads.list);
+          source_files = defined_files s.header.files (past_at_end [] w.reads.list);
           at_end = record { list = w.reads.list; end = w.reads.end; decoding = w.reads.decoding; given = refl };
           files = files_same s.notation s.sections s.header s.given line_strings w.first s.header.program w.reading convert_address c w.ready w.reads w.is strings;
         }
@@ -144,18 +144,18 @@ module _ (convert_address : ℕ → Option Address) (s : Source) (line_strings :
         (found.0, found.1, conversion_back rows found.0 events (λ fit. found.2))
 
   pub files_back : (strings : List (List ℕ)) (files : List File) → FilesAtEnd s.notation true s.header s.header.program files
-      → AreFilesReadAs s.sections s.header files c.file_ids (map (bytes_in strings (line_strings_behind c.program c.line_strings)) c.program.directories)
-      (map (built_file c.program strings (line_strings_behind c.program c.line_strings)) c.program.files)
+      → AreFilesReadAs s.sections s.header files c.file_ids (map (bytes_in strings (line_strings_after c.program c.line_strings)) c.program.directories)
+      (map (built_file c.program strings (line_strings_after c.program c.line_strings)) c.program.files)
   files_back strings files at_end =
       let w = was_converted convert_address s line_strings c so in
       let once = one_decoding s.notation s.header s.header.program w.reads.list w.reads.end w.reads.decoding ∙ sym (one_decoding s.notation s.header s.header.program at_end.list at_end.end at_end.decoding) in
-      let same : defined_files s.header.files (behind [] w.reads.list) ≡ files = ap (λ (p : List Ins × Option Error). defined_files s.header.files (behind [] p.0)) once ∙ sym at_end.given in
+      let same : defined_files s.header.files (past_at_end [] w.reads.list) ≡ files = ap (λ (p : List Ins × Option Error). defined_files s.header.files (past_at_end [] p.0)) once ∙ sym at_end.given in
       let mapped : AreFilesMapped s.sections s.header files strings c =
       subst (λ (files : List File). AreFilesMapped s.sections s.header files strings c) same
       (files_same s.notation s.sections s.header s.given line_strings w.first s.header.program w.reading convert_address c w.ready w.reads w.is strings) in
       let can : CanWrite c.program strings c.line_strings = conversion_written strings in
-      let after = line_strings_behind c.program c.line_strings in
-      let keeps : KeepsTexts c.line_strings after = keeps_behind c.program c.line_strings in
+      let after = line_strings_after c.program c.line_strings in
+      let keeps : KeepsTexts c.line_strings after = keeps_after c.program c.line_strings in
       record {
         each = λ n f at.
             let found = mapped.each n f at in

@@ -10,7 +10,7 @@ use Rattle.std.specs.Prelude.{bytes_eq}
 use Rattle.gimli_core.specs.Values.{Value}
 use Rattle.gimli_core.specs.declared.common.Encoding.{Encoding}
 use Rattle.gimli_core.specs.declared.common.LineEncoding.{LineEncoding}
-use Rattle.gimli_bytes.specs.Texts.{with_text, place_of_text}
+use Rattle.gimli_bytes.specs.Texts.{with_text, index_of_text}
 use Rattle.gimli_bytes.proofs.TextLemmas.{with_text-found}
 use Rattle.gimli_line.specs.declared.run.instruction.LineInstruction.TheVariants.{DefineFile}
 use Rattle.gimli_line.specs.header.File.{File}
@@ -19,13 +19,13 @@ use Rattle.gimli_line.specs.run.Instruction.{Ins}
 use Rattle.gimli_build.specs.Built.{Built}
 use Rattle.gimli_build.specs.Conditions.{CanWrite}
 use Rattle.gimli_build.specs.LineText.{LineText, Inline, InStrings, InLineStrings, IsWithin, HasNoZero, made_text, made_table}
-use Rattle.gimli_build.specs.Tables.{FileKey, Details, File as BuiltFile, with_directory, place_of_directory, with_details, with_file, has_file, place_of_file, no_details}
+use Rattle.gimli_build.specs.Tables.{FileKey, Details, File as BuiltFile, with_directory, index_of_directory, with_details, with_file, has_file, index_of_file, no_details}
 use Rattle.gimli_build.specs.Texts.{Sections}
 use Rattle.gimli_write.specs.declared.convert_error.ConvertError.{ConvertError}
 use Rattle.gimli_write.specs.convert.Texts.{◌>>=◌, source_path}
 use Rattle.gimli_write.specs.convert.Lists.{Lists, version_of, with_path, directory_added, FileParts, file_parts, with_parts, file_added, all_added}
-use Rattle.gimli_write.specs.convert.Offers.{defined, lists_at}
-use Rattle.gimli_write.specs.convert.Preparation.{SourceFile, working_directory, source_file, line_encoding_of, first_texts, started_lists, Handed, encoding_of, prepared}
+use Rattle.gimli_write.specs.convert.Offers.{lists_after_definition, lists_at}
+use Rattle.gimli_write.specs.convert.Preparation.{SourceFile, working_directory, source_file, line_encoding_of, first_texts, started_lists, Handed, encoding_of, lists_of_header}
 
 -- ---- steps that were done
 
@@ -49,7 +49,7 @@ pub record IsPrepared (sections : Sections) (h : Header) (given : Handed) (line_
       (started_lists (encoding_of h given) line_encoding h (first_texts (encoding_of h given).version line_strings directory file)) ≡ Ok with_directories
   pub files : all_added (file_added sections) h.files with_directories ≡ Ok lists
 
-pub is_prepared : (sections : Sections) (h : Header) (given : Handed) (line_strings : List (List ℕ)) (lists : Lists) → prepared sections h given line_strings ≡ Ok lists
+pub is_prepared : (sections : Sections) (h : Header) (given : Handed) (line_strings : List (List ℕ)) (lists : Lists) → lists_of_header sections h given line_strings ≡ Ok lists
     → IsPrepared sections h given line_strings lists
 is_prepared sections h given line_strings lists is =
     let encoding = encoding_of h given in
@@ -74,10 +74,10 @@ module _ (P : Lists → Type 0) where
       → (past : List Ins) (lists : Lists) → lists_at sections first past ≡ Ok lists → P first → P lists
   lists_at_keeps sections first step [] lists is p = subst P (same_ok first lists is) p
   lists_at_keeps sections first step (i ∷ past) lists is p =
-      let t = took (lists_at sections first past) (λ l. defined sections l i) lists is in
+      let t = took (lists_at sections first past) (λ l. lists_after_definition sections l i) lists is in
       one i t.0 t.2 (lists_at_keeps sections first step past t.0 t.1 p)
     where
-      one : (i : Ins) (before : Lists) → defined sections before i ≡ Ok lists → P before → P lists
+      one : (i : Ins) (before : Lists) → lists_after_definition sections before i ≡ Ok lists → P before → P lists
       one (DefineFile f) before so q = step before lists f so q
       one i before so q = subst P (same_ok before lists so) q
 
@@ -110,9 +110,9 @@ pub made_within : (strings : List (List ℕ)) (version : ℕ) (line_strings : Li
     → IsWithin strings (made_table version line_strings text) (made_text version line_strings text)
 made_within strings version line_strings text = by (nat_le version 4)
   where
-    by : (old : Bool) → IsWithin strings (if old then line_strings else with_text line_strings text) (if old then Inline text else InLineStrings (place_of_text line_strings text))
+    by : (old : Bool) → IsWithin strings (if old then line_strings else with_text line_strings text) (if old then Inline text else InLineStrings (index_of_text line_strings text))
     by true = tt
-    by false = slice_get_within (with_text line_strings text) (place_of_text line_strings text) text (with_text-found line_strings text)
+    by false = slice_get_within (with_text line_strings text) (index_of_text line_strings text) text (with_text-found line_strings text)
 
 -- from version 5 on no text lies in the program, so none can have a zero byte there
 made_ends : (version : ℕ) (line_strings : List (List ℕ)) (text : List ℕ) → 5 ≤ version → HasNoZero (made_text version line_strings text)
@@ -177,8 +177,8 @@ module _ (Q : BuiltFile → Type 0) (d : Details) (other : (k : FileKey) (e : De
   pub files_with : (files : List BuiltFile) (k : FileKey) → All Q files → Q (k, d) → All Q (with_file files k (Some d))
   files_with files k all one = by (has_file files k)
     where
-      by : (b : Bool) → All Q (if b then with_details files (place_of_file files k) d else files ++ (k, d) ∷ [])
-      by true = details_with files (place_of_file files k) all
+      by : (b : Bool) → All Q (if b then with_details files (index_of_file files k) d else files ++ (k, d) ∷ [])
+      by true = details_with files (index_of_file files k) all
       by false = All-push Q files (k, d) all one
 
 -- ---- a directory, and a file
@@ -279,13 +279,13 @@ started_ready strings encoding line_encoding h line_strings directory file =
     both last working None false w o = All-cons (IsWithin strings last) working [] w (All-nil (IsWithin strings last))
 
     one : (last : List (List ℕ)) (working : LineText) (own : Option LineText) (path : LineText) (old : Bool) → IsWithin strings last path
-        → All (CanKeep strings last encoding.version) (if old then [] else ((path, option_map_or (place_of_directory (working ∷ [])) own 0), no_details) ∷ [])
+        → All (CanKeep strings last encoding.version) (if old then [] else ((path, option_map_or (index_of_directory (working ∷ [])) own 0), no_details) ∷ [])
     one last working own path true w = All-nil (CanKeep strings last encoding.version)
     one last working own path false w = All-cons (CanKeep strings last encoding.version) _ [] (record { path = w; source = tt; source_ends = λ new. tt }) (All-nil (CanKeep strings last encoding.version))
 
 -- what `new` makes of a header can be written, and nothing is built in it
 pub prepared_ready : (strings : List (List ℕ)) (sections : Sections) (h : Header) (given : Handed) (line_strings : List (List ℕ)) (lists : Lists)
-    → prepared sections h given line_strings ≡ Ok lists → IsReady strings (encoding_of h given) lists
+    → lists_of_header sections h given line_strings ≡ Ok lists → IsReady strings (encoding_of h given) lists
 prepared_ready strings sections h given line_strings lists is =
     let p = is_prepared sections h given line_strings lists is in
     let encoding = encoding_of h given in

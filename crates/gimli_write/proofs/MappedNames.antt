@@ -94,12 +94,12 @@ module _ (sections : Sections) (h : Header) (strings : List (List ℕ)) (lists :
       subst (λ (path : List ℕ). IsDirectoryId (version_of lists) lists.line_strings lists.program.directories path own.directory) same there.2 in
       (one_text sections g.path_name own.path parts.path read.path has.own, moved.place ∙ sym at.place)
 
-  others_behind : (parts : FileParts) (directory : List ℕ) → IsDirectoryId (version_of lists) lists.line_strings lists.program.directories directory parts.directory
-      → (behind : List File) → AllByRecursion (HasOthers sections (version_of lists) lists.directory_ids parts) behind
-      → AllByRecursion (λ g. HasPaths sections h parts.path directory g → ⊥) behind
-  others_behind parts directory at [] all = tt
-  others_behind parts directory at (g ∷ behind) all =
-      (λ has. all.0.other (parts_of parts all.0.own g directory all.0.own_is at has), others_behind parts directory at behind all.1)
+  others_after : (parts : FileParts) (directory : List ℕ) → IsDirectoryId (version_of lists) lists.line_strings lists.program.directories directory parts.directory
+      → (later : List File) → AllByRecursion (HasOthers sections (version_of lists) lists.directory_ids parts) later
+      → AllByRecursion (λ g. HasPaths sections h parts.path directory g → ⊥) later
+  others_after parts directory at [] all = tt
+  others_after parts directory at (g ∷ later) all =
+      (λ has. all.0.other (parts_of parts all.0.own g directory all.0.own_is at has), others_after parts directory at later all.1)
 
   file_mapped : (source : List File) (c : Conversion) (f : File) (id : ℕ) → c.program.directories ≡ lists.program.directories → c.program.files ≡ lists.program.files → c.line_strings ≡ lists.line_strings
       → IsFileOf sections (version_of lists) lists.line_strings lists.directory_ids lists.program.files source f id → IsMappedFile sections h source strings c f id
@@ -118,10 +118,10 @@ module _ (sections : Sections) (h : Header) (strings : List (List ℕ)) (lists :
       let last_has : HasPaths sections h so.parts.path d.0 so.last = subst (λ (path : List ℕ). HasPaths sections h path d.0 so.last) so.same.0 (paths_of so.last_parts so.last d.0 so.last_are at_last) in
       let is_last : IsLastWithPaths sections h so.parts.path d.0 source so.last = record {
         before = so.before;
-        behind = so.behind;
+        later = so.later;
         parts = so.split;
         has = last_has;
-        none_behind = others_behind so.parts d.0 d.2 so.behind so.none_behind;
+        none_after = others_after so.parts d.0 d.2 so.later so.none_after;
       } in
       record {
         built = ((text, so.parts.directory), so.details);

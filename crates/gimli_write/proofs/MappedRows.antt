@@ -11,11 +11,11 @@ use Rattle.gimli_bytes.specs.declared.address.Address.TheVariants.{Constant}
 use Rattle.gimli_line.specs.declared.run.row.LineRow.{LineRow as ReadRow}
 use Rattle.gimli_line.specs.declared.run.instruction.LineInstruction.TheVariants.{DefineFile}
 use Rattle.gimli_line.specs.header.Parameters.{Parameters}
-use Rattle.gimli_line.specs.run.Events.{Event, row, fault, row_at, events_at, events_behind, end_events}
+use Rattle.gimli_line.specs.run.Events.{Event, row, fault, row_at, events_at, events_after, end_events}
 use Rattle.gimli_line.specs.run.Instruction.{Ins, is_end, makes_row}
-use Rattle.gimli_line.specs.run.OperationPointer.{address_limit, pointer_at, is_hidden, overflows}
+use Rattle.gimli_line.specs.run.OperationPointer.{address_limit, pointer_at, is_under_tombstone, overflows}
 use Rattle.gimli_build.specs.Calls.{after_address, after_row, after_end}
-use Rattle.gimli_build.specs.Built.{Built, previous_place}
+use Rattle.gimli_build.specs.Built.{Built, previous_position}
 use Rattle.gimli_build.specs.Items.{AddressesFit}
 use Rattle.gimli_build.specs.Texts.{Sections}
 use Rattle.gimli_build.specs.declared.built.row.LineRow.{LineRow}
@@ -26,9 +26,9 @@ use Rattle.gimli_write.specs.declared.convert_error.ConvertError.TheVariants.{Re
 use Rattle.gimli_write.specs.declared.convert.offer.ConvertLineRow.TheVariants as offer
 use Rattle.gimli_write.specs.convert.Texts.{◌>>=◌}
 use Rattle.gimli_write.specs.convert.Lists.{Lists, FileParts, file_parts, with_parts, version_of}
-use Rattle.gimli_write.specs.convert.Offers.{Reading, stops, offers, base_at, pending, source_row, file_id, row_in, built_row, address_offered, row_offered, place_offered, offered, reading_at, end_reading, upon, defined, lists_at, with_definition, reading_behind}
-use Rattle.gimli_write.specs.convert.Feeding.{Conversion, converted, with_tables, can_build}
-use Rattle.gimli_write.specs.convert.Mapped.{MapsToItself, gave_row, SeesEndsBehind, IsFileId, RowsMapped, SetsConstant}
+use Rattle.gimli_write.specs.convert.Offers.{Reading, stops, offers, base_at, pending_address, source_row, file_id, row_in, built_row, address_offered, row_offered, row_or_end_offered, source_row_offered, reading_at, end_reading, with_lists, lists_after_definition, lists_at, with_definition, reading_after}
+use Rattle.gimli_write.specs.convert.Feeding.{Conversion, outcome_of, with_tables, can_build}
+use Rattle.gimli_write.specs.convert.Mapped.{MapsToItself, gave_row, SeesEndsAfter, IsFileId, RowsMapped, SetsConstant}
 use Rattle.gimli_write.proofs.Feedings.{definition_passed}
 use Rattle.gimli_write.proofs.MappedAddresses.{address_within, base_below, base_below_row, pending_is_base, Follows, follows_end, follows_row, follows_quiet}
 
@@ -40,7 +40,7 @@ slice_stays (y ∷ xs) ys zero x is = is
 slice_stays (y ∷ xs) ys (suc i) x is = slice_stays xs ys i x is
 
 -- ids that are there stay after an instruction
-pub ids_stay : (sections : Sections) (lists next : Lists) (i : Ins) → defined sections lists i ≡ Ok next
+pub ids_stay : (sections : Sections) (lists next : Lists) (i : Ins) → lists_after_definition sections lists i ≡ Ok next
     → (n id : ℕ) → slice_get lists.file_ids n ≡ Some id → slice_get next.file_ids n ≡ Some id
 ids_stay sections lists next (DefineFile f) is n id there = by (file_parts (version_of lists) sections lists.directory_ids f) is
   where
@@ -69,18 +69,18 @@ file_id-is version lists n id is = by (nat_le version 4 && nat_eq n 0) refl is
       there = there (slice_get lists.file_ids n) so;
     }
 
-row_parts : (r : ReadRow) (address : ℕ) → r.hidden ≡ false → r.address ≡ address → r.end_sequence ≡ false → r ≡ record r { hidden = false; address = address; end_sequence = false }
+row_parts : (r : ReadRow) (address : ℕ) → r.tombstone ≡ false → r.address ≡ address → r.end_sequence ≡ false → r ≡ record r { tombstone = false; address = address; end_sequence = false }
 row_parts r address seen at inner =
-    ap (λ (x : Bool). let s : ReadRow = record r { hidden = x } in s) seen
-    ∙ ap (λ (x : ℕ). let s : ReadRow = record r { hidden = false; address = x } in s) at
-    ∙ ap (λ (x : Bool). let s : ReadRow = record r { hidden = false; address = address; end_sequence = x } in s) inner
+    ap (λ (x : Bool). let s : ReadRow = record r { tombstone = x } in s) seen
+    ∙ ap (λ (x : ℕ). let s : ReadRow = record r { tombstone = false; address = x } in s) at
+    ∙ ap (λ (x : Bool). let s : ReadRow = record r { tombstone = false; address = address; end_sequence = x } in s) inner
 
 -- ---- what comes of the rest of a program
 
 -- what comes of these instructions and this end after a past, from a program on
 pub record Rest (sections : Sections) (parameters : Parameters) (first : Lists) (size : ℕ) (c : Conversion) (past list : List Ins) (end : Option Error) (base : ℕ) (place : ℕ × ℕ) (p : Built) : Type 0 where
   pub rows : List ReadRow
-  pub events : events_behind parameters past list ++ end_events end ≡ map row rows
+  pub events : events_after parameters past list ++ end_events end ≡ map row rows
   pub items : List BuiltItem
   pub built : c.program.items ≡ p.items ++ items
   pub mapped : RowsMapped parameters.encoding.version c.file_ids base items rows
@@ -94,7 +94,7 @@ module _ (sections : Sections) (parameters : Parameters) (first : Lists) (conver
     (size : ℕ) (wide : address_limit parameters ≤ 2 ^ (8 * size)) (c : Conversion) where
   -- nothing follows
   none_left : (past : List Ins) (end : Option Error) (base : ℕ) (place : ℕ × ℕ) (p : Built)
-      → converted convert_address (reading_behind sections parameters first past [] end) p ≡ Ok c → Rest sections parameters first size c past [] end base place p
+      → outcome_of convert_address (reading_after sections parameters first past [] end) p ≡ Ok c → Rest sections parameters first size c past [] end base place p
   none_left past end base place p is = by (lists_at sections first past) refl end is
     where
       closed : (lists : Lists) → lists_at sections first past ≡ Ok lists → (b : Bool)
@@ -118,21 +118,21 @@ module _ (sections : Sections) (parameters : Parameters) (first : Lists) (conver
           })
 
       by : (there : Result Lists ConvertError) → lists_at sections first past ≡ there → (end : Option Error)
-          → converted convert_address (upon there (end_reading end)) p ≡ Ok c → Rest sections parameters first size c past [] end base place p
+          → outcome_of convert_address (with_lists there (end_reading end)) p ≡ Ok c → Rest sections parameters first size c past [] end base place p
       by (Err e) there end so = absurd cc
       by (Ok lists) there (Some e) so = absurd cc
       by (Ok lists) there None so = closed lists there p.in_sequence so
 
   module _ (past : List Ins) (i : Ins) (list : List Ins) (end : Option Error) (lists : Lists) (at : lists_at sections first past ≡ Ok lists) where
     stays : (next : Lists) → lists_at sections first (i ∷ past) ≡ Ok next → (n id : ℕ) → slice_get lists.file_ids n ≡ Some id → slice_get next.file_ids n ≡ Some id
-    stays next there = ids_stay sections lists next i (sym (ap (λ (r : Result Lists ConvertError). r >>= λ l. defined sections l i) at) ∙ there)
+    stays next there = ids_stay sections lists next i (sym (ap (λ (r : Result Lists ConvertError). r >>= λ l. lists_after_definition sections l i) at) ∙ there)
 
     -- a place gives nothing
     passed : (base : ℕ) (place : ℕ × ℕ) (p : Built) → events_at parameters past i ≡ []
         → Rest sections parameters first size c (i ∷ past) list end base place p → Rest sections parameters first size c past (i ∷ list) end base place p
     passed base place p none r = record {
       rows = r.rows;
-      events = ap (λ (here : List Event). (here ++ events_behind parameters (i ∷ past) list) ++ end_events end) none ∙ r.events;
+      events = ap (λ (here : List Event). (here ++ events_after parameters (i ∷ past) list) ++ end_events end) none ∙ r.events;
       items = r.items;
       built = r.built;
       mapped = r.mapped;
@@ -144,14 +144,14 @@ module _ (sections : Sections) (parameters : Parameters) (first : Lists) (conver
     }
 
     -- a place gives a row, and an item is built of it
-    taken : (base later : ℕ) (place behind_it : ℕ × ℕ) (p next : Built) (read : ReadRow) (built : BuiltItem) → events_at parameters past i ≡ row read ∷ []
+    taken : (base later : ℕ) (place after_it : ℕ × ℕ) (p next : Built) (read : ReadRow) (built : BuiltItem) → events_at parameters past i ≡ row read ∷ []
         → next.items ≡ p.items ++ built ∷ [] → SetsConstant built
         → ((items : List BuiltItem) (rows : List ReadRow) → RowsMapped parameters.encoding.version c.file_ids later items rows → RowsMapped parameters.encoding.version c.file_ids base (built ∷ items) (read ∷ rows))
-        → ((items : List BuiltItem) → AddressesFit size later behind_it items → AddressesFit size base place (built ∷ items))
-        → Rest sections parameters first size c (i ∷ past) list end later behind_it next → Rest sections parameters first size c past (i ∷ list) end base place p
-    taken base later place behind_it p next read built one pushed constant mapped fit r = record {
+        → ((items : List BuiltItem) → AddressesFit size later after_it items → AddressesFit size base place (built ∷ items))
+        → Rest sections parameters first size c (i ∷ past) list end later after_it next → Rest sections parameters first size c past (i ∷ list) end base place p
+    taken base later place after_it p next read built one pushed constant mapped fit r = record {
       rows = read ∷ r.rows;
-      events = ap (λ (here : List Event). (here ++ events_behind parameters (i ∷ past) list) ++ end_events end) one ∙ ap (λ (events : List Event). row read ∷ events) r.events;
+      events = ap (λ (here : List Event). (here ++ events_after parameters (i ∷ past) list) ++ end_events end) one ∙ ap (λ (events : List Event). row read ∷ events) r.events;
       items = built ∷ r.items;
       built = r.built ∙ ap (λ (l : List BuiltItem). l ++ r.items) pushed ∙ append_assoc p.items (built ∷ []) r.items;
       mapped = mapped r.items r.rows r.mapped;
@@ -181,17 +181,17 @@ module _ (sections : Sections) (parameters : Parameters) (first : Lists) (conver
     -- what is read after a place, and what comes of it
     abbrev Follow : Type 0
     Follow = (base : ℕ) (place : ℕ × ℕ) (p : Built) → Follows parameters (i ∷ past) base place.0
-        → converted convert_address (reading_behind sections parameters first (i ∷ past) list end) p ≡ Ok c → Rest sections parameters first size c (i ∷ past) list end base place p
+        → outcome_of convert_address (reading_after sections parameters first (i ∷ past) list end) p ≡ Ok c → Rest sections parameters first size c (i ∷ past) list end base place p
 
     -- an item that was built within the builder's conditions
-    was_built : (b : Bool) (next : Built) (rest : Reading) → ((if b then Ok next else Err UnsupportedLineInstruction) >>= λ n. converted convert_address rest n) ≡ Ok c
-        → converted convert_address rest next ≡ Ok c
+    was_built : (b : Bool) (next : Built) (rest : Reading) → ((if b then Ok next else Err UnsupportedLineInstruction) >>= λ n. outcome_of convert_address rest n) ≡ Ok c
+        → outcome_of convert_address rest next ≡ Ok c
     was_built true next rest is = is
     was_built false next rest is = absurd cc
 
     -- an end
-    end_placed : (base : ℕ) (place : ℕ × ℕ) (p : Built) → events_at parameters past i ≡ row (row_at parameters past i) ∷ [] → is_end i ≡ true → is_hidden parameters past ≡ false → base ≡ base_at past
-        → converted convert_address (offers (offer.EndSequence ((row_at parameters past i).address - base_at past)) lists (reading_behind sections parameters first (i ∷ past) list end)) p ≡ Ok c
+    end_placed : (base : ℕ) (place : ℕ × ℕ) (p : Built) → events_at parameters past i ≡ row (row_at parameters past i) ∷ [] → is_end i ≡ true → is_under_tombstone parameters past ≡ false → base ≡ base_at past
+        → outcome_of convert_address (offers (offer.EndSequence ((row_at parameters past i).address - base_at past)) lists (reading_after sections parameters first (i ∷ past) list end)) p ≡ Ok c
         → Follow → Rest sections parameters first size c past (i ∷ list) end base place p
     end_placed base place p one closes seen same is follow =
         let q : Built = with_tables lists p in
@@ -205,12 +205,12 @@ module _ (sections : Sections) (parameters : Parameters) (first : Lists) (conver
         (λ items rows mapped. (record { address = omega arith; ends = closes }, mapped))
         (λ items fit. (omega (arith, wide), fit))
         (follow 0 (0, 0) next (follows_end parameters past i closes)
-        (was_built (can_build q.line_encoding (previous_place q.items) built) next (reading_behind sections parameters first (i ∷ past) list end) is))
+        (was_built (can_build q.line_encoding (previous_position q.items) built) next (reading_after sections parameters first (i ∷ past) list end) is))
 
     -- a row of a file that is there
-    row_placed : (base : ℕ) (place : ℕ × ℕ) (p : Built) (file : ℕ) → events_at parameters past i ≡ row (row_at parameters past i) ∷ [] → makes_row i ≡ true → is_end i ≡ false → is_hidden parameters past ≡ false → base ≡ base_at past
+    row_placed : (base : ℕ) (place : ℕ × ℕ) (p : Built) (file : ℕ) → events_at parameters past i ≡ row (row_at parameters past i) ∷ [] → makes_row i ≡ true → is_end i ≡ false → is_under_tombstone parameters past ≡ false → base ≡ base_at past
         → file_id parameters.encoding.version lists (row_at parameters past i).file ≡ Ok file
-        → converted convert_address (offers (offer.Row (row_in (source_row parameters past i) file)) lists (reading_behind sections parameters first (i ∷ past) list end)) p ≡ Ok c
+        → outcome_of convert_address (offers (offer.Row (row_in (source_row parameters past i) file)) lists (reading_after sections parameters first (i ∷ past) list end)) p ≡ Ok c
         → Follow → Rest sections parameters first size c past (i ∷ list) end base place p
     row_placed base place p file one loud inner seen same known is follow =
         let q : Built = with_tables lists p in
@@ -223,7 +223,7 @@ module _ (sections : Sections) (parameters : Parameters) (first : Lists) (conver
         let sum : (row_at parameters past i).address ≡ base + ((row_at parameters past i).address - base_at past) = omega arith in
         let rest = follow (base_at past) (r.address_offset, r.op_index) next
         (subst (λ (a : ℕ). Follows parameters (i ∷ past) (base_at past) (a - base_at past)) (sym address) (follows_row parameters past i loud inner seen))
-        (was_built (can_build q.line_encoding (previous_place q.items) built) next (reading_behind sections parameters first (i ∷ past) list end) is) in
+        (was_built (can_build q.line_encoding (previous_position q.items) built) next (reading_after sections parameters first (i ∷ past) list end) is) in
         let number : IsFileId parameters.encoding.version lists.file_ids (row_at parameters past i).file file = file_id-is parameters.encoding.version lists (row_at parameters past i).file file known in
         let later : slice_get c.file_ids (row_at parameters past i).file ≡ Some file = rest.stay (row_at parameters past i).file file (stays rest.lists rest.there (row_at parameters past i).file file number.there) in
         taken base (base_at past) place (r.address_offset, r.op_index) p next (row_at parameters past i) built one refl tt
@@ -235,83 +235,83 @@ module _ (sections : Sections) (parameters : Parameters) (first : Lists) (conver
         rest
 
     -- a row, or an end
-    placed : (base : ℕ) (place : ℕ × ℕ) (p : Built) → events_at parameters past i ≡ row (row_at parameters past i) ∷ [] → makes_row i ≡ true → is_hidden parameters past ≡ false → base ≡ base_at past
-        → converted convert_address (place_offered parameters.encoding.version lists (source_row parameters past i) (reading_behind sections parameters first (i ∷ past) list end)) p ≡ Ok c
+    placed : (base : ℕ) (place : ℕ × ℕ) (p : Built) → events_at parameters past i ≡ row (row_at parameters past i) ∷ [] → makes_row i ≡ true → is_under_tombstone parameters past ≡ false → base ≡ base_at past
+        → outcome_of convert_address (row_or_end_offered parameters.encoding.version lists (source_row parameters past i) (reading_after sections parameters first (i ∷ past) list end)) p ≡ Ok c
         → Follow → Rest sections parameters first size c past (i ∷ list) end base place p
     placed base place p one loud seen same is follow = by (is_end i) refl is
       where
         rest : Reading
-        rest = reading_behind sections parameters first (i ∷ past) list end
+        rest = reading_after sections parameters first (i ∷ past) list end
 
         known : (r : Result ℕ ConvertError) → file_id parameters.encoding.version lists (row_at parameters past i).file ≡ r → is_end i ≡ false
-            → converted convert_address (row_offered (r >>= λ file. Ok (row_in (source_row parameters past i) file)) lists rest) p ≡ Ok c → Rest sections parameters first size c past (i ∷ list) end base place p
+            → outcome_of convert_address (row_offered (r >>= λ file. Ok (row_in (source_row parameters past i) file)) lists rest) p ≡ Ok c → Rest sections parameters first size c past (i ∷ list) end base place p
         known (Err e) at inner so = absurd cc
         known (Ok file) at inner so = row_placed base place p file one loud inner seen same at so follow
 
         by : (b : Bool) → is_end i ≡ b
-            → converted convert_address (if b then offers (offer.EndSequence ((row_at parameters past i).address - base_at past)) lists rest else row_offered (built_row parameters.encoding.version lists (source_row parameters past i)) lists rest) p ≡ Ok c
+            → outcome_of convert_address (if b then offers (offer.EndSequence ((row_at parameters past i).address - base_at past)) lists rest else row_offered (built_row parameters.encoding.version lists (source_row parameters past i)) lists rest) p ≡ Ok c
             → Rest sections parameters first size c past (i ∷ list) end base place p
         by true closes so = end_placed base place p one closes seen same so follow
         by false inner so = known (file_id parameters.encoding.version lists (row_at parameters past i).file) refl inner so
 
     -- the same after an address that may be pending
-    place_taken : (base : ℕ) (place : ℕ × ℕ) (p : Built) → events_at parameters past i ≡ row (row_at parameters past i) ∷ [] → makes_row i ≡ true → is_hidden parameters past ≡ false → Follows parameters past base place.0
-        → converted convert_address (offered parameters.encoding.version lists (source_row parameters past i) (reading_behind sections parameters first (i ∷ past) list end)) p ≡ Ok c
+    place_taken : (base : ℕ) (place : ℕ × ℕ) (p : Built) → events_at parameters past i ≡ row (row_at parameters past i) ∷ [] → makes_row i ≡ true → is_under_tombstone parameters past ≡ false → Follows parameters past base place.0
+        → outcome_of convert_address (source_row_offered parameters.encoding.version lists (source_row parameters past i) (reading_after sections parameters first (i ∷ past) list end)) p ≡ Ok c
         → Follow → Rest sections parameters first size c past (i ∷ list) end base place p
-    place_taken base place p one loud seen f is follow = by (pending past) refl is
+    place_taken base place p one loud seen f is follow = by (pending_address past) refl is
       where
         here : Reading
-        here = place_offered parameters.encoding.version lists (source_row parameters past i) (reading_behind sections parameters first (i ∷ past) list end)
+        here = row_or_end_offered parameters.encoding.version lists (source_row parameters past i) (reading_after sections parameters first (i ∷ past) list end)
 
-        by : (o : Option ℕ) → pending past ≡ o → converted convert_address (address_offered o lists here) p ≡ Ok c → Rest sections parameters first size c past (i ∷ list) end base place p
+        by : (o : Option ℕ) → pending_address past ≡ o → outcome_of convert_address (address_offered o lists here) p ≡ Ok c → Rest sections parameters first size c past (i ∷ list) end base place p
         by None at so = placed base place p one loud seen (f.counted seen at) so follow
         by (Some a) at so =
             let ahead = f.ahead a seen at in
             let next : Built = after_address (Constant a) (with_tables lists p) in
-            let mapped : converted convert_address here next ≡ Ok c =
-            sym (ap (λ (o : Option Address). (ok_or o InvalidAddress >>= λ m. Ok (after_address m (with_tables lists p))) >>= λ n. converted convert_address here n) (itself a)) ∙ so in
+            let mapped : outcome_of convert_address here next ≡ Ok c =
+            sym (ap (λ (o : Option Address). (ok_or o InvalidAddress >>= λ m. Ok (after_address m (with_tables lists p))) >>= λ n. outcome_of convert_address here n) (itself a)) ∙ so in
             address_taken base place p a ahead.0 ahead.1 (placed a (0, 0) next one loud seen (sym (pending_is_base past a at)) mapped follow)
 
     -- any place
     place_passed : (base : ℕ) (place : ℕ × ℕ) (p : Built) → Follows parameters past base place.0
-        → (is_end i ≡ true → is_hidden parameters past ≡ true → gave_row parameters past ≡ false)
-        → converted convert_address (reading_at parameters lists past i (reading_behind sections parameters first (i ∷ past) list end)) p ≡ Ok c
+        → (is_end i ≡ true → is_under_tombstone parameters past ≡ true → gave_row parameters past ≡ false)
+        → outcome_of convert_address (reading_at parameters lists past i (reading_after sections parameters first (i ∷ past) list end)) p ≡ Ok c
         → Follow → Rest sections parameters first size c past (i ∷ list) end base place p
-    place_passed base place p f ends_seen is follow = by (overflows parameters past i) (makes_row i) (is_hidden parameters past) refl refl refl is
+    place_passed base place p f ends_seen is follow = by (overflows parameters past i) (makes_row i) (is_under_tombstone parameters past) refl refl refl is
       where
         rest : Reading
-        rest = reading_behind sections parameters first (i ∷ past) list end
+        rest = reading_after sections parameters first (i ∷ past) list end
 
-        gives : (o m hidden : Bool) → overflows parameters past i ≡ o → makes_row i ≡ m → is_hidden parameters past ≡ hidden
-            → events_at parameters past i ≡ (if o then fault AddressOverflow ∷ [] else (if m && not hidden then row (row_at parameters past i) ∷ [] else []))
-        gives o m hidden at made seen = rw (at, made, seen) refl
+        gives : (o m tombstone : Bool) → overflows parameters past i ≡ o → makes_row i ≡ m → is_under_tombstone parameters past ≡ tombstone
+            → events_at parameters past i ≡ (if o then fault AddressOverflow ∷ [] else (if m && not tombstone then row (row_at parameters past i) ∷ [] else []))
+        gives o m tombstone at made seen = rw (at, made, seen) refl
 
-        quiet : (m hidden : Bool) → makes_row i ≡ m → is_hidden parameters past ≡ hidden → (m && not hidden) ≡ false → (makes_row i && not (is_hidden parameters past)) ≡ false
-        quiet m hidden made seen none = rw (made, seen) none
+        quiet : (m tombstone : Bool) → makes_row i ≡ m → is_under_tombstone parameters past ≡ tombstone → (m && not tombstone) ≡ false → (makes_row i && not (is_under_tombstone parameters past)) ≡ false
+        quiet m tombstone made seen none = rw (made, seen) none
 
-        by : (o m hidden : Bool) → overflows parameters past i ≡ o → makes_row i ≡ m → is_hidden parameters past ≡ hidden
-            → converted convert_address (if o then stops (Read AddressOverflow) else (if m && not hidden then offered parameters.encoding.version lists (source_row parameters past i) rest else rest)) p ≡ Ok c
+        by : (o m tombstone : Bool) → overflows parameters past i ≡ o → makes_row i ≡ m → is_under_tombstone parameters past ≡ tombstone
+            → outcome_of convert_address (if o then stops (Read AddressOverflow) else (if m && not tombstone then source_row_offered parameters.encoding.version lists (source_row parameters past i) rest else rest)) p ≡ Ok c
             → Rest sections parameters first size c past (i ∷ list) end base place p
-        by true m hidden at made seen so = absurd cc
+        by true m tombstone at made seen so = absurd cc
         by false true false at made seen so = place_taken base place p (gives false true false at made seen) made seen f so follow
         by false true true at made seen so =
             passed base place p (gives false true true at made seen) (follow base place p (follows_quiet parameters past i base place.0 (quiet true true made seen refl) ends_seen f) so)
-        by false false hidden at made seen so =
-            passed base place p (gives false false hidden at made seen) (follow base place p (follows_quiet parameters past i base place.0 (quiet false hidden made seen refl) ends_seen f) so)
+        by false false tombstone at made seen so =
+            passed base place p (gives false false tombstone at made seen) (follow base place p (follows_quiet parameters past i base place.0 (quiet false tombstone made seen refl) ends_seen f) so)
 
   -- what comes of the rest of a program
-  pub rest_mapped : (past list : List Ins) (end : Option Error) (base : ℕ) (place : ℕ × ℕ) (p : Built) → Follows parameters past base place.0 → SeesEndsBehind parameters past list
-      → converted convert_address (reading_behind sections parameters first past list end) p ≡ Ok c → Rest sections parameters first size c past list end base place p
+  pub rest_mapped : (past list : List Ins) (end : Option Error) (base : ℕ) (place : ℕ × ℕ) (p : Built) → Follows parameters past base place.0 → SeesEndsAfter parameters past list
+      → outcome_of convert_address (reading_after sections parameters first past list end) p ≡ Ok c → Rest sections parameters first size c past list end base place p
   rest_mapped past [] end base place p f seen is = none_left past end base place p is
   rest_mapped past (i ∷ list) end base place p f seen is =
       by (λ base place p f so. rest_mapped (i ∷ past) list end base place p f seen.1 so) (lists_at sections first past) refl is
     where
       by : ((base : ℕ) (place : ℕ × ℕ) (p : Built) → Follows parameters (i ∷ past) base place.0
-          → converted convert_address (reading_behind sections parameters first (i ∷ past) list end) p ≡ Ok c → Rest sections parameters first size c (i ∷ past) list end base place p)
+          → outcome_of convert_address (reading_after sections parameters first (i ∷ past) list end) p ≡ Ok c → Rest sections parameters first size c (i ∷ past) list end base place p)
           → (there : Result Lists ConvertError) → lists_at sections first past ≡ there
-          → converted convert_address (upon there (λ lists. reading_at parameters lists past i (with_definition i (reading_behind sections parameters first (i ∷ past) list end)))) p ≡ Ok c
+          → outcome_of convert_address (with_lists there (λ lists. reading_at parameters lists past i (with_definition i (reading_after sections parameters first (i ∷ past) list end)))) p ≡ Ok c
           → Rest sections parameters first size c past (i ∷ list) end base place p
       by follow (Err e) at so = absurd cc
       by follow (Ok lists) at so =
           place_passed past i list end lists at base place p f seen.0
-          (sym (definition_passed convert_address parameters lists past i (reading_behind sections parameters first (i ∷ past) list end) p) ∙ so) follow
+          (sym (definition_passed convert_address parameters lists past i (reading_after sections parameters first (i ∷ past) list end) p) ∙ so) follow

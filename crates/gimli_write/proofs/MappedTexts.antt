@@ -5,7 +5,7 @@ use Rattle.std.specs.List.{list_any, position_or_len}
 use Rattle.std.proofs.lemmas.Bool.{or_left, or_right, or_parts, eq-eqb}
 use Rattle.std.proofs.lemmas.List.Folds.{list_any-append}
 use Rattle.std.proofs.lemmas.Slice.Eq.{bytes_eq-Decides}
-use Rattle.gimli_bytes.specs.Texts.{with_text, place_of_text}
+use Rattle.gimli_bytes.specs.Texts.{with_text, index_of_text}
 use Rattle.gimli_bytes.proofs.TextLemmas.{with_text-found, with_text-there}
 use Rattle.gimli_build.specs.LineText.{LineText, Inline, InStrings, InLineStrings, line_text_eq, bytes_in, made_text, made_table}
 use Rattle.gimli_build.specs.Tables.{FileKey, key_eq}
@@ -112,8 +112,8 @@ module _ (version : ℕ) (line_strings : List (List ℕ)) (text : List ℕ) wher
   pub is_made : IsMade version (made_table version line_strings text) text
   is_made = record { any = λ new. made_any (nat_le version 4) new }
 
-  made_same : (old : Bool) → (if old then Inline text else InLineStrings (place_of_text (if old then line_strings else with_text line_strings text) text))
-      ≡ (if old then Inline text else InLineStrings (place_of_text line_strings text))
+  made_same : (old : Bool) → (if old then Inline text else InLineStrings (index_of_text (if old then line_strings else with_text line_strings text) text))
+      ≡ (if old then Inline text else InLineStrings (index_of_text line_strings text))
   made_same true = refl
   made_same false = ap InLineStrings (own_place (bytes_eq text) (list_any (bytes_eq text) line_strings) line_strings text refl (same_bytes text))
 
@@ -127,8 +127,8 @@ module _ (version : ℕ) (line_strings : List (List ℕ)) (text : List ℕ) wher
   others_any other false any = grown_any (bytes_eq other) (list_any (bytes_eq text) line_strings) line_strings text any
 
   others_same : (other : List ℕ) (old : Bool) → (old ≡ false → list_any (bytes_eq other) line_strings ≡ true)
-      → (if old then Inline other else InLineStrings (place_of_text (if old then line_strings else with_text line_strings text) other))
-      ≡ (if old then Inline other else InLineStrings (place_of_text line_strings other))
+      → (if old then Inline other else InLineStrings (index_of_text (if old then line_strings else with_text line_strings text) other))
+      ≡ (if old then Inline other else InLineStrings (index_of_text line_strings other))
   others_same other true any = refl
   others_same other false any = ap InLineStrings (grown_place (bytes_eq other) (list_any (bytes_eq text) line_strings) line_strings text (any refl))
 
@@ -142,10 +142,10 @@ module _ (version : ℕ) (line_strings : List (List ℕ)) (text : List ℕ) wher
 pub made_bytes : (version : ℕ) (strings line_strings : List (List ℕ)) (text : List ℕ) → IsMade version line_strings text → bytes_in strings line_strings (made_text version line_strings text) ≡ text
 made_bytes version strings line_strings text so = by (nat_le version 4) so.any
   where
-    by : (old : Bool) → (old ≡ false → list_any (bytes_eq text) line_strings ≡ true) → bytes_in strings line_strings (if old then Inline text else InLineStrings (place_of_text line_strings text)) ≡ text
+    by : (old : Bool) → (old ≡ false → list_any (bytes_eq text) line_strings ≡ true) → bytes_in strings line_strings (if old then Inline text else InLineStrings (index_of_text line_strings text)) ≡ text
     by true any = refl
     by false any =
-        let found = subst (λ (ts : List (List ℕ)). slice_get ts (place_of_text line_strings text) ≡ Some text) (with_text-there line_strings text (any refl)) (with_text-found line_strings text) in
+        let found = subst (λ (ts : List (List ℕ)). slice_get ts (index_of_text line_strings text) ≡ Some text) (with_text-there line_strings text (any refl)) (with_text-found line_strings text) in
         ap (λ (o : Option (List ℕ)). unwrap_or o []) found
 
 -- so texts that are made the same are the same

@@ -20,7 +20,7 @@ use Rattle.gimli_build.specs.LineText.{LineText, Inline, InStrings, InLineString
 use Rattle.gimli_build.specs.Tables.{File}
 use Rattle.gimli_build.specs.Cause.{emitted_texts}
 use Rattle.gimli_build.specs.Built.{Built}
-use Rattle.gimli_build.specs.Stored.{stored}
+use Rattle.gimli_build.specs.Stored.{stored_details}
 use Rattle.gimli_build.specs.ReadsBack.{IsDirectory, IsFile, IsOffsetHeld, ReadsBack, IsReadWell, ReadsBackAs, directories_from_zero}
 use Rattle.gimli_write.specs.declared.convert_error.ConvertError.{ConvertError}
 use Rattle.gimli_write.specs.declared.convert_error.ConvertError.TheVariants.{OutOfMemory as NoMemory}
@@ -112,7 +112,7 @@ optional_there s None (Some text) is = absurd is
 file_texts_there : (s : Sections) (p : Built) (strings line_strings : List (List ℕ)) (read : ReadFile) (built : File) → IsFile s p strings line_strings read built → HasFileTexts s read
 file_texts_there s p strings line_strings read built is = record {
   path = (_, is.path);
-  source = optional_there s read.source (stored p strings line_strings built.1).source is.source;
+  source = optional_there s read.source (stored_details p strings line_strings built.1).source is.source;
 }
 
 -- the sections of the tables have lengths that 64 bits hold
@@ -146,7 +146,7 @@ module _ (big : Bool) (p : Built) (strings line_strings : List (List ℕ)) (sect
   pub read_back : ReadsBack (slice_notation big) (unit_entry_of p strings line_strings) (sections_of strings line_strings) p strings line_strings (drop n section)
   read_back = whole _ _ _ read_well
 
-  -- want of memory before the unit is read
+  -- `OutOfMemory` before the unit is read
   pub unread_refused : (e : ConvertError) → e ≡ NoMemory → RefusesUnit (slice_notation big) (unit_entry_of p strings line_strings) (drop n section) e
   unread_refused e is = rw is (read_back.header, read_back.is_unit, tt)
 

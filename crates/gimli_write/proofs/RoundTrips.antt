@@ -36,7 +36,7 @@ unwritten_refused cause e r why named other = elim (is_memory e) [
   | inr not_memory ↦ rw (other not_memory) (elim why [ inl memory ↦ absurd (not_memory memory) | inr is ↦ is ])
 ]
 
--- a written unit is refused for want of memory alone
+-- a written unit is refused for `OutOfMemory` alone
 pub memory_refused : (cause : Option Error) (r : Result RoundTrip ConvertError) → IfErr r (λ e. e ≡ NoMemory) → IfErr r (IsCausedRefusal cause)
 memory_refused cause r is = MatchResult-weaker r is (λ _ u. u) (λ e memory. rw memory tt)
 
@@ -61,6 +61,6 @@ pub unit_not_answered : (big other : Bool) (wanted : ToWrite) (unit_entry : Unit
     → IfErr r (IsRefusal big wanted unit_entry old new)
 unit_not_answered big other wanted unit_entry old new n r order none there offset is =
     let written = unit_written wanted old new none there in
-    let behind = ap (λ (xs : List ℕ). drop n xs) written.1.appended ∙ ap (λ (i : ℕ). drop i (old ++ written.0)) offset ∙ drop-append_seam old written.0 in
-    let refused = subst (λ (x : Bool). IfErr r (RefusesUnit (slice_notation x) unit_entry written.0)) order (subst (λ (xs : List ℕ). IfErr r (RefusesUnit (slice_notation other) unit_entry xs)) behind is) in
+    let later = ap (λ (xs : List ℕ). drop n xs) written.1.appended ∙ ap (λ (i : ℕ). drop i (old ++ written.0)) offset ∙ drop-append_seam old written.0 in
+    let refused = subst (λ (x : Bool). IfErr r (RefusesUnit (slice_notation x) unit_entry written.0)) order (subst (λ (xs : List ℕ). IfErr r (RefusesUnit (slice_notation other) unit_entry xs)) later is) in
     MatchResult-weaker r refused (λ _ u. u) (λ e f. unit_refused big wanted unit_entry old new written.0 e written.1 f)

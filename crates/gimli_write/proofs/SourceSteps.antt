@@ -13,11 +13,11 @@ use Rattle.gimli_line.specs.declared.run.row.LineRow.{LineRow}
 use Rattle.gimli_line.specs.declared.run.instruction.LineInstruction.{LineInstruction}
 use Rattle.gimli_line.specs.declared.run.instruction.LineInstruction.TheVariants.{Special, Copy, EndSequence, DefineFile, SetAddress}
 use Rattle.gimli_line.specs.declared.header.file_entry.FileEntry.{FileEntry}
-use Rattle.gimli_line.specs.run.Instruction.{Ins, ins_seen, is_end, makes_row, defines_file, files_behind}
+use Rattle.gimli_line.specs.run.Instruction.{Ins, ins_seen, is_end, makes_row, defines_file, files_after}
 use Rattle.gimli_line.specs.run.InstructionGrammar.{SpellsInstruction, instruction_production}
 use Rattle.gimli_line.specs.run.InstructionReading.{decoded_at}
-use Rattle.gimli_line.specs.run.Machine.{stepped, reset_row, is_refused, pointer_of}
-use Rattle.gimli_line.specs.run.OperationPointer.{hides}
+use Rattle.gimli_line.specs.run.Machine.{step_of, reset_row, is_refused, pointer_of}
+use Rattle.gimli_line.specs.run.OperationPointer.{is_tombstone}
 use Rattle.gimli_line.specs.run.EventsWithFiles.{next_registers}
 use Rattle.gimli_line.specs.run.Unread.{Unread}
 use Rattle.gimli_line.proofs.InstructionLaws.{is_decoded, one_decoding, instructions_bounded}
@@ -28,8 +28,8 @@ use Rattle.gimli_write.specs.declared.convert.run.SourceRow.{SourceRow}
 use Rattle.gimli_write.specs.declared.convert.run.SourceStep.{SourceStep}
 use Rattle.gimli_write.specs.declared.convert.run.SourceStep.TheVariants.{More, Made}
 use Rattle.gimli_write.specs.convert.Lists.{Lists, file_added}
-use Rattle.gimli_write.specs.convert.Offers.{Reading, defines, with_definition, ends, stops, address_operand, offered, defined}
-use Rattle.gimli_write.specs.convert.SourceState.{SourceState, row_made, base_behind, pending_behind, state_behind, instruction_reading, reading_from, reading_upon, reading_left, step_reading, step_made, Shortens}
+use Rattle.gimli_write.specs.convert.Offers.{Reading, defines, with_definition, ends, stops, address_operand, source_row_offered, lists_after_definition}
+use Rattle.gimli_write.specs.convert.SourceState.{SourceState, row_made, base_after, pending_after, state_after, instruction_reading, reading_from, reading_upon, reading_left, step_reading, step_made, Shortens}
 
 -- ---- what a program is decoded into, by its front
 
@@ -67,7 +67,7 @@ if_true b x y e = ap (λ (c : Bool). if c then x else y) e
 if_false : {A : Type 0} (b : Bool) (x y : A) → b ≡ false → (if b then x else y) ≡ y
 if_false b x y e = ap (λ (c : Bool). if c then x else y) e
 
-pub no_file : (sections : Sections) (lists : Lists) (i : Ins) → defines_file i ≡ false → defined sections lists i ≡ Ok lists
+pub no_file : (sections : Sections) (lists : Lists) (i : Ins) → defines_file i ≡ false → lists_after_definition sections lists i ≡ Ok lists
 no_file sections lists (DefineFile f) e = absurd cc
 no_file sections lists i e = refl
 
@@ -81,7 +81,7 @@ same_reading : (sections : Sections) (u v : Unread) (s : SourceState) (there : R
 same_reading sections u v s there [] end = refl
 same_reading sections u v s (Err e) (i ∷ list) end = refl
 same_reading sections u v s (Ok lists) (i ∷ list) end =
-    ap (λ (r : Reading). instruction_reading s lists i (with_definition i r)) (same_reading sections u v (state_behind i s) (defined sections lists i) list end)
+    ap (λ (r : Reading). instruction_reading s lists i (with_definition i r)) (same_reading sections u v (state_after i s) (lists_after_definition sections lists i) list end)
 
 module _ (sections : Sections) (lists : Lists) (s : SourceState) where
   pub none_left : s.unread.bytes ≡ [] → reading_left sections s lists ≡ ends lists
@@ -93,24 +93,24 @@ module _ (sections : Sections) (lists : Lists) (s : SourceState) where
   module _ (u : Unread) (notation : u.notation ≡ s.unread.notation) (i : Ins) (front : List ℕ) (parts : s.unread.bytes ≡ front ++ u.bytes) (spelled : SpellsInstruction s.unread.notation s.header front i) where
     -- an instruction stands first
     pub first_is : reading_left sections s lists
-        ≡ instruction_reading s lists i (with_definition i (reading_upon sections (record (state_behind i s) { unread = u }) (defined sections lists i)))
+        ≡ instruction_reading s lists i (with_definition i (reading_upon sections (record (state_after i s) { unread = u }) (lists_after_definition sections lists i)))
     first_is =
-        let there = defined sections lists i in
+        let there = lists_after_definition sections lists i in
         let c = decoded_at s.unread.notation s.header u.bytes in
-        let rest : reading_from sections (state_behind i s) there c.0 c.1 ≡ reading_upon sections (record (state_behind i s) { unread = u }) there =
-        same_reading sections s.unread u (state_behind i s) there c.0 c.1
-        ∙ ap (λ (n : Notation). reading_from sections (record (state_behind i s) { unread = u }) there (decoded_at n s.header u.bytes).0 (decoded_at n s.header u.bytes).1) (sym notation) in
+        let rest : reading_from sections (state_after i s) there c.0 c.1 ≡ reading_upon sections (record (state_after i s) { unread = u }) there =
+        same_reading sections s.unread u (state_after i s) there c.0 c.1
+        ∙ ap (λ (n : Notation). reading_from sections (record (state_after i s) { unread = u }) there (decoded_at n s.header u.bytes).0 (decoded_at n s.header u.bytes).1) (sym notation) in
         ap (λ (d : List Ins × Option Error). reading_from sections s (Ok lists) d.0 d.1) (decoded_some s.unread.notation s.header s.unread.bytes i front u.bytes parts spelled)
         ∙ ap (λ (r : Reading). instruction_reading s lists i (with_definition i r)) rest
 
     abbrev next : SourceState
-    next = record (state_behind i s) { unread = u }
+    next = record (state_after i s) { unread = u }
 
     abbrev rest : Reading
-    rest = with_definition i (reading_upon sections next (defined sections lists i))
+    rest = with_definition i (reading_upon sections next (lists_after_definition sections lists i))
 
     abbrev quiet_or_row : Reading
-    quiet_or_row = if makes_row i && not s.row.hidden then offered s.header.parameters.encoding.version lists (row_made s i) rest else rest
+    quiet_or_row = if makes_row i && not s.row.tombstone then source_row_offered s.header.parameters.encoding.version lists (row_made s i) rest else rest
 
     pub after_refusal : is_refused s.header.parameters i s.row ≡ true → reading_left sections s lists ≡ stops (Read AddressOverflow)
     after_refusal large = first_is ∙ if_true (is_refused s.header.parameters i s.row) (stops (Read AddressOverflow)) quiet_or_row large
@@ -119,18 +119,18 @@ module _ (sections : Sections) (lists : Lists) (s : SourceState) where
       done : reading_left sections s lists ≡ quiet_or_row
       done = first_is ∙ if_false (is_refused s.header.parameters i s.row) (stops (Read AddressOverflow)) quiet_or_row fits
 
-      behind : rest ≡ reading_left sections next lists
-      behind = no_definition i (reading_upon sections next (defined sections lists i)) file ∙ ap (reading_upon sections next) (no_file sections lists i file)
+      later : rest ≡ reading_left sections next lists
+      later = no_definition i (reading_upon sections next (lists_after_definition sections lists i)) file ∙ ap (reading_upon sections next) (no_file sections lists i file)
 
-      pub after_quiet : (makes_row i && not s.row.hidden) ≡ false → reading_left sections s lists ≡ reading_left sections next lists
+      pub after_quiet : (makes_row i && not s.row.tombstone) ≡ false → reading_left sections s lists ≡ reading_left sections next lists
       after_quiet quiet =
-          done ∙ if_false (makes_row i && not s.row.hidden) (offered s.header.parameters.encoding.version lists (row_made s i) rest) rest quiet ∙ behind
+          done ∙ if_false (makes_row i && not s.row.tombstone) (source_row_offered s.header.parameters.encoding.version lists (row_made s i) rest) rest quiet ∙ later
 
-      pub after_row : (makes_row i && not s.row.hidden) ≡ true
-          → reading_left sections s lists ≡ offered s.header.parameters.encoding.version lists (row_made s i) (reading_left sections next lists)
+      pub after_row : (makes_row i && not s.row.tombstone) ≡ true
+          → reading_left sections s lists ≡ source_row_offered s.header.parameters.encoding.version lists (row_made s i) (reading_left sections next lists)
       after_row loud =
-          done ∙ if_true (makes_row i && not s.row.hidden) (offered s.header.parameters.encoding.version lists (row_made s i) rest) rest loud
-          ∙ ap (offered s.header.parameters.encoding.version lists (row_made s i)) behind
+          done ∙ if_true (makes_row i && not s.row.tombstone) (source_row_offered s.header.parameters.encoding.version lists (row_made s i) rest) rest loud
+          ∙ ap (source_row_offered s.header.parameters.encoding.version lists (row_made s i)) later
 
   -- a file is defined
   pub after_file : (u : Unread) → u.notation ≡ s.unread.notation → (f : File) (front : List ℕ) → s.unread.bytes ≡ front ++ u.bytes → SpellsInstruction s.unread.notation s.header front (DefineFile f)
@@ -143,21 +143,21 @@ abbrev pub state : Header → LineRow → ℕ → Option ℕ → Unread → Sour
 state h r b p u = record { header = h; row = r; base = b; pending = p; unread = u }
 
 -- what an instruction does to registers that a run relies on
-ends_row : (p : Parameters) (i : Ins) (r : LineRow) → r.end_sequence ≡ false → makes_row i ≡ true → (stepped p i r).end_sequence ≡ is_end i
+ends_row : (p : Parameters) (i : Ins) (r : LineRow) → r.end_sequence ≡ false → makes_row i ≡ true → (step_of p i r).end_sequence ≡ is_end i
 ends_row p (Special o) r e loud = e
 ends_row p Copy r e loud = e
 ends_row p EndSequence r e loud = refl
 ends_row p i r e loud = absurd cc
 
-keeps_hidden : (p : Parameters) (i : Ins) (r : LineRow) → address_operand i ≡ None → (stepped p i r).hidden ≡ r.hidden
-keeps_hidden p (SetAddress a) r e = absurd cc
-keeps_hidden p i r e = refl
+keeps_tombstone : (p : Parameters) (i : Ins) (r : LineRow) → address_operand i ≡ None → (step_of p i r).tombstone ≡ r.tombstone
+keeps_tombstone p (SetAddress a) r e = absurd cc
+keeps_tombstone p i r e = refl
 
-keeps_end : (p : Parameters) (i : Ins) (r : LineRow) → makes_row i ≡ false → (stepped p i r).end_sequence ≡ r.end_sequence
+keeps_end : (p : Parameters) (i : Ins) (r : LineRow) → makes_row i ≡ false → (step_of p i r).end_sequence ≡ r.end_sequence
 keeps_end p EndSequence r e = absurd cc
 keeps_end p i r e = refl
 
-refusal_keeps_end : (p : Parameters) (i : Ins) (r : LineRow) → is_refused p i r ≡ true → (stepped p i r).end_sequence ≡ r.end_sequence
+refusal_keeps_end : (p : Parameters) (i : Ins) (r : LineRow) → is_refused p i r ≡ true → (step_of p i r).end_sequence ≡ r.end_sequence
 refusal_keeps_end p EndSequence r e = absurd cc
 refusal_keeps_end p i r e = refl
 
@@ -165,11 +165,11 @@ no_end : (i : Ins) → makes_row i ≡ false → is_end i ≡ false
 no_end EndSequence e = absurd cc
 no_end i e = refl
 
-files_same : (i : Ins) (files : List File) → defines_file i ≡ false → files_behind true i files ≡ files
+files_same : (i : Ins) (files : List File) → defines_file i ≡ false → files_after true i files ≡ files
 files_same (DefineFile f) files e = absurd cc
 files_same i files e = refl
 
-header_same : (i : Ins) (h h2 : Header) → defines_file i ≡ false → h2 ≡ record h { files = files_behind true i h.files } → h2 ≡ h
+header_same : (i : Ins) (h h2 : Header) → defines_file i ≡ false → h2 ≡ record h { files = files_after true i h.files } → h2 ≡ h
 header_same i h h2 file is = is ∙ ap (λ (files : List File). let k : Header = record h { files = files } in k) (files_same i h.files file)
 
 -- a refusal of an instruction that defines no file
@@ -177,116 +177,116 @@ pub is_overflow : (i : Ins) (e : Error) → (e ≢ AddressOverflow → defines_f
 is_overflow i AddressOverflow memory file = refl
 is_overflow i e memory file = absurd (false≢true (sym file ∙ memory (λ is. absurd cc)))
 
--- the register `hidden` is known, and registers that are ready don't end a sequence
+-- the register `tombstone` is known, and registers that are ready don't end a sequence
 abbrev pub IsReady : Bool → LineRow → Type 0
-IsReady hidden r = (hidden ≡ r.hidden) × (r.end_sequence ≡ false)
+IsReady tombstone r = (tombstone ≡ r.tombstone) × (r.end_sequence ≡ false)
 
-module _ (i : Ins) (hidden : Bool) (old new : LineRow) (ready : IsReady hidden old) where
+module _ (i : Ins) (tombstone : Bool) (old new : LineRow) (ready : IsReady tombstone old) where
   pub ready_at_refusal : (p : Parameters) (e : Error) → address_operand i ≡ None → defines_file i ≡ false → (e ≢ AddressOverflow → defines_file i ≡ true)
-      → (e ≡ AddressOverflow → (is_refused p i old ≡ true) × (new ≡ stepped p i old)) → IsReady hidden new
+      → (e ≡ AddressOverflow → (is_refused p i old ≡ true) × (new ≡ step_of p i old)) → IsReady tombstone new
   ready_at_refusal p e address file memory over =
       let o = over (is_overflow i e memory file) in
-      let same_hidden : new.hidden ≡ old.hidden = ap (λ (r : LineRow). r.hidden) o.1 ∙ keeps_hidden p i old address in
+      let same_tombstone : new.tombstone ≡ old.tombstone = ap (λ (r : LineRow). r.tombstone) o.1 ∙ keeps_tombstone p i old address in
       let same_end : new.end_sequence ≡ old.end_sequence = ap (λ (r : LineRow). r.end_sequence) o.1 ∙ refusal_keeps_end p i old o.0 in
-      (ready.0 ∙ sym same_hidden, same_end ∙ ready.1)
+      (ready.0 ∙ sym same_tombstone, same_end ∙ ready.1)
 
-  pub ready_when_quiet : (p : Parameters) → address_operand i ≡ None → makes_row i ≡ false → new ≡ stepped p i old → IsReady hidden new
+  pub ready_when_quiet : (p : Parameters) → address_operand i ≡ None → makes_row i ≡ false → new ≡ step_of p i old → IsReady tombstone new
   ready_when_quiet p address quiet step =
-      let same_hidden : new.hidden ≡ old.hidden = ap (λ (r : LineRow). r.hidden) step ∙ keeps_hidden p i old address in
+      let same_tombstone : new.tombstone ≡ old.tombstone = ap (λ (r : LineRow). r.tombstone) step ∙ keeps_tombstone p i old address in
       let same_end : new.end_sequence ≡ old.end_sequence = ap (λ (r : LineRow). r.end_sequence) step ∙ keeps_end p i old quiet in
-      (ready.0 ∙ sym same_hidden, same_end ∙ ready.1)
+      (ready.0 ∙ sym same_tombstone, same_end ∙ ready.1)
 
-reset_ready : (q : Parameters) (r : LineRow) (last kept hidden : Bool) → r.end_sequence ≡ last → kept ≡ (if last then false else hidden) → hidden ≡ r.hidden → IsReady kept (reset_row q r)
-reset_ready q r true kept hidden e k h = rw e (k, refl)
-reset_ready q r false kept hidden e k h = rw e (k ∙ h, refl)
+reset_ready : (q : Parameters) (r : LineRow) (last kept tombstone : Bool) → r.end_sequence ≡ last → kept ≡ (if last then false else tombstone) → tombstone ≡ r.tombstone → IsReady kept (reset_row q r)
+reset_ready q r true kept tombstone e k h = rw e (k, refl)
+reset_ready q r false kept tombstone e k h = rw e (k ∙ h, refl)
 
 -- after a row, whose registers are reset
-pub ready_after_row : (i : Ins) (hidden : Bool) (old new after : LineRow) → IsReady hidden old → (p q : Parameters) → address_operand i ≡ None → new ≡ stepped p i old
-    → (last kept : Bool) → last ≡ new.end_sequence → kept ≡ (if last then false else hidden) → after ≡ reset_row q new → IsReady kept after
-ready_after_row i hidden old new after ready p q address step last kept ended kept_is reset =
-    let same_hidden : hidden ≡ new.hidden = ready.0 ∙ sym (ap (λ (r : LineRow). r.hidden) step ∙ keeps_hidden p i old address) in
-    rw reset (reset_ready q new last kept hidden (sym ended) kept_is same_hidden)
+pub ready_after_row : (i : Ins) (tombstone : Bool) (old new after : LineRow) → IsReady tombstone old → (p q : Parameters) → address_operand i ≡ None → new ≡ step_of p i old
+    → (last kept : Bool) → last ≡ new.end_sequence → kept ≡ (if last then false else tombstone) → after ≡ reset_row q new → IsReady kept after
+ready_after_row i tombstone old new after ready p q address step last kept ended kept_is reset =
+    let same_tombstone : tombstone ≡ new.tombstone = ready.0 ∙ sym (ap (λ (r : LineRow). r.tombstone) step ∙ keeps_tombstone p i old address) in
+    rw reset (reset_ready q new last kept tombstone (sym ended) kept_is same_tombstone)
 
 -- ---- what is done of an instruction that sets no address and defines no file
 
 module _ {R Endian Offset : Type 0} where
-  shown : (hidden : Bool) (d : SourceRow) → ◌≡◌ {A = SourceStep R Endian Offset} (if hidden then More else Made d) (if not hidden then Made d else More)
+  shown : (tombstone : Bool) (d : SourceRow) → ◌≡◌ {A = SourceStep R Endian Offset} (if tombstone then More else Made d) (if not tombstone then Made d else More)
   shown true d = refl
   shown false d = refl
 
-  same_or_other : (made hidden other : Bool) (r d : SourceRow) → made ≡ true → hidden ≡ other → r ≡ d
-      → ◌≡◌ {A = SourceStep R Endian Offset} (if hidden then More else Made r) (if made && not other then Made d else More)
-  same_or_other made hidden other r d loud same row_is = rw (loud, same, row_is) (shown other d)
+  same_or_other : (made tombstone other : Bool) (r d : SourceRow) → made ≡ true → tombstone ≡ other → r ≡ d
+      → ◌≡◌ {A = SourceStep R Endian Offset} (if tombstone then More else Made r) (if made && not other then Made d else More)
+  same_or_other made tombstone other r d loud same row_is = rw (loud, same, row_is) (shown other d)
 
 module _ (i : Ins) (h h2 : Header) (r r2 : LineRow) (b : ℕ) (p : Option ℕ) (u : Unread) (address : address_operand i ≡ None) (file : defines_file i ≡ false)
-    (fits : is_refused h.parameters i r ≡ false) (files : h2 ≡ record h { files = files_behind true i h.files }) (step : r2 ≡ stepped h.parameters i r) where
+    (fits : is_refused h.parameters i r ≡ false) (files : h2 ≡ record h { files = files_after true i h.files }) (step : r2 ≡ step_of h.parameters i r) where
   pub header_kept : h2 ≡ h
   header_kept = header_same i h h2 file files
 
-  next_is : (made : Bool) → makes_row i ≡ made → next_registers h.parameters i r ≡ (if made then reset_row h.parameters (stepped h.parameters i r) else stepped h.parameters i r)
+  next_is : (made : Bool) → makes_row i ≡ made → next_registers h.parameters i r ≡ (if made then reset_row h.parameters (step_of h.parameters i r) else step_of h.parameters i r)
   next_is made is =
       let goes : (is_refused h.parameters i r || makes_row i) ≡ made = ap (λ (c : Bool). c || makes_row i) fits ∙ is in
-      ap (λ (c : Bool). if c then reset_row h.parameters (stepped h.parameters i r) else stepped h.parameters i r) goes
+      ap (λ (c : Bool). if c then reset_row h.parameters (step_of h.parameters i r) else step_of h.parameters i r) goes
 
   -- where it makes no row
-  pub quiet_state : makes_row i ≡ false → state h2 r2 b p u ≡ state_behind i (state h r b p u)
+  pub quiet_state : makes_row i ≡ false → state h2 r2 b p u ≡ state_after i (state h r b p u)
   quiet_state quiet =
       let registers : r2 ≡ next_registers h.parameters i r = step ∙ sym (next_is false quiet) in
-      let base : base_behind i b ≡ b = rw (no_end i quiet, address) refl in
-      let pends : pending_behind i p ≡ p = rw (quiet, address) refl in
+      let base : base_after i b ≡ b = rw (no_end i quiet, address) refl in
+      let pends : pending_after i p ≡ p = rw (quiet, address) refl in
       ap (λ (k : Header). state k r2 b p u) header_kept
       ∙ ap (λ (x : LineRow). state h x b p u) registers
       ∙ ap (λ (n : ℕ). state h (next_registers h.parameters i r) n p u) (sym base)
-      ∙ ap (λ (o : Option ℕ). state h (next_registers h.parameters i r) (base_behind i b) o u) (sym pends)
+      ∙ ap (λ (o : Option ℕ). state h (next_registers h.parameters i r) (base_after i b) o u) (sym pends)
 
   -- where it makes one
   pub row_state : makes_row i ≡ true → r.end_sequence ≡ false → (k : Header) → k ≡ h2 → (r3 : LineRow) → r3 ≡ reset_row k.parameters r2
-      → (last : Bool) → last ≡ r2.end_sequence → (n : ℕ) → n ≡ (if last then 0 else b) → state h2 r3 n None u ≡ state_behind i (state h r b p u)
+      → (last : Bool) → last ≡ r2.end_sequence → (n : ℕ) → n ≡ (if last then 0 else b) → state h2 r3 n None u ≡ state_after i (state h r b p u)
   row_state loud ready k lent r3 reset last ended n counts =
       let registers : r3 ≡ next_registers h.parameters i r =
       reset ∙ ap (λ (x : Header). reset_row x.parameters r2) (lent ∙ header_kept) ∙ ap (reset_row h.parameters) step ∙ sym (next_is true loud) in
       let last_is : last ≡ is_end i = ended ∙ ap (λ (x : LineRow). x.end_sequence) step ∙ ends_row h.parameters i r ready loud in
-      let of_row : base_behind i b ≡ (if is_end i then 0 else b) = ap (λ (o : Option ℕ). if is_end i then 0 else unwrap_or o b) address in
-      let base : n ≡ base_behind i b = counts ∙ ap (λ (x : Bool). if x then 0 else b) last_is ∙ sym of_row in
-      let pends : pending_behind i p ≡ None = rw loud refl in
+      let of_row : base_after i b ≡ (if is_end i then 0 else b) = ap (λ (o : Option ℕ). if is_end i then 0 else unwrap_or o b) address in
+      let base : n ≡ base_after i b = counts ∙ ap (λ (x : Bool). if x then 0 else b) last_is ∙ sym of_row in
+      let pends : pending_after i p ≡ None = rw loud refl in
       ap (λ (x : Header). state x r3 n None u) header_kept
       ∙ ap (λ (x : LineRow). state h x n None u) registers
       ∙ ap (λ (m : ℕ). state h (next_registers h.parameters i r) m None u) base
-      ∙ ap (λ (o : Option ℕ). state h (next_registers h.parameters i r) (base_behind i b) o u) (sym pends)
+      ∙ ap (λ (o : Option ℕ). state h (next_registers h.parameters i r) (base_after i b) o u) (sym pends)
 
-  pub made_is : {R Endian Offset : Type 0} (given : SourceStep R Endian Offset) (hidden : Bool) (offset : ℕ)
-      → given ≡ (if hidden then More else Made (record { set_address = p; address_offset = offset; row = r2 })) → hidden ≡ r.hidden → makes_row i ≡ true → offset ≡ r2.address - b
+  pub made_is : {R Endian Offset : Type 0} (given : SourceStep R Endian Offset) (tombstone : Bool) (offset : ℕ)
+      → given ≡ (if tombstone then More else Made (record { set_address = p; address_offset = offset; row = r2 })) → tombstone ≡ r.tombstone → makes_row i ≡ true → offset ≡ r2.address - b
       → given ≡ step_made (state h r b p u) i
-  made_is given hidden offset is same loud counts =
+  made_is given tombstone offset is same loud counts =
       let x : SourceRow = record { set_address = p; address_offset = offset; row = r2 } in
       let offset_is : x ≡ record { set_address = p; address_offset = r2.address - b; row = r2 } =
       ap (λ (o : ℕ). let y : SourceRow = record { set_address = p; address_offset = o; row = r2 } in y) counts in
       let row_is : record { set_address = p; address_offset = r2.address - b; row = r2 } ≡ row_made (state h r b p u) i =
       ap (λ (w : LineRow). let y : SourceRow = record { set_address = p; address_offset = w.address - b; row = w } in y) step in
-      is ∙ same_or_other (makes_row i) hidden r.hidden x (row_made (state h r b p u) i) loud same (offset_is ∙ row_is)
+      is ∙ same_or_other (makes_row i) tombstone r.tombstone x (row_made (state h r b p u) i) loud same (offset_is ∙ row_is)
 
 -- ---- what is done of a set address
 
 module _ (p : Parameters) (a : ℕ) (old new : LineRow) where
-  pub address_done : (r : Result Bool Error) → OnOk r (new ≡ stepped p (SetAddress a) old)
-      → IfErr r (λ e. e ≡ AddressOverflow → (is_refused p (SetAddress a) old ≡ true) × (new ≡ stepped p (SetAddress a) old))
-      → IfErr r (λ e. e ≢ AddressOverflow → (e ≡ OutOfMemory) × (true ≡ true) × (defines_file (SetAddress a) ≡ true) × (new ≡ old)) → new ≡ stepped p (SetAddress a) old
+  pub address_done : (r : Result Bool Error) → OnOk r (new ≡ step_of p (SetAddress a) old)
+      → IfErr r (λ e. e ≡ AddressOverflow → (is_refused p (SetAddress a) old ≡ true) × (new ≡ step_of p (SetAddress a) old))
+      → IfErr r (λ e. e ≢ AddressOverflow → (e ≡ OutOfMemory) × (true ≡ true) × (defines_file (SetAddress a) ≡ true) × (new ≡ old)) → new ≡ step_of p (SetAddress a) old
   address_done (Ok m) step over memory = step
   address_done (Err e) step over memory = (over (is_overflow (SetAddress a) e (λ n. (memory n).2) refl)).1
 
-  pub address_ready : (hidden : Bool) (before size : ℕ) → hidden ≡ (nat_lt a before || nat_le (2 ^ (8 * size) - 2) a) → before ≡ old.address → size ≡ p.encoding.address_size
-      → old.end_sequence ≡ false → new ≡ stepped p (SetAddress a) old → IsReady hidden new
-  address_ready hidden before size is b s ended step =
-      let hides_is : hidden ≡ hides p a (pointer_of old) =
+  pub address_ready : (tombstone : Bool) (before size : ℕ) → tombstone ≡ (nat_lt a before || nat_le (2 ^ (8 * size) - 2) a) → before ≡ old.address → size ≡ p.encoding.address_size
+      → old.end_sequence ≡ false → new ≡ step_of p (SetAddress a) old → IsReady tombstone new
+  address_ready tombstone before size is b s ended step =
+      let tombstone_is : tombstone ≡ is_tombstone p a (pointer_of old) =
       is ∙ ap (λ (n : ℕ). nat_lt a n || nat_le (2 ^ (8 * size) - 2) a) b ∙ ap (λ (n : ℕ). nat_lt a old.address || nat_le (2 ^ (8 * n) - 2) a) s in
-      (hides_is ∙ sym (ap (λ (r : LineRow). r.hidden) step), ap (λ (r : LineRow). r.end_sequence) step ∙ ended)
+      (tombstone_is ∙ sym (ap (λ (r : LineRow). r.tombstone) step), ap (λ (r : LineRow). r.end_sequence) step ∙ ended)
 
-pub address_header : (a : ℕ) (h h2 : Header) (r : Result Bool Error) → OnOk r (h2 ≡ record h { files = files_behind true (SetAddress a) h.files }) → OnErr r (h2 ≡ h) → h2 ≡ h
+pub address_header : (a : ℕ) (h h2 : Header) (r : Result Bool Error) → OnOk r (h2 ≡ record h { files = files_after true (SetAddress a) h.files }) → OnErr r (h2 ≡ h) → h2 ≡ h
 address_header a h h2 (Ok m) files kept = files
 address_header a h h2 (Err e) files kept = kept
 
-pub address_state : (a : ℕ) (h h2 : Header) (r r2 : LineRow) (b : ℕ) (p : Option ℕ) (u : Unread) → h2 ≡ h → r2 ≡ stepped h.parameters (SetAddress a) r
-    → state h2 r2 a (Some a) u ≡ state_behind (SetAddress a) (state h r b p u)
+pub address_state : (a : ℕ) (h h2 : Header) (r r2 : LineRow) (b : ℕ) (p : Option ℕ) (u : Unread) → h2 ≡ h → r2 ≡ step_of h.parameters (SetAddress a) r
+    → state h2 r2 a (Some a) u ≡ state_after (SetAddress a) (state h r b p u)
 address_state a h h2 r r2 b p u header step =
     ap (λ (k : Header). state k r2 a (Some a) u) header ∙ ap (λ (x : LineRow). state h x a (Some a) u) step
 
@@ -306,25 +306,25 @@ module _ (R Endian Offset : Type 0) (s old new : SourceState) (i : Ins) where
 
 module _ {R Endian Offset : Type 0} (s old new : SourceState) (i : Ins) where
   pub executed_shortens : (r : Result (SourceStep R Endian Offset) ConvertError) → IfOk r (λ step. step ≡ step_made s i) → length new.unread.bytes < length old.unread.bytes → IfOk r (λ step. Shortens step old new)
-  executed_shortens (Ok step) made lt = rw made (shortens R Endian Offset s old new i lt (makes_row i && not s.row.hidden))
+  executed_shortens (Ok step) made lt = rw made (shortens R Endian Offset s old new i lt (makes_row i && not s.row.tombstone))
   executed_shortens (Err e) made lt = tt
 
 module _ {R Offset : Type 0} (Endian : Type 0) (bytes : R → List ℕ) (number : Offset → ℕ) (s : SourceState) (u : Unread) (notation : u.notation ≡ s.unread.notation)
     (i : Ins) (front : List ℕ) (parts : s.unread.bytes ≡ front ++ u.bytes) (spelled : SpellsInstruction s.unread.notation s.header front i) where
   made_reading : is_refused s.header.parameters i s.row ≡ false → defines_file i ≡ false → (sections : Sections) (lists : Lists)
-      → reading_left sections s lists ≡ step_reading {Endian = Endian} bytes number sections lists (step_made (with_unread s u) i) (state_behind i (with_unread s u))
-  made_reading fits file sections lists = by (makes_row i && not s.row.hidden) refl
+      → reading_left sections s lists ≡ step_reading {Endian = Endian} bytes number sections lists (step_made (with_unread s u) i) (state_after i (with_unread s u))
+  made_reading fits file sections lists = by (makes_row i && not s.row.tombstone) refl
     where
-      by : (b : Bool) → (makes_row i && not s.row.hidden) ≡ b → reading_left sections s lists ≡ step_reading {Endian = Endian} bytes number sections lists (step_made (with_unread s u) i) (state_behind i (with_unread s u))
+      by : (b : Bool) → (makes_row i && not s.row.tombstone) ≡ b → reading_left sections s lists ≡ step_reading {Endian = Endian} bytes number sections lists (step_made (with_unread s u) i) (state_after i (with_unread s u))
       by true e =
           after_row sections lists s u notation i front parts spelled fits file e
-          ∙ ap (λ (c : Bool). step_reading {Endian = Endian} bytes number sections lists (if c then Made (row_made (with_unread s u) i) else More) (state_behind i (with_unread s u))) (sym e)
+          ∙ ap (λ (c : Bool). step_reading {Endian = Endian} bytes number sections lists (if c then Made (row_made (with_unread s u) i) else More) (state_after i (with_unread s u))) (sym e)
       by false e =
           after_quiet sections lists s u notation i front parts spelled fits file e
-          ∙ ap (λ (c : Bool). step_reading {Endian = Endian} bytes number sections lists (if c then Made (row_made (with_unread s u) i) else More) (state_behind i (with_unread s u))) (sym e)
+          ∙ ap (λ (c : Bool). step_reading {Endian = Endian} bytes number sections lists (if c then Made (row_made (with_unread s u) i) else More) (state_after i (with_unread s u))) (sym e)
 
   pub executed_reading : (t : SourceState) (r : Result (SourceStep R Endian Offset) ConvertError) → defines_file i ≡ false → OnOk r (is_refused s.header.parameters i s.row ≡ false)
-      → OnOk r (t ≡ state_behind i (with_unread s u)) → IfOk r (λ step. step ≡ step_made (with_unread s u) i)
+      → OnOk r (t ≡ state_after i (with_unread s u)) → IfOk r (λ step. step ≡ step_made (with_unread s u) i)
       → IfOk r (λ step. (sections : Sections) (lists : Lists) → reading_left sections s lists ≡ step_reading bytes number sections lists step t)
   executed_reading t (Ok step) file fits next made = λ sections lists. rw (made, next) (made_reading fits file sections lists)
   executed_reading t (Err e) file fits next made = tt

@@ -7,7 +7,7 @@ use Rattle.gimli_bytes.specs.declared.address.Address.TheVariants.{Constant}
 use Rattle.gimli_line.specs.declared.run.instruction.LineInstruction.TheVariants.{Copy, AdvancePc, AdvanceLine, SetFile, FixedAddPc, EndSequence, SetAddress}
 use Rattle.gimli_line.specs.header.Parameters.{Parameters}
 use Rattle.gimli_line.specs.run.Instruction.{Ins}
-use Rattle.gimli_build.specs.Built.{started}
+use Rattle.gimli_build.specs.Built.{empty_built}
 use Rattle.gimli_build.specs.LineText.{Inline}
 use Rattle.gimli_build.specs.Tables.{no_details}
 use Rattle.gimli_build.specs.declared.built.row.LineRow.{LineRow}
@@ -16,9 +16,9 @@ use Rattle.gimli_build.specs.declared.built.items.BuiltItem.TheVariants as item
 use Rattle.gimli_write.specs.declared.convert_error.ConvertError.{ConvertError}
 use Rattle.gimli_write.specs.declared.convert_error.ConvertError.TheVariants.{InvalidFileIndex, InvalidAddress, MissingLineEndSequence, UnsupportedLineInstruction}
 use Rattle.gimli_write.specs.convert.Lists.{Lists}
-use Rattle.gimli_write.specs.convert.Mapped.{SeesEndsBehind}
-use Rattle.gimli_write.specs.convert.Offers.{Reading, reading_behind}
-use Rattle.gimli_write.specs.convert.Feeding.{converted}
+use Rattle.gimli_write.specs.convert.Mapped.{SeesEndsAfter}
+use Rattle.gimli_write.specs.convert.Offers.{Reading, reading_after}
+use Rattle.gimli_write.specs.convert.Feeding.{outcome_of}
 
 -- a source of version 4 with addresses of 4 bytes, whose instructions have this length at least
 abbrev source : ℕ → Parameters
@@ -31,18 +31,18 @@ source length = record {
 -- its directory is /w, and its file a.c there
 abbrev lists : ℕ → Lists
 lists length = record {
-  program = started false (source length).encoding (source length).line_encoding (Inline (47 ∷ 119 ∷ []) ∷ []) (((Inline (97 ∷ 46 ∷ 99 ∷ []), 0), no_details) ∷ []);
+  program = empty_built false (source length).encoding (source length).line_encoding (Inline (47 ∷ 119 ∷ []) ∷ []) (((Inline (97 ∷ 46 ∷ 99 ∷ []), 0), no_details) ∷ []);
   directory_ids = 0 ∷ [];
   file_ids = 0 ∷ 0 ∷ [];
   line_strings = [];
 }
 
 abbrev read : ℕ → List Ins → Reading
-read length list = reading_behind (record { strings = []; line_strings = [] }) (source length) (lists length) [] list None
+read length list = reading_after (record { strings = []; line_strings = [] }) (source length) (lists length) [] list None
 
 -- what is built, where addresses are mapped so
 abbrev items_of : (ℕ → Option Address) → ℕ → List Ins → Result (List BuiltItem) ConvertError
-items_of convert_address length list = elim (converted convert_address (read length list) (lists length).program) [
+items_of convert_address length list = elim (outcome_of convert_address (read length list) (lists length).program) [
   | Ok c ↦ Ok c.program.items
   | Err e ↦ Err e
 ]
@@ -74,25 +74,25 @@ mid_sequence : items_of itself 1 (SetAddress 16 ∷ Copy ∷ AdvancePc 4 ∷ Set
     ≡ Ok (item.SetAddress (Constant 16) ∷ item.Row (a_row 0 1) ∷ item.SetAddress (Constant 32) ∷ item.Row (a_row 0 1) ∷ item.End 4 0 ∷ [])
 mid_sequence = refl
 
--- an address that goes back hides a row, up to one that doesn't; its sequence ends seen
-hidden_row : items_of itself 1 (SetAddress 16 ∷ Copy ∷ SetAddress 8 ∷ AdvanceLine (pos 1) ∷ Copy ∷ SetAddress 32 ∷ AdvanceLine (pos 1) ∷ Copy ∷ EndSequence ∷ [])
+-- an address that goes back is a tombstone for a row, up to one that doesn't; its sequence ends seen
+row_under_tombstone : items_of itself 1 (SetAddress 16 ∷ Copy ∷ SetAddress 8 ∷ AdvanceLine (pos 1) ∷ Copy ∷ SetAddress 32 ∷ AdvanceLine (pos 1) ∷ Copy ∷ EndSequence ∷ [])
     ≡ Ok (item.SetAddress (Constant 16) ∷ item.Row (a_row 0 1) ∷ item.SetAddress (Constant 32) ∷ item.Row (a_row 0 3) ∷ item.End 0 0 ∷ [])
-hidden_row = refl
+row_under_tombstone = refl
 
-hidden_row_seen : SeesEndsBehind (source 1) [] (SetAddress 16 ∷ Copy ∷ SetAddress 8 ∷ AdvanceLine (pos 1) ∷ Copy ∷ SetAddress 32 ∷ AdvanceLine (pos 1) ∷ Copy ∷ EndSequence ∷ [])
-hidden_row_seen =
+row_under_tombstone_seen : SeesEndsAfter (source 1) [] (SetAddress 16 ∷ Copy ∷ SetAddress 8 ∷ AdvanceLine (pos 1) ∷ Copy ∷ SetAddress 32 ∷ AdvanceLine (pos 1) ∷ Copy ∷ EndSequence ∷ [])
+row_under_tombstone_seen =
     (λ e h. absurd cc, (λ e h. absurd cc, (λ e h. absurd cc, (λ e h. absurd cc, (λ e h. absurd cc, (λ e h. absurd cc, (λ e h. absurd cc, (λ e h. absurd cc, (λ e h. absurd cc, tt)))))))))
 
--- a sequence of which all is hidden gives nothing
-all_hidden : items_of itself 1 (SetAddress 4294967294 ∷ Copy ∷ EndSequence ∷ []) ≡ Ok []
-all_hidden = refl
+-- a sequence of which all is under a tombstone gives nothing
+all_under_tombstone : items_of itself 1 (SetAddress 4294967294 ∷ Copy ∷ EndSequence ∷ []) ≡ Ok []
+all_under_tombstone = refl
 
--- one that gave a row and ends hidden stays open
-ends_hidden : items_of itself 1 (SetAddress 16 ∷ Copy ∷ SetAddress 4294967295 ∷ EndSequence ∷ []) ≡ Err MissingLineEndSequence
-ends_hidden = refl
+-- one that gave a row and ends under a tombstone stays open
+ends_under_tombstone : items_of itself 1 (SetAddress 16 ∷ Copy ∷ SetAddress 4294967295 ∷ EndSequence ∷ []) ≡ Err MissingLineEndSequence
+ends_under_tombstone = refl
 
-ends_hidden_unseen : SeesEndsBehind (source 1) [] (SetAddress 16 ∷ Copy ∷ SetAddress 4294967295 ∷ EndSequence ∷ []) → ⊥
-ends_hidden_unseen seen = let open_sequence = seen.1.1.1.0 refl refl in absurd cc
+unseen_end_under_tombstone : SeesEndsAfter (source 1) [] (SetAddress 16 ∷ Copy ∷ SetAddress 4294967295 ∷ EndSequence ∷ []) → ⊥
+unseen_end_under_tombstone seen = let open_sequence = seen.1.1.1.0 refl refl in absurd cc
 
 -- ---- refusals
 

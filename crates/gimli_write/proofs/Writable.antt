@@ -15,7 +15,7 @@ use Rattle.gimli_write.specs.convert.KeptLists.{StaysWritable}
 use Rattle.gimli_write.proofs.ConvertSteps.{kept_then, still_there}
 use Rattle.gimli_write.proofs.MappedLists.{within_where, if_some_where, files_with}
 
--- with more texts behind the others
+-- with more texts after the others
 module _ (strings old new : List (List ℕ)) (kept : KeepsTexts old new) where
   within_kept : (t : LineText) → IsWithin strings old t → IsWithin strings new t
   within_kept = within_where strings old new (λ i lt. still_there old new i kept lt)

@@ -12,12 +12,12 @@ use Rattle.gimli_bytes.specs.Texts.{table_bytes}
 use Rattle.gimli_bytes.specs.declared.error.Error.{Error}
 use Rattle.gimli_build.specs.LineText.{bytes_in}
 use Rattle.gimli_build.specs.Tables.{File}
-use Rattle.gimli_build.specs.Stored.{stored}
+use Rattle.gimli_build.specs.Stored.{stored_details}
 use Rattle.gimli_build.specs.Texts.{Sections, IsText, IsOptionalText, OneByOne}
 use Rattle.gimli_write.specs.TextReading.{HasText, HasFileTexts}
 use Rattle.gimli_build.specs.ReadsBack.{IsUnit, directories_from_zero}
 use Rattle.gimli_build.specs.Built.{Built}
-use Rattle.gimli_build.specs.Version5Tables.{strings_behind, line_strings_behind}
+use Rattle.gimli_build.specs.Version5Tables.{strings_after, line_strings_after}
 use Rattle.gimli_build.specs.Unit.{unit_bytes}
 use Rattle.gimli_build.specs.Cause.{first_cause}
 use Rattle.gimli_build.specs.Items.{AddressesFit}
@@ -122,13 +122,13 @@ abbrev pub built_file : Built → List (List ℕ) → List (List ℕ) → File �
 built_file p strings line_strings f = record {
   path = bytes_in strings line_strings f.0.0;
   directory_index = f.0.1;
-  timestamp = (stored p strings line_strings f.1).timestamp;
-  size = (stored p strings line_strings f.1).size;
-  md5 = (stored p strings line_strings f.1).md5;
-  source = (stored p strings line_strings f.1).source;
+  timestamp = (stored_details p strings line_strings f.1).timestamp;
+  size = (stored_details p strings line_strings f.1).size;
+  md5 = (stored_details p strings line_strings f.1).md5;
+  source = (stored_details p strings line_strings f.1).source;
 }
 
--- the addresses of a program fit its address size, and none of them hides
+-- the addresses of a program fit its address size, and none of them is a tombstone
 abbrev pub HasFittingAddresses : Built → Type 0
 HasFittingAddresses p = AddressesFit p.encoding.address_size 0 (0, 0) p.items
 
@@ -153,7 +153,7 @@ pub record CanRead (notation : Notation) (unit_entry : UnitEntry) (sections : Se
   pub unit : BeginsUnit notation unit_entry bytes header
   pub texts : HasTexts sections header
 
--- why the rows of a program aren't answered: its first fault, or want of memory
+-- why the rows of a program aren't answered: its first fault, or `OutOfMemory`
 abbrev pub IsRunRefusal : Notation → Header → ConvertError → Type 0
 IsRunRefusal notation h OutOfMemory = Unit {0}
 IsRunRefusal notation h (Read fault) = HasFirstFault notation h fault
@@ -175,7 +175,7 @@ pub record WasWritten (wanted : ToWrite) (old new unit : List ℕ) : Type 0 wher
   pub appended : new ≡ old ++ unit
 
 -- why a program isn't written or not read again: the cause why it can't be written, if there is one; where there is none,
--- the first fault of its unit, which was appended; or want of memory
+-- the first fault of its unit, which was appended; or `OutOfMemory`
 abbrev pub IsRefusal : Bool → ToWrite → UnitEntry → List ℕ → List ℕ → ConvertError → Type 0
 IsRefusal big wanted unit_entry old new OutOfMemory = Unit {0}
 IsRefusal big wanted unit_entry old new (Write e) = wanted.cause ≡ Some e
@@ -195,9 +195,9 @@ to_write big encoding p strings line_strings = record {
 abbrev pub IsRoundTripRefusal : Bool → Encoding → Built → List (List ℕ) → List (List ℕ) → List ℕ → List ℕ → ConvertError → Type 0
 IsRoundTripRefusal big encoding p strings line_strings old new =
     IsRefusal big (to_write big encoding p strings line_strings)
-    (unit_entry_of p (strings_behind p strings) (line_strings_behind p line_strings)) old new
+    (unit_entry_of p (strings_after p strings) (line_strings_after p line_strings)) old new
 
--- why a program isn't written: the cause why it can't be, if there is one, or want of memory
+-- why a program isn't written: the cause why it can't be, if there is one, or `OutOfMemory`
 abbrev pub IsCausedRefusal : Option Error → ConvertError → Type 0
 IsCausedRefusal cause OutOfMemory = Unit {0}
 IsCausedRefusal cause (Write e) = cause ≡ Some e

@@ -38,9 +38,9 @@ pub fn converted_programs_keep_their_encoding()
         → d.outcome.program.encoding ≡ encoding_of d.source.header d.source.given }
 {}
 
-/// Where each address is mapped to itself, addresses are at least as wide as those of the source, and no sequence of the
-/// source that gave a row ends hidden, a converted program says what its source says. No address in it hides a row, all
-/// of them fit its address size, and each that is set is a number, not a symbol.
+/// Where each address is mapped to itself, addresses are at least as wide as those of the source, and no sequence of
+/// the source that gave a row ends under a tombstone, a converted program says what its source says. No address in it
+/// is a tombstone for a row, all of them fit its address size, and each that is set is a number, not a symbol.
 pub fn conversions_are_faithful()
     ensures mapped { (d : DoneConversion) (strings : List (List ℕ)) → IsToBeFaithful d
         → IsMapped d.source strings d.outcome }

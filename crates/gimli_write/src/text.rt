@@ -1,7 +1,7 @@
 //! The texts of a header that is read.
 
 ghost use Rattle.std.specs.Prelude.{◌≡◌, ◌≢◌, ◌⊎◌, IfOk, IfErr, Ok, Err};
-ghost use Rattle.gimli_core.specs.Reading.{seen};
+ghost use Rattle.gimli_core.specs.Reading.{result_map};
 ghost use Rattle.gimli_core.specs.Values.{value_seen};
 ghost use Rattle.gimli_write.specs.TextReading.{text_from, text_of};
 
@@ -51,7 +51,7 @@ fn find_text<R: Reader>(
     value: AttributeValue<R>,
     sections: &TextSections<R>,
 ) -> gimli_core::Result<R>
-    ensures { seen R.bytes result ≡ text_of sections.now (value_seen R.bytes R.Offset.number value) }
+    ensures { result_map R.bytes result ≡ text_of sections.now (value_seen R.bytes R.Offset.number value) }
 {
     match value {
         AttributeValue::String(text) => Ok(text),
@@ -63,7 +63,7 @@ fn find_text<R: Reader>(
 
 /// The text of a section from an offset on, up to a zero byte.
 fn text_from<R: Reader>(section: R, offset: R::Offset) -> gimli_core::Result<R>
-    ensures { seen R.bytes result ≡ text_from (R.bytes section) (R.Offset.number offset) }
+    ensures { result_map R.bytes result ≡ text_from (R.bytes section) (R.Offset.number offset) }
 {
     let mut section = section;
     section.skip(offset)?;

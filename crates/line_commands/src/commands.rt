@@ -1,4 +1,4 @@
-//! What the program does, over its words, a reader in the place of the file, and writers in the place of standard
+//! What the program does, over its words, a reader in place of the file, and writers in place of standard
 //! output and standard error.
 
 ghost use Rattle.std.specs.Prelude.{◌≡◌, ◌≢◌, ◌≤◌, Err, IfErr, IsNone, map};

@@ -46,7 +46,7 @@ struct RowCheck {
     rows_since_end: u64,
     /// The least address of the rows since the last end.
     start: Option<u64>,
-    /// Whether rows are left out, since an address was set that hides them.
+    /// Whether rows are left out, since an address was set that is a tombstone for them.
     is_left_out: bool,
 }
 
@@ -89,7 +89,7 @@ impl RowCheck {
         self.finish(findings)
     }
 
-    /// Looks at an address that was set. It hides the rows that follow where the address of the row
+    /// Looks at an address that was set. It is a tombstone for the rows that follow where the address of the row
     /// isn't it.
     fn look_at_address<O: Write>(
         &mut self,

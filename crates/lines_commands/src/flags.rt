@@ -7,7 +7,7 @@ use std::fmt;
 #[derive(Clone, Copy)]
 pub(crate) struct JsonFlags(pub(crate) LineRow);
 
-/// The flags of a row, as letters, each in a place of its own, with a stroke in the place of each
+/// The flags of a row, as letters, each in a place of its own, with a stroke in place of each
 /// that doesn't hold.
 #[derive(Clone, Copy)]
 pub(crate) struct FlagLetters(pub(crate) LineRow);

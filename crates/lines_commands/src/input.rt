@@ -115,7 +115,7 @@ impl<'i> Input<'i> {
 #[derive(Clone, Copy)]
 struct Program<'i> {
     notation: Notation,
-    /// The line programs, in the place of a file, and the texts.
+    /// The line programs, in place of a file, and the texts.
     sections: Files<'i>,
     /// An address below which there is no code, 0 where none is known.
     lowest: u64,

@@ -1,5 +1,5 @@
-//! What the program does, over what its words ask for, the bytes of files, a reader in the place of
-//! standard input, and writers in the place of standard output and standard error.
+//! What the program does, over what its words ask for, the bytes of files, a reader in place of
+//! standard input, and writers in place of standard output and standard error.
 
 ghost use Rattle.std.specs.Prelude.{◌≡◌, ◌≤◌, IfOk, Ok};
 ghost use Rattle.lines_commands.specs.Lines.{HasLines};

@@ -58,7 +58,7 @@ impl<'a> Operands<'a> {
         Operands::Two(opcode, Held::Number(n))
     }
 
-    /// An opcode, and the bytes behind it.
+    /// An opcode, and the bytes after it.
     fn bytes<R: Lender>(opcode: u8, operands: &'a R) -> Operands<'a> {
         Operands::Two(opcode, Held::Bytes(operands.lent()))
     }

@@ -14,8 +14,9 @@ use gimli_write::{
     LineStringTable, RoundTrip, StringTable, convert_program, round_trip,
 };
 
-/// Converts a program with its own encodings, writes it, and reads it again. What is hidden in the source is dropped. Where
-/// no sequence of the source that gave a row ends hidden, the rows that are read are those of the source, one by one.
+/// Converts a program with its own encodings, writes it, and reads it again. What is under a tombstone in the source
+/// is dropped. Where no sequence of the source that gave a row ends under a tombstone, the rows that are read are
+/// those of the source, one by one.
 pub fn convert_and_read_back<R: Reader, E: Endianity>(
     debug_str: R,
     debug_line_str: R,

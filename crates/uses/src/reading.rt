@@ -1,8 +1,8 @@
 //! From a section to rows with the paths of their files.
 
 ghost use Rattle.std.specs.Prelude.{◌≡◌, IfOk, None, map};
-ghost use Rattle.gimli_core.specs.Reading.{seen};
-ghost use Rattle.gimli_core.specs.Notation.{noted};
+ghost use Rattle.gimli_core.specs.Reading.{result_map};
+ghost use Rattle.gimli_core.specs.Notation.{notation_of};
 ghost use Rattle.gimli_core.specs.Values.{value_seen};
 ghost use Rattle.gimli_line.specs.header.Header.{file_of};
 ghost use Rattle.gimli_line.specs.run.Events.{row};
@@ -44,7 +44,7 @@ pub struct Sections<R: Reader> {
 /// The text that a path or a directory stands for. Refused by `UnexpectedEof` where the section ends before the text
 /// does, and by `ExpectedStringAttributeValue` for a value that stands for no text of these sections.
 pub fn text<R: Reader>(value: AttributeValue<R>, sections: &Sections<R>) -> Result<R>
-    ensures { seen R.bytes result ≡ text_of (record {
+    ensures { result_map R.bytes result ≡ text_of (record {
       strings = R.bytes sections.now.strings;
       line_strings = R.bytes sections.now.line_strings;
     }) (value_seen R.bytes R.Offset.number value) }
@@ -59,7 +59,7 @@ pub fn text<R: Reader>(value: AttributeValue<R>, sections: &Sections<R>) -> Resu
 
 /// The text of a section from an offset on, up to a zero byte.
 fn text_from<R: Reader>(section: R, offset: R::Offset) -> Result<R>
-    ensures { seen R.bytes result ≡ text_from (R.bytes section) (R.Offset.number offset) }
+    ensures { result_map R.bytes result ≡ text_from (R.bytes section) (R.Offset.number offset) }
 {
     let mut section = section;
     section.skip(offset)?;
@@ -136,7 +136,7 @@ pub fn rows_of_unit<R: Reader>(
     offset: DebugLineOffset<R::Offset>,
     sections: &Sections<R>,
 ) -> Result<Vec<RowWithPath<R>>>
-    ensures ok { IfOk result (λ found. AreRowsOfUnit (noted (R.big section.now) R.Offset.limit) (R.bytes section.now)
+    ensures ok { IfOk result (λ found. AreRowsOfUnit (notation_of (R.big section.now) R.Offset.limit) (R.bytes section.now)
         (R.Offset.number offset.0) (map (λ one. one.row) found.items)) }
 {
     let program = section.program(alloc, offset, 8, None, None)?;

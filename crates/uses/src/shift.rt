@@ -58,7 +58,7 @@ pub fn start(rt: &HostRuntime, words: &[String]) -> Result<()> {
 /// What is read of the unit after it was moved and written. From version 5 on the tables of a unit
 /// have its directory and its source file: without a directory it is refused by
 /// `MissingCompilationDirectory`, and without a name by `MissingCompilationName`. An address that
-/// can't be moved so far is refused by `InvalidAddress`, and a row that lies too far behind one by
+/// can't be moved so far is refused by `InvalidAddress`, and a row that lies too far after one by
 /// `AddressOverflow`, when it is read.
 pub fn shift<'i>(alloc: Global, unit: Unit<'i>, by: u64) -> ConvertResult<RoundTrip> {
     let directory = unit

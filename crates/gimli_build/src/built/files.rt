@@ -147,7 +147,7 @@ impl Model for FileTable {
 impl FileTable {
     ghost use Rattle.std.specs.Borrow.{sem};
     ghost use Rattle.gimli_build.specs.LineText.{line_text, HasNoZero};
-    ghost use Rattle.gimli_build.specs.Tables.{AreTables, with_directory, place_of_directory, with_file, place_of_file, numbered, keys_of};
+    ghost use Rattle.gimli_build.specs.Tables.{AreTables, with_directory, index_of_directory, with_file, index_of_file, with_indexes, keys_of};
     ghost use Rattle.gimli_build.specs.TablesInside.{details};
     ghost use Rattle.gimli_build.specs.FirstTables.{first_tables};
     ghost use Rattle.gimli_build.specs.LentDetails.{lends_details};
@@ -225,7 +225,7 @@ impl FileTable {
         ensures ok { OnOk result (self.new ≡ record self.old {
           directories = with_directory self.old.directories (line_text directory);
         }) }
-        ensures id { IfOk result (λ id. id ≡ place_of_directory self.old.directories (line_text directory)) }
+        ensures id { IfOk result (λ id. id ≡ index_of_directory self.old.directories (line_text directory)) }
         ensures err { OnErr result (self.new ≡ self.old) }
         ensures memory { IfErr result (λ e. e ≡ Error.OutOfMemory) }
     {
@@ -261,7 +261,7 @@ impl FileTable {
         ensures ok { OnOk result (self.new ≡ record self.old {
           files = with_file self.old.files (line_text path, directory) (Some (details info));
         }) }
-        ensures id { IfOk result (λ id. id ≡ place_of_file self.old.files (line_text path, directory)) }
+        ensures id { IfOk result (λ id. id ≡ index_of_file self.old.files (line_text path, directory)) }
         ensures err { OnErr result (self.new ≡ self.old) }
         ensures memory { IfErr result (λ e. e ≡ Error.OutOfMemory) }
     {
@@ -278,7 +278,7 @@ impl FileTable {
         ensures ok { OnOk result (self.new ≡ record self.old {
           files = with_file self.old.files (line_text path, directory) None;
         }) }
-        ensures id { IfOk result (λ id. id ≡ place_of_file self.old.files (line_text path, directory)) }
+        ensures id { IfOk result (λ id. id ≡ index_of_file self.old.files (line_text path, directory)) }
         ensures err { OnErr result (self.new ≡ self.old) }
         ensures memory { IfErr result (λ e. e ≡ Error.OutOfMemory) }
     {
@@ -304,7 +304,7 @@ impl FileTable {
         ensures ok { OnOk result (self.new ≡ record self.old {
           files = with_file self.old.files (line_text path, directory) (option_map details info);
         }) }
-        ensures id { IfOk result (λ id. id ≡ place_of_file self.old.files (line_text path, directory)) }
+        ensures id { IfOk result (λ id. id ≡ index_of_file self.old.files (line_text path, directory)) }
         ensures err { OnErr result (self.new ≡ self.old) }
         ensures memory { IfErr result (λ e. e ≡ Error.OutOfMemory) }
     {
@@ -316,7 +316,7 @@ impl FileTable {
 
     /// The files in order.
     pub(crate) fn files(&self) -> Files<'_>
-        ensures files { result ≡ numbered 0 self.now.files }
+        ensures files { result ≡ with_indexes 0 self.now.files }
         ensures tables { AreTables self.now.directories (keys_of self.now.files) }
     {
         let _files = &self.files;
@@ -395,11 +395,11 @@ pub struct Files<'a> {
 impl<'a> Model for Files<'a> {
     ghost use Rattle.std.specs.Prelude.{ℕ, List, drop};
     ghost use Rattle.gimli_build.specs.LineText.{LineText};
-    ghost use Rattle.gimli_build.specs.Tables.{numbered};
+    ghost use Rattle.gimli_build.specs.Tables.{with_indexes};
 
     ghost Value = { List (ℕ × LineText × ℕ) };
 
-    ghost view = { λ files. numbered files.next (drop files.next files.table.now.files) };
+    ghost view = { λ files. with_indexes files.next (drop files.next files.table.now.files) };
 }
 
 impl<'a> Iterator for Files<'a> {

@@ -20,12 +20,12 @@ pub enum BuiltItem {
 
 impl BuiltItem {
     ghost use Rattle.std.specs.Prelude.{◌≡◌};
-    ghost use Rattle.gimli_build.specs.Built.{place_after};
+    ghost use Rattle.gimli_build.specs.Built.{position_after};
 
     /// The offset and op_index that the next row or end is compared with.
     #[inline(always)]
-    pub(crate) fn place(&self) -> (u64, u64)
-        ensures { result ≡ place_after self.now }
+    pub(crate) fn position(&self) -> (u64, u64)
+        ensures { result ≡ position_after self.now }
     {
         match self {
             BuiltItem::Row(row) => (row.address_offset, row.op_index),

@@ -2,10 +2,10 @@ ghost use Rattle.std.specs.Prelude.{◌≡◌, ◌≢◌, ℕ, ◌+◌, ◌/◌,
 ghost use Rattle.gimli_core.specs.Numbers.{is_address_size};
 ghost use Rattle.gimli_build.specs.Advance.{CanEncode, CanFollow};
 
-use crate::built::files::{DirectoryId, FileId, FileInfo, FileTable, Files};
-use crate::built::items::{BuiltItem, BuiltItems};
-use crate::built::line_string::LineString;
-use crate::built::row::LineRow;
+use crate::built_of::files::{DirectoryId, FileId, FileInfo, FileTable, Files};
+use crate::built_of::items::{BuiltItem, BuiltItems};
+use crate::built_of::line_string::LineString;
+use crate::built_of::row::LineRow;
 use gimli_bytes::{Address, Error, Result};
 use gimli_core::{Encoding, Format, LineEncoding};
 use std::alloc::{AllocError, Global};
@@ -39,9 +39,9 @@ impl Model for LineProgram {
 
     ghost Value = { Built };
 
-    ghost use Rattle.gimli_build.specs.BuiltInside.{built, IsKept};
+    ghost use Rattle.gimli_build.specs.BuiltInside.{built_of, IsKept};
 
-    ghost view = { built };
+    ghost view = { built_of };
 
     ghost invariant = { IsKept };
 }
@@ -178,7 +178,7 @@ impl LineProgram {
 impl LineProgram {
     ghost use Rattle.std.specs.Borrow.{sem};
     ghost use Rattle.gimli_build.specs.LineText.{line_text, HasNoZero, IsNotEmpty};
-    ghost use Rattle.gimli_build.specs.Tables.{place_of_directory, place_of_file, numbered, keys_of, Keeps, AreTables};
+    ghost use Rattle.gimli_build.specs.Tables.{index_of_directory, index_of_file, with_indexes, keys_of, Keeps, AreTables};
     ghost use Rattle.gimli_build.specs.TablesInside.{details};
     ghost use Rattle.gimli_build.specs.Calls.{after_directory, after_file};
     ghost use Rattle.gimli_build.specs.LentRow.{lends_info};
@@ -201,7 +201,7 @@ impl LineProgram {
         requires not_empty { self.old.encoding.version ≤ 4 → IsNotEmpty (line_text directory) }
         ensures ok { OnOk result (self.new ≡ after_directory (line_text directory) self.old) }
         ensures id { IfOk result (λ id.
-            id ≡ place_of_directory self.old.directories (line_text directory)) }
+            id ≡ index_of_directory self.old.directories (line_text directory)) }
         ensures within { IfOk result (λ id. id < length self.new.directories) }
         ensures found { IfOk result (λ id.
             slice_get self.new.directories id ≡ Some (line_text directory)) }
@@ -246,7 +246,7 @@ impl LineProgram {
         ensures ok { OnOk result (self.new
             ≡ after_file (line_text file, directory) (option_map details info) self.old) }
         ensures id { IfOk result (λ id.
-            id ≡ place_of_file self.old.files (line_text file, directory)) }
+            id ≡ index_of_file self.old.files (line_text file, directory)) }
         ensures within { IfOk result (λ id. id < length self.new.files) }
         ensures found { IfOk result (λ id.
             slice_get (keys_of self.new.files) id ≡ Some (line_text file, directory)) }
@@ -262,7 +262,7 @@ impl LineProgram {
 
     /// The files in order, each with its id, its path and its directory.
     pub fn files(&self) -> Files<'_>
-        ensures files { result ≡ numbered 0 self.now.files }
+        ensures files { result ≡ with_indexes 0 self.now.files }
         ensures tables { AreTables self.now.directories (keys_of self.now.files) }
     {
         self.tables.files()
@@ -298,7 +298,7 @@ impl LineProgram {
 
 impl LineProgram {
     ghost use Rattle.std.specs.Borrow.{sem};
-    ghost use Rattle.gimli_build.specs.Built.{previous_place};
+    ghost use Rattle.gimli_build.specs.Built.{previous_position};
     ghost use Rattle.gimli_build.specs.Calls.{after_begin, after_address, after_row, after_end};
     ghost use Rattle.gimli_build.specs.Conditions.{CanGenerateRow, CanEndSequence, AreBuilt, IsProgram};
     ghost use Rattle.gimli_build.specs.Tables.{keys_of, AreTables};
@@ -348,11 +348,11 @@ impl LineProgram {
     }
 
     /// The offset and op_index that the next row or end is compared with.
-    fn previous_place(&self) -> (u64, u64)
-        ensures { result ≡ previous_place self.now.items }
+    fn previous_position(&self) -> (u64, u64)
+        ensures { result ≡ previous_position self.now.items }
     {
         match self.items.last() {
-            Some(item) => item.place(),
+            Some(item) => item.position(),
             None => (0, 0),
         }
     }
@@ -363,7 +363,7 @@ impl LineProgram {
     pub fn can_generate_row(&self) -> bool
         ensures { IsTrue result ↔ CanGenerateRow self.now }
     {
-        let (offset, op_index) = self.previous_place();
+        let (offset, op_index) = self.previous_position();
         let row = self.row;
         can_follow(
             self.line_encoding,
@@ -397,7 +397,7 @@ impl LineProgram {
     pub fn can_end_sequence(&self, address_offset: u64) -> bool
         ensures { IsTrue result ↔ CanEndSequence self.now address_offset }
     {
-        let (offset, op_index) = self.previous_place();
+        let (offset, op_index) = self.previous_position();
         can_follow(
             self.line_encoding,
             offset,
@@ -455,7 +455,7 @@ impl LineProgram {
     /// What was built, in order.
     pub fn items(&self) -> BuiltItems<'_>
         ensures items { result ≡ self.now.items }
-        ensures built { AreBuilt self.now.line_encoding (0, 0) self.now.items }
+        ensures built_of { AreBuilt self.now.line_encoding (0, 0) self.now.items }
     {
         BuiltItems::new(self.items.as_slice())
     }

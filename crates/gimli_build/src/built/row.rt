@@ -1,5 +1,5 @@
 ghost use Rattle.std.specs.Prelude.{◌≡◌};
-ghost use Rattle.gimli_build.specs.Rows.{initial_row, cleared, restarted};
+ghost use Rattle.gimli_build.specs.Rows.{initial_row, without_marks, row_after_address};
 
 use crate::built::files::FileId;
 use gimli_core::{Encoding, LineEncoding};
@@ -54,7 +54,7 @@ impl LineRow {
 
     /// Clears what stands for one row alone, once the row was built.
     pub(crate) fn clear(&mut self)
-        ensures { self.new ≡ cleared self.old }
+        ensures { self.new ≡ without_marks self.old }
     {
         self.discriminator = 0;
         self.basic_block = false;
@@ -63,8 +63,8 @@ impl LineRow {
     }
 
     /// The row where an address was set: in a sequence its offset and op_index count from there.
-    pub(crate) fn restarted(self, in_sequence: bool) -> LineRow
-        ensures { result ≡ restarted in_sequence self }
+    pub(crate) fn row_after_address(self, in_sequence: bool) -> LineRow
+        ensures { result ≡ row_after_address in_sequence self }
     {
         if in_sequence {
             LineRow {

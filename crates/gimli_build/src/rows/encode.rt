@@ -3,9 +3,9 @@
 ghost use Rattle.std.specs.Prelude.{◌≡◌, ℕ, Bool, not, nat_eq, nat_le, if◌then◌else◌, [], ◌∷◌, ◌++◌, ◌+◌, ◌*◌, ◌<◌, ◌≤◌, ◌^◌, Some, None, IfOk, OnOk, Ok, pos, ◌-ℤ◌, unsigned_abs};
 ghost use Rattle.gimli_build.specs.Conditions.{CanBuild, AreBuilt};
 ghost use Rattle.gimli_build.specs.Items.{next_previous, item_bytes, items_bytes, FitsItem, AreFit};
-ghost use Rattle.gimli_build.specs.Built.{place_after};
-ghost use Rattle.gimli_build.specs.Rows.{initial_row, at_place};
-ghost use Rattle.gimli_build.specs.Advance.{CanEncode, IsPlace, CanFollow, operations};
+ghost use Rattle.gimli_build.specs.Built.{position_after};
+ghost use Rattle.gimli_build.specs.Rows.{initial_row, at_position};
+ghost use Rattle.gimli_build.specs.Advance.{CanEncode, IsPosition, CanFollow, operations};
 ghost use Rattle.gimli_build.specs.Due.{when};
 ghost use Rattle.gimli_build.specs.Encode.{marks, changes, is_special_advance, line_opcode, line_part, row_maker, operation_part, row_instructions};
 ghost use Rattle.gimli_build.specs.InstructionBytes.{instructions_bytes, FitsInstructions};
@@ -42,13 +42,13 @@ pub(crate) fn write_items<W: Writer>(
 {
     let initial = LineRow::initial(encoding, line_encoding);
     let mut previous = &initial;
-    let mut place = (0, 0);
+    let mut position = (0, 0);
     for item in items {
         let next = next_row(&initial, previous, item);
-        let next_place = item.place();
-        write_item(w, encoding, line_encoding, place, previous, item)?;
+        let next_position = item.position();
+        write_item(w, encoding, line_encoding, position, previous, item)?;
         previous = next;
-        place = next_place;
+        position = next_position;
     }
     Ok(())
 }
@@ -56,9 +56,9 @@ pub(crate) fn write_items<W: Writer>(
 /// The row that the next item follows, but for its place: what was built isn't copied.
 #[inline(always)]
 fn next_row<'a>(initial: &'a LineRow, previous: &'a LineRow, item: &'a BuiltItem) -> &'a LineRow
-    ensures { (version : ℕ) (is_stmt : Bool) (place : ℕ × ℕ) → initial.now ≡ initial_row version is_stmt →
-        at_place (place_after item.now) result.now
-        ≡ next_previous version is_stmt (at_place place previous.now) item.now }
+    ensures { (version : ℕ) (is_stmt : Bool) (position : ℕ × ℕ) → initial.now ≡ initial_row version is_stmt →
+        at_position (position_after item.now) result.now
+        ≡ next_previous version is_stmt (at_position position previous.now) item.now }
 {
     match item {
         BuiltItem::SetAddress(_) => previous,
@@ -67,63 +67,63 @@ fn next_row<'a>(initial: &'a LineRow, previous: &'a LineRow, item: &'a BuiltItem
     }
 }
 
-/// Appends the instructions of one item that follows `previous`, whose offset and op_index are `place`.
+/// Appends the instructions of one item that follows `previous`, whose offset and op_index are `position`.
 #[inline(always)]
 fn write_item<W: Writer>(
     w: &mut W,
     encoding: Encoding,
     line_encoding: LineEncoding,
-    place: (u64, u64),
+    position: (u64, u64),
     previous: &LineRow,
     item: &BuiltItem,
 ) -> Result<()>
     requires can { CanEncode line_encoding }
-    requires stands { IsPlace line_encoding place.0 place.1 }
+    requires stands { IsPosition line_encoding position.0 position.1 }
     requires previous_line { previous.now.line < 2 ^ 63 }
-    requires built { CanBuild line_encoding place item.now }
+    requires built { CanBuild line_encoding position item.now }
     ensures writes { Writes W.Writer w.old w.new result
-        (item_bytes (W.big w.old) encoding line_encoding (at_place place previous.now) item.now) }
+        (item_bytes (W.big w.old) encoding line_encoding (at_position position previous.now) item.now) }
     ensures fit { OnOk result (FitsItem encoding.version item.now) }
 {
     match item {
-        BuiltItem::Row(row) => write_row(w, encoding, line_encoding, place, previous, row),
+        BuiltItem::Row(row) => write_row(w, encoding, line_encoding, position, previous, row),
         BuiltItem::SetAddress(address) => write_set_address(w, address, encoding.address_size),
         BuiltItem::End {
             address_offset,
             op_index,
         } => {
-            let count = operation_advance(&line_encoding, place, *address_offset, *op_index);
+            let count = operation_advance(&line_encoding, position, *address_offset, *op_index);
             write_end(w, count)
         }
     }
 }
 
-/// Appends the instructions of a row that follows `previous`, whose offset and op_index are `place`. At the start of a
-/// sequence, and after a set address in one, both are 0.
+/// Appends the instructions of a row that follows `previous`, whose offset and op_index are `position`. At the start
+/// of a sequence, and after a set address in one, both are 0.
 #[inline(always)]
 pub(crate) fn write_row<W: Writer>(
     w: &mut W,
     encoding: Encoding,
     line_encoding: LineEncoding,
-    place: (u64, u64),
+    position: (u64, u64),
     previous: &LineRow,
     row: &LineRow,
 ) -> Result<()>
     requires can { CanEncode line_encoding }
-    requires stands { IsPlace line_encoding place.0 place.1 }
-    requires follows { CanFollow line_encoding place.0 place.1
+    requires stands { IsPosition line_encoding position.0 position.1 }
+    requires follows { CanFollow line_encoding position.0 position.1
         row.now.address_offset row.now.op_index }
     requires previous_line { previous.now.line < 2 ^ 63 }
     requires line { row.now.line < 2 ^ 63 }
     ensures writes { Writes W.Writer w.old w.new result
         (Ok (instructions_bytes
-        (row_instructions encoding.version line_encoding (at_place place previous.now) row.now))) }
+        (row_instructions encoding.version line_encoding (at_position position previous.now) row.now))) }
     ensures fit { OnOk result (FitsInstructions encoding.version row.now) }
 {
     write_marks(w, row)?;
     write_changes(w, encoding.version, previous, row)?;
     let opcode = write_line_advance(w, &line_encoding, line_advance(previous.line, row.line))?;
-    let count = operation_advance(&line_encoding, place, row.address_offset, row.op_index);
+    let count = operation_advance(&line_encoding, position, row.address_offset, row.op_index);
     write_operation_advance(w, &line_encoding, opcode, count)?;
     Ok(())
 }
@@ -261,18 +261,18 @@ fn maker(line_encoding: &LineEncoding, opcode: u8) -> LineInstruction
 /// How many operations an offset and an op_index are after the place of the row before.
 fn operation_advance(
     line_encoding: &LineEncoding,
-    place: (u64, u64),
+    position: (u64, u64),
     address_offset: u64,
     op_index: u64,
 ) -> u64
     requires can { CanEncode line_encoding.now }
-    requires stands { IsPlace line_encoding.now place.0 place.1 }
-    requires follows { CanFollow line_encoding.now place.0 place.1 address_offset op_index }
-    ensures { result ≡ operations line_encoding.now place.0 place.1 address_offset op_index }
+    requires stands { IsPosition line_encoding.now position.0 position.1 }
+    requires follows { CanFollow line_encoding.now position.0 position.1 address_offset op_index }
+    ensures { result ≡ operations line_encoding.now position.0 position.1 address_offset op_index }
 {
     let operations = u64::from(line_encoding.maximum_operations_per_instruction);
-    let instructions = instruction_count(*line_encoding, address_offset - place.0);
-    instructions * operations + op_index - place.1
+    let instructions = instruction_count(*line_encoding, address_offset - position.0);
+    instructions * operations + op_index - position.1
 }
 
 /// How far a line is after another one.

@@ -5,7 +5,7 @@ ghost use Rattle.gimli_bytes.specs.Number.{uleb};
 ghost use Rattle.gimli_build.specs.LineText.{Inline, line_text};
 ghost use Rattle.gimli_build.specs.Tables.{FitsFile};
 ghost use Rattle.gimli_build.specs.TablesInside.{details};
-ghost use Rattle.gimli_build.specs.Joined.{joined, joined_parts};
+ghost use Rattle.gimli_build.specs.Joined.{result_append, result_concat};
 ghost use Rattle.gimli_build.specs.Version4Tables.{name_bytes, directories_bytes, file_bytes, files_bytes};
 ghost use Rattle.gimli_build.specs.Writes.{Writes};
 
@@ -17,7 +17,7 @@ use gimli_bytes::{Error, Result, Writer};
 /// Appends the directories and the files.
 pub(crate) fn write_version_4_tables<W: Writer>(w: &mut W, tables: &FileTable) -> Result<()>
     ensures writes { Writes W.Writer w.old w.new result
-        (joined (directories_bytes tables.now.directories) (files_bytes tables.now.files)) }
+        (result_append (directories_bytes tables.now.directories) (files_bytes tables.now.files)) }
     ensures fit { OnOk result (All FitsFile tables.now.files) }
 {
     write_directories(w, tables.directories())?;
@@ -44,7 +44,7 @@ fn others(directories: &[LineString]) -> &[LineString]
 
 /// Appends names one after the other.
 fn write_names<W: Writer>(w: &mut W, names: &[LineString]) -> Result<()>
-    ensures { Writes W.Writer w.old w.new result (joined_parts name_bytes (map line_text names.now)) }
+    ensures { Writes W.Writer w.old w.new result (result_concat name_bytes (map line_text names.now)) }
 {
     for name in names {
         write_name(w, name)?;
@@ -73,7 +73,7 @@ fn write_files<W: Writer>(w: &mut W, tables: &FileTable) -> Result<()>
 
 /// Appends files one after the other.
 fn write_each_file<W: Writer>(w: &mut W, tables: &FileTable) -> Result<()>
-    ensures writes { Writes W.Writer w.old w.new result (joined_parts file_bytes tables.now.files) }
+    ensures writes { Writes W.Writer w.old w.new result (result_concat file_bytes tables.now.files) }
     ensures fit { OnOk result (All FitsFile tables.now.files) }
 {
     for index in 0..tables.file_count() {

@@ -10,8 +10,8 @@ ghost use Rattle.gimli_build.specs.LineText.{Inline, line_text, IsWithin};
 ghost use Rattle.gimli_build.specs.Tables.{FitsFile};
 ghost use Rattle.gimli_build.specs.TablesInside.{details};
 ghost use Rattle.gimli_build.specs.Conditions.{CanWrite};
-ghost use Rattle.gimli_build.specs.Joined.{joined, joined_parts};
-ghost use Rattle.gimli_build.specs.Version5Tables.{first_form, path_texts, sources, needs_empty, empty_text, strings_behind, line_strings_behind, formats_bytes, file_formats, text_in_form, directory_table_bytes, source_bytes, file_entry_bytes, file_table_bytes};
+ghost use Rattle.gimli_build.specs.Joined.{result_append, result_concat};
+ghost use Rattle.gimli_build.specs.Version5Tables.{first_form, path_texts, sources, needs_empty, empty_text, strings_after, line_strings_after, formats_bytes, file_formats, text_in_form, directory_table_bytes, source_bytes, file_entry_bytes, file_table_bytes};
 ghost use Rattle.gimli_build.specs.EmptySource.{IsEmptySource, StandsForNone};
 ghost use Rattle.gimli_build.specs.Writes.{Writes};
 
@@ -30,9 +30,9 @@ pub(crate) fn add_empty_source(
     line_strings: &mut LineStringTable,
     strings: &mut StringTable,
 ) -> Result<LineString>
-    ensures strings { OnOk result (strings.new ≡ strings_behind program.now strings.old) }
+    ensures strings { OnOk result (strings.new ≡ strings_after program.now strings.old) }
     ensures line_strings { OnOk result
-        (line_strings.new ≡ line_strings_behind program.now line_strings.old) }
+        (line_strings.new ≡ line_strings_after program.now line_strings.old) }
     ensures empty { IfOk result (λ empty.
         StandsForNone program.now strings.new line_strings.new (line_text empty)) }
     ensures texts { OnOk result (AreTexts strings.new) }
@@ -152,7 +152,7 @@ pub(crate) fn write_version_5_tables<W: Writer>(
     requires empty { StandsForNone program.now strings.now line_strings.now (line_text empty.now) }
     requires version { 5 ≤ program.now.encoding.version }
     ensures writes { Writes W.Writer w.old w.new result
-        (joined (directory_table_bytes (W.big w.old) program.now.encoding.format
+        (result_append (directory_table_bytes (W.big w.old) program.now.encoding.format
         strings.now line_strings.now program.now) (file_table_bytes (W.big w.old) program.now.encoding.format
         strings.now line_strings.now program.now)) }
     ensures fit { OnOk result (All FitsFile program.now.files) }
@@ -215,7 +215,7 @@ fn write_texts<W: Writer>(
 ) -> Result<()>
     requires { All (IsWithin strings.now line_strings.now) (map line_text texts.now) }
     ensures { Writes W.Writer w.old w.new result
-        (joined_parts (text_in_form (W.big w.old) format
+        (result_concat (text_in_form (W.big w.old) format
         strings.now line_strings.now form.0) (map line_text texts.now)) }
 {
     for text in texts {
@@ -365,7 +365,7 @@ fn write_file_entries<W: Writer>(
     requires version { 5 ≤ program.now.encoding.version }
     requires source_form { source_form.0 ≡ first_form (sources program.now.files) }
     ensures writes { Writes W.Writer w.old w.new result
-        (joined_parts (file_entry_bytes (W.big w.old) program.now.encoding.format
+        (result_concat (file_entry_bytes (W.big w.old) program.now.encoding.format
         strings.now line_strings.now program.now) program.now.files) }
     ensures fit { OnOk result (All FitsFile program.now.files) }
 {

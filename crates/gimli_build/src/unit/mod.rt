@@ -4,7 +4,7 @@ ghost use Rattle.std.specs.Prelude.{◌≡◌, ◌<◌, ◌≤◌, ◌^◌, ◌�
 ghost use Rattle.gimli_bytes.specs.Written.{Begins};
 ghost use Rattle.gimli_build.specs.LineText.{line_text};
 ghost use Rattle.gimli_build.specs.Conditions.{CanWrite, IsBuilt};
-ghost use Rattle.gimli_build.specs.Version5Tables.{strings_behind, line_strings_behind};
+ghost use Rattle.gimli_build.specs.Version5Tables.{strings_after, line_strings_after};
 ghost use Rattle.gimli_build.specs.EmptySource.{StandsForNone};
 ghost use Rattle.gimli_build.specs.Unit.{version_bytes, opening_bytes, inside_bytes, whole_bytes, is_incompatible, unit_bytes};
 ghost use Rattle.gimli_build.specs.Cause.{first_cause, IsWriteRefusal};
@@ -63,13 +63,13 @@ impl LineProgram {
             (result ≡ Err Error.IncompatibleLineProgramEncoding) × (w.new ≡ w.old) }
         ensures incompatible_tables { IsTrue (is_incompatible encoding self.now.encoding) →
             (strings.new ≡ strings.old) × (line_strings.new ≡ line_strings.old) }
-        ensures strings { OnOk result (strings.new ≡ strings_behind self.now strings.old) }
+        ensures strings { OnOk result (strings.new ≡ strings_after self.now strings.old) }
         ensures line_strings { OnOk result
-            (line_strings.new ≡ line_strings_behind self.now line_strings.old) }
+            (line_strings.new ≡ line_strings_after self.now line_strings.old) }
         ensures strings_kept { (strings.new ≡ strings.old)
-            ⊎ (strings.new ≡ strings_behind self.now strings.old) }
+            ⊎ (strings.new ≡ strings_after self.now strings.old) }
         ensures line_strings_kept { (line_strings.new ≡ line_strings.old)
-            ⊎ (line_strings.new ≡ line_strings_behind self.now line_strings.old) }
+            ⊎ (line_strings.new ≡ line_strings_after self.now line_strings.old) }
         ensures old_strings { self.now.encoding.version ≤ 4 → strings.new ≡ strings.old }
         ensures old_line_strings { self.now.encoding.version ≤ 4 →
             line_strings.new ≡ line_strings.old }

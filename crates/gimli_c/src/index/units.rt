@@ -2,7 +2,7 @@
 
 ghost use Rattle.std.specs.Prelude.{◌≡◌, ◌≢◌, ◌⊎◌, ◌<◌, IfErr, IfOk, IfSome, None, length, slice_get};
 ghost use Rattle.gimli_c.specs.Indexed.{GivesAddresses, GivesIndexUnit, HasNoAddress, IsUnit, WritesAddresses};
-ghost use Rattle.gimli_c.specs.Written.{written};
+ghost use Rattle.gimli_c.specs.Written.{slots_with};
 
 use crate::index::handle::GimliLineIndex;
 use crate::index::kept::SectionIndex;
@@ -121,7 +121,7 @@ pub extern "C" fn gimli_line_index_unit(
 
 /// Puts addresses into a place, as far as there is room.
 pub(crate) fn copy_addresses(addresses: &[u64], room: &mut [u64])
-    ensures { room.new ≡ written addresses.now room.old }
+    ensures { room.new ≡ slots_with addresses.now room.old }
 {
     for (place, address) in addresses.iter().enumerate() {
         if place >= room.len() {

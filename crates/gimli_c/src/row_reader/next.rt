@@ -4,7 +4,7 @@ ghost use Rattle.std.specs.Prelude.{◌≡◌, ◌<◌, ◌+◌, ◌^◌, if◌t
 ghost use Rattle.gimli_c.specs.Reader.{after_rows, rows_left, GivesNextRows};
 ghost use Rattle.gimli_c.specs.Seen.{row_seen};
 ghost use Rattle.gimli_c.specs.Status.{fault_status};
-ghost use Rattle.gimli_c.specs.Written.{written};
+ghost use Rattle.gimli_c.specs.Written.{slots_with};
 
 use crate::place::lesser;
 use crate::row::GimliRow;
@@ -34,7 +34,7 @@ impl UnitRows {
 
     /// Puts the rows to come into a place, as far as there is room.
     fn copy_to(&self, room: &mut [GimliRow])
-        ensures { room.new ≡ written (map row_seen (rows_left self.now)) room.old }
+        ensures { room.new ≡ slots_with (map row_seen (rows_left self.now)) room.old }
     {
         let count = self.count_within(room.len());
         for place in 0..count {

@@ -10,28 +10,28 @@ use Rattle.gimli_line.specs.header.FormReading.{form_at}
 use Rattle.gimli_line.specs.declared.header.file_entry.FileEntryFormat.{FileEntryFormat}
 
 -- what a value of this content type makes of what stood before
-abbrev pub updated : {A : Type 0} → ℕ → (Value → Option A) → ℕ → Value → A → A
-updated wanted pick content value before = elim (if nat_eq content wanted then pick value else None) [ Some x ↦ x | None ↦ before ]
+abbrev pub value_after : {A : Type 0} → ℕ → (Value → Option A) → ℕ → Value → A → A
+value_after wanted pick content value before = elim (if nat_eq content wanted then pick value else None) [ Some x ↦ x | None ↦ before ]
 
 -- the path of a directory
 abbrev pub path_with : Value → ℕ → Value → Value
-path_with path content value = updated 0x0001 Some content value path
+path_with path content value = value_after 0x0001 Some content value path
 
 -- a file with one more value
 abbrev pub file_with : File → ℕ → Value → File
 file_with file content value = record {
-  path_name = updated 0x0001 Some content value file.path_name;
-  directory_index = updated 0x0002 udata_value content value file.directory_index;
-  timestamp = updated 0x0003 udata_value content value file.timestamp;
-  size = updated 0x0004 udata_value content value file.size;
-  md5 = updated 0x0005 digest content value file.md5;
-  source = updated 0x2001 (λ v. Some (Some v)) content value file.source;
+  path_name = value_after 0x0001 Some content value file.path_name;
+  directory_index = value_after 0x0002 udata_value content value file.directory_index;
+  timestamp = value_after 0x0003 udata_value content value file.timestamp;
+  size = value_after 0x0004 udata_value content value file.size;
+  md5 = value_after 0x0005 digest content value file.md5;
+  source = value_after 0x2001 (λ v. Some (Some v)) content value file.source;
 }
 
 -- the values of an entry one by one, from what stands at first
-abbrev pub folded : {A : Type 0} → (A → ℕ → Value → A) → A → Entry → A
-folded step first [] = first
-folded step first (v ∷ entry) = folded step (step first v.0 v.1) entry
+abbrev pub fold_of : {A : Type 0} → (A → ℕ → Value → A) → A → Entry → A
+fold_of step first [] = first
+fold_of step first (v ∷ entry) = fold_of step (step first v.0 v.1) entry
 
 module _ (notation : Notation) (format : Format) where
   -- the same as they are read

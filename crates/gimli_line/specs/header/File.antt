@@ -1,4 +1,4 @@
--- A file, with lists of bytes in the place of readers and numbers in the place of offsets.
+-- A file, with lists of bytes in place of readers and numbers in place of offsets.
 use Rattle.std.specs.Prelude.{ℕ, Bool, List, Option, option_map, IfSome}
 use Rattle.gimli_core.specs.Values.{value_seen, ValueHasOrder, value_order}
 use Rattle.gimli_line.specs.declared.header.file_entry.FileEntry.{FileEntry}

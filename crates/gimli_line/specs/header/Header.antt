@@ -13,7 +13,7 @@ use Rattle.gimli_line.specs.header.File.{File, FileHasOrder}
 use Rattle.gimli_line.specs.declared.header.file_entry.FileEntry.{FileEntry}
 use Rattle.gimli_line.specs.declared.header.file_entry.FileEntryFormat.{FileEntryFormat}
 
--- what a header says, with lists of bytes in the place of readers
+-- what a header says, with lists of bytes in place of readers
 pub record Header : Type 0 where
   pub parameters : Parameters
   pub unit_length : ℕ
@@ -83,16 +83,16 @@ abbrev pub with_file : File → Header → Header
 with_file f h = record h { files = h.files ++ f ∷ [] }
 
 -- a header apart from its files, which alone change in a run
-abbrev pub bare : Header → Header
-bare h = record h { files = [] }
+abbrev pub without_files : Header → Header
+without_files h = record h { files = [] }
 
 -- a file after the others; a list that is complete has it already
-abbrev pub added : Bool → File → List File → List File
-added appends f files = if appends then files ++ f ∷ [] else files
+abbrev pub files_with : Bool → File → List File → List File
+files_with appends f files = if appends then files ++ f ∷ [] else files
 
 -- a header after a file is defined: the file stands after the others, or is there already
 abbrev pub with_defined_file : Bool → File → Header → Header
-with_defined_file appends f h = record h { files = added appends f h.files }
+with_defined_file appends f h = record h { files = files_with appends f h.files }
 
 -- ---- how contracts see a header
 

@@ -4,7 +4,7 @@ use Rattle.std.specs.Prelude.{◌≡◌, ℕ, ◌-◌, ◌≤◌, List, [], ◌�
 use Rattle.std.specs.Int.{w8, cast_signed}
 use Rattle.gimli_core.specs.Numbers.{is_address_size, SpellsUleb128}
 use Rattle.gimli_core.specs.Values.{Value, udata_value}
-use Rattle.gimli_core.specs.Production.{Production, ◌>>=◌, done, check, choose, times, closed, within, byte, number, some_bytes, unsigned, unsigned_16, offset_word, unit_length}
+use Rattle.gimli_core.specs.Production.{Production, ◌>>=◌, done, check, choose, times, list_to_zero, within, byte, number, some_bytes, unsigned, unsigned_16, offset_word, unit_length}
 use Rattle.gimli_core.specs.Form.{form_production}
 use Rattle.gimli_core.specs.declared.common.Encoding.{Encoding}
 use Rattle.gimli_core.specs.declared.common.LineEncoding.{LineEncoding}
@@ -23,7 +23,7 @@ use Rattle.gimli_line.specs.declared.header.file_entry.FileEntryFormat.{FileEntr
 
 -- directories: texts that aren't empty, closed by a zero byte
 abbrev pub paths_production : Production (List (List ℕ))
-paths_production = closed name
+paths_production = list_to_zero name
 
 -- after the path of a file: its directory, its timestamp and its size
 abbrev pub file_production : List ℕ → Production File
@@ -35,7 +35,7 @@ file_production path = do
 
 -- files: each a path that isn't empty and three numbers, closed by a zero byte
 abbrev pub files_production : Production (List File)
-files_production = closed (do
+files_production = list_to_zero (do
   path ← name
   file_production path)
 
@@ -193,8 +193,8 @@ file_table notation encoding =
       done (table.0, map file_of_entry table.1))
 
 -- what was handed in, where the version takes it
-abbrev pub taken : {A : Type 0} → Encoding → Option A → Option A
-taken encoding handed = if nat_le encoding.version 4 then handed else None
+abbrev pub handed_value : {A : Type 0} → Encoding → Option A → Option A
+handed_value encoding handed = if nat_le encoding.version 4 then handed else None
 
 -- the further fields of a header, whose program was found already
 abbrev pub fields_production : Notation → UnitEntry → ℕ → Opening → List ℕ → Production Header
@@ -213,8 +213,8 @@ fields_production notation unit_entry unit opening program = do
     file_formats = files.0;
     files = files.1;
     program = program;
-    comp_dir = taken opening.encoding unit_entry.directory;
-    comp_file = taken opening.encoding (option_map (λ path. plain_file path 0 0 0) unit_entry.name);
+    comp_dir = handed_value opening.encoding unit_entry.directory;
+    comp_file = handed_value opening.encoding (option_map (λ path. plain_file path 0 0 0) unit_entry.name);
   })
 
 -- ---- the header
@@ -265,7 +265,7 @@ SpellsEntries notation format formats = (entries_production notation format form
 
 -- the bytes begin with a count, which spells n, and at least n bytes stand after it
 abbrev pub HoldsCount : List ℕ → ℕ → Type 0
-HoldsCount bytes n = (count : List ℕ) × (behind : List ℕ) × (bytes ≡ count ++ behind) × SpellsUleb128 64 count n × (n ≤ length behind)
+HoldsCount bytes n = (count : List ℕ) × (after : List ℕ) × (bytes ≡ count ++ after) × SpellsUleb128 64 count n × (n ≤ length after)
 
 -- whatever entries of these formats bytes spell, the bytes hold their count
 abbrev pub HaveCountedEntries : Notation → Format → List FileEntryFormat → Type 0

@@ -13,10 +13,10 @@ use Rattle.gimli_core.specs.declared.error.Error.TheVariants.{UnknownVersion, Un
 use Rattle.gimli_line.specs.header.Parameters.{Parameters}
 use Rattle.gimli_line.specs.header.File.{File}
 use Rattle.gimli_line.specs.header.Header.{Header, UnitEntry, plain_file}
-use Rattle.gimli_line.specs.header.Outcome.{viewed}
-use Rattle.gimli_line.specs.header.TableReading.{closed_at}
+use Rattle.gimli_line.specs.header.Outcome.{read_map}
+use Rattle.gimli_line.specs.header.TableReading.{list_to_zero_at}
 use Rattle.gimli_line.specs.header.FormReading.{form_at}
-use Rattle.gimli_line.specs.header.HeaderGrammar.{Entry, is_content, path_of, file_of_entry, Opening, taken}
+use Rattle.gimli_line.specs.header.HeaderGrammar.{Entry, is_content, path_of, file_of_entry, Opening, handed_value}
 use Rattle.gimli_line.specs.declared.header.file_entry.FileEntryFormat.{FileEntryFormat}
 
 -- a byte that isn't 0
@@ -26,7 +26,7 @@ positive_at d bytes = byte_at bytes >>= λ n rest. if not (nat_eq n 0) then (Ok 
 -- ---- tables up to version 4
 
 abbrev pub paths_at : List ℕ → Read (List (List ℕ))
-paths_at bytes = closed_at text_at bytes
+paths_at bytes = list_to_zero_at text_at bytes
 
 -- what stands after the path of a file
 unfoldable pub plain_file_at : List ℕ → List ℕ → Read File
@@ -37,7 +37,7 @@ abbrev pub named_file_at : List ℕ → Read File
 named_file_at bytes = text_at bytes >>= plain_file_at
 
 abbrev pub files_at : List ℕ → Read (List File)
-files_at bytes = closed_at named_file_at bytes
+files_at bytes = list_to_zero_at named_file_at bytes
 
 -- ---- tables of version 5
 
@@ -63,16 +63,16 @@ module _ (notation : Notation) (format : Format) where
 
   -- an entry as a directory or as a file, and so all entries
   abbrev pub directory_at : List FileEntryFormat → List ℕ → Read Value
-  directory_at formats bytes = viewed path_of (entry_at formats bytes)
+  directory_at formats bytes = read_map path_of (entry_at formats bytes)
 
   abbrev pub file_at : List FileEntryFormat → List ℕ → Read File
-  file_at formats bytes = viewed file_of_entry (entry_at formats bytes)
+  file_at formats bytes = read_map file_of_entry (entry_at formats bytes)
 
   abbrev pub directory_entries_at : List FileEntryFormat → List ℕ → Read (List Value)
-  directory_entries_at formats bytes = viewed (map path_of) (entries_at formats bytes)
+  directory_entries_at formats bytes = read_map (map path_of) (entries_at formats bytes)
 
   abbrev pub file_entries_at : List FileEntryFormat → List ℕ → Read (List File)
-  file_entries_at formats bytes = viewed (map file_of_entry) (entries_at formats bytes)
+  file_entries_at formats bytes = read_map (map file_of_entry) (entries_at formats bytes)
 
   unfoldable pub table_at : List ℕ → Read (List FileEntryFormat × List Entry)
   table_at bytes = formats_at bytes >>= λ formats rest. entries_at formats rest >>= λ entries rest. (Ok (formats, entries), rest)
@@ -155,8 +155,8 @@ fields_at notation unit_entry unit opening program bytes =
         file_formats = files.0;
         files = files.1;
         program = program;
-        comp_dir = taken opening.encoding unit_entry.directory;
-        comp_file = taken opening.encoding (option_map (λ path. plain_file path 0 0 0) unit_entry.name);
+        comp_dir = handed_value opening.encoding unit_entry.directory;
+        comp_file = handed_value opening.encoding (option_map (λ path. plain_file path 0 0 0) unit_entry.name);
       }),
       rest,
     )

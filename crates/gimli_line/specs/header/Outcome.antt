@@ -26,5 +26,5 @@ IsAnswer view (Ok x) read = read ≡ Ok (view x)
 IsAnswer view (Err e) read = e ≢ OutOfMemory → read ≡ Err e
 
 -- what is read, its value seen by f
-abbrev pub viewed : {A B : Type 0} → (A → B) → Read A → Read B
-viewed f r = r >>= λ x rest. (Ok (f x), rest)
+abbrev pub read_map : {A B : Type 0} → (A → B) → Read A → Read B
+read_map f r = r >>= λ x rest. (Ok (f x), rest)

@@ -5,7 +5,7 @@ use Rattle.gimli_core.specs.declared.error.Error.{Error}
 
 -- ---- put together
 
--- the bytes of a production, in the place of its value
+-- the bytes of a production, in place of its value
 abbrev pub bytes_of : {A : Type 0} → Production A → Production (List ℕ)
 bytes_of l = record {
   Spells = λ bytes xs. (xs ≡ bytes) × ((x : _) × l.Spells bytes x);

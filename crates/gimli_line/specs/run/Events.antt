@@ -12,15 +12,15 @@ use Rattle.gimli_line.specs.header.File.{File}
 use Rattle.gimli_line.specs.header.Header.{Header}
 use Rattle.gimli_line.specs.run.InstructionGrammar.{Decodes}
 use Rattle.gimli_line.specs.run.Registers.{file_at, column_at, isa_at, is_stmt_at, line_at, nearest, discriminator_operand, sets_basic_block, sets_prologue_end, sets_epilogue_begin}
-use Rattle.gimli_line.specs.run.OperationPointer.{pointer_at, is_hidden, overflows, recent}
+use Rattle.gimli_line.specs.run.OperationPointer.{pointer_at, is_under_tombstone, overflows, since_last_row}
 
--- the row of a place; that of an end has the pointer before it, any other the one after it
+-- the row of a point; that of an end has the pointer before it, any other the one after it
 abbrev pub row_at : Parameters → List Ins → Ins → LineRow
 row_at parameters past i =
     let here = if is_end i then pointer_at parameters past else pointer_at parameters (i ∷ past) in
-    let marks = recent parameters past in
+    let marks = since_last_row parameters past in
     record {
-      hidden = false;
+      tombstone = false;
       address = here.address;
       op_index = here.op_index;
       file = file_at past;
@@ -39,20 +39,20 @@ pub data Event : Type 0 where
   row : LineRow → Event
   fault : Error → Event
 
--- what a place gives: a fault where it overflows, else a row where it makes one and isn't hidden
+-- what a point gives: a fault where it overflows, else a row where it makes one and isn't under a tombstone
 abbrev pub events_at : Parameters → List Ins → Ins → List Event
 events_at parameters past i =
     if overflows parameters past i then fault AddressOverflow ∷ []
-    else (if makes_row i && not (is_hidden parameters past) then row (row_at parameters past i) ∷ [] else [])
+    else (if makes_row i && not (is_under_tombstone parameters past) then row (row_at parameters past i) ∷ [] else [])
 
--- a place gives a row: its instruction makes one, and it isn't hidden
+-- a point gives a row: its instruction makes one, and it isn't under a tombstone
 abbrev pub GivesRow : Parameters → List Ins → Ins → Type 0
-GivesRow parameters past i = (makes_row i ≡ true) × (is_hidden parameters past ≡ false)
+GivesRow parameters past i = (makes_row i ≡ true) × (is_under_tombstone parameters past ≡ false)
 
 -- what these instructions give after a past
-abbrev pub events_behind : Parameters → List Ins → List Ins → List Event
-events_behind parameters past [] = []
-events_behind parameters past (i ∷ list) = events_at parameters past i ++ events_behind parameters (i ∷ past) list
+abbrev pub events_after : Parameters → List Ins → List Ins → List Event
+events_after parameters past [] = []
+events_after parameters past (i ∷ list) = events_at parameters past i ++ events_after parameters (i ∷ past) list
 
 -- what the end of a program gives
 abbrev pub end_events : Option Error → List Event
@@ -61,7 +61,7 @@ end_events (Some e) = fault e ∷ []
 
 -- what a program gives that is decoded into these instructions and this end
 abbrev pub program_events : Parameters → List Ins → Option Error → List Event
-program_events parameters list end = events_behind parameters [] list ++ end_events end
+program_events parameters list end = events_after parameters [] list ++ end_events end
 
 -- the events of a program's bytes
 pub record Events (notation : Notation) (h : Header) (bytes : List ℕ) (events : List Event) : Type 0 where
@@ -72,16 +72,16 @@ pub record Events (notation : Notation) (h : Header) (bytes : List ℕ) (events 
 
 -- ---- files and ends
 
--- the files at a place: those of the header, and then those that were defined before it, hidden or not
+-- the files at a point: those of the header, and then those that were defined before it, under a tombstone or not
 abbrev pub defined_files : List File → List Ins → List File
 defined_files files [] = files
 defined_files files (DefineFile f ∷ past) = defined_files files past ++ f ∷ []
 defined_files files (i ∷ past) = defined_files files past
 
 -- the instructions before the end of a program, the nearest first
-abbrev pub behind : List Ins → List Ins → List Ins
-behind past [] = past
-behind past (i ∷ list) = behind (i ∷ past) list
+abbrev pub past_at_end : List Ins → List Ins → List Ins
+past_at_end past [] = past
+past_at_end past (i ∷ list) = past_at_end (i ∷ past) list
 
 -- a row that ends a sequence
 abbrev pub ends_sequence : Event → Bool

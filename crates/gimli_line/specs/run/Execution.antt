@@ -7,12 +7,12 @@ use Rattle.gimli_core.specs.declared.error.Error.TheVariants.{AddressOverflow, O
 use Rattle.gimli_line.specs.declared.run.row.LineRow.{LineRow}
 use Rattle.gimli_line.specs.header.Parameters.{Parameters}
 use Rattle.gimli_line.specs.run.Instruction.{Ins, makes_row, defines_file}
-use Rattle.gimli_line.specs.run.Machine.{stepped, is_refused}
+use Rattle.gimli_line.specs.run.Machine.{step_of, is_refused}
 
 -- a refusal that is `AddressOverflow`: the address would pass the greatest one of its size; the registers go on, but for
 -- the address
 abbrev pub OverflowIs : Parameters → Ins → LineRow → LineRow → Error → Type 0
-OverflowIs parameters i old new e = e ≡ AddressOverflow → (is_refused parameters i old ≡ true) × (new ≡ stepped parameters i old)
+OverflowIs parameters i old new e = e ≡ AddressOverflow → (is_refused parameters i old ≡ true) × (new ≡ step_of parameters i old)
 
 -- any other refusal: memory was missing to add the file that the instruction defines, and no register changes
 abbrev pub OtherRefusalIs : Bool → Ins → LineRow → LineRow → Error → Type 0
@@ -25,7 +25,7 @@ pub record Executed (parameters : Parameters) (read : Read Ins) (rest : List ℕ
   pub reading : read ≡ (Ok instruction, rest)
   pub defines : defines_file instruction ≡ false
   pub refusal : is_refused parameters instruction old ≡ refused
-  pub registers : new ≡ stepped parameters instruction old
+  pub registers : new ≡ step_of parameters instruction old
 
 -- it wasn't refused, and made a row or none
 abbrev pub ExecutedWell : Parameters → Read Ins → List ℕ → LineRow → LineRow → Bool → Type 0

@@ -1,7 +1,7 @@
--- Instructions, with lists of bytes in the place of readers and numbers in the place of offsets.
+-- Instructions, with lists of bytes in place of readers and numbers in place of offsets.
 use Rattle.std.specs.Prelude.{◌≡◌, ℕ, List, Bool, true, false, Some, None}
 use Rattle.gimli_line.specs.header.File.{File, file_seen, FileHasOrder, FileOrders, file_orders}
-use Rattle.gimli_line.specs.header.Header.{Header, added}
+use Rattle.gimli_line.specs.header.Header.{Header, files_with}
 use Rattle.gimli_line.specs.declared.run.instruction.LineInstruction.{LineInstruction}
 use Rattle.gimli_line.specs.declared.run.instruction.LineInstruction.TheVariants.{Special, Copy, AdvancePc, AdvanceLine, SetFile, SetColumn, NegateStatement, SetBasicBlock, ConstAddPc, FixedAddPc, SetPrologueEnd, SetEpilogueBegin, SetIsa, UnknownStandard0, UnknownStandard1, UnknownStandardN, EndSequence, SetAddress, DefineFile, SetDiscriminator, UnknownExtended}
 
@@ -62,7 +62,7 @@ abbrev pub is_end : Ins → Bool
 is_end EndSequence = true
 is_end i = false
 
--- a place with such an instruction makes a row
+-- a point with such an instruction makes a row
 abbrev pub makes_row : Ins → Bool
 makes_row (Special o) = true
 makes_row Copy = true
@@ -75,10 +75,10 @@ defines_file (DefineFile f) = true
 defines_file i = false
 
 -- the files after an instruction
-abbrev pub files_behind : Bool → Ins → List File → List File
-files_behind appends (DefineFile f) files = added appends f files
-files_behind appends i files = files
+abbrev pub files_after : Bool → Ins → List File → List File
+files_after appends (DefineFile f) files = files_with appends f files
+files_after appends i files = files
 
 -- the header after an instruction, which may have one more file
-abbrev pub header_behind : Bool → Ins → Header → Header
-header_behind appends i h = record h { files = files_behind appends i h.files }
+abbrev pub header_after : Bool → Ins → Header → Header
+header_after appends i h = record h { files = files_after appends i h.files }

@@ -129,7 +129,7 @@ module _ (notation : Notation) (h : Header) where
 -- the refusals that an instruction may have: bytes are missing, a LEB128 number is none of 64 bits, or a length is too
 -- large for the reader's offsets, where these have less than 64 bits
 abbrev pub IsInstructionRefusal : Notation → Error → Type 0
-IsInstructionRefusal notation (UnexpectedEof place) = Unit {0}
+IsInstructionRefusal notation (UnexpectedEof point) = Unit {0}
 IsInstructionRefusal notation BadUnsignedLeb128 = Unit {0}
 IsInstructionRefusal notation BadSignedLeb128 = Unit {0}
 IsInstructionRefusal notation UnsupportedOffset = notation.limit < 2 ^ 64

@@ -11,13 +11,13 @@ use Rattle.gimli_line.specs.header.FormReading.{offset_at}
 use Rattle.gimli_line.specs.header.HeaderReading.{plain_file_at}
 use Rattle.gimli_line.specs.run.InstructionGrammar.{Operand, none, uleb, sleb, half, address, file, standard_opcodes, extended_opcodes}
 
--- the bytes that are taken, in the place of the value
+-- the bytes that are taken, in place of the value
 abbrev pub bytes_at : {A : Type 0} → (List ℕ → Read A) → List ℕ → Read (List ℕ)
 bytes_at read bytes = read bytes >>= λ x rest. (Ok (take (length bytes - length rest) bytes), rest)
 
 -- the values are passed over
-abbrev pub passed_over : {A : Type 0} → Read A → Read (Unit {0})
-passed_over r = r >>= λ x rest. (Ok tt, rest)
+abbrev pub without_value : {A : Type 0} → Read A → Read (Unit {0})
+without_value r = r >>= λ x rest. (Ok tt, rest)
 
 module _ (notation : Notation) (h : Header) where
   abbrev pub operand_at : Operand → List ℕ → Read Ins
@@ -63,15 +63,15 @@ module _ (notation : Notation) (h : Header) where
       else (if nat_le h.parameters.opcode_base opcode then (Ok (Special opcode), rest) else standard_at opcode rest)
 
   -- a program after what was read as its first instruction
-  abbrev pub decoded_behind : (List ℕ → List Ins × Option Error) → Read Ins → List Ins × Option Error
-  decoded_behind decoding (Ok i, rest) = (i ∷ (decoding rest).0, (decoding rest).1)
-  decoded_behind decoding (Err e, rest) = ([], Some e)
+  abbrev pub decoded_after : (List ℕ → List Ins × Option Error) → Read Ins → List Ins × Option Error
+  decoded_after decoding (Ok i, rest) = (i ∷ (decoding rest).0, (decoding rest).1)
+  decoded_after decoding (Err e, rest) = ([], Some e)
 
   -- at most so many instructions, and the end
   unfoldable pub decoded_upto : ℕ → List ℕ → List Ins × Option Error
   decoded_upto zero bytes = ([], None)
   decoded_upto (suc more) [] = ([], None)
-  decoded_upto (suc more) (b ∷ bytes) = decoded_behind (decoded_upto more) (ins_at (b ∷ bytes))
+  decoded_upto (suc more) (b ∷ bytes) = decoded_after (decoded_upto more) (ins_at (b ∷ bytes))
 
   -- the instructions of a program and its end; they aren't more than its bytes
   abbrev pub decoded_at : List ℕ → List Ins × Option Error

@@ -6,13 +6,13 @@ use Rattle.gimli_line.specs.declared.run.row.LineRow.{LineRow}
 use Rattle.gimli_line.specs.header.Parameters.{Parameters}
 use Rattle.gimli_line.specs.run.Instruction.{Ins, makes_row}
 use Rattle.gimli_line.specs.run.Registers.{line_advance, advanced_line}
-use Rattle.gimli_line.specs.run.OperationPointer.{OperationPointer, next_pointer, target, exceeds, hides}
+use Rattle.gimli_line.specs.run.OperationPointer.{OperationPointer, next_pointer, target_pointer, is_too_large, is_tombstone}
 use Rattle.gimli_line.specs.run.Events.{Event, row, fault}
 
 -- the registers at the start of a sequence
 abbrev pub initial : Parameters → LineRow
 initial parameters = record {
-  hidden = false;
+  tombstone = false;
   address = 0;
   op_index = 0;
   file = 1;
@@ -34,8 +34,8 @@ reset_row parameters r =
     else record r { discriminator = 0; basic_block = false; prologue_end = false; epilogue_begin = false }
 
 -- the registers where addresses count from a set address
-abbrev pub rebased : LineRow → LineRow
-rebased r = record r { hidden = false; address = 0; op_index = 0 }
+abbrev pub rebase_of : LineRow → LineRow
+rebase_of r = record r { tombstone = false; address = 0; op_index = 0 }
 
 -- the caller's condition: a special opcode is at least the opcode base
 abbrev pub IsAllowed : Parameters → Ins → Type 0
@@ -49,8 +49,8 @@ abbrev pub at_pointer : OperationPointer → LineRow → LineRow
 at_pointer p r = record r { address = p.address; op_index = p.op_index }
 
 -- the pointer goes on
-abbrev pub moved : Parameters → Ins → LineRow → LineRow
-moved parameters i r = at_pointer (next_pointer parameters r.hidden i (pointer_of r)) r
+abbrev pub move_of : Parameters → Ins → LineRow → LineRow
+move_of parameters i r = at_pointer (next_pointer parameters r.tombstone i (pointer_of r)) r
 
 -- a register that an instruction sets, whatever the parameters are
 abbrev pub with_register : Ins → LineRow → LineRow
@@ -67,23 +67,23 @@ with_register EndSequence r = record r { end_sequence = true }
 with_register i r = r
 
 -- the registers after an instruction; at an end the pointer stays until the reset
-abbrev pub stepped : Parameters → Ins → LineRow → LineRow
-stepped parameters (Special o) r = record (moved parameters (Special o) r) { line = elim (line_advance parameters (Special o)) [ Some v ↦ advanced_line v r.line | None ↦ r.line ] }
-stepped parameters (AdvancePc n) r = moved parameters (AdvancePc n) r
-stepped parameters ConstAddPc r = moved parameters ConstAddPc r
-stepped parameters (FixedAddPc n) r = moved parameters (FixedAddPc n) r
-stepped parameters (SetAddress a) r = record (moved parameters (SetAddress a) r) { hidden = hides parameters a (pointer_of r) }
-stepped parameters i r = with_register i r
+abbrev pub step_of : Parameters → Ins → LineRow → LineRow
+step_of parameters (Special o) r = record (move_of parameters (Special o) r) { line = elim (line_advance parameters (Special o)) [ Some v ↦ advanced_line v r.line | None ↦ r.line ] }
+step_of parameters (AdvancePc n) r = move_of parameters (AdvancePc n) r
+step_of parameters ConstAddPc r = move_of parameters ConstAddPc r
+step_of parameters (FixedAddPc n) r = move_of parameters (FixedAddPc n) r
+step_of parameters (SetAddress a) r = record (move_of parameters (SetAddress a) r) { tombstone = is_tombstone parameters a (pointer_of r) }
+step_of parameters i r = with_register i r
 
 -- whether an instruction is refused by `AddressOverflow`
 abbrev pub is_refused : Parameters → Ins → LineRow → Bool
-is_refused parameters i r = (elim (target parameters i (pointer_of r)) [ Some to ↦ exceeds parameters to | None ↦ false ]) && not r.hidden
+is_refused parameters i r = (elim (target_pointer parameters i (pointer_of r)) [ Some to ↦ is_too_large parameters to | None ↦ false ]) && not r.tombstone
 
 -- what a run gives from these registers on
 abbrev pub run : Parameters → LineRow → List Ins → List Event
 run parameters r [] = []
 run parameters r (i ∷ list) =
-    if is_refused parameters i r then fault AddressOverflow ∷ run parameters (reset_row parameters (stepped parameters i r)) list
+    if is_refused parameters i r then fault AddressOverflow ∷ run parameters (reset_row parameters (step_of parameters i r)) list
     else (if makes_row i
-    then (if r.hidden then [] else row (stepped parameters i r) ∷ []) ++ run parameters (reset_row parameters (stepped parameters i r)) list
-    else run parameters (stepped parameters i r) list)
+    then (if r.tombstone then [] else row (step_of parameters i r) ∷ []) ++ run parameters (reset_row parameters (step_of parameters i r)) list
+    else run parameters (step_of parameters i r) list)

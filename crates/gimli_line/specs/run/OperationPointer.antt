@@ -1,5 +1,5 @@
--- The address and the op_index of each place, and which parts of a program are hidden (DWARF 5, sections 6.2.2 and
--- 6.2.5). The past of a place is the list of the instructions before it, the nearest first.
+-- The address and the op_index of each point, and which parts of a program are under a tombstone (DWARF 5, sections
+-- 6.2.2 and 6.2.5). The past of a point is the list of the instructions before it, the nearest first.
 use Rattle.std.specs.Prelude.{◌≡◌, ℕ, ◌+◌, ◌-◌, ◌*◌, ◌/◌, ◌%◌, ◌^◌, Bool, false, not, ◌||◌, ◌&&◌, nat_lt, nat_le, nat_eq, if◌then◌else◌, List, [], ◌∷◌, zip, Option, Some, None, option_map}
 use Rattle.gimli_line.specs.declared.run.instruction.LineInstruction.TheVariants.{Special, AdvancePc, ConstAddPc, FixedAddPc, EndSequence, SetAddress}
 use Rattle.gimli_line.specs.header.Parameters.{Parameters}
@@ -17,10 +17,10 @@ start = record { address = 0; op_index = 0 }
 abbrev pub address_limit : Parameters → ℕ
 address_limit parameters = 2 ^ (8 * parameters.encoding.address_size)
 
--- a set address hides what follows it: it is below the address before it, or one of the two greatest addresses,
+-- a set address is a tombstone: it is below the address before it, or one of the two greatest addresses,
 -- which stand for nothing
-abbrev pub hides : Parameters → ℕ → OperationPointer → Bool
-hides parameters a before = nat_lt a before.address || nat_le (address_limit parameters - 2) a
+abbrev pub is_tombstone : Parameters → ℕ → OperationPointer → Bool
+is_tombstone parameters a before = nat_lt a before.address || nat_le (address_limit parameters - 2) a
 
 -- ---- advances
 
@@ -32,8 +32,8 @@ operation_advance parameters ConstAddPc = Some ((255 - parameters.opcode_base) /
 operation_advance parameters i = None
 
 -- the pointer n operations further on, whatever an address holds; sums and products of operations are modulo 2 ^ 64
-abbrev pub operations_on : Parameters → ℕ → OperationPointer → OperationPointer
-operations_on parameters n p =
+abbrev pub advanced_by : Parameters → ℕ → OperationPointer → OperationPointer
+advanced_by parameters n p =
     if nat_eq parameters.line_encoding.maximum_operations_per_instruction 1
     then record { address = p.address + parameters.line_encoding.minimum_instruction_length * n % 2 ^ 64; op_index = 0 }
     else (let s = (p.op_index + n) % 2 ^ 64 in
@@ -43,26 +43,26 @@ operations_on parameters n p =
     })
 
 -- where an instruction advances the pointer to, whatever an address holds
-abbrev pub target : Parameters → Ins → OperationPointer → Option OperationPointer
-target parameters (FixedAddPc n) p = Some (record { address = p.address + n; op_index = 0 })
-target parameters i p = option_map (λ n. operations_on parameters n p) (operation_advance parameters i)
+abbrev pub target_pointer : Parameters → Ins → OperationPointer → Option OperationPointer
+target_pointer parameters (FixedAddPc n) p = Some (record { address = p.address + n; op_index = 0 })
+target_pointer parameters i p = option_map (λ n. advanced_by parameters n p) (operation_advance parameters i)
 
 -- an address doesn't hold it
-abbrev pub exceeds : Parameters → OperationPointer → Bool
-exceeds parameters p = nat_le (address_limit parameters) p.address
+abbrev pub is_too_large : Parameters → OperationPointer → Bool
+is_too_large parameters p = nat_le (address_limit parameters) p.address
 
 -- the pointer where its target exceeds: the address stays, and op_index too at a fixed advance
-abbrev pub stopped : Ins → OperationPointer → OperationPointer → OperationPointer
-stopped (FixedAddPc n) p to = p
-stopped i p to = record { address = p.address; op_index = to.op_index }
+abbrev pub pointer_at_overflow : Ins → OperationPointer → OperationPointer → OperationPointer
+pointer_at_overflow (FixedAddPc n) p to = p
+pointer_at_overflow i p to = record { address = p.address; op_index = to.op_index }
 
--- the pointer after a place, which may be hidden, from the one before it
+-- the pointer after a point, which may be under a tombstone, from the one before it
 abbrev pub next_pointer : Parameters → Bool → Ins → OperationPointer → OperationPointer
-next_pointer parameters hidden EndSequence p = start
-next_pointer parameters hidden (SetAddress a) p = if hides parameters a p then p else record { address = a; op_index = 0 }
-next_pointer parameters hidden i p = elim (target parameters i p) [
+next_pointer parameters tombstone EndSequence p = start
+next_pointer parameters tombstone (SetAddress a) p = if is_tombstone parameters a p then p else record { address = a; op_index = 0 }
+next_pointer parameters tombstone i p = elim (target_pointer parameters i p) [
   | None ↦ p
-  | Some to ↦ if hidden then p else (if exceeds parameters to then stopped i p to else to)
+  | Some to ↦ if tombstone then p else (if is_too_large parameters to then pointer_at_overflow i p to else to)
 ]
 
 -- ---- looking back
@@ -71,24 +71,24 @@ abbrev mutual
   -- the pointer after these instructions
   pub pointer_at : Parameters → List Ins → OperationPointer
   pointer_at parameters [] = start
-  pointer_at parameters (i ∷ past) = next_pointer parameters (is_hidden parameters past) i (pointer_at parameters past)
+  pointer_at parameters (i ∷ past) = next_pointer parameters (is_under_tombstone parameters past) i (pointer_at parameters past)
 
-  -- whether a place is hidden: the last set address of its sequence hides
-  pub is_hidden : Parameters → List Ins → Bool
-  is_hidden parameters [] = false
-  is_hidden parameters (SetAddress a ∷ past) = hides parameters a (pointer_at parameters past)
-  is_hidden parameters (EndSequence ∷ past) = false
-  is_hidden parameters (i ∷ past) = is_hidden parameters past
+  -- whether a point is under a tombstone: the last set address of its sequence is a tombstone
+  pub is_under_tombstone : Parameters → List Ins → Bool
+  is_under_tombstone parameters [] = false
+  is_under_tombstone parameters (SetAddress a ∷ past) = is_tombstone parameters a (pointer_at parameters past)
+  is_under_tombstone parameters (EndSequence ∷ past) = false
+  is_under_tombstone parameters (i ∷ past) = is_under_tombstone parameters past
 
--- whether the target of a place exceeds, and the place isn't hidden
+-- whether the target of a point exceeds, and the point isn't under a tombstone
 abbrev pub overflows : Parameters → List Ins → Ins → Bool
 overflows parameters past i =
-    (elim (target parameters i (pointer_at parameters past)) [ Some to ↦ exceeds parameters to | None ↦ false ]) && not (is_hidden parameters past)
+    (elim (target_pointer parameters i (pointer_at parameters past)) [ Some to ↦ is_too_large parameters to | None ↦ false ]) && not (is_under_tombstone parameters past)
 
--- what stands since the last place that made a row or overflowed
-abbrev pub recent : Parameters → List Ins → List Ins
-recent parameters [] = []
-recent parameters (i ∷ past) = if makes_row i || overflows parameters past i then [] else i ∷ recent parameters past
+-- what stands since the last point that made a row or overflowed
+abbrev pub since_last_row : Parameters → List Ins → List Ins
+since_last_row parameters [] = []
+since_last_row parameters (i ∷ past) = if makes_row i || overflows parameters past i then [] else i ∷ since_last_row parameters past
 
 -- ---- the pointer list
 
@@ -101,17 +101,18 @@ pointers_before parameters (i ∷ past) = pointer_at parameters past ∷ pointer
 abbrev pub pointers : Parameters → List Ins → List OperationPointer
 pointers parameters past = pointer_at parameters past ∷ pointers_before parameters past
 
--- whether the last set address of the sequence hides, where the pointer before each instruction stands beside it
-abbrev pub hidden_behind : Parameters → List (Ins × OperationPointer) → Bool
-hidden_behind parameters [] = false
-hidden_behind parameters ((SetAddress a, before) ∷ trail) = hides parameters a before
-hidden_behind parameters ((EndSequence, before) ∷ trail) = false
-hidden_behind parameters ((i, before) ∷ trail) = hidden_behind parameters trail
+-- whether the last set address of the sequence is a tombstone, where the pointer before each instruction stands beside
+-- it
+abbrev pub is_trail_under_tombstone : Parameters → List (Ins × OperationPointer) → Bool
+is_trail_under_tombstone parameters [] = false
+is_trail_under_tombstone parameters ((SetAddress a, before) ∷ trail) = is_tombstone parameters a before
+is_trail_under_tombstone parameters ((EndSequence, before) ∷ trail) = false
+is_trail_under_tombstone parameters ((i, before) ∷ trail) = is_trail_under_tombstone parameters trail
 
 -- pointers, one at the end of these instructions and one before each, the nearest first: the farthest is the start,
 -- so is each after an end, and each other follows from the one before it
 abbrev pub IsPointerList : Parameters → List Ins → List OperationPointer → Type 0
 IsPointerList parameters [] (p ∷ []) = p ≡ start
 IsPointerList parameters (i ∷ past) (after ∷ before ∷ pointers) =
-    (after ≡ next_pointer parameters (hidden_behind parameters (zip past pointers)) i before) × IsPointerList parameters past (before ∷ pointers)
+    (after ≡ next_pointer parameters (is_trail_under_tombstone parameters (zip past pointers)) i before) × IsPointerList parameters past (before ∷ pointers)
 IsPointerList parameters past pointers = ⊥

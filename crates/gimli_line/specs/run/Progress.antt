@@ -3,7 +3,7 @@ use Rattle.std.specs.Prelude.{◌≡◌, Bool, List, [], ◌∷◌, ◌++◌, �
 use Rattle.gimli_core.specs.Production.{Each}
 use Rattle.gimli_line.specs.declared.run.row.LineRow.{LineRow}
 use Rattle.gimli_line.specs.header.Parameters.{Parameters}
-use Rattle.gimli_line.specs.run.Instruction.{files_behind}
+use Rattle.gimli_line.specs.run.Instruction.{files_after}
 use Rattle.gimli_line.specs.run.Instruction.{Ins}
 use Rattle.gimli_line.specs.header.File.{File}
 use Rattle.gimli_line.specs.run.InstructionGrammar.{SpellsInstruction}
@@ -17,18 +17,18 @@ abbrev pub events_from : Parameters → LineRow → List Ins → List Event
 events_from parameters r [] = []
 events_from parameters r (i ∷ list) = step_events parameters i r ++ events_from parameters (next_registers parameters i r) list
 
-abbrev pub registers_behind : Parameters → LineRow → List Ins → LineRow
-registers_behind parameters r [] = r
-registers_behind parameters r (i ∷ list) = registers_behind parameters (next_registers parameters i r) list
+abbrev pub registers_from : Parameters → LineRow → List Ins → LineRow
+registers_from parameters r [] = r
+registers_from parameters r (i ∷ list) = registers_from parameters (next_registers parameters i r) list
 
 -- the files after them
 abbrev pub files_from : Bool → List File → List Ins → List File
 files_from appends files [] = files
-files_from appends files (i ∷ list) = files_from appends (files_behind appends i files) list
+files_from appends files (i ∷ list) = files_from appends (files_after appends i files) list
 
 -- an iterator whose registers are reset, as they are before the next instruction
-abbrev pub ready : RunState → RunState
-ready a = record a { row = reset_row a.fixed.parameters a.row }
+abbrev pub with_reset_row : RunState → RunState
+with_reset_row a = record a { row = reset_row a.fixed.parameters a.row }
 
 -- from one state to another an iterator passes over instructions that give these events
 pub record Progress (old new : RunState) (events : List Event) : Type 0 where
@@ -40,5 +40,5 @@ pub record Progress (old new : RunState) (events : List Event) : Type 0 where
   pub fixed : new.fixed ≡ old.fixed
   pub appends : new.appends ≡ old.appends
   pub given : events_from old.fixed.parameters old.row list ≡ events
-  pub registers : new.row ≡ registers_behind old.fixed.parameters old.row list
+  pub registers : new.row ≡ registers_from old.fixed.parameters old.row list
   pub files : new.files ≡ files_from old.appends old.files list

@@ -1,11 +1,11 @@
--- What the registers are at a place of a program, each looked up by itself from the place backwards (DWARF 5,
--- sections 6.2.2 and 6.2.5). The past of a place is the list of the instructions before it, the nearest first.
+-- What the registers are at a point of a program, each looked up by itself from the point backwards (DWARF 5,
+-- sections 6.2.2 and 6.2.5). The past of a point is the list of the instructions before it, the nearest first.
 use Rattle.std.specs.Prelude.{ℕ, suc, ◌+◌, ◌-◌, ◌%◌, ◌^◌, Bool, true, false, not, if◌then◌else◌, List, [], ◌∷◌, Option, Some, None, ℤ, pos, negsuc, ◌+ℤ◌}
 use Rattle.gimli_line.specs.declared.run.instruction.LineInstruction.TheVariants.{Special, AdvanceLine, SetFile, SetColumn, NegateStatement, SetBasicBlock, SetPrologueEnd, SetEpilogueBegin, SetIsa, SetDiscriminator}
 use Rattle.gimli_line.specs.header.Parameters.{Parameters}
 use Rattle.gimli_line.specs.run.Instruction.{Ins, is_end}
 
--- the sequence of a place: the instructions after the last end
+-- the sequence of a point: the instructions after the last end
 abbrev pub sequence : List Ins → List Ins
 sequence [] = []
 sequence (i ∷ past) = if is_end i then [] else i ∷ sequence past
@@ -88,6 +88,6 @@ abbrev pub line_after : Parameters → List Ins → ℕ
 line_after parameters [] = 1
 line_after parameters (i ∷ past) = elim (line_advance parameters i) [ Some v ↦ advanced_line v (line_after parameters past) | None ↦ line_after parameters past ]
 
--- the line at a place with this instruction, whose own advance counts
+-- the line at a point with this instruction, whose own advance counts
 abbrev pub line_at : Parameters → List Ins → Ins → ℕ
 line_at parameters past i = line_after parameters (i ∷ sequence past)

@@ -8,7 +8,7 @@ use Rattle.gimli_line.specs.declared.run.rows.Step.{Step}
 use Rattle.gimli_line.specs.declared.run.rows.Step.TheVariants.{Done, Made, More}
 use Rattle.gimli_line.specs.declared.run.row.LineRow.{LineRow}
 use Rattle.gimli_line.specs.header.File.{File}
-use Rattle.gimli_line.specs.header.Header.{Header, SeenHeader, bare}
+use Rattle.gimli_line.specs.header.Header.{Header, SeenHeader, without_files}
 use Rattle.gimli_line.specs.header.Orders.{HeaderOrders, AreOneOrder}
 use Rattle.gimli_line.specs.run.Instruction.{Ins, defines_file}
 use Rattle.gimli_line.specs.run.InstructionGrammar.{SpellsInstruction}
@@ -18,15 +18,15 @@ use Rattle.gimli_line.specs.run.Machine.{initial}
 use Rattle.gimli_line.specs.run.Unread.{Unread, whole_program}
 use Rattle.gimli_line.specs.run.RunState.{RunState}
 use Rattle.gimli_line.specs.run.EventsWithFiles.{EventWithFiles, events_with_files_from}
-use Rattle.gimli_line.specs.run.Progress.{ready, files_from, Progress}
+use Rattle.gimli_line.specs.run.Progress.{with_reset_row, files_from, Progress}
 
 -- what is still to come where the registers were reset
 abbrev pub live_events : RunState → List EventWithFiles
 live_events a = let c = decoded_at a.unread.notation a.fixed a.unread.bytes in events_with_files_from a.appends a.fixed.parameters a.row a.files c.0 c.1
 
--- what is still to come: rows and faults, each with the files of the header at its place
+-- what is still to come: rows and faults, each with the files of the header at its point
 abbrev pub events_left : RunState → List EventWithFiles
-events_left a = live_events (ready a)
+events_left a = live_events (with_reset_row a)
 
 -- the files after the last instruction that is still to come
 abbrev pub files_at_end : RunState → List File
@@ -37,9 +37,9 @@ abbrev pub event_of : Event → RunState → EventWithFiles
 event_of e a = record { event = e; files = a.files }
 
 -- rows at the start of a sequence
-abbrev pub started : Bool → Header → Notation → ℕ → HeaderOrders → Unread → RunState
-started appends h notation offset orders unread = record {
-  fixed = bare h;
+abbrev pub start_of_run : Bool → Header → Notation → ℕ → HeaderOrders → Unread → RunState
+start_of_run appends h notation offset orders unread = record {
+  fixed = without_files h;
   files = h.files;
   appends = appends;
   notation = notation;
@@ -51,7 +51,7 @@ started appends h notation offset orders unread = record {
 
 -- rows of a whole program, from its start to its end
 abbrev pub whole_run : Header → Notation → ℕ → HeaderOrders → RunState
-whole_run h notation offset orders = started true h notation offset orders (whole_program h notation)
+whole_run h notation offset orders = start_of_run true h notation offset orders (whole_program h notation)
 
 -- the readers of the header have the order of its program, and so have the instructions to come, where files are added
 pub record IsOfOneOrder (a : RunState) : Type 0 where
@@ -81,10 +81,10 @@ pub record KeepsHeader (old new : RunState) : Type 0 where
 -- what one instruction did
 abbrev pub StepIs : RunState → RunState → Step → Type 0
 StepIs old new Done = (live_events old ≡ []) × (new.unread.bytes ≡ []) × Progress old new []
-StepIs old new Made = (live_events old ≡ event_of (row new.row) new ∷ events_left new) × Progress old (ready new) (row new.row ∷ [])
+StepIs old new Made = (live_events old ≡ event_of (row new.row) new ∷ events_left new) × Progress old (with_reset_row new) (row new.row ∷ [])
 StepIs old new More = (live_events old ≡ live_events new) × (length new.unread.bytes < length old.unread.bytes) × Progress old new []
 
--- a row was the next to come, and these are the files of its place; those at the end are still the same
+-- a row was the next to come, and these are the files of its point; those at the end are still the same
 abbrev pub RowIs : RunState → RunState → LineRow → List File → Type 0
 RowIs old new r files =
     (events_left old ≡ record { event = row r; files = files } ∷ events_left new) × (new.files ≡ files) × (files_at_end new ≡ files_at_end old)
@@ -94,18 +94,18 @@ abbrev pub EndIs : RunState → RunState → Type 0
 EndIs old new = (events_left old ≡ []) × (events_left new ≡ []) × (new.unread.bytes ≡ []) × (new.files ≡ files_at_end old)
 
 -- memory was missing for a file, whose definition comes after instructions that give nothing; the files are those of
--- its place, and nothing comes after it
+-- its point, and nothing comes after it
 pub record WantsMemory (old new : RunState) : Type 0 where
-  pub place : RunState
-  pub passed : Progress old place []
+  pub point : RunState
+  pub passed : Progress old point []
   pub definition : Ins
   pub front : List ℕ
   pub rest : List ℕ
-  pub parts : place.unread.bytes ≡ front ++ rest
-  pub spelled : SpellsInstruction place.unread.notation place.fixed front definition
+  pub parts : point.unread.bytes ≡ front ++ rest
+  pub spelled : SpellsInstruction point.unread.notation point.fixed front definition
   pub defines : defines_file definition ≡ true
   pub appends : new.appends ≡ true
-  pub files : new.files ≡ place.files
+  pub files : new.files ≡ point.files
   pub none : events_left new ≡ []
   pub empty : new.unread.bytes ≡ []
 
@@ -115,13 +115,13 @@ abbrev pub FaultComes : RunState → RunState → Error → Type 0
 FaultComes old new e =
     (live_events old ≡ event_of (fault e) new ∷ events_left new) × (files_at_end new ≡ files_at_end old) × (e ≢ AddressOverflow → new.unread.bytes ≡ [])
 
--- a refusal: want of memory for a file, or a fault
+-- a refusal: `OutOfMemory` for a file, or a fault
 abbrev pub FaultIs : RunState → RunState → Error → Type 0
 FaultIs old new e = ((e ≡ OutOfMemory) × WantsMemory old new) ⊎ FaultComes old new e
 
--- an answer of `next_row` is what was next to come: the end, a row with a header that has the files of its place, or a
+-- an answer of `next_row` is what was next to come: the end, a row with a header that has the files of its point, or a
 -- refusal
 abbrev pub NextIs : {R Offset Endian : Type 0} → RunState → RunState → Result (Option (Bor (SeenHeader R Offset Endian) × Bor LineRow)) Error → Type 0
 NextIs old new (Ok None) = EndIs old new
 NextIs old new (Ok (Some found)) = RowIs old new found.1.now found.0.now.meaning.files
-NextIs old new (Err e) = FaultIs (ready old) new e
+NextIs old new (Err e) = FaultIs (with_reset_row old) new e

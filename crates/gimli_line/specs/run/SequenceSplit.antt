@@ -2,7 +2,7 @@
 use Rattle.std.specs.Prelude.{ℕ, if◌then◌else◌, List, [], ◌∷◌, ◌++◌, Option, Some, None}
 use Rattle.std.specs.Option.{unwrap_or}
 use Rattle.gimli_line.specs.declared.run.row.LineRow.{LineRow}
-use Rattle.gimli_line.specs.run.Unread.{Unread, in_front}
+use Rattle.gimli_line.specs.run.Unread.{Unread, front_of}
 use Rattle.gimli_line.specs.run.Sequences.{Part}
 
 -- the sequences so far; and of the one that is open, the instructions from its start on and the address of its first row
@@ -16,7 +16,7 @@ abbrev pub with_row : LineRow → Unread → SequenceSplit → SequenceSplit
 with_row r rest k =
     if r.end_sequence
     then record {
-      parts = k.parts ++ record { start = unwrap_or k.start 0; end = r.address; unread = in_front k.unread rest } ∷ [];
+      parts = k.parts ++ record { start = unwrap_or k.start 0; end = r.address; unread = front_of k.unread rest } ∷ [];
       unread = rest;
       start = None;
     }

@@ -9,10 +9,10 @@ use Rattle.gimli_line.specs.header.Orders.{no_orders}
 use Rattle.gimli_line.specs.header.Header.{Header}
 use Rattle.gimli_line.specs.run.Instruction.{Ins}
 use Rattle.gimli_line.specs.run.InstructionGrammar.{Decodes}
-use Rattle.gimli_line.specs.run.Events.{Event, row, fault, program_events, defined_files, behind, through_last_end}
+use Rattle.gimli_line.specs.run.Events.{Event, row, fault, program_events, defined_files, past_at_end, through_last_end}
 use Rattle.gimli_line.specs.run.Unread.{Unread}
 use Rattle.gimli_line.specs.run.EventsWithFiles.{EventWithFiles}
-use Rattle.gimli_line.specs.run.Rows.{events_left, started, GivesRowsAlone}
+use Rattle.gimli_line.specs.run.Rows.{events_left, start_of_run, GivesRowsAlone}
 
 -- a sequence: the addresses that it names, and the instructions that give its rows
 pub record Part : Type 0 where
@@ -28,12 +28,12 @@ abbrev pub events_of : List EventWithFiles → List Event
 events_of events = map (λ t. t.event) events
 
 -- what a sequence gives that is resumed over a header, wherever the header stands
-abbrev pub resumed : Header → Part → List Event
-resumed h s = events_of (events_left (started false h s.unread.notation 0 no_orders s.unread))
+abbrev pub events_of_part : Header → Part → List Event
+events_of_part h s = events_of (events_left (start_of_run false h s.unread.notation 0 no_orders s.unread))
 
 -- a sequence that is resumed over a header gives rows alone, and is refused for nothing
 abbrev pub ResumesToRows : Header → Part → Type 0
-ResumesToRows h s = GivesRowsAlone (started false h s.unread.notation 0 no_orders s.unread)
+ResumesToRows h s = GivesRowsAlone (start_of_run false h s.unread.notation 0 no_orders s.unread)
 
 -- the address of the first row; 0 where there is none
 abbrev pub first_address : List LineRow → ℕ
@@ -57,9 +57,9 @@ pub record AreSequences (notation : Notation) (h c : Header) (parts : List Part)
   pub decoding : Decodes notation h h.program list None
   pub rows : List LineRow
   pub given : program_events h.parameters list None ≡ map row rows
-  pub files : c ≡ record h { files = defined_files h.files (behind [] list) }
-  pub each : AllByRecursion (λ s. IsSequence (resumed c s) s.start s.end) parts
-  pub joined : flat_map (resumed c) parts ≡ through_last_end (program_events h.parameters list None)
+  pub files : c ≡ record h { files = defined_files h.files (past_at_end [] list) }
+  pub each : AllByRecursion (λ s. IsSequence (events_of_part c s) s.start s.end) parts
+  pub joined : flat_map (events_of_part c) parts ≡ through_last_end (program_events h.parameters list None)
 
 -- the first fault of a program, after rows
 pub record HasFirstFault (notation : Notation) (h : Header) (e : Error) : Type 0 where

@@ -17,7 +17,7 @@ pub record IsNarrow (row : LineRow) : Type 0 where
 -- the row that has these numbers
 abbrev pub row_of_narrow : NarrowRow → LineRow
 row_of_narrow narrow = record {
-  hidden = narrow.hidden;
+  tombstone = narrow.tombstone;
   address = narrow.address;
   op_index = narrow.op_index;
   file = narrow.file;

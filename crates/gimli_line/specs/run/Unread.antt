@@ -1,6 +1,6 @@
 -- What is read from, whatever the type of the reader.
 use Rattle.std.specs.Prelude.{ℕ, ◌-◌, Bool, List, length, take}
-use Rattle.gimli_core.specs.Notation.{Notation, noted}
+use Rattle.gimli_core.specs.Notation.{Notation, notation_of}
 use Rattle.gimli_line.specs.header.Header.{Header}
 
 pub record Unread : Type 0 where
@@ -9,13 +9,13 @@ pub record Unread : Type 0 where
   pub notation : Notation
 
 -- what a reader has left, by its bytes, its order and the limit of its offsets
-abbrev pub unread : {R : Type 0} → (R → List ℕ) → (R → Bool) → ℕ → R → Unread
-unread bytes big limit reader = record { bytes = bytes reader; notation = noted (big reader) limit }
+abbrev pub unread_of : {R : Type 0} → (R → List ℕ) → (R → Bool) → ℕ → R → Unread
+unread_of bytes big limit reader = record { bytes = bytes reader; notation = notation_of (big reader) limit }
 
 -- the whole program of a header
 abbrev pub whole_program : Header → Notation → Unread
 whole_program h notation = record { bytes = h.program; notation = notation }
 
 -- what stands in front of a rest
-abbrev pub in_front : Unread → Unread → Unread
-in_front whole rest = record whole { bytes = take (length whole.bytes - length rest.bytes) whole.bytes }
+abbrev pub front_of : Unread → Unread → Unread
+front_of whole rest = record whole { bytes = take (length whole.bytes - length rest.bytes) whole.bytes }

@@ -1,7 +1,7 @@
 //! Source files, and what a table of version 5 holds of each.
 
 ghost use Rattle.std.specs.Prelude.{◌≡◌};
-ghost use Rattle.gimli_core.specs.Reading.{seen};
+ghost use Rattle.gimli_core.specs.Reading.{result_map};
 ghost use Rattle.gimli_core.specs.Values.{value_seen};
 ghost use Rattle.gimli_core.specs.declared.attribute_value.AttributeValue.TheVariants.{String};
 ghost use Rattle.gimli_line.specs.header.HeaderGrammar.{digest};
@@ -65,7 +65,7 @@ where
     #[inline(always)]
     #[tactic(auto, unfolding(crate::specs::header::HeaderReading::plain_file_at))]
     pub(crate) fn parse(input: &mut R, path_name: R) -> Result<Self>
-        ensures read { (seen (file_seen R.bytes Offset.number) result, R.bytes input.new)
+        ensures read { (result_map (file_seen R.bytes Offset.number) result, R.bytes input.new)
             ≡ plain_file_at (R.bytes path_name) (R.bytes input.old) }
         ensures order { R.big input.new ≡ R.big input.old }
         ensures file { IfOk result (FileHasOrder R.big (R.big path_name)) }

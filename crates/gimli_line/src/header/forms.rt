@@ -1,8 +1,8 @@
 //! Values of the tables of version 5, by their forms.
 
 ghost use Rattle.std.specs.Prelude.{◌≡◌, IfOk};
-ghost use Rattle.gimli_core.specs.Reading.{seen, unsigned_at};
-ghost use Rattle.gimli_core.specs.Notation.{noted};
+ghost use Rattle.gimli_core.specs.Reading.{result_map, unsigned_at};
+ghost use Rattle.gimli_core.specs.Notation.{notation_of};
 ghost use Rattle.gimli_core.specs.Values.{value_seen, ValueHasOrder};
 ghost use Rattle.gimli_line.specs.header.FormReading.{form_at, number_form_at, word_form_at, index_form_at, block_at, offset_at};
 
@@ -19,8 +19,8 @@ pub(crate) fn parse_attribute<R: Reader>(
     format: Format,
     form: DwForm,
 ) -> Result<AttributeValue<R>>
-    ensures read { (seen (value_seen R.bytes R.Offset.number) result, R.bytes input.new)
-        ≡ form_at (noted (R.big input.old) R.Offset.limit) format form.0 (R.bytes input.old) }
+    ensures read { (result_map (value_seen R.bytes R.Offset.number) result, R.bytes input.new)
+        ≡ form_at (notation_of (R.big input.old) R.Offset.limit) format form.0 (R.bytes input.old) }
     ensures order { R.big input.new ≡ R.big input.old }
     ensures part { IfOk result (ValueHasOrder R.big (R.big input.old)) }
 {
@@ -49,8 +49,8 @@ pub(crate) fn parse_attribute<R: Reader>(
 /// Takes a value in a form that isn't a block: a number, or what comes after those.
 #[tactic(auto, unfolding(crate::specs::header::FormReading::number_form_at, crate::specs::header::FormReading::word_form_at))]
 fn parse_number<R: Reader>(input: &mut R, format: Format, form: DwForm) -> Result<AttributeValue<R>>
-    ensures read { (seen (value_seen R.bytes R.Offset.number) result, R.bytes input.new)
-        ≡ number_form_at (noted (R.big input.old) R.Offset.limit) format form.0 (R.bytes input.old) }
+    ensures read { (result_map (value_seen R.bytes R.Offset.number) result, R.bytes input.new)
+        ≡ number_form_at (notation_of (R.big input.old) R.Offset.limit) format form.0 (R.bytes input.old) }
     ensures order { R.big input.new ≡ R.big input.old }
     ensures part { IfOk result (ValueHasOrder R.big (R.big input.old)) }
 {
@@ -73,8 +73,8 @@ fn parse_word_or_text<R: Reader>(
     format: Format,
     form: DwForm,
 ) -> Result<AttributeValue<R>>
-    ensures read { (seen (value_seen R.bytes R.Offset.number) result, R.bytes input.new)
-        ≡ word_form_at (noted (R.big input.old) R.Offset.limit) format form.0 (R.bytes input.old) }
+    ensures read { (result_map (value_seen R.bytes R.Offset.number) result, R.bytes input.new)
+        ≡ word_form_at (notation_of (R.big input.old) R.Offset.limit) format form.0 (R.bytes input.old) }
     ensures order { R.big input.new ≡ R.big input.old }
     ensures part { IfOk result (ValueHasOrder R.big (R.big input.old)) }
 {
@@ -103,8 +103,8 @@ fn parse_word_or_text<R: Reader>(
 /// Takes an index of a text. Refused by `UnknownForm` at a form that has none.
 #[tactic(auto, unfolding(crate::specs::header::FormReading::index_form_at))]
 fn parse_index<R: Reader>(input: &mut R, format: Format, form: DwForm) -> Result<AttributeValue<R>>
-    ensures read { (seen (value_seen R.bytes R.Offset.number) result, R.bytes input.new)
-        ≡ index_form_at (noted (R.big input.old) R.Offset.limit) format form.0 (R.bytes input.old) }
+    ensures read { (result_map (value_seen R.bytes R.Offset.number) result, R.bytes input.new)
+        ≡ index_form_at (notation_of (R.big input.old) R.Offset.limit) format form.0 (R.bytes input.old) }
     ensures order { R.big input.new ≡ R.big input.old }
     ensures part { IfOk result (ValueHasOrder R.big (R.big input.old)) }
 {
@@ -121,7 +121,7 @@ fn parse_index<R: Reader>(input: &mut R, format: Format, form: DwForm) -> Result
 
 /// Takes so many bytes, as a block.
 fn parse_block<R: Reader>(input: &mut R, len: R::Offset) -> Result<AttributeValue<R>>
-    ensures read { (seen (value_seen R.bytes R.Offset.number) result, R.bytes input.new)
+    ensures read { (result_map (value_seen R.bytes R.Offset.number) result, R.bytes input.new)
         ≡ block_at (R.Offset.number len) (R.bytes input.old) }
     ensures order { R.big input.new ≡ R.big input.old }
     ensures part { IfOk result (ValueHasOrder R.big (R.big input.old)) }
@@ -133,7 +133,7 @@ fn parse_block<R: Reader>(input: &mut R, len: R::Offset) -> Result<AttributeValu
 /// Takes an unsigned LEB128 number as an offset. Refused by `UnsupportedOffset` where the offset type is too
 /// narrow.
 pub(crate) fn parse_offset<R: Reader>(input: &mut R) -> Result<R::Offset>
-    ensures read { (seen R.Offset.number result, R.bytes input.new)
+    ensures read { (result_map R.Offset.number result, R.bytes input.new)
         ≡ offset_at R.Offset.limit unsigned_at (R.bytes input.old) }
     ensures order { R.big input.new ≡ R.big input.old }
 {

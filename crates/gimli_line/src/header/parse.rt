@@ -1,9 +1,9 @@
 //! The header of a unit, part by part, in the order of its fields (DWARF 5, 6.2.4; DWARF 2 to 4, 6.2.4).
 
 ghost use Rattle.std.specs.Prelude.{◌≡◌, ◌<◌, IfOk, IsTrue, option_map};
-ghost use Rattle.gimli_core.specs.Notation.{noted};
+ghost use Rattle.gimli_core.specs.Notation.{notation_of};
 ghost use Rattle.gimli_core.specs.Numbers.{is_address_size};
-ghost use Rattle.gimli_core.specs.Reading.{seen};
+ghost use Rattle.gimli_core.specs.Reading.{result_map};
 ghost use Rattle.gimli_line.specs.header.HeaderReading.{positive_at, version_at, own_address_size_at, size_at, operations_at, line_encoding_at, parameters_at};
 ghost use Rattle.gimli_line.specs.header.Parameters.{IsLineEncoding};
 
@@ -133,8 +133,8 @@ impl<R: Reader> Opening<R> {
     #[tactic(auto, unfolding(crate::specs::header::HeaderReading::opening_at))]
     fn parse(input: &mut R, handed: u8, format: Format) -> Result<Self>
         requires { IsTrue (is_address_size handed) }
-        ensures read { (seen (opening_seen R.bytes R.Offset.number) result, R.bytes input.new)
-            ≡ opening_at (noted (R.big input.old) R.Offset.limit) handed format (R.bytes input.old) }
+        ensures read { (result_map (opening_seen R.bytes R.Offset.number) result, R.bytes input.new)
+            ≡ opening_at (notation_of (R.big input.old) R.Offset.limit) handed format (R.bytes input.old) }
         ensures order { R.big input.new ≡ R.big input.old }
         ensures fields { IfOk result (λ opening. R.big opening.fields ≡ R.big input.old) }
         ensures size { IfOk result (λ opening. IsTrue (is_address_size opening.encoding.address_size)) }
@@ -163,7 +163,7 @@ where
     ghost use Rattle.gimli_line.specs.header.Outcome.{IsAnswer};
     ghost use Rattle.gimli_core.specs.declared.attribute_value.AttributeValue.TheVariants.{String};
     ghost use Rattle.gimli_line.specs.header.Header.{plain_file, unit_entry, HasOneOrder};
-    ghost use Rattle.gimli_line.specs.header.HeaderGrammar.{taken};
+    ghost use Rattle.gimli_line.specs.header.HeaderGrammar.{handed_value};
     ghost use Rattle.gimli_line.specs.header.HeaderReading.{fields_at, header_at};
     ghost use Rattle.gimli_line.specs.header.Opening.{opening_seen};
     ghost use Rattle.gimli_line.specs.header.File.{file_seen};
@@ -180,15 +180,15 @@ where
         comp_name: Option<R>,
     ) -> Result<Self>
         requires { IsTrue (is_address_size address_size) }
-        ensures read { IsAnswer (λ header. header.meaning) result (header_at (noted (R.big input.old) Offset.limit)
+        ensures read { IsAnswer (λ header. header.meaning) result (header_at (notation_of (R.big input.old) Offset.limit)
             (unit_entry R.bytes address_size comp_dir comp_name) (R.bytes input.old)).0 }
-        ensures notation { IfOk result (λ header. header.notation ≡ noted (R.big input.old) Offset.limit) }
+        ensures notation { IfOk result (λ header. header.notation ≡ notation_of (R.big input.old) Offset.limit) }
         ensures offset { IfOk result (λ header. header.offset ≡ offset) }
         ensures order { IfOk result (HasOneOrder R.big) }
         ensures directory { IfOk result (λ header. header.comp_dir
-            ≡ taken header.meaning.parameters.encoding comp_dir) }
+            ≡ handed_value header.meaning.parameters.encoding comp_dir) }
         ensures name { IfOk result (λ header. option_map (λ file. file.path_name) header.comp_file
-            ≡ taken header.meaning.parameters.encoding (option_map String comp_name)) }
+            ≡ handed_value header.meaning.parameters.encoding (option_map String comp_name)) }
     {
         let (unit_length, format) = input.read_initial_length()?;
         let mut program_buf = input.split(unit_length)?;
@@ -217,16 +217,16 @@ where
     ) -> Result<Self>
         requires size { IsTrue (is_address_size opening.encoding.address_size) }
         requires order { R.big opening.fields ≡ R.big program_buf }
-        ensures read { IsAnswer (λ header. header.meaning) result (fields_at (noted (R.big program_buf) Offset.limit)
+        ensures read { IsAnswer (λ header. header.meaning) result (fields_at (notation_of (R.big program_buf) Offset.limit)
             (unit_entry R.bytes opening.encoding.address_size comp_dir comp_name) (Offset.number unit_length)
             (opening_seen R.bytes Offset.number opening) (R.bytes program_buf) (R.bytes opening.fields)).0 }
-        ensures notation { IfOk result (λ header. header.notation ≡ noted (R.big program_buf) Offset.limit) }
+        ensures notation { IfOk result (λ header. header.notation ≡ notation_of (R.big program_buf) Offset.limit) }
         ensures offset { IfOk result (λ header. header.offset ≡ offset) }
         ensures order { IfOk result (HasOneOrder R.big) }
         ensures directory { IfOk result (λ header. header.comp_dir
-            ≡ taken header.meaning.parameters.encoding comp_dir) }
+            ≡ handed_value header.meaning.parameters.encoding comp_dir) }
         ensures name { IfOk result (λ header. option_map (λ file. file.path_name) header.comp_file
-            ≡ taken header.meaning.parameters.encoding (option_map String comp_name)) }
+            ≡ handed_value header.meaning.parameters.encoding (option_map String comp_name)) }
     {
         let encoding = opening.encoding;
         let mut input = opening.fields;
@@ -254,8 +254,8 @@ where
 
     /// The handed directory, where the version takes it.
     fn comp_dir_of(encoding: Encoding, comp_dir: Option<R>) -> Option<R>
-        ensures bytes { option_map R.bytes result ≡ taken encoding (option_map R.bytes comp_dir) }
-        ensures own { result ≡ taken encoding comp_dir }
+        ensures bytes { option_map R.bytes result ≡ handed_value encoding (option_map R.bytes comp_dir) }
+        ensures own { result ≡ handed_value encoding comp_dir }
     {
         if encoding.version <= 4 {
             comp_dir
@@ -267,8 +267,8 @@ where
     /// The file of the handed name, where the version takes it.
     fn comp_file_of(encoding: Encoding, comp_name: Option<R>) -> Option<FileEntry<R, Offset>>
         ensures file { option_map (file_seen R.bytes Offset.number) result
-            ≡ taken encoding (option_map (λ path. plain_file path 0 0 0) (option_map R.bytes comp_name)) }
-        ensures path { option_map (λ file. file.path_name) result ≡ taken encoding (option_map String comp_name) }
+            ≡ handed_value encoding (option_map (λ path. plain_file path 0 0 0) (option_map R.bytes comp_name)) }
+        ensures path { option_map (λ file. file.path_name) result ≡ handed_value encoding (option_map String comp_name) }
     {
         match comp_name {
             Some(name) if encoding.version <= 4 => Some(FileEntry::of_path(name)),

@@ -1,12 +1,12 @@
 //! The tables of directories and files.
 
 ghost use Rattle.std.specs.Prelude.{◌≡◌, [], ◌∷◌, ◌++◌, map, IfErr, IfOk, OnErr, OnOk};
-ghost use Rattle.gimli_core.specs.Reading.{seen, times_at};
+ghost use Rattle.gimli_core.specs.Reading.{result_map, times_at};
 ghost use Rattle.std.specs.List.{All};
-ghost use Rattle.gimli_core.specs.Notation.{noted};
+ghost use Rattle.gimli_core.specs.Notation.{notation_of};
 ghost use Rattle.gimli_core.specs.Values.{value_seen, ValueHasOrder};
 ghost use Rattle.gimli_core.specs.declared.attribute_value.AttributeValue.TheVariants.{String};
-ghost use Rattle.gimli_line.specs.header.Outcome.{IsOutcome, IsListOutcome, IsTableOutcome, viewed};
+ghost use Rattle.gimli_line.specs.header.Outcome.{IsOutcome, IsListOutcome, IsTableOutcome, read_map};
 ghost use Rattle.gimli_line.specs.header.HeaderReading.{format_at, formats_at, paths_at, files_at, directory_at, file_at, directory_entries_at, file_entries_at, directories_at, file_names_at};
 ghost use Rattle.gimli_line.specs.header.File.{file_seen, FileHasOrder};
 
@@ -86,7 +86,7 @@ fn parse_format<R: Reader>(input: &mut R) -> Result<FileEntryFormat>
 /// Takes directories up to an empty one.
 fn parse_directories<R: Reader>(alloc: Global, input: &mut R) -> Result<Vec<AttributeValue<R>>>
     ensures read { IsListOutcome (value_seen R.bytes R.Offset.number) result (R.bytes input.new)
-        (viewed (map String) (paths_at (R.bytes input.old))) }
+        (read_map (map String) (paths_at (R.bytes input.old))) }
     ensures order { R.big input.new ≡ R.big input.old }
     ensures parts { IfOk result (λ directories. All (ValueHasOrder R.big (R.big input.old)) directories.items) }
 {
@@ -120,7 +120,7 @@ fn parse_files<R: Reader>(alloc: Global, input: &mut R) -> Result<Vec<FileEntry<
 
 // ---- tables of version 5
 
-/// A reader in the place of an empty text.
+/// A reader in place of an empty text.
 fn nothing<R: Reader>(input: &R) -> R
     ensures bytes { R.bytes result ≡ [] }
     ensures order { R.big result ≡ R.big input.now }
@@ -136,8 +136,8 @@ fn parse_directory_v5<R: Reader>(
     format: Format,
     formats: &[FileEntryFormat],
 ) -> Result<AttributeValue<R>>
-    ensures read { (seen (value_seen R.bytes R.Offset.number) result, R.bytes input.new)
-        ≡ directory_at (noted (R.big input.old) R.Offset.limit) format formats.now (R.bytes input.old) }
+    ensures read { (result_map (value_seen R.bytes R.Offset.number) result, R.bytes input.new)
+        ≡ directory_at (notation_of (R.big input.old) R.Offset.limit) format formats.now (R.bytes input.old) }
     ensures order { R.big input.new ≡ R.big input.old }
     ensures part { IfOk result (ValueHasOrder R.big (R.big input.old)) }
 {
@@ -157,8 +157,8 @@ fn parse_file_v5<R: Reader>(
     format: Format,
     formats: &[FileEntryFormat],
 ) -> Result<FileEntry<R>>
-    ensures read { (seen (file_seen R.bytes R.Offset.number) result, R.bytes input.new)
-        ≡ file_at (noted (R.big input.old) R.Offset.limit) format formats.now (R.bytes input.old) }
+    ensures read { (result_map (file_seen R.bytes R.Offset.number) result, R.bytes input.new)
+        ≡ file_at (notation_of (R.big input.old) R.Offset.limit) format formats.now (R.bytes input.old) }
     ensures order { R.big input.new ≡ R.big input.old }
     ensures part { IfOk result (FileHasOrder R.big (R.big input.old)) }
 {
@@ -179,7 +179,7 @@ fn parse_directories_v5<R: Reader>(
     formats: &[FileEntryFormat],
 ) -> Result<Vec<AttributeValue<R>>>
     ensures read { IsListOutcome (value_seen R.bytes R.Offset.number) result (R.bytes input.new)
-        (directory_entries_at (noted (R.big input.old) R.Offset.limit) format formats.now (R.bytes input.old)) }
+        (directory_entries_at (notation_of (R.big input.old) R.Offset.limit) format formats.now (R.bytes input.old)) }
     ensures order { R.big input.new ≡ R.big input.old }
     ensures parts { IfOk result (λ directories. All (ValueHasOrder R.big (R.big input.old)) directories.items) }
 {
@@ -201,7 +201,7 @@ fn parse_files_v5<R: Reader>(
     formats: &[FileEntryFormat],
 ) -> Result<Vec<FileEntry<R>>>
     ensures read { IsListOutcome (file_seen R.bytes R.Offset.number) result (R.bytes input.new)
-        (file_entries_at (noted (R.big input.old) R.Offset.limit) format formats.now (R.bytes input.old)) }
+        (file_entries_at (notation_of (R.big input.old) R.Offset.limit) format formats.now (R.bytes input.old)) }
     ensures order { R.big input.new ≡ R.big input.old }
     ensures parts { IfOk result (λ files. All (FileHasOrder R.big (R.big input.old)) files.items) }
 {
@@ -224,7 +224,7 @@ pub(crate) fn parse_directory_table<R: Reader>(
     encoding: Encoding,
 ) -> Result<(Vec<FileEntryFormat>, Vec<AttributeValue<R>>)>
     ensures read { IsTableOutcome (value_seen R.bytes R.Offset.number) result (R.bytes input.new)
-        (directories_at (noted (R.big input.old) R.Offset.limit) encoding (R.bytes input.old)) }
+        (directories_at (notation_of (R.big input.old) R.Offset.limit) encoding (R.bytes input.old)) }
     ensures order { R.big input.new ≡ R.big input.old }
     ensures parts { IfOk result (λ table. All (ValueHasOrder R.big (R.big input.old)) table.1.items) }
 {
@@ -245,7 +245,7 @@ pub(crate) fn parse_file_table<R: Reader>(
     encoding: Encoding,
 ) -> Result<(Vec<FileEntryFormat>, Vec<FileEntry<R>>)>
     ensures read { IsTableOutcome (file_seen R.bytes R.Offset.number) result (R.bytes input.new)
-        (file_names_at (noted (R.big input.old) R.Offset.limit) encoding (R.bytes input.old)) }
+        (file_names_at (notation_of (R.big input.old) R.Offset.limit) encoding (R.bytes input.old)) }
     ensures order { R.big input.new ≡ R.big input.old }
     ensures parts { IfOk result (λ table. All (FileHasOrder R.big (R.big input.old)) table.1.items) }
 {

@@ -1,8 +1,8 @@
 //! The instructions of a line program, one by one (DWARF 5, 6.2.3 and 6.2.5).
 
 ghost use Rattle.std.specs.Prelude.{◌≡◌, ◌-◌, IfOk, IfSome, slice_index};
-ghost use Rattle.gimli_core.specs.Reading.{seen, times_at, unsigned_at};
-ghost use Rattle.gimli_line.specs.run.InstructionReading.{bytes_at, passed_over};
+ghost use Rattle.gimli_core.specs.Reading.{result_map, times_at, unsigned_at};
+ghost use Rattle.gimli_line.specs.run.InstructionReading.{bytes_at, without_value};
 
 use crate::header::file_entry::FileEntry;
 use crate::header::forms::parse_offset;
@@ -52,8 +52,8 @@ where
     UnknownStandardN(DwLns, R),
     /// Makes the last row of a sequence. All registers start anew after it.
     EndSequence,
-    /// Sets the address, and op_index to 0; or hides the rows to come, where it lies below the address before it or
-    /// stands for nothing.
+    /// Sets the address, and op_index to 0; or is a tombstone for the rows to come, where it lies below the address
+    /// before it or stands for nothing.
     SetAddress(u64),
     /// Adds a file to the header's files, up to version 4.
     DefineFile(FileEntry<R, Offset>),
@@ -69,12 +69,12 @@ where
     Offset: ReaderOffset,
 {
     ghost use Rattle.std.specs.Prelude.{◌≡◌, ◌<◌, ℕ, List, IfOk};
-    ghost use Rattle.gimli_core.specs.Reading.{seen};
+    ghost use Rattle.gimli_core.specs.Reading.{result_map};
     ghost use Rattle.gimli_line.specs.run.Instruction.{ins_seen, makes_row, InsHasOrder};
     ghost use Rattle.gimli_line.specs.run.InstructionReading.{ins_at, extended_at, extended_operands_at, standard_at, unknown_at};
     ghost use Rattle.gimli_line.specs.run.Machine.{IsAllowed};
 
-    /// Whether it makes a row, hidden or not.
+    /// Whether it makes a row, under a tombstone or not.
     pub(crate) fn makes_row(&self) -> bool
         ensures { result ≡ makes_row (ins_seen R.bytes Offset.number self.now) }
     {
@@ -89,7 +89,7 @@ where
     /// Takes an instruction.
     #[tactic(auto, unfolding(crate::specs::run::InstructionReading::ins_at))]
     pub(crate) fn parse(header: &LineProgramHeader<R, Offset>, input: &mut R) -> Result<Self>
-        ensures read { (seen (ins_seen R.bytes Offset.number) result, R.bytes input.new)
+        ensures read { (result_map (ins_seen R.bytes Offset.number) result, R.bytes input.new)
             ≡ ins_at (record { big = R.big input.old; limit = Offset.limit }) header.now.meaning (R.bytes input.old) }
         ensures order { R.big input.new ≡ R.big input.old }
         ensures allowed { IfOk result (λ i. IsAllowed header.now.meaning.parameters
@@ -110,7 +110,7 @@ where
     /// its operands. Surplus bytes within its length are skipped.
     #[tactic(auto, unfolding(crate::specs::run::InstructionReading::extended_at))]
     fn parse_extended(header: &LineProgramHeader<R, Offset>, input: &mut R) -> Result<Self>
-        ensures read { (seen (ins_seen R.bytes Offset.number) result, R.bytes input.new)
+        ensures read { (result_map (ins_seen R.bytes Offset.number) result, R.bytes input.new)
             ≡ extended_at (record { big = R.big input.old; limit = Offset.limit }) header.now.meaning
             (R.bytes input.old) }
         ensures order { R.big input.new ≡ R.big input.old }
@@ -131,10 +131,10 @@ where
         opcode: DwLne,
         operands: R,
     ) -> Result<Self>
-        ensures read { (behind : List ℕ) → (seen (ins_seen R.bytes Offset.number) result, behind)
+        ensures read { (after : List ℕ) → (result_map (ins_seen R.bytes Offset.number) result, after)
             ≡ extended_operands_at
             (record { big = R.big operands; limit = Offset.limit }) header.now.meaning opcode.0
-            (R.bytes operands) behind }
+            (R.bytes operands) after }
         ensures allowed { IfOk result (λ i. IsAllowed header.now.meaning.parameters
             (ins_seen R.bytes Offset.number i)) }
         ensures operands { IfOk result (InsHasOrder R.big (R.big operands)) }
@@ -168,7 +168,7 @@ where
         input: &mut R,
     ) -> Result<Self>
         requires { 0 < opcode.0 }
-        ensures read { (seen (ins_seen R.bytes Offset.number) result, R.bytes input.new)
+        ensures read { (result_map (ins_seen R.bytes Offset.number) result, R.bytes input.new)
             ≡ standard_at (record { big = R.big input.old; limit = Offset.limit }) header.now.meaning opcode.0
             (R.bytes input.old) }
         ensures order { R.big input.new ≡ R.big input.old }
@@ -205,7 +205,7 @@ where
         input: &mut R,
     ) -> Result<Self>
         requires { 0 < opcode.0 }
-        ensures read { (seen (ins_seen R.bytes Offset.number) result, R.bytes input.new)
+        ensures read { (result_map (ins_seen R.bytes Offset.number) result, R.bytes input.new)
             ≡ unknown_at (record { big = R.big input.old; limit = Offset.limit }) header.now.meaning opcode.0
             (slice_index header.now.meaning.operand_counts (opcode.0 - 1)) (R.bytes input.old) }
         ensures order { R.big input.new ≡ R.big input.old }
@@ -226,7 +226,7 @@ where
 
 /// Takes so many LEB128 numbers, as the bytes that spell them.
 fn parse_operands<R: Reader>(input: &mut R, count: u8) -> Result<R>
-    ensures read { (seen R.bytes result, R.bytes input.new)
+    ensures read { (result_map R.bytes result, R.bytes input.new)
         ≡ bytes_at (times_at count unsigned_at) (R.bytes input.old) }
     ensures order { R.big input.new ≡ R.big input.old }
     ensures part { IfOk result (λ part. R.big part ≡ R.big input.old) }
@@ -240,7 +240,7 @@ fn parse_operands<R: Reader>(input: &mut R, count: u8) -> Result<R>
 
 /// Takes so many LEB128 numbers.
 fn skip_operands<R: Reader>(input: &mut R, count: u8) -> Result<()>
-    ensures read { (result, R.bytes input.new) ≡ passed_over (times_at count unsigned_at (R.bytes input.old)) }
+    ensures read { (result, R.bytes input.new) ≡ without_value (times_at count unsigned_at (R.bytes input.old)) }
     ensures order { R.big input.new ≡ R.big input.old }
 {
     for _ in 0..count {
@@ -269,11 +269,11 @@ impl<R: Reader> LineInstructions<R> {
     ghost use Rattle.std.specs.Prelude.{Ok, None};
     ghost use Rattle.gimli_line.specs.run.NextInstruction.{TakesNext, EndsByFault};
     ghost use Rattle.gimli_line.specs.run.Machine.{IsAllowed};
-    ghost use Rattle.gimli_line.specs.run.Unread.{unread, in_front};
+    ghost use Rattle.gimli_line.specs.run.Unread.{unread_of, front_of};
 
     /// The instructions of these bytes.
     pub(crate) fn new(input: R) -> Self
-        ensures { result ≡ unread R.bytes R.big R.Offset.limit input }
+        ensures { result ≡ unread_of R.bytes R.big R.Offset.limit input }
     {
         LineInstructions { input }
     }
@@ -295,7 +295,7 @@ impl<R: Reader> LineInstructions<R> {
     /// The instructions in front of a rest of these.
     pub(crate) fn remove_trailing(&self, rest: &LineInstructions<R>) -> Result<LineInstructions<R>>
         requires { (front : List ℕ) × (self.now.bytes ≡ front ++ rest.now.bytes) }
-        ensures { result ≡ Ok (in_front self.now rest.now) }
+        ensures { result ≡ Ok (front_of self.now rest.now) }
     {
         let len = rest.input.offset_from(&self.input);
         let mut input = self.input;

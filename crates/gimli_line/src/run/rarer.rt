@@ -38,7 +38,7 @@ fn read_set_address<R: Reader>(operands: &mut R, parameters: &Parameters) -> Res
 
 impl LineRow {
     ghost use Rattle.std.specs.Prelude.{IsNone};
-    ghost use Rattle.gimli_core.specs.Notation.{noted};
+    ghost use Rattle.gimli_core.specs.Notation.{notation_of};
     ghost use Rattle.gimli_line.specs.run.Execution.{ExecutedWell};
     ghost use Rattle.gimli_line.specs.run.InstructionReading.{extended_at};
 
@@ -51,7 +51,7 @@ impl LineRow {
         input: &mut R,
     ) -> Option<bool>
         ensures executed { IfSome result (λ made. ExecutedWell header.now.meaning.parameters
-            (extended_at (noted (R.big input.old) R.Offset.limit) header.now.meaning (R.bytes input.old))
+            (extended_at (notation_of (R.big input.old) R.Offset.limit) header.now.meaning (R.bytes input.old))
             (R.bytes input.new) self.old self.new made) }
         ensures none { IsNone result → self.new ≡ self.old }
         ensures order { R.big input.new ≡ R.big input.old }

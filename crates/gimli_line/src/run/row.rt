@@ -3,7 +3,7 @@
 ghost use Rattle.std.specs.Prelude.{◌≡◌, ◌<◌, ◌≤◌, ◌+◌, Bool, true, false, IfErr, IfOk, IfSome, IsNone, IsTrue, MatchOption, OnErr, OnOk, option_map};
 ghost use Rattle.std.specs.Int.NonZero.{non_zero_u64_get};
 ghost use Rattle.gimli_core.specs.Numbers.{is_address_size};
-ghost use Rattle.gimli_core.specs.Reading.{seen, sized_sum};
+ghost use Rattle.gimli_core.specs.Reading.{result_map, sized_sum};
 
 use crate::header::file_entry::FileEntry;
 use crate::header::parameters::Parameters;
@@ -17,8 +17,8 @@ use std::num::NonZeroU64;
 /// A row, or the registers on the way to one (DWARF 5, 6.2.2).
 #[derive(Clone, Copy, Debug, PartialEq, Eq)]
 pub struct LineRow {
-    /// The last set address hides what follows it.
-    pub(super) hidden: bool,
+    /// The last set address is a tombstone.
+    pub(super) tombstone: bool,
     pub(super) address: u64,
     pub(super) op_index: u64,
     pub(super) file: u64,
@@ -46,7 +46,7 @@ pub enum ColumnType {
 #[inline(always)]
 fn sum_of_size(address: u64, length: u64, size: u8) -> Result<u64>
     requires { IsTrue (is_address_size size) }
-    ensures { seen (λ sum. sum) result ≡ sized_sum address length size }
+    ensures { result_map (λ sum. sum) result ≡ sized_sum address length size }
 {
     let sum = address.wrapping_add(length);
     if address <= sum && size > 4 {
@@ -59,10 +59,10 @@ impl LineRow {
     ghost use Rattle.gimli_core.specs.Notation.{Notation};
     ghost use Rattle.gimli_line.specs.header.Header.{Header, file_of, own_file_of};
     ghost use Rattle.gimli_line.specs.header.Orders.{AreOneOrder};
-    ghost use Rattle.gimli_line.specs.run.Instruction.{ins_seen, makes_row, header_behind, InsHasOrder};
+    ghost use Rattle.gimli_line.specs.run.Instruction.{ins_seen, makes_row, header_after, InsHasOrder};
     ghost use Rattle.gimli_line.specs.header.File.{file_seen};
-    ghost use Rattle.gimli_line.specs.run.Machine.{initial, reset_row, rebased, IsAllowed, is_refused, stepped, with_register};
-    ghost use Rattle.gimli_line.specs.run.OperationPointer.{exceeds};
+    ghost use Rattle.gimli_line.specs.run.Machine.{initial, reset_row, rebase_of, IsAllowed, is_refused, step_of, with_register};
+    ghost use Rattle.gimli_line.specs.run.OperationPointer.{is_too_large};
     ghost use Rattle.gimli_line.specs.run.Execution.{ExecutedWell, OverflowIs, OtherRefusalIs};
     ghost use Rattle.gimli_line.specs.run.InstructionReading.{standard_at};
     ghost use Rattle.gimli_line.specs.run.Row.{column_number};
@@ -74,7 +74,7 @@ impl LineRow {
         ensures { result ≡ initial header.now.meaning.parameters }
     {
         LineRow {
-            hidden: false,
+            tombstone: false,
             address: 0,
             op_index: 0,
             file: 1,
@@ -191,16 +191,16 @@ impl LineRow {
         self.discriminator
     }
 
-    /// Whether the row is hidden.
-    pub(crate) fn is_hidden(&self) -> bool
-        ensures { result ≡ self.now.hidden }
+    /// Whether the row is under a tombstone.
+    pub(crate) fn is_under_tombstone(&self) -> bool
+        ensures { result ≡ self.now.tombstone }
     {
-        self.hidden
+        self.tombstone
     }
 
-    /// Executes an instruction, and says whether it makes a row, which may be hidden. A file that it defines is
-    /// added to the program. Refused by `AddressOverflow` where the address would pass the greatest one of its
-    /// size: the address stays then, and at a fixed advance op_index does too; else op_index goes on, and the line
+    /// Executes an instruction, and says whether it makes a row, which may be under a tombstone. A file that it
+    /// defines is added to the program. Refused by `AddressOverflow` where the address would pass the greatest one of
+    /// its size: the address stays then, and at a fixed advance op_index does too; else op_index goes on, and the line
     /// does at a special opcode. Refused by `OutOfMemory` where a file can't be added; nothing is changed then.
     /// Requires of a special opcode that it isn't below the opcode base of the program.
     pub fn execute<R: Reader, P: LineProgram<R>>(
@@ -212,11 +212,11 @@ impl LineRow {
             (ins_seen R.bytes R.Offset.number instruction) }
         ensures made { IfOk result
             (λ made. made ≡ makes_row (ins_seen R.bytes R.Offset.number instruction)) }
-        ensures step { OnOk result (self.new ≡ stepped (P.meaning program.old).parameters
+        ensures step { OnOk result (self.new ≡ step_of (P.meaning program.old).parameters
             (ins_seen R.bytes R.Offset.number instruction) self.old) }
         ensures fits { OnOk result (is_refused (P.meaning program.old).parameters
             (ins_seen R.bytes R.Offset.number instruction) self.old ≡ false) }
-        ensures files { OnOk result (P.meaning program.new ≡ header_behind P.appends
+        ensures files { OnOk result (P.meaning program.new ≡ header_after P.appends
             (ins_seen R.bytes R.Offset.number instruction) (P.meaning program.old)) }
         ensures overflow { IfErr result (OverflowIs (P.meaning program.old).parameters
             (ins_seen R.bytes R.Offset.number instruction) self.old self.new) }
@@ -245,7 +245,7 @@ impl LineRow {
         parameters: &Parameters,
     ) -> Result<()>
         requires { IsAllowed parameters.now (ins_seen R.bytes R.Offset.number instruction) }
-        ensures step { self.new ≡ stepped parameters.now (ins_seen R.bytes R.Offset.number instruction) self.old }
+        ensures step { self.new ≡ step_of parameters.now (ins_seen R.bytes R.Offset.number instruction) self.old }
         ensures fits { OnOk result
             (is_refused parameters.now (ins_seen R.bytes R.Offset.number instruction) self.old ≡ false) }
         ensures overflow { IfErr result (λ e. (e ≡ Error.AddressOverflow)
@@ -360,7 +360,8 @@ impl LineRow {
         }
     }
 
-    /// Does what `reset` does, out of line, for rows that are hidden: so the loop over common instructions is short.
+    /// Does what `reset` does, out of line, for rows that are under a tombstone: so the loop over common instructions
+    /// is short.
     #[inline(never)]
     pub(crate) fn reset_apart<R: Reader>(&mut self, header: &LineProgramHeader<R>)
         ensures { self.new ≡ reset_row header.now.meaning.parameters self.old }
@@ -368,12 +369,12 @@ impl LineRow {
         self.reset(header);
     }
 
-    /// Sets the address and op_index to 0, and hides nothing from here on, so that addresses count from a set
+    /// Sets the address and op_index to 0, and is no tombstone from here on, so that addresses count from a set
     /// address. Nothing else changes.
     pub fn rebase(&mut self)
-        ensures { self.new ≡ rebased self.old }
+        ensures { self.new ≡ rebase_of self.old }
     {
-        self.hidden = false;
+        self.tombstone = false;
         self.address = 0;
         self.op_index = 0;
     }
@@ -397,13 +398,13 @@ impl LineRow {
         operation_advance: u64,
         parameters: &Parameters,
     ) -> Result<()>
-        ensures step { self.new ≡ stepped parameters.now (LineInstruction.AdvancePc operation_advance) self.old }
+        ensures step { self.new ≡ step_of parameters.now (LineInstruction.AdvancePc operation_advance) self.old }
         ensures fits { OnOk result
             (is_refused parameters.now (LineInstruction.AdvancePc operation_advance) self.old ≡ false) }
         ensures overflow { IfErr result (λ e. (e ≡ Error.AddressOverflow)
             × (is_refused parameters.now (LineInstruction.AdvancePc operation_advance) self.old ≡ true)) }
     {
-        if self.hidden {
+        if self.tombstone {
             return Ok(());
         }
         let encoding = parameters.line_encoding;
@@ -422,11 +423,11 @@ impl LineRow {
 
     /// Adds to the address.
     fn add_to_address(&mut self, length: u64, parameters: &Parameters) -> Result<()>
-        ensures ok { OnOk result ((exceeds parameters.now
+        ensures ok { OnOk result ((is_too_large parameters.now
             (record { address = self.old.address + length; op_index = self.old.op_index }) ≡ false)
             × (self.new ≡ record self.old { address = self.old.address + length })) }
         ensures overflow { IfErr result (λ e. (e ≡ Error.AddressOverflow)
-            × (exceeds parameters.now
+            × (is_too_large parameters.now
             (record { address = self.old.address + length; op_index = self.old.op_index }) ≡ true)
             × (self.new ≡ self.old)) }
     {
@@ -437,12 +438,12 @@ impl LineRow {
     /// Adds bytes to the address, from operation 0 on (`DW_LNS_fixed_advance_pc` in DWARF 5, 6.2.5.2). The minimum
     /// instruction length has no part in it: it is for assemblers that can't know the lengths of instructions.
     fn exec_fixed_add_pc(&mut self, advance: u16, parameters: &Parameters) -> Result<()>
-        ensures step { self.new ≡ stepped parameters.now (LineInstruction.FixedAddPc advance) self.old }
+        ensures step { self.new ≡ step_of parameters.now (LineInstruction.FixedAddPc advance) self.old }
         ensures fits { OnOk result (is_refused parameters.now (LineInstruction.FixedAddPc advance) self.old ≡ false) }
         ensures overflow { IfErr result (λ e. (e ≡ Error.AddressOverflow)
             × (is_refused parameters.now (LineInstruction.FixedAddPc advance) self.old ≡ true)) }
     {
-        if self.hidden {
+        if self.tombstone {
             return Ok(());
         }
         self.add_to_address(u64::from(advance), parameters)?;
@@ -452,7 +453,7 @@ impl LineRow {
 
     /// Advances address and op_index as special opcode 255 does (`DW_LNS_const_add_pc` in DWARF 5, 6.2.5.2).
     pub(super) fn exec_const_add_pc(&mut self, parameters: &Parameters) -> Result<()>
-        ensures step { self.new ≡ stepped parameters.now LineInstruction.ConstAddPc self.old }
+        ensures step { self.new ≡ step_of parameters.now LineInstruction.ConstAddPc self.old }
         ensures fits { OnOk result (is_refused parameters.now LineInstruction.ConstAddPc self.old ≡ false) }
         ensures overflow { IfErr result (λ e. (e ≡ Error.AddressOverflow)
             × (is_refused parameters.now LineInstruction.ConstAddPc self.old ≡ true)) }
@@ -468,7 +469,7 @@ impl LineRow {
     pub(crate) fn exec_special_opcode(&mut self, opcode: u8, parameters: &Parameters) -> Result<()>
         requires { parameters.now.opcode_base ≤ opcode }
         ensures some { 0 < opcode }
-        ensures step { self.new ≡ stepped parameters.now (LineInstruction.Special opcode) self.old }
+        ensures step { self.new ≡ step_of parameters.now (LineInstruction.Special opcode) self.old }
         ensures fits { OnOk result (is_refused parameters.now (LineInstruction.Special opcode) self.old ≡ false) }
         ensures overflow { IfErr result (λ e. (e ≡ Error.AddressOverflow)
             × (is_refused parameters.now (LineInstruction.Special opcode) self.old ≡ true)) }
@@ -480,17 +481,17 @@ impl LineRow {
         self.apply_operation_advance(u64::from(adjusted_opcode / line_range), parameters)
     }
 
-    /// Sets the address, from operation 0 on; or hides what follows, where the address is below the one before it,
-    /// or stands for nothing (a tombstone). A linker that drops a function leaves its rows, and puts a value in the
-    /// place of their address: all ones, as LLVM's does and DWARF 6 asks; all ones less one, where all ones has a
-    /// meaning of its own; or 0 and what was added to it, as older ones do. Addresses of a sequence only grow
-    /// (DWARF 5, 6.2.5), so one that is below the last within a sequence is of a dropped function too.
+    /// Sets the address, from operation 0 on; or is a tombstone for what follows, where the address is below the one
+    /// before it, or stands for nothing (a tombstone). A linker that drops a function leaves its rows, and puts a
+    /// value in the place of their address: all ones, as LLVM's does and DWARF 6 asks; all ones less one, where all
+    /// ones has a meaning of its own; or 0 and what was added to it, as older ones do. Addresses of a sequence only
+    /// grow (DWARF 5, 6.2.5), so one that is below the last within a sequence is of a dropped function too.
     pub(super) fn exec_set_address(&mut self, address: u64, parameters: &Parameters)
-        ensures { self.new ≡ stepped parameters.now (LineInstruction.SetAddress address) self.old }
+        ensures { self.new ≡ step_of parameters.now (LineInstruction.SetAddress address) self.old }
     {
         let min_tombstone = u64::min_tombstone(parameters.encoding.address_size);
-        self.hidden = address < self.address || address >= min_tombstone;
-        if !self.hidden {
+        self.tombstone = address < self.address || address >= min_tombstone;
+        if !self.tombstone {
             self.address = address;
             self.op_index = 0;
         }

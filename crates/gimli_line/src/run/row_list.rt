@@ -19,7 +19,7 @@ struct NarrowRow {
     isa: u32,
     discriminator: u32,
     op_index: u8,
-    hidden: bool,
+    tombstone: bool,
     is_stmt: bool,
     basic_block: bool,
     end_sequence: bool,
@@ -56,7 +56,7 @@ impl NarrowRow {
             isa: row.isa as u32,
             discriminator: row.discriminator as u32,
             op_index: row.op_index as u8,
-            hidden: row.hidden,
+            tombstone: row.tombstone,
             is_stmt: row.is_stmt,
             basic_block: row.basic_block,
             end_sequence: row.end_sequence,
@@ -70,7 +70,7 @@ impl NarrowRow {
         ensures { result ≡ row_of_narrow self.now }
     {
         LineRow {
-            hidden: self.hidden,
+            tombstone: self.tombstone,
             address: self.address,
             op_index: u64::from(self.op_index),
             file: u64::from(self.file),

@@ -11,7 +11,7 @@ use std::marker::Model;
 enum Step {
     /// Nothing: there was no instruction.
     Done,
-    /// A row was made that isn't hidden.
+    /// A row was made that isn't under a tombstone.
     Made,
     /// Instructions were executed, and no such row was made.
     More,
@@ -32,13 +32,13 @@ pub type OneShotLineRows<R> = LineRows<R, IncompleteLineProgram<R>>;
 pub type ResumedLineRows<'program, R> = LineRows<R, &'program CompleteLineProgram<R>>;
 
 impl<R: Reader, P: LineProgram<R>> Model for LineRows<R, P> {
-    ghost use Rattle.gimli_line.specs.header.Header.{bare};
+    ghost use Rattle.gimli_line.specs.header.Header.{without_files};
     ghost use Rattle.gimli_line.specs.run.RunState.{RunState};
 
     ghost Value = { RunState };
 
     ghost view = { λ a. record {
-      fixed = bare (P.meaning a.program);
+      fixed = without_files (P.meaning a.program);
       files = (P.meaning a.program).files;
       appends = P.appends;
       notation = P.notation a.program;
@@ -111,14 +111,14 @@ impl<R: Reader, P: LineProgram<R>> LineRows<R, P> {
     ghost use Rattle.std.specs.Borrow.{sem};
     ghost use Rattle.std.specs.Io.BufRead.{Rests};
     ghost use Rattle.gimli_line.specs.run.Events.{row as row_event};
-    ghost use Rattle.gimli_line.specs.header.Header.{bare, HasOneOrder};
+    ghost use Rattle.gimli_line.specs.header.Header.{without_files, HasOneOrder};
     ghost use Rattle.gimli_line.specs.header.Orders.{header_orders};
-    ghost use Rattle.gimli_line.specs.run.Progress.{ready, Progress};
-    ghost use Rattle.gimli_line.specs.run.Rows.{started, GivesRowsAlone, IsOfOneOrder, KeepsHeader, StepIs, NextIs, RowIs, EndIs, FaultIs};
+    ghost use Rattle.gimli_line.specs.run.Progress.{with_reset_row, Progress};
+    ghost use Rattle.gimli_line.specs.run.Rows.{start_of_run, GivesRowsAlone, IsOfOneOrder, KeepsHeader, StepIs, NextIs, RowIs, EndIs, FaultIs};
 
     /// The rows of these instructions of a program, from the start of a sequence on.
     pub(crate) fn start(program: P, instructions: LineInstructions<R>) -> Self
-        ensures { result ≡ started P.appends (P.meaning program) (P.notation program) (P.offset program)
+        ensures { result ≡ start_of_run P.appends (P.meaning program) (P.notation program) (P.offset program)
             (P.orders program) instructions }
     {
         let row = LineRow::new(program.header());
@@ -131,7 +131,7 @@ impl<R: Reader, P: LineProgram<R>> LineRows<R, P> {
 
     /// The header, with the files that were defined so far.
     pub fn header(&self) -> &LineProgramHeader<R>
-        ensures header { bare result.now.meaning ≡ self.now.fixed }
+        ensures header { without_files result.now.meaning ≡ self.now.fixed }
         ensures files { result.now.meaning.files ≡ self.now.files }
         ensures notation { result.now.notation ≡ self.now.notation }
         ensures offset { R.Offset.number result.now.offset.0 ≡ self.now.offset }
@@ -141,16 +141,16 @@ impl<R: Reader, P: LineProgram<R>> LineRows<R, P> {
         self.program.header()
     }
 
-    /// The next row that isn't hidden, with the header as it is there; None where the program has no more, and the
-    /// header has all files then. Refused as an instruction is, or by `OutOfMemory` where it defines a file: the
-    /// answer is None after such a refusal, as it is after the end. Refused by `AddressOverflow` too, and then goes
-    /// on after it. A program whose files are complete isn't refused for memory.
+    /// The next row that isn't under a tombstone, with the header as it is there; None where the program has no more,
+    /// and the header has all files then. Refused as an instruction is, or by `OutOfMemory` where it defines a file:
+    /// the answer is None after such a refusal, as it is after the end. Refused by `AddressOverflow` too, and then
+    /// goes on after it. A program whose files are complete isn't refused for memory.
     pub fn next_row(&mut self) -> Result<Option<(&LineProgramHeader<R>, &LineRow)>>
         ensures* after { sem 𝓛 (Rests ⟦<LineRows<R, P> as Lent>⟧.lent self.entry
             (λ new. KeepsHeader self.old new × NextIs self.old new result)) }
         ensures ended { self.old.unread.bytes ≡ [] → result ≡ Ok None }
         ensures header { IfOk result (λ found. IfSome found
-            (λ next. bare next.0.now.meaning ≡ self.old.fixed)) }
+            (λ next. without_files next.0.now.meaning ≡ self.old.fixed)) }
         ensures notation { IfOk result (λ found. IfSome found
             (λ next. next.0.now.notation ≡ self.old.notation)) }
         ensures offset { IfOk result (λ found. IfSome found
@@ -184,7 +184,7 @@ impl<R: Reader, P: LineProgram<R>> LineRows<R, P> {
 
     /// The program, with the files that were defined so far.
     pub(crate) fn into_program(self) -> P
-        ensures header { bare (P.meaning result) ≡ self.fixed }
+        ensures header { without_files (P.meaning result) ≡ self.fixed }
         ensures files { (P.meaning result).files ≡ self.files }
         ensures notation { P.notation result ≡ self.notation }
         ensures offset { P.offset result ≡ self.offset }
@@ -193,13 +193,13 @@ impl<R: Reader, P: LineProgram<R>> LineRows<R, P> {
         self.program
     }
 
-    /// Executes instructions up to the next row that isn't hidden, and says whether there is one.
+    /// Executes instructions up to the next row that isn't under a tombstone, and says whether there is one.
     #[inline(always)]
     pub(crate) fn advance(&mut self) -> Result<bool>
         ensures row { IfOk result (λ found. MatchBool found
             (RowIs self.old self.new self.new.row self.new.files)
             (EndIs self.old self.new)) }
-        ensures err { IfErr result (FaultIs (ready self.old) self.new) }
+        ensures err { IfErr result (FaultIs (with_reset_row self.old) self.new) }
         ensures fixed { self.new.fixed ≡ self.old.fixed }
         ensures appends { self.new.appends ≡ self.old.appends }
         ensures notation { self.new.notation ≡ self.old.notation }
@@ -207,8 +207,8 @@ impl<R: Reader, P: LineProgram<R>> LineRows<R, P> {
         ensures order { IsOfOneOrder self.old → IsOfOneOrder self.new }
         ensures handed { self.new.orders.handed ≡ self.old.orders.handed }
         ensures passes { IfOk result (λ found. MatchBool found
-            (Progress (ready self.old) (ready self.new) (row_event self.new.row ∷ []))
-            ((self.new.unread.bytes ≡ []) × Progress (ready self.old) self.new [])) }
+            (Progress (with_reset_row self.old) (with_reset_row self.new) (row_event self.new.row ∷ []))
+            ((self.new.unread.bytes ≡ []) × Progress (with_reset_row self.old) self.new [])) }
     {
         self.row.reset(self.program.header());
         'instructions: loop {
@@ -221,7 +221,7 @@ impl<R: Reader, P: LineProgram<R>> LineRows<R, P> {
         }
     }
 
-    /// Executes instructions that are met most, from their bytes, up to the first row that isn't hidden,
+    /// Executes instructions that are met most, from their bytes, up to the first row that isn't under a tombstone,
     /// or up to one of another kind, and that one too. What is read from stands in a variable of its
     /// own over the loop, so that it stays in the processor's registers.
     #[inline(always)]
@@ -246,7 +246,7 @@ impl<R: Reader, P: LineProgram<R>> LineRows<R, P> {
                 Ok(None) => break,
                 Ok(Some(false)) => {}
                 Ok(Some(true)) => {
-                    if !self.row.is_hidden() {
+                    if !self.row.is_under_tombstone() {
                         self.instructions = instructions;
                         return Ok(Step::Made);
                     }
@@ -295,7 +295,7 @@ impl<R: Reader, P: LineProgram<R>> LineRows<R, P> {
         if !made {
             return Ok(Step::More);
         }
-        if !self.row.is_hidden() {
+        if !self.row.is_under_tombstone() {
             return Ok(Step::Made);
         }
         self.row.reset(self.program.header());
@@ -331,7 +331,7 @@ impl<R: Reader, P: LineProgram<R>> LineRows<R, P> {
         if !made {
             return Ok(Step::More);
         }
-        if !self.row.is_hidden() {
+        if !self.row.is_under_tombstone() {
             return Ok(Step::Made);
         }
         self.row.reset(self.program.header());
@@ -340,7 +340,7 @@ impl<R: Reader, P: LineProgram<R>> LineRows<R, P> {
 
     /// The header and the row, as they are.
     fn current(&self) -> (&LineProgramHeader<R>, &LineRow)
-        ensures header { bare result.0.now.meaning ≡ self.now.fixed }
+        ensures header { without_files result.0.now.meaning ≡ self.now.fixed }
         ensures files { result.0.now.meaning.files ≡ self.now.files }
         ensures notation { result.0.now.notation ≡ self.now.notation }
         ensures offset { R.Offset.number result.0.now.offset.0 ≡ self.now.offset }

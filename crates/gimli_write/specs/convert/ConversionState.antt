@@ -3,7 +3,7 @@ use Rattle.std.specs.Prelude.{◌≡◌, ◌⊎◌, ℕ, true, List, Option, Som
 use Rattle.std.specs.declared.vec.Vec.{Vec}
 use Rattle.std.specs.declared.alloc.Global.{Global}
 use Rattle.gimli_bytes.specs.declared.address.Address.{Address}
-use Rattle.gimli_build.specs.Built.{Built, previous_place}
+use Rattle.gimli_build.specs.Built.{Built, previous_position}
 use Rattle.gimli_build.specs.Conditions.{CanBuild}
 use Rattle.gimli_build.specs.declared.built.row.LineRow.{LineRow}
 use Rattle.gimli_build.specs.declared.built.items.BuiltItem.TheVariants.{Row}
@@ -13,10 +13,10 @@ use Rattle.gimli_write.specs.declared.convert_error.ConvertError.TheVariants.{Ou
 use Rattle.gimli_write.specs.declared.convert.run.SourceRow.{SourceRow}
 use Rattle.gimli_write.specs.declared.convert.offer.ConvertLineRow.{ConvertLineRow}
 use Rattle.gimli_write.specs.convert.Lists.{Converted, Lists, lists_with}
-use Rattle.gimli_write.specs.convert.Offers.{Reading, ends, stops, offers, address_offered, place_offered, defines_first, after_definitions, Reads}
+use Rattle.gimli_write.specs.convert.Offers.{Reading, ends, stops, offers, address_offered, row_or_end_offered, defines_first, after_definitions, Reads}
 use Rattle.gimli_write.specs.convert.SourceState.{SourceState, reading_left}
-use Rattle.gimli_write.specs.convert.Feeding.{Conversion, converted, without_items}
-use Rattle.gimli_write.specs.convert.Preparation.{prepared}
+use Rattle.gimli_write.specs.convert.Feeding.{Conversion, outcome_of, without_items}
+use Rattle.gimli_write.specs.convert.Preparation.{lists_of_header}
 use Rattle.gimli_write.specs.convert.Sources.{Source}
 use Rattle.gimli_write.specs.convert.Texts.{IsRefusedBy}
 
@@ -33,8 +33,8 @@ pub record ConversionState : Type 0 where
   pub failed : Option ConvertError
 
 -- nothing is read yet
-abbrev pub unread : Sections → SourceState → Converted → ConversionState
-unread sections source lists = record {
+abbrev pub start_of_conversion : Sections → SourceState → Converted → ConversionState
+start_of_conversion sections source lists = record {
   sections = sections;
   source = source;
   lists = lists;
@@ -46,18 +46,18 @@ unread sections source lists = record {
 -- ---- what is still to be read
 
 -- the lists of a reading, which doesn't depend on what was built meanwhile
-abbrev pub plain : Lists → Lists
-plain lists = record lists { program = without_items lists.program }
+abbrev pub without_built : Lists → Lists
+without_built lists = record lists { program = without_items lists.program }
 
 abbrev pub lists_of : ConversionState → List (List ℕ) → Lists
-lists_of c line_strings = plain (lists_with line_strings c.lists)
+lists_of c line_strings = without_built (lists_with line_strings c.lists)
 
 abbrev pub version_of_source : ConversionState → ℕ
 version_of_source c = c.source.header.parameters.encoding.version
 
-abbrev pub held_first : ℕ → Lists → Option SourceRow → Reading → Reading
-held_first version lists (Some r) rest = place_offered version lists r rest
-held_first version lists None rest = rest
+abbrev pub after_held : ℕ → Lists → Option SourceRow → Reading → Reading
+after_held version lists (Some r) rest = row_or_end_offered version lists r rest
+after_held version lists None rest = rest
 
 -- after a refusal, that refusal
 abbrev pub unless_failed : Option ConvertError → Reading → Reading
@@ -72,7 +72,7 @@ abbrev pub still_to_read : ConversionState → List (List ℕ) → Reading
 still_to_read c line_strings =
     let lists = lists_of c line_strings in
     unless_failed c.failed (address_offered c.address lists
-    (held_first (version_of_source c) lists c.held (source_left c line_strings)))
+    (after_held (version_of_source c) lists c.held (source_left c line_strings)))
 
 -- ---- reads
 
@@ -85,11 +85,11 @@ HandsOut old None lists rest = (after_definitions old ≡ ends lists) × (rest �
 -- the same of a row of the source, with the address that was set for it
 abbrev pub TakesRow : ℕ → Reading → Option SourceRow → Lists → Reading → Type 0
 TakesRow version old (Some r) lists rest =
-    after_definitions old ≡ address_offered r.set_address lists (place_offered version lists r rest)
+    after_definitions old ≡ address_offered r.set_address lists (row_or_end_offered version lists r rest)
 TakesRow version old None lists rest = (after_definitions old ≡ ends lists) × (rest ≡ ends lists)
 
--- a read is refused: as what was to be read is, after the files that are defined before it, or for want of memory where a
--- file is defined before anything else is read
+-- a read is refused: as what was to be read is, after the files that are defined before it, or for `OutOfMemory` where
+-- a file is defined before anything else is read
 abbrev pub IsReadRefusal : Reading → ConvertError → Type 0
 IsReadRefusal old e = (after_definitions old ≡ stops e) ⊎ ((e ≡ OutOfMemory) × (defines_first old ≡ true))
 
@@ -101,7 +101,7 @@ AddsFiles old new = new ≡ record old { files = new.files }
 
 -- this row can be built after those of the program
 abbrev pub CanBuildRow : Built → LineRow → Type 0
-CanBuildRow p row = CanBuild p.line_encoding (previous_place p.items) (Row row)
+CanBuildRow p row = CanBuild p.line_encoding (previous_position p.items) (Row row)
 
 -- a call is refused: what the builder asks doesn't hold, or, where it does, memory is missing
 abbrev pub IsBuildRefusal : Type 0 → ConvertError → Type 0
@@ -116,11 +116,11 @@ with_program p c = record c { lists = record c.lists { program = p } }
 -- the directories and files of a source are added, by the steps of its header; the old line strings are those before it,
 -- the new ones those after it
 abbrev pub IsPrepared : Source → List (List ℕ) → ConversionState → List (List ℕ) → Type 0
-IsPrepared s old c new = prepared s.sections s.header s.given old ≡ Ok (lists_with new c.lists)
+IsPrepared s old c new = lists_of_header s.sections s.header s.given old ≡ Ok (lists_with new c.lists)
 
--- why they aren't added: what refuses a step, or want of memory
+-- why they aren't added: what refuses a step, or `OutOfMemory`
 abbrev pub IsHeaderRefusal : Source → List (List ℕ) → ConvertError → Type 0
-IsHeaderRefusal s line_strings = IsRefusedBy (prepared s.sections s.header s.given line_strings)
+IsHeaderRefusal s line_strings = IsRefusedBy (lists_of_header s.sections s.header s.given line_strings)
 
 -- the whole program of a source is still to be read, with these lists at its start
 abbrev pub ReadsWhole : Source → ConversionState → List (List ℕ) → Type 0
@@ -131,8 +131,8 @@ ReadsWhole s c line_strings =
 -- its program
 abbrev pub IsConverted : (ℕ → Option Address) → Source → List (List ℕ) → Result Conversion ConvertError → Type 0
 IsConverted convert_address s line_strings outcome =
-    (reading : Reading) × MatchResult (prepared s.sections s.header s.given line_strings)
-    (λ first. Reads s.notation s.sections s.header first s.header.program reading × (converted convert_address reading first.program ≡ outcome))
+    (reading : Reading) × MatchResult (lists_of_header s.sections s.header s.given line_strings)
+    (λ first. Reads s.notation s.sections s.header first s.header.program reading × (outcome_of convert_address reading first.program ≡ outcome))
     (λ e. outcome ≡ Err e)
 
 -- ---- reads, from one state to the next
@@ -157,21 +157,21 @@ abbrev pub ConvertsTo : (ℕ → Option Address → Type 0) → Source → List 
 ConvertsTo map s old answer new =
     (g : ℕ → Option Address) → AnswersAs map g → IsConverted g s old (Ok (conversion_of answer new))
 
--- why a source isn't converted by such a map: what refuses it, or want of memory
+-- why a source isn't converted by such a map: what refuses it, or `OutOfMemory`
 abbrev pub IsConvertRefusal : (ℕ → Option Address → Type 0) → Source → List (List ℕ) → ConvertError → Type 0
 IsConvertRefusal map s line_strings e =
     (g : ℕ → Option Address) → AnswersAs map g → (e ≡ OutOfMemory) ⊎ IsConverted g s line_strings (Err e)
 
 -- what comes of all that is still to be read
 abbrev pub rest_converted : (ℕ → Option Address) → ConversionState → List (List ℕ) → Result Conversion ConvertError
-rest_converted convert_address c line_strings = converted convert_address (still_to_read c line_strings) c.lists.program
+rest_converted convert_address c line_strings = outcome_of convert_address (still_to_read c line_strings) c.lists.program
 
 -- by such a map all that is still to be read is converted to this answer
 abbrev pub RestConvertsTo : (ℕ → Option Address → Type 0) → ConversionState → List (List ℕ) → Built × Vec ℕ Global → List (List ℕ) → Type 0
 RestConvertsTo map c old answer new =
     (g : ℕ → Option Address) → AnswersAs map g → rest_converted g c old ≡ Ok (conversion_of answer new)
 
--- why it isn't: what refuses it, or want of memory
+-- why it isn't: what refuses it, or `OutOfMemory`
 abbrev pub IsRestRefusal : (ℕ → Option Address → Type 0) → ConversionState → List (List ℕ) → ConvertError → Type 0
 IsRestRefusal map c line_strings e =
     (g : ℕ → Option Address) → AnswersAs map g → IsRefusedBy (rest_converted g c line_strings) e

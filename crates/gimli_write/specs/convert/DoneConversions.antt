@@ -11,7 +11,7 @@ use Rattle.gimli_build.specs.Built.{Built}
 use Rattle.gimli_build.specs.LineText.{bytes_in}
 use Rattle.gimli_build.specs.ReadsBack.{ReadsBack}
 use Rattle.gimli_build.specs.Texts.{Sections, OneByOne}
-use Rattle.gimli_build.specs.Version5Tables.{line_strings_behind}
+use Rattle.gimli_build.specs.Version5Tables.{line_strings_after}
 use Rattle.gimli_write.specs.RoundTrip.{built_file}
 use Rattle.gimli_write.specs.convert.ConversionState.{IsConverted}
 use Rattle.gimli_write.specs.convert.Feeding.{Conversion}
@@ -68,6 +68,6 @@ SourceFilesAre d files = FilesAtEnd d.source.notation true d.source.header d.sou
 abbrev pub AreFilesReadBack : DoneConversion → List (List ℕ) → List File → Type 0
 AreFilesReadBack d strings files =
     let p = d.outcome.program in
-    let line_strings = line_strings_behind p d.outcome.line_strings in
+    let line_strings = line_strings_after p d.outcome.line_strings in
     AreFilesReadAs d.source.sections d.source.header files d.outcome.file_ids
     (map (bytes_in strings line_strings) p.directories) (map (built_file p strings line_strings) p.files)

@@ -4,7 +4,7 @@ use Rattle.std.specs.Prelude.{ℕ, ◌+◌, ◌-◌, ◌*◌, ◌/◌, ◌%◌, 
 use Rattle.gimli_core.specs.declared.common.LineEncoding.{LineEncoding}
 use Rattle.gimli_bytes.specs.declared.address.Address.{Address}
 use Rattle.gimli_build.specs.Calls.{after_address, after_row, after_end}
-use Rattle.gimli_build.specs.Built.{Built, previous_place}
+use Rattle.gimli_build.specs.Built.{Built, previous_position}
 use Rattle.gimli_build.specs.Rows.{initial_row}
 use Rattle.gimli_build.specs.declared.built.items.BuiltItem.{BuiltItem}
 use Rattle.gimli_build.specs.declared.built.items.BuiltItem.TheVariants.{SetAddress, Row, End}
@@ -35,13 +35,13 @@ can_build e place (End offset op_index) = can_follow e place offset op_index
 
 -- an item that is built only within the builder's conditions
 abbrev pub if_built : Built → BuiltItem → Built → Result Built ConvertError
-if_built p item next = if can_build p.line_encoding (previous_place p.items) item then Ok next else Err UnsupportedLineInstruction
+if_built p item next = if can_build p.line_encoding (previous_position p.items) item then Ok next else Err UnsupportedLineInstruction
 
 -- the program after what is read, where this maps the addresses of the source
-abbrev pub fed : (ℕ → Option Address) → ConvertLineRow → Built → Result Built ConvertError
-fed convert_address (offer.SetAddress a) p = ok_or (convert_address a) InvalidAddress >>= λ mapped. Ok (after_address mapped p)
-fed convert_address (offer.Row r) p = if_built p (Row r) (after_row r p)
-fed convert_address (offer.EndSequence offset) p = if_built p (End offset p.row.op_index) (after_end offset p)
+abbrev pub after_item : (ℕ → Option Address) → ConvertLineRow → Built → Result Built ConvertError
+after_item convert_address (offer.SetAddress a) p = ok_or (convert_address a) InvalidAddress >>= λ mapped. Ok (after_address mapped p)
+after_item convert_address (offer.Row r) p = if_built p (Row r) (after_row r p)
+after_item convert_address (offer.EndSequence offset) p = if_built p (End offset p.row.op_index) (after_end offset p)
 
 -- ---- all of them
 
@@ -56,18 +56,18 @@ abbrev pub with_tables : Lists → Built → Built
 with_tables lists p = record p { directories = lists.program.directories; files = lists.program.files }
 
 -- at the end no sequence may be open
-abbrev pub ended : Lists → Built → Result Conversion ConvertError
-ended lists p =
+abbrev pub outcome_at_end : Lists → Built → Result Conversion ConvertError
+outcome_at_end lists p =
     if p.in_sequence then Err MissingLineEndSequence
     else Ok (record { program = with_tables lists p; file_ids = lists.file_ids; line_strings = lists.line_strings })
 
 -- what comes of a program and a reading, to its end or to the first refusal: of the map, of the builder's conditions, of
 -- the reading, or of a sequence that is left open
-abbrev pub converted : (ℕ → Option Address) → Reading → Built → Result Conversion ConvertError
-converted convert_address (ends lists) p = ended lists p
-converted convert_address (stops e) p = Err e
-converted convert_address (defines rest) p = converted convert_address rest p
-converted convert_address (offers item lists rest) p = fed convert_address item (with_tables lists p) >>= λ next. converted convert_address rest next
+abbrev pub outcome_of : (ℕ → Option Address) → Reading → Built → Result Conversion ConvertError
+outcome_of convert_address (ends lists) p = outcome_at_end lists p
+outcome_of convert_address (stops e) p = Err e
+outcome_of convert_address (defines rest) p = outcome_of convert_address rest p
+outcome_of convert_address (offers item lists rest) p = after_item convert_address item (with_tables lists p) >>= λ next. outcome_of convert_address rest next
 
 -- ---- how contracts start it
 

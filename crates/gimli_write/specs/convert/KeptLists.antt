@@ -1,15 +1,15 @@
 -- The files of a conversion after a read: those that were there stay, and at the end, or where a read is refused for
--- another cause than want of memory, all are there that its source defines before. And the program can be written,
+-- another cause than `OutOfMemory`, all are there that its source defines before. And the program can be written,
 -- whatever was read.
 use Rattle.std.specs.Prelude.{◌≡◌, ℕ, if◌then◌else◌, is_some, List}
 use Rattle.gimli_build.specs.Built.{Built}
 use Rattle.gimli_build.specs.Conditions.{CanWrite}
 use Rattle.gimli_build.specs.Tables.{keys_of, Keeps}
 use Rattle.gimli_write.specs.convert.Lists.{Converted, Lists, lists_with}
-use Rattle.gimli_write.specs.convert.SourceState.{started}
-use Rattle.gimli_write.specs.convert.LastLists.{lists_at_last, behind_row}
+use Rattle.gimli_write.specs.convert.SourceState.{start_of_source}
+use Rattle.gimli_write.specs.convert.LastLists.{lists_at_last, lists_after_row}
 use Rattle.gimli_write.specs.convert.Sources.{Source}
-use Rattle.gimli_write.specs.convert.ConversionState.{ConversionState, unread, version_of_source}
+use Rattle.gimli_write.specs.convert.ConversionState.{ConversionState, start_of_conversion, version_of_source}
 
 -- a file that was there keeps its id, and its number in the source; the ids of directories stay
 pub record KeepsFiles (old new : Converted) : Type 0 where
@@ -22,11 +22,11 @@ abbrev pub source_last : ConversionState → List (List ℕ) → Lists
 source_last c line_strings = lists_at_last c.sections c.source (lists_with line_strings c.lists)
 
 -- those that a conversion is left with: all files are added that its source defines before it ends, or before the first
--- refusal that isn't want of memory. After a refusal they are those that it has
+-- refusal that isn't `OutOfMemory`. After a refusal they are those that it has
 abbrev pub last_lists : ConversionState → List (List ℕ) → Lists
 last_lists c line_strings =
     let now = lists_with line_strings c.lists in
-    if is_some c.failed then now else behind_row (version_of_source c) now c.held (source_last c line_strings)
+    if is_some c.failed then now else lists_after_row (version_of_source c) now c.held (source_last c line_strings)
 
 -- a conversion has the lists that it was to be left with
 abbrev pub IsAtLast : ConversionState → List (List ℕ) → ConversionState → List (List ℕ) → Type 0
@@ -46,4 +46,4 @@ pub record StaysWritable (old : Converted) (old_strings : List (List ℕ)) (new 
 
 -- nothing of the program of a source is read yet
 abbrev pub IsUnread : Source → ConversionState → Type 0
-IsUnread s c = c ≡ unread s.sections (started s.header (record { bytes = s.header.program; notation = s.notation })) c.lists
+IsUnread s c = c ≡ start_of_conversion s.sections (start_of_source s.header (record { bytes = s.header.program; notation = s.notation })) c.lists

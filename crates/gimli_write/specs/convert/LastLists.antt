@@ -10,8 +10,8 @@ use Rattle.gimli_write.specs.declared.convert.run.SourceRow.{SourceRow}
 use Rattle.gimli_write.specs.declared.convert.run.SourceStep.{SourceStep}
 use Rattle.gimli_write.specs.declared.convert.run.SourceStep.TheVariants.{Done, More, Defines, Made}
 use Rattle.gimli_write.specs.convert.Lists.{Lists, file_added}
-use Rattle.gimli_write.specs.convert.Offers.{file_id, defined}
-use Rattle.gimli_write.specs.convert.SourceState.{SourceState, row_made, state_behind}
+use Rattle.gimli_write.specs.convert.Offers.{file_id, lists_after_definition}
+use Rattle.gimli_write.specs.convert.SourceState.{SourceState, row_made, state_after}
 
 -- no file has the number of a row; an end has no file
 abbrev pub lacks_file : ℕ → Lists → SourceRow → Bool
@@ -21,7 +21,7 @@ lacks_file version lists r = not r.row.end_sequence && is_err (file_id version l
 abbrev pub refuses : SourceState → Lists → Ins → Bool
 refuses s lists i =
     is_refused s.header.parameters i s.row
-    || (makes_row i && not s.row.hidden && lacks_file s.header.parameters.encoding.version lists (row_made s i))
+    || (makes_row i && not s.row.tombstone && lacks_file s.header.parameters.encoding.version lists (row_made s i))
 
 -- these lists where a step is refused, else what comes after it
 abbrev pub unless_refused : Lists → Result Lists ConvertError → (Lists → Lists) → Lists
@@ -33,16 +33,16 @@ abbrev pub lists_after : Sections → SourceState → Lists → List Ins → Lis
 lists_after sections s lists [] = lists
 lists_after sections s lists (i ∷ list) =
     if refuses s lists i then lists
-    else unless_refused lists (defined sections lists i) (λ next. lists_after sections (state_behind i s) next list)
+    else unless_refused lists (lists_after_definition sections lists i) (λ next. lists_after sections (state_after i s) next list)
 
 -- the lists after all that is unread, or at what is refused of it
 abbrev pub lists_at_last : Sections → SourceState → Lists → Lists
 lists_at_last sections s lists = lists_after sections s lists (decoded_at s.unread.notation s.header s.unread.bytes).0
 
 -- the same where a row, if there is one, comes first
-abbrev pub behind_row : ℕ → Lists → Option SourceRow → Lists → Lists
-behind_row version lists (Some r) rest = if lacks_file version lists r then lists else rest
-behind_row version lists None rest = rest
+abbrev pub lists_after_row : ℕ → Lists → Option SourceRow → Lists → Lists
+lists_after_row version lists (Some r) rest = if lacks_file version lists r then lists else rest
+lists_after_row version lists None rest = rest
 
 module _ {R Offset Endian : Type 0} (bytes : R → List ℕ) (number : Offset → ℕ) where
   -- the same from a step on, after which this state is
@@ -50,4 +50,4 @@ module _ {R Offset Endian : Type 0} (bytes : R → List ℕ) (number : Offset �
   step_lists sections lists Done s = lists
   step_lists sections lists More s = lists_at_last sections s lists
   step_lists sections lists (Defines f) s = unless_refused lists (file_added sections lists (file_seen bytes number f)) (λ next. lists_at_last sections s next)
-  step_lists sections lists (Made r) s = behind_row s.header.parameters.encoding.version lists (Some r) (lists_at_last sections s lists)
+  step_lists sections lists (Made r) s = lists_after_row s.header.parameters.encoding.version lists (Some r) (lists_at_last sections s lists)

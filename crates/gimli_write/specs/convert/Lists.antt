@@ -4,7 +4,7 @@ use Rattle.std.specs.Option.{option_map_or}
 use Rattle.gimli_core.specs.Values.{Value}
 use Rattle.gimli_line.specs.header.File.{File}
 use Rattle.gimli_build.specs.LineText.{made_text, made_table}
-use Rattle.gimli_build.specs.Tables.{FileKey, with_directory, place_of_directory, with_file, place_of_file}
+use Rattle.gimli_build.specs.Tables.{FileKey, with_directory, index_of_directory, with_file, index_of_file}
 use Rattle.gimli_build.specs.Built.{Built}
 use Rattle.gimli_build.specs.Texts.{Sections}
 use Rattle.gimli_write.specs.declared.convert_error.ConvertError.{ConvertError}
@@ -45,7 +45,7 @@ with_path lists path =
     let text = made_text (version_of lists) lists.line_strings path in
     record lists {
       program = record lists.program { directories = with_directory lists.program.directories text };
-      directory_ids = lists.directory_ids ++ place_of_directory lists.program.directories text ∷ [];
+      directory_ids = lists.directory_ids ++ index_of_directory lists.program.directories text ∷ [];
       line_strings = made_table (version_of lists) lists.line_strings path;
     }
 
@@ -80,7 +80,7 @@ with_parts lists f parts =
         files = with_file lists.program.files key
             (Some (record { timestamp = f.timestamp; size = f.size; md5 = f.md5; source = option_map (made paths) parts.source }));
       };
-      file_ids = lists.file_ids ++ place_of_file lists.program.files key ∷ [];
+      file_ids = lists.file_ids ++ index_of_file lists.program.files key ∷ [];
       line_strings = option_map_or (after paths) parts.source paths;
     }
 

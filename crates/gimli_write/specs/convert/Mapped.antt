@@ -16,7 +16,7 @@ use Rattle.gimli_line.specs.run.Events.{Events, row}
 use Rattle.gimli_line.specs.run.EventsWithFiles.{FilesAtEnd}
 use Rattle.gimli_line.specs.run.Instruction.{Ins, is_end, makes_row}
 use Rattle.gimli_line.specs.run.InstructionGrammar.{Decodes}
-use Rattle.gimli_line.specs.run.OperationPointer.{is_hidden}
+use Rattle.gimli_line.specs.run.OperationPointer.{is_under_tombstone}
 use Rattle.gimli_build.specs.Built.{Built, address_value}
 use Rattle.gimli_build.specs.FileNumber.{file_number}
 use Rattle.gimli_build.specs.LineText.{LineText, bytes_in}
@@ -39,23 +39,23 @@ use Rattle.gimli_write.specs.convert.ConversionState.{AnswersAs, conversion_of}
 abbrev pub MapsToItself : (ℕ → Option Address) → Type 0
 MapsToItself convert_address = (a : ℕ) → convert_address a ≡ Some (Constant a)
 
--- a place of the sequence that ends this past made a row that isn't hidden
+-- a place of the sequence that ends this past made a row that isn't under a tombstone
 abbrev pub gave_row : Parameters → List Ins → Bool
 gave_row parameters [] = false
-gave_row parameters (i ∷ past) = if is_end i then false else ((makes_row i && not (is_hidden parameters past)) || gave_row parameters past)
+gave_row parameters (i ∷ past) = if is_end i then false else ((makes_row i && not (is_under_tombstone parameters past)) || gave_row parameters past)
 
--- none of these instructions after a past ends a sequence hidden that gave a row
-abbrev pub SeesEndsBehind : Parameters → List Ins → List Ins → Type 0
-SeesEndsBehind parameters past [] = Unit {0}
-SeesEndsBehind parameters past (i ∷ list) =
-    (is_end i ≡ true → is_hidden parameters past ≡ true → gave_row parameters past ≡ false) × SeesEndsBehind parameters (i ∷ past) list
+-- none of these instructions after a past ends a sequence under a tombstone that gave a row
+abbrev pub SeesEndsAfter : Parameters → List Ins → List Ins → Type 0
+SeesEndsAfter parameters past [] = Unit {0}
+SeesEndsAfter parameters past (i ∷ list) =
+    (is_end i ≡ true → is_under_tombstone parameters past ≡ true → gave_row parameters past ≡ false) × SeesEndsAfter parameters (i ∷ past) list
 
--- no sequence of a program that gave a row ends hidden
+-- no sequence of a program that gave a row ends under a tombstone
 pub record SeesEnds (notation : Notation) (h : Header) (bytes : List ℕ) : Type 0 where
   pub list : List Ins
   pub end : Option Error
   pub decoding : Decodes notation h bytes list end
-  pub seen : SeesEndsBehind h.parameters [] list
+  pub seen : SeesEndsAfter h.parameters [] list
 
 -- what is asked of a source and of what is handed, so that a conversion is faithful
 pub record CanBeFaithful (convert_address : ℕ → Option Address) (s : Source) : Type 0 where
@@ -110,10 +110,10 @@ pub record HasPaths (sections : Sections) (h : Header) (path directory : List �
 -- it is the last of these files that has these paths
 pub record IsLastWithPaths (sections : Sections) (h : Header) (path directory : List ℕ) (files : List File) (f : File) : Type 0 where
   pub before : List File
-  pub behind : List File
-  pub parts : files ≡ before ++ f ∷ behind
+  pub later : List File
+  pub parts : files ≡ before ++ f ∷ later
   pub has : HasPaths sections h path directory f
-  pub none_behind : AllByRecursion (λ g. HasPaths sections h path directory g → ⊥) behind
+  pub none_after : AllByRecursion (λ g. HasPaths sections h path directory g → ⊥) later
 
 -- the file with this id has the paths of a file of the source, and what is known of the last one that has them
 pub record IsMappedFile (sections : Sections) (h : Header) (files : List File) (strings : List (List ℕ)) (c : Conversion) (f : File) (id : ℕ) : Type 0 where

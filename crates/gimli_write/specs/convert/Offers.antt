@@ -9,7 +9,7 @@ use Rattle.gimli_line.specs.header.Parameters.{Parameters}
 use Rattle.gimli_line.specs.run.Instruction.{Ins, makes_row}
 use Rattle.gimli_line.specs.run.InstructionGrammar.{Decodes}
 use Rattle.gimli_line.specs.run.Registers.{sequence, nearest}
-use Rattle.gimli_line.specs.run.OperationPointer.{is_hidden, overflows}
+use Rattle.gimli_line.specs.run.OperationPointer.{is_under_tombstone, overflows}
 use Rattle.gimli_line.specs.run.Events.{row_at}
 use Rattle.gimli_line.specs.declared.run.instruction.LineInstruction.TheVariants.{DefineFile, SetAddress as SetAddressIns}
 use Rattle.gimli_build.specs.Texts.{Sections}
@@ -33,9 +33,9 @@ abbrev pub base_at : List Ins → ℕ
 base_at past = nearest address_operand 0 (sequence past)
 
 -- the address that was last set after the last place that makes a row, if one was
-abbrev pub pending : List Ins → Option ℕ
-pending [] = None
-pending (i ∷ past) = if makes_row i then None else (elim (address_operand i) [ Some a ↦ Some a | None ↦ pending past ])
+abbrev pub pending_address : List Ins → Option ℕ
+pending_address [] = None
+pending_address (i ∷ past) = if makes_row i then None else (elim (address_operand i) [ Some a ↦ Some a | None ↦ pending_address past ])
 
 -- ---- rows
 
@@ -43,7 +43,7 @@ pending (i ∷ past) = if makes_row i then None else (elim (address_operand i) [
 abbrev pub source_row : Parameters → List Ins → Ins → SourceRow
 source_row parameters past i =
     let row = row_at parameters past i in
-    record { set_address = pending past; address_offset = row.address - base_at past; row = row }
+    record { set_address = pending_address past; address_offset = row.address - base_at past; row = row }
 
 -- the id of a file number; up to version 4 of the source none has number 0
 abbrev pub file_id : ℕ → Lists → ℕ → Result ℕ ConvertError
@@ -90,41 +90,41 @@ abbrev pub row_offered : Result LineRow ConvertError → Lists → Reading → R
 row_offered (Ok row) lists rest = offers (Row row) lists rest
 row_offered (Err e) lists rest = stops e
 
-abbrev pub place_offered : ℕ → Lists → SourceRow → Reading → Reading
-place_offered version lists r rest =
+abbrev pub row_or_end_offered : ℕ → Lists → SourceRow → Reading → Reading
+row_or_end_offered version lists r rest =
     if r.row.end_sequence then offers (EndSequence r.address_offset) lists rest else row_offered (built_row version lists r) lists rest
 
 -- a row of the source, after the address that was set for it
-abbrev pub offered : ℕ → Lists → SourceRow → Reading → Reading
-offered version lists r rest = address_offered r.set_address lists (place_offered version lists r rest)
+abbrev pub source_row_offered : ℕ → Lists → SourceRow → Reading → Reading
+source_row_offered version lists r rest = address_offered r.set_address lists (row_or_end_offered version lists r rest)
 
 -- what a place gives, and what is read after it: a refusal where it overflows, else its row where it makes one and
--- isn't hidden
+-- isn't under a tombstone
 abbrev pub reading_at : Parameters → Lists → List Ins → Ins → Reading → Reading
 reading_at parameters lists past i rest =
     if overflows parameters past i then stops (Read AddressOverflow)
-    else (if makes_row i && not (is_hidden parameters past) then offered parameters.encoding.version lists (source_row parameters past i) rest else rest)
+    else (if makes_row i && not (is_under_tombstone parameters past) then source_row_offered parameters.encoding.version lists (source_row parameters past i) rest else rest)
 
 abbrev pub end_reading : Option Error → Lists → Reading
 end_reading None lists = ends lists
 end_reading (Some e) lists = stops (Read e)
 
 -- lists that may be refused, and what is read with them
-abbrev pub upon : Result Lists ConvertError → (Lists → Reading) → Reading
-upon (Ok lists) next = next lists
-upon (Err e) next = stops e
+abbrev pub with_lists : Result Lists ConvertError → (Lists → Reading) → Reading
+with_lists (Ok lists) next = next lists
+with_lists (Err e) next = stops e
 
 -- ---- files that the program defines
 
 -- the lists after an instruction: a file that it defines is added
-abbrev pub defined : Sections → Lists → Ins → Result Lists ConvertError
-defined sections lists (DefineFile f) = file_added sections lists f
-defined sections lists i = Ok lists
+abbrev pub lists_after_definition : Sections → Lists → Ins → Result Lists ConvertError
+lists_after_definition sections lists (DefineFile f) = file_added sections lists f
+lists_after_definition sections lists i = Ok lists
 
--- the lists at a place: the first ones, and the files that were defined before it, hidden or not
+-- the lists at a place: the first ones, and the files that were defined before it, under a tombstone or not
 abbrev pub lists_at : Sections → Lists → List Ins → Result Lists ConvertError
 lists_at sections first [] = Ok first
-lists_at sections first (i ∷ past) = lists_at sections first past >>= λ lists. defined sections lists i
+lists_at sections first (i ∷ past) = lists_at sections first past >>= λ lists. lists_after_definition sections lists i
 
 -- what is read after an instruction, where the file that it defines comes first
 abbrev pub with_definition : Ins → Reading → Reading
@@ -144,15 +144,15 @@ after_definitions reading = reading
 -- ---- programs
 
 -- what is read of these instructions and this end after a past
-abbrev pub reading_behind : Sections → Parameters → Lists → List Ins → List Ins → Option Error → Reading
-reading_behind sections parameters first past [] end = upon (lists_at sections first past) (end_reading end)
-reading_behind sections parameters first past (i ∷ list) end =
-    upon (lists_at sections first past) (λ lists.
-    reading_at parameters lists past i (with_definition i (reading_behind sections parameters first (i ∷ past) list end)))
+abbrev pub reading_after : Sections → Parameters → Lists → List Ins → List Ins → Option Error → Reading
+reading_after sections parameters first past [] end = with_lists (lists_at sections first past) (end_reading end)
+reading_after sections parameters first past (i ∷ list) end =
+    with_lists (lists_at sections first past) (λ lists.
+    reading_at parameters lists past i (with_definition i (reading_after sections parameters first (i ∷ past) list end)))
 
 -- what is read of a program's bytes, with these lists at its start
 pub record Reads (notation : Notation) (sections : Sections) (h : Header) (first : Lists) (bytes : List ℕ) (reading : Reading) : Type 0 where
   pub list : List Ins
   pub end : Option Error
   pub decoding : Decodes notation h bytes list end
-  pub given : reading ≡ reading_behind sections h.parameters first [] list end
+  pub given : reading ≡ reading_after sections h.parameters first [] list end

@@ -7,7 +7,7 @@ use Rattle.gimli_core.specs.Values.{Value}
 use Rattle.gimli_line.specs.header.File.{File}
 use Rattle.gimli_line.specs.header.Header.{Header, directory_of, file_of, has_content}
 use Rattle.gimli_build.specs.LineText.{LineText, made_text, made_table}
-use Rattle.gimli_build.specs.Built.{Built, started}
+use Rattle.gimli_build.specs.Built.{Built, empty_built}
 use Rattle.gimli_build.specs.FirstTables.{first_directories, first_files}
 use Rattle.gimli_build.specs.Texts.{Sections}
 use Rattle.gimli_write.specs.declared.convert_error.ConvertError.{ConvertError}
@@ -70,11 +70,11 @@ is_out_of_range e = int_le (e.line_base +ℤ pos e.line_range) (pos 0) || nat_lt
 
 -- the one that is handed in, else the source's
 abbrev pub chosen_line_encoding : LineEncoding → Option LineEncoding → Result LineEncoding ConvertError
-chosen_line_encoding own (Some handed) = Ok handed
+chosen_line_encoding own (Some handed_of) = Ok handed_of
 chosen_line_encoding own None = if is_out_of_range own then Err InvalidLineBase else Ok own
 
 abbrev pub line_encoding_of : LineEncoding → Option LineEncoding → Result LineEncoding ConvertError
-line_encoding_of own handed = if int_lt (pos 0) own.line_base then Err InvalidLineBase else chosen_line_encoding own handed
+line_encoding_of own handed_of = if int_lt (pos 0) own.line_base then Err InvalidLineBase else chosen_line_encoding own handed_of
 
 -- ---- the program, with its first directory and file
 
@@ -105,7 +105,7 @@ has_before_5 content h = nat_le h.parameters.encoding.version 4 || has_content c
 
 abbrev pub started_program : Encoding → LineEncoding → Header → FirstTexts → Built
 started_program encoding line_encoding h texts =
-    record (started false encoding line_encoding
+    record (empty_built false encoding line_encoding
     (first_directories encoding.version texts.working_directory texts.source_directory)
     (first_files encoding.version texts.working_directory texts.source_directory texts.source_file None)) {
       file_has_timestamp = has_before_5 0x0003 h;
@@ -134,16 +134,16 @@ pub record Handed : Type 0 where
   pub line_encoding : Option LineEncoding
   pub name : Option (List ℕ)
 
-abbrev pub handed : Option Encoding → Option LineEncoding → Option (List ℕ) → Handed
-handed encoding line_encoding name = record { encoding = encoding; line_encoding = line_encoding; name = name }
+abbrev pub handed_of : Option Encoding → Option LineEncoding → Option (List ℕ) → Handed
+handed_of encoding line_encoding name = record { encoding = encoding; line_encoding = line_encoding; name = name }
 
 -- the one that is handed in, else the source's
 abbrev pub encoding_of : Header → Handed → Encoding
 encoding_of h given = unwrap_or given.encoding h.parameters.encoding
 
 -- the lists after all directories and files of a header, from the line strings before it
-abbrev pub prepared : Sections → Header → Handed → List (List ℕ) → Result Lists ConvertError
-prepared sections h given line_strings =
+abbrev pub lists_of_header : Sections → Header → Handed → List (List ℕ) → Result Lists ConvertError
+lists_of_header sections h given line_strings =
     let encoding = encoding_of h given in
     working_directory encoding.version sections h >>= λ directory.
     source_file encoding.version sections h given.name >>= λ file.

@@ -25,27 +25,27 @@ abbrev pub sequence_read : ConvertLineSequence → SequenceRead
 sequence_read s = sequence_with s.start s.rows.items s.end
 
 -- where nothing more is read no rows may be left without an end
-abbrev pub none_gathered : List LineRow → Lists → Result (Option SequenceRead × Reading) ConvertError
-none_gathered [] lists = Ok (None, ends lists)
-none_gathered (row ∷ rows) lists = Err MissingLineEndSequence
+abbrev pub no_sequence : List LineRow → Lists → Result (Option SequenceRead × Reading) ConvertError
+no_sequence [] lists = Ok (None, ends lists)
+no_sequence (row ∷ rows) lists = Err MissingLineEndSequence
 
 -- the sequence that a reading begins with, after this start and these rows, and what is read after it: it goes up to
 -- its end, or to an address that is set after a row, which is read again
-abbrev pub gathered : Option ℕ → List LineRow → Reading → Result (Option SequenceRead × Reading) ConvertError
-gathered start rows (ends lists) = none_gathered rows lists
-gathered start rows (stops e) = Err e
-gathered start rows (defines rest) = gathered start rows rest
-gathered start rows (offers (Row row) lists rest) = gathered start (rows ++ row ∷ []) rest
-gathered start rows (offers (EndSequence length) lists rest) = Ok (Some (sequence_with start rows (Length length)), rest)
-gathered start [] (offers (SetAddress a) lists rest) = gathered (Some a) [] rest
-gathered start (row ∷ rows) (offers (SetAddress a) lists rest) =
+abbrev pub sequence_from : Option ℕ → List LineRow → Reading → Result (Option SequenceRead × Reading) ConvertError
+sequence_from start rows (ends lists) = no_sequence rows lists
+sequence_from start rows (stops e) = Err e
+sequence_from start rows (defines rest) = sequence_from start rows rest
+sequence_from start rows (offers (Row row) lists rest) = sequence_from start (rows ++ row ∷ []) rest
+sequence_from start rows (offers (EndSequence length) lists rest) = Ok (Some (sequence_with start rows (Length length)), rest)
+sequence_from start [] (offers (SetAddress a) lists rest) = sequence_from (Some a) [] rest
+sequence_from start (row ∷ rows) (offers (SetAddress a) lists rest) =
     Ok (Some (sequence_with start (row ∷ rows) (Address a)), offers (SetAddress a) lists rest)
 
 -- a read gathers this sequence, and leaves what is still to be read after it
 abbrev pub GathersNext : ConversionState → List (List ℕ) → Option ConvertLineSequence → ConversionState → List (List ℕ) → Type 0
 GathersNext old old_strings sequence new new_strings =
-    gathered None [] (still_to_read old old_strings) ≡ Ok (option_map sequence_read sequence, still_to_read new new_strings)
+    sequence_from None [] (still_to_read old old_strings) ≡ Ok (option_map sequence_read sequence, still_to_read new new_strings)
 
--- why a read gathers none: what refuses it, or want of memory
+-- why a read gathers none: what refuses it, or `OutOfMemory`
 abbrev pub IsGatherRefusal : ConversionState → List (List ℕ) → ConvertError → Type 0
-IsGatherRefusal c line_strings = IsRefusedBy (gathered None [] (still_to_read c line_strings))
+IsGatherRefusal c line_strings = IsRefusedBy (sequence_from None [] (still_to_read c line_strings))

@@ -7,7 +7,7 @@ use Rattle.gimli_line.specs.header.File.{file_seen}
 use Rattle.gimli_line.specs.declared.run.row.LineRow.{LineRow}
 use Rattle.gimli_line.specs.run.Instruction.{Ins, is_end, makes_row}
 use Rattle.gimli_line.specs.run.InstructionReading.{decoded_at}
-use Rattle.gimli_line.specs.run.Machine.{initial, stepped, is_refused}
+use Rattle.gimli_line.specs.run.Machine.{initial, step_of, is_refused}
 use Rattle.gimli_line.specs.run.EventsWithFiles.{next_registers}
 use Rattle.gimli_line.specs.run.Unread.{Unread}
 use Rattle.gimli_build.specs.Texts.{Sections}
@@ -17,7 +17,7 @@ use Rattle.gimli_write.specs.declared.convert.run.SourceRow.{SourceRow}
 use Rattle.gimli_write.specs.declared.convert.run.SourceStep.{SourceStep}
 use Rattle.gimli_write.specs.declared.convert.run.SourceStep.TheVariants.{Done, More, Defines, Made}
 use Rattle.gimli_write.specs.convert.Lists.{Lists, file_added}
-use Rattle.gimli_write.specs.convert.Offers.{Reading, ends, stops, defines, address_operand, offered, end_reading, upon, defined, with_definition}
+use Rattle.gimli_write.specs.convert.Offers.{Reading, ends, stops, defines, address_operand, source_row_offered, end_reading, with_lists, lists_after_definition, with_definition}
 
 pub record SourceState : Type 0 where
   pub header : Header
@@ -31,45 +31,45 @@ pub record SourceState : Type 0 where
   pub unread : Unread
 
 -- the start of a program
-abbrev pub started : Header → Unread → SourceState
-started h unread = record { header = h; row = initial h.parameters; base = 0; pending = None; unread = unread }
+abbrev pub start_of_source : Header → Unread → SourceState
+start_of_source h unread = record { header = h; row = initial h.parameters; base = 0; pending = None; unread = unread }
 
 -- ---- one instruction
 
 -- the row that an instruction makes
 abbrev pub row_made : SourceState → Ins → SourceRow
 row_made s i =
-    let row = stepped s.header.parameters i s.row in
+    let row = step_of s.header.parameters i s.row in
     record { set_address = s.pending; address_offset = row.address - s.base; row = row }
 
-abbrev pub base_behind : Ins → ℕ → ℕ
-base_behind i base = if is_end i then 0 else unwrap_or (address_operand i) base
+abbrev pub base_after : Ins → ℕ → ℕ
+base_after i base = if is_end i then 0 else unwrap_or (address_operand i) base
 
-abbrev pub pending_behind : Ins → Option ℕ → Option ℕ
-pending_behind i pending = if makes_row i then None else (elim (address_operand i) [ Some a ↦ Some a | None ↦ pending ])
+abbrev pub pending_after : Ins → Option ℕ → Option ℕ
+pending_after i pending = if makes_row i then None else (elim (address_operand i) [ Some a ↦ Some a | None ↦ pending ])
 
 -- the state after an instruction, apart from what is unread
-abbrev pub state_behind : Ins → SourceState → SourceState
-state_behind i s = record s {
+abbrev pub state_after : Ins → SourceState → SourceState
+state_after i s = record s {
   row = next_registers s.header.parameters i s.row;
-  base = base_behind i s.base;
-  pending = pending_behind i s.pending;
+  base = base_after i s.base;
+  pending = pending_after i s.pending;
 }
 
 -- what an instruction gives, and what is read after it
 abbrev pub instruction_reading : SourceState → Lists → Ins → Reading → Reading
 instruction_reading s lists i rest =
     if is_refused s.header.parameters i s.row then stops (Read AddressOverflow)
-    else (if makes_row i && not s.row.hidden then offered s.header.parameters.encoding.version lists (row_made s i) rest else rest)
+    else (if makes_row i && not s.row.tombstone then source_row_offered s.header.parameters.encoding.version lists (row_made s i) rest else rest)
 
 -- ---- all that is unread
 
 -- what is read of these instructions and this end, with lists that may be refused
 abbrev pub reading_from : Sections → SourceState → Result Lists ConvertError → List Ins → Option Error → Reading
-reading_from sections s there [] end = upon there (end_reading end)
+reading_from sections s there [] end = with_lists there (end_reading end)
 reading_from sections s there (i ∷ list) end =
-    upon there (λ lists.
-    instruction_reading s lists i (with_definition i (reading_from sections (state_behind i s) (defined sections lists i) list end)))
+    with_lists there (λ lists.
+    instruction_reading s lists i (with_definition i (reading_from sections (state_after i s) (lists_after_definition sections lists i) list end)))
 
 -- what is still to be read
 abbrev pub reading_upon : Sections → SourceState → Result Lists ConvertError → Reading
@@ -86,11 +86,11 @@ module _ {R Offset Endian : Type 0} (bytes : R → List ℕ) (number : Offset �
   step_reading sections lists Done s = ends lists
   step_reading sections lists More s = reading_left sections s lists
   step_reading sections lists (Defines f) s = defines (reading_upon sections s (file_added sections lists (file_seen bytes number f)))
-  step_reading sections lists (Made r) s = offered s.header.parameters.encoding.version lists r (reading_left sections s lists)
+  step_reading sections lists (Made r) s = source_row_offered s.header.parameters.encoding.version lists r (reading_left sections s lists)
 
 -- the step of an instruction that defines no file
 abbrev pub step_made : {R Endian Offset : Type 0} → SourceState → Ins → SourceStep R Endian Offset
-step_made s i = if makes_row i && not s.row.hidden then Made (row_made s i) else More
+step_made s i = if makes_row i && not s.row.tombstone then Made (row_made s i) else More
 
 -- fewer bytes are unread after a step, and none after the end
 abbrev pub Shortens : {R Endian Offset : Type 0} → SourceStep R Endian Offset → SourceState → SourceState → Type 0

@@ -5,7 +5,7 @@ use Rattle.gimli_core.specs.declared.common.Encoding.{Encoding}
 use Rattle.gimli_core.specs.declared.common.LineEncoding.{LineEncoding}
 use Rattle.gimli_line.specs.header.Header.{Header, SeenHeader}
 use Rattle.gimli_build.specs.Texts.{Sections}
-use Rattle.gimli_write.specs.convert.Preparation.{Handed, handed}
+use Rattle.gimli_write.specs.convert.Preparation.{Handed, handed_of}
 
 -- a source: its notation and its header, the sections that hold its texts, and what is handed for the conversion
 pub record Source : Type 0 where
@@ -20,5 +20,5 @@ source_of bytes debug_str debug_line_str from_program from_comp_name encoding li
   notation = from_program.notation;
   sections = record { strings = bytes debug_str; line_strings = bytes debug_line_str };
   header = from_program.meaning;
-  given = handed encoding line_encoding (option_map bytes from_comp_name);
+  given = handed_of encoding line_encoding (option_map bytes from_comp_name);
 }

@@ -3,7 +3,7 @@
 ghost use Rattle.std.specs.Prelude.{◌≡◌, ◌++◌, false, option_map, IfErr, OnErr, OnOk};
 ghost use Rattle.std.specs.Option.{option_to_list};
 ghost use Rattle.gimli_build.specs.Calls.{after_begin, after_address, after_row, after_end};
-ghost use Rattle.gimli_build.specs.Built.{previous_place};
+ghost use Rattle.gimli_build.specs.Built.{previous_position};
 ghost use Rattle.gimli_build.specs.Conditions.{CanBuild, CanGenerateRow, CanEndSequence};
 ghost use Rattle.gimli_write.specs.convert.ConversionState.{IsBuildRefusal, with_program};
 
@@ -50,9 +50,9 @@ impl Lists {
     pub(crate) fn generate_row(&mut self, row: LineRow) -> ConvertResult<()>
         ensures ok { OnOk result (self.new ≡ record self.old { program = after_row row self.old.program }) }
         ensures can { OnOk result
-            (CanBuild self.old.program.line_encoding (previous_place self.old.program.items) (BuiltItem.Row row)) }
+            (CanBuild self.old.program.line_encoding (previous_position self.old.program.items) (BuiltItem.Row row)) }
         ensures err { IfErr result (IsBuildRefusal
-            (CanBuild self.old.program.line_encoding (previous_place self.old.program.items) (BuiltItem.Row row))) }
+            (CanBuild self.old.program.line_encoding (previous_position self.old.program.items) (BuiltItem.Row row))) }
         ensures kept { OnErr result (self.new ≡ self.old) }
     {
         let program = &mut self.program;
@@ -132,9 +132,9 @@ impl<R: Reader> Conversion<R> {
     pub(crate) fn generate_row(&mut self, row: LineRow) -> ConvertResult<()>
         ensures ok { OnOk result (self.new ≡ with_program (after_row row self.old.lists.program) self.old) }
         ensures can { OnOk result (CanBuild self.old.lists.program.line_encoding
-            (previous_place self.old.lists.program.items) (BuiltItem.Row row)) }
+            (previous_position self.old.lists.program.items) (BuiltItem.Row row)) }
         ensures err { IfErr result (IsBuildRefusal (CanBuild self.old.lists.program.line_encoding
-            (previous_place self.old.lists.program.items) (BuiltItem.Row row))) }
+            (previous_position self.old.lists.program.items) (BuiltItem.Row row))) }
         ensures kept { OnErr result (self.new ≡ self.old) }
     {
         self.lists.generate_row(row)

@@ -4,10 +4,10 @@ ghost use Rattle.std.specs.Prelude.{◌≡◌, ◌≢◌, ℕ, ◌⊎◌, List, 
 ghost use Rattle.gimli_bytes.specs.Texts.{KeepsTexts};
 ghost use Rattle.gimli_write.specs.convert.Lists.{lists_with};
 ghost use Rattle.gimli_write.specs.convert.KeptLists.{KeepsFiles, StaysWritable, source_last, IsAtLast, KeepsLast};
-ghost use Rattle.gimli_write.specs.convert.Offers.{Reading, stops, offers, place_offered};
-ghost use Rattle.gimli_write.specs.convert.SourceState.{started};
-ghost use Rattle.gimli_write.specs.convert.LastLists.{lacks_file, behind_row};
-ghost use Rattle.gimli_write.specs.convert.ConversionState.{unread, lists_of, version_of_source, source_left, still_to_read, HandsOut, TakesRow, IsReadRefusal, AddsFiles};
+ghost use Rattle.gimli_write.specs.convert.Offers.{Reading, stops, offers, row_or_end_offered};
+ghost use Rattle.gimli_write.specs.convert.SourceState.{start_of_source};
+ghost use Rattle.gimli_write.specs.convert.LastLists.{lacks_file, lists_after_row};
+ghost use Rattle.gimli_write.specs.convert.ConversionState.{start_of_conversion, lists_of, version_of_source, source_left, still_to_read, HandsOut, TakesRow, IsReadRefusal, AddsFiles};
 
 use crate::convert::lists::Lists;
 use crate::convert::offer::ConvertLineRow;
@@ -57,7 +57,7 @@ impl<R: Reader> Conversion<R> {
         program: IncompleteLineProgram<R>,
         lists: Lists,
     ) -> Self
-        ensures { result ≡ unread sections (started program.meaning
+        ensures { result ≡ start_of_conversion sections (start_of_source program.meaning
             (record { bytes = program.meaning.program; notation = program.notation })) lists }
     {
         Conversion {
@@ -157,10 +157,10 @@ impl<R: Reader> Conversion<R> {
     /// the row's number so far.
     fn built_place(&self, row: &SourceRow) -> ConvertResult<ConvertLineRow>
         ensures ok { IfOk result (λ place. (line_strings : List (List ℕ)) (rest : Reading) →
-            place_offered (version_of_source self.now) (lists_of self.now line_strings) row.now rest
+            row_or_end_offered (version_of_source self.now) (lists_of self.now line_strings) row.now rest
             ≡ offers place (lists_of self.now line_strings) rest) }
         ensures err { IfErr result (λ e. (line_strings : List (List ℕ)) (rest : Reading) →
-            place_offered (version_of_source self.now) (lists_of self.now line_strings) row.now rest ≡ stops e) }
+            row_or_end_offered (version_of_source self.now) (lists_of self.now line_strings) row.now rest ≡ stops e) }
         ensures found { OnOk result ((line_strings : List (List ℕ)) →
             lacks_file (version_of_source self.now) (lists_with line_strings self.now.lists) row.now ≡ false) }
         ensures lacks { OnErr result ((line_strings : List (List ℕ)) →
@@ -175,7 +175,7 @@ impl<R: Reader> Conversion<R> {
         Ok(ConvertLineRow::Row(row.built(file)))
     }
 
-    /// Executes the source up to the next row that isn't hidden, and adds the files that it defines.
+    /// Executes the source up to the next row that isn't under a tombstone, and adds the files that it defines.
     fn next_source_row(
         &mut self,
         line_strings: &mut LineStringTable,
@@ -191,7 +191,7 @@ impl<R: Reader> Conversion<R> {
         ensures adds { AddsFiles self.old.lists.program self.new.lists.program }
         ensures keeps { KeepsFiles self.old.lists self.new.lists }
         ensures writable { StaysWritable self.old.lists line_strings.old self.new.lists line_strings.new }
-        ensures last { IfOk result (λ row. behind_row (version_of_source self.new)
+        ensures last { IfOk result (λ row. lists_after_row (version_of_source self.new)
             (lists_with line_strings.new self.new.lists) row (source_last self.new line_strings.new)
             ≡ source_last self.old line_strings.old) }
         ensures ended { IfOk result (λ row. row ≡ None →

@@ -5,7 +5,7 @@ ghost use Rattle.gimli_bytes.specs.Texts.{KeepsTexts};
 ghost use Rattle.gimli_bytes.specs.declared.address.Address.{Address};
 ghost use Rattle.gimli_write.specs.convert.KeptLists.{IsWritable, StaysWritable};
 ghost use Rattle.gimli_write.specs.convert.Texts.{IsRefusedBy};
-ghost use Rattle.gimli_write.specs.convert.Feeding.{fed, without_items};
+ghost use Rattle.gimli_write.specs.convert.Feeding.{after_item, without_items};
 ghost use Rattle.gimli_write.specs.convert.ConversionState.{with_program, rest_converted, AnswersAs, RestConvertsTo, IsRestRefusal};
 
 use crate::convert::conversion::Conversion;
@@ -26,9 +26,9 @@ impl<R: Reader> Conversion<R> {
     ) -> ConvertResult<()>
         requires { F.IsAlwaysCallable convert_address.now }
         ensures ok { (g : ℕ → Option Address) → AnswersAs (F.post convert_address.now) g
-            → OnOk result (fed g row self.old.lists.program ≡ Ok self.new.lists.program) }
+            → OnOk result (after_item g row self.old.lists.program ≡ Ok self.new.lists.program) }
         ensures err { (g : ℕ → Option Address) → AnswersAs (F.post convert_address.now) g
-            → IfErr result (IsRefusedBy (fed g row self.old.lists.program)) }
+            → IfErr result (IsRefusedBy (after_item g row self.old.lists.program)) }
         ensures kept { OnOk result (self.new ≡ with_program self.new.lists.program self.old) }
         ensures items { OnOk result (without_items self.new.lists.program ≡ without_items self.old.lists.program) }
     {

@@ -12,7 +12,7 @@ ghost use Rattle.gimli_build.specs.Conditions.{Accepts};
 ghost use Rattle.gimli_build.specs.LineText.{line_text, HasNoZero};
 ghost use Rattle.gimli_write.specs.convert.Texts.{◌>>=◌ as ◌>>>◌, IsRefusedBy};
 ghost use Rattle.gimli_write.specs.convert.Lists.{lists_with, directory_added, file_added, all_added};
-ghost use Rattle.gimli_write.specs.convert.Preparation.{first_path, working_directory, file_directory, own_source_file, named_source_file, source_file, is_out_of_range, line_encoding_of, first_texts, started_program, started_lists, first_ids, has_before_5, handed, prepared};
+ghost use Rattle.gimli_write.specs.convert.Preparation.{first_path, working_directory, file_directory, own_source_file, named_source_file, source_file, is_out_of_range, line_encoding_of, first_texts, started_program, started_lists, first_ids, has_before_5, handed_of, lists_of_header};
 
 use crate::convert::lists::{Lists, made, optional_made};
 use crate::convert::texts::{source_path, source_text, without_zero};
@@ -185,16 +185,19 @@ fn is_out_of_range(line_encoding: LineEncoding) -> bool
 
 /// What lines are encoded by: as handed in, else as in the source. Refused as `InvalidLineBase` where the source's line
 /// base is above 0, and where the source's encoding is taken and lines can't be written by it.
-fn line_encoding_of(own: LineEncoding, handed: Option<LineEncoding>) -> ConvertResult<LineEncoding>
+fn line_encoding_of(
+    own: LineEncoding,
+    handed_of: Option<LineEncoding>,
+) -> ConvertResult<LineEncoding>
     requires own { IsLineEncoding own }
-    requires handed { IfSome handed CanEncode }
-    ensures encoding { result ≡ line_encoding_of own handed }
+    requires handed_of { IfSome handed_of CanEncode }
+    ensures encoding { result ≡ line_encoding_of own handed_of }
     ensures can { IfOk result CanEncode }
 {
     if own.line_base > 0 {
         return Err(ConvertError::InvalidLineBase);
     }
-    match handed {
+    match handed_of {
         Some(line_encoding) => Ok(line_encoding),
         None if is_out_of_range(own) => Err(ConvertError::InvalidLineBase),
         None => Ok(own),
@@ -392,11 +395,11 @@ pub(crate) fn prepare<R: Reader>(
 ) -> ConvertResult<Lists>
     requires address_size { IfSome encoding (λ e. IsTrue (is_address_size e.address_size)) }
     requires lines { IfSome line_encoding CanEncode }
-    ensures ok { IfOk result (λ lists. prepared sections.now header.now.meaning
-        (handed encoding line_encoding (option_map R.bytes from_comp_name)) line_strings.old
+    ensures ok { IfOk result (λ lists. lists_of_header sections.now header.now.meaning
+        (handed_of encoding line_encoding (option_map R.bytes from_comp_name)) line_strings.old
         ≡ Ok (lists_with line_strings.new lists)) }
-    ensures err { IfErr result (IsRefusedBy (prepared sections.now header.now.meaning
-        (handed encoding line_encoding (option_map R.bytes from_comp_name)) line_strings.old)) }
+    ensures err { IfErr result (IsRefusedBy (lists_of_header sections.now header.now.meaning
+        (handed_of encoding line_encoding (option_map R.bytes from_comp_name)) line_strings.old)) }
     ensures stays { KeepsTexts line_strings.old line_strings.new }
 {
     let encoding = encoding.unwrap_or(header.encoding());

@@ -302,14 +302,14 @@ impl<'a, 'b, R: Reader> ConvertLineProgram<'a, 'b, R, Conversion<R>> {
         conversion.into_program()
     }
 
-    /// Reads up to the next row, end, or address that one of these follows. An address that hides what follows it, and
-    /// what it hides, gives nothing. Files that are defined on the way are added to the program that is built. Refused
+    /// Reads up to the next row, end, or address that one of these follows. An address that is a tombstone, and what
+    /// is under it, gives nothing. Files that are defined on the way are added to the program that is built. Refused
     /// as `Read` for a fault of the source, and as `InvalidFileIndex` for a row of no file. A file that is defined is
-    /// refused as `InvalidDirectoryIndex` in a directory that isn't there, as `InvalidAttributeValue` for an empty path
-    /// where the program is of version 4 or less, or by `OutOfMemory`. Every later read repeats the refusal. The tables
-    /// keep their texts.
-    /// So do files their ids and their numbers in the source; after a refusal for another cause than memory, and at the
-    /// end, all files are there that the source defines before. A program that met what `write` asks still does.
+    /// refused as `InvalidDirectoryIndex` in a directory that isn't there, as `InvalidAttributeValue` for an empty
+    /// path where the program is of version 4 or less, or by `OutOfMemory`. Every later read repeats the refusal. The
+    /// tables keep their texts. So do files their ids and their numbers in the source; after a refusal for another
+    /// cause than memory, and at the end, all files are there that the source defines before. A program that met what
+    /// `write` asks still does.
     pub fn read_row(&mut self) -> ConvertResult<Option<ConvertLineRow>>
         ensures ok { IfOk result (λ row. GivesNext self.old.conversion self.old.line_strings.now
             row self.new.conversion self.new.line_strings.now) }
@@ -399,11 +399,11 @@ impl<'a, 'b, R: Reader> ConvertLineProgram<'a, 'b, R, Conversion<R>> {
     }
 }
 
-/// A conversion that is begun and done in one call: `ConvertLineProgram::new`, and then its `convert`. Requires encodings
-/// that a program may have, where they are handed, and a map that may always be called. Refused as these are; the tables
-/// keep their texts, also then. Where each address is mapped to itself, addresses are at least as wide as the
-/// source's, and no sequence that gave a row ends hidden, the program says what its source says, and so do the rows that
-/// are read back of it.
+/// A conversion that is begun and done in one call: `ConvertLineProgram::new`, and then its `convert`. Requires
+/// encodings that a program may have, where they are handed, and a map that may always be called. Refused as these
+/// are; the tables keep their texts, also then. Where each address is mapped to itself, addresses are at least as wide
+/// as the source's, and no sequence that gave a row ends under a tombstone, the program says what its source says, and
+/// so do the rows that are read back of it.
 pub fn convert_program<R: Reader, F: Fn(u64) -> Option<Address>>(
     debug_str: R,
     debug_line_str: R,

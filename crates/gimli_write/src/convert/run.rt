@@ -12,7 +12,7 @@ use gimli_line::{
 };
 use std::marker::Model;
 
-/// A row of the source that isn't hidden.
+/// A row of the source that isn't under a tombstone.
 #[derive(Clone, Copy, Debug)]
 pub(crate) struct SourceRow {
     /// The address that was set after the row before it, if one was.
@@ -61,16 +61,16 @@ pub(crate) enum SourceStep<R: Reader> {
     More,
     /// It defines a file, which isn't added to the source's own.
     Defines(FileEntry<R>),
-    /// It made a row that isn't hidden.
+    /// It made a row that isn't under a tombstone.
     Made(SourceRow),
 }
 
 impl<R: Reader> SourceStep<R> {
-    /// The step of an instruction that made a row, which may be hidden.
-    fn of_row(row: SourceRow, hidden: bool) -> Self
-        ensures { result ≡ (if hidden then SourceStep.More else SourceStep.Made row) }
+    /// The step of an instruction that made a row, which may be under a tombstone.
+    fn of_row(row: SourceRow, tombstone: bool) -> Self
+        ensures { result ≡ (if tombstone then SourceStep.More else SourceStep.Made row) }
     {
-        if hidden {
+        if tombstone {
             SourceStep::More
         } else {
             SourceStep::Made(row)
@@ -78,8 +78,8 @@ impl<R: Reader> SourceStep<R> {
     }
 }
 
-/// Whether a set address hides what follows it, by the address before it and the size of addresses.
-fn hides(address: u64, before: u64, address_size: u8) -> bool
+/// Whether a set address is a tombstone, by the address before it and the size of addresses.
+fn is_tombstone(address: u64, before: u64, address_size: u8) -> bool
     requires { IsTrue (is_address_size address_size) }
     ensures { result ≡ (nat_lt address before || nat_le (2 ^ (8 * address_size) - 2) address) }
 {
@@ -93,11 +93,11 @@ fn base_after_row(base: u64, ends: bool) -> u64
     if ends { 0 } else { base }
 }
 
-/// Whether what follows a row is hidden, where the row was or wasn't, and may end its sequence.
-fn hidden_after_row(hidden: bool, ends: bool) -> bool
-    ensures { result ≡ (if ends then false else hidden) }
+/// Whether what follows a row is under a tombstone, where the row was or wasn't, and may end its sequence.
+fn tombstone_after_row(tombstone: bool, ends: bool) -> bool
+    ensures { result ≡ (if ends then false else tombstone) }
 {
-    if ends { false } else { hidden }
+    if ends { false } else { tombstone }
 }
 
 /// A source, as far as it was read.
@@ -108,12 +108,12 @@ pub(crate) struct SourceRun<R: Reader> {
     /// The registers, ready for the next instruction.
     row: LineRow,
     instructions: LineInstructions<R>,
-    /// The address that was last set in the sequence, hidden or not; else 0.
+    /// The address that was last set in the sequence, under a tombstone or not; else 0.
     base: u64,
-    /// The address that was set after the last place that made a row, hidden or not.
+    /// The address that was set after the last place that made a row, under a tombstone or not.
     pending: Option<u64>,
-    /// Whether the last set address hides what follows it.
-    hidden: bool,
+    /// Whether the last set address is a tombstone.
+    tombstone: bool,
 }
 
 impl<R: Reader> Model for SourceRun<R> {
@@ -130,7 +130,7 @@ impl<R: Reader> Model for SourceRun<R> {
       unread = a.instructions;
     } };
 
-    ghost invariant = { λ a. (a.hidden ≡ a.row.hidden) × (a.row.end_sequence ≡ false) };
+    ghost invariant = { λ a. (a.tombstone ≡ a.row.tombstone) × (a.row.end_sequence ≡ false) };
 }
 
 impl<R: Reader> SourceRun<R> {
@@ -140,11 +140,11 @@ impl<R: Reader> SourceRun<R> {
     ghost use Rattle.gimli_write.specs.convert.Lists.{Lists};
     ghost use Rattle.gimli_write.specs.convert.Offers.{stops, address_operand, Reads};
     ghost use Rattle.gimli_write.specs.convert.LastLists.{lists_at_last, step_lists};
-    ghost use Rattle.gimli_write.specs.convert.SourceState.{started, state_behind, step_made, reading_left, step_reading, Shortens};
+    ghost use Rattle.gimli_write.specs.convert.SourceState.{start_of_source, state_after, step_made, reading_left, step_reading, Shortens};
 
     /// The source, from its start on.
     pub(crate) fn start(program: IncompleteLineProgram<R>) -> Self
-        ensures start { result ≡ started program.meaning
+        ensures start { result ≡ start_of_source program.meaning
             (record { bytes = program.meaning.program; notation = program.notation }) }
         ensures reads { (sections : Sections) (first : Lists) →
             Reads program.notation sections program.meaning first program.meaning.program
@@ -159,7 +159,7 @@ impl<R: Reader> SourceRun<R> {
             instructions,
             base: 0,
             pending: None,
-            hidden: false,
+            tombstone: false,
         }
     }
 
@@ -202,13 +202,13 @@ impl<R: Reader> SourceRun<R> {
         }
     }
 
-    /// Sets the address, or hides what follows.
+    /// Sets the address, or is a tombstone for what follows.
     fn set_address(&mut self, address: u64)
-        ensures { self.new ≡ state_behind (LineInstruction.SetAddress address) self.old }
+        ensures { self.new ≡ state_after (LineInstruction.SetAddress address) self.old }
     {
         let size = self.program.header().encoding().address_size;
         let before = self.row.address();
-        self.hidden = hides(address, before, size);
+        self.tombstone = is_tombstone(address, before, size);
         self.base = address;
         self.pending = Some(address);
         let set_address = LineInstruction::SetAddress(address);
@@ -222,7 +222,7 @@ impl<R: Reader> SourceRun<R> {
         requires file { defines_file (ins_seen R.bytes R.Offset.number instruction) ≡ false }
         ensures fits { OnOk result (is_refused self.old.header.parameters
             (ins_seen R.bytes R.Offset.number instruction) self.old.row ≡ false) }
-        ensures step { OnOk result (self.new ≡ state_behind (ins_seen R.bytes R.Offset.number instruction) self.old) }
+        ensures step { OnOk result (self.new ≡ state_after (ins_seen R.bytes R.Offset.number instruction) self.old) }
         ensures made { IfOk result (λ step. step ≡ step_made self.old (ins_seen R.bytes R.Offset.number instruction)) }
         ensures overflow { IfErr result (λ e. (e ≡ ConvertError.Read AddressOverflow)
             × (is_refused self.old.header.parameters
@@ -244,8 +244,8 @@ impl<R: Reader> SourceRun<R> {
             address_offset: address.saturating_sub(self.base),
             row: self.row,
         };
-        let step = SourceStep::of_row(source_row, self.hidden);
-        self.hidden = hidden_after_row(self.hidden, ends);
+        let step = SourceStep::of_row(source_row, self.tombstone);
+        self.tombstone = tombstone_after_row(self.tombstone, ends);
         self.base = base_after_row(self.base, ends);
         self.pending = None;
         self.row.reset(self.program.header());

@@ -5,7 +5,7 @@ ghost use Rattle.gimli_bytes.specs.Texts.{KeepsTexts};
 ghost use Rattle.gimli_write.specs.convert.Texts.{IsRefusedBy};
 ghost use Rattle.gimli_write.specs.convert.KeptLists.{KeepsFiles, StaysWritable, IsAtLast, KeepsLast};
 ghost use Rattle.gimli_write.specs.convert.ConversionState.{still_to_read, AddsFiles};
-ghost use Rattle.gimli_write.specs.convert.Sequences.{gathered, sequence_read};
+ghost use Rattle.gimli_write.specs.convert.Sequences.{sequence_from, sequence_read};
 
 use crate::convert::conversion::Conversion;
 use crate::convert::offer::ConvertLineRow;
@@ -43,9 +43,9 @@ impl<R: Reader> Conversion<R> {
         &mut self,
         line_strings: &mut LineStringTable,
     ) -> ConvertResult<Option<ConvertLineSequence>>
-        ensures ok { IfOk result (λ sequence. gathered None [] (still_to_read self.old line_strings.old)
+        ensures ok { IfOk result (λ sequence. sequence_from None [] (still_to_read self.old line_strings.old)
             ≡ Ok (option_map sequence_read sequence, still_to_read self.new line_strings.new)) }
-        ensures err { IfErr result (IsRefusedBy (gathered None [] (still_to_read self.old line_strings.old))) }
+        ensures err { IfErr result (IsRefusedBy (sequence_from None [] (still_to_read self.old line_strings.old))) }
         ensures repeats { (e : ConvertError) → self.old.failed ≡ Some e → result ≡ Err e }
         ensures failed { IfErr result (λ e. self.new.failed ≡ Some e) }
         ensures well { OnOk result (self.new.failed ≡ None) }
@@ -76,9 +76,9 @@ impl<R: Reader> Conversion<R> {
         &mut self,
         line_strings: &mut LineStringTable,
     ) -> ConvertResult<Option<ConvertLineSequence>>
-        ensures ok { IfOk result (λ sequence. gathered None [] (still_to_read self.old line_strings.old)
+        ensures ok { IfOk result (λ sequence. sequence_from None [] (still_to_read self.old line_strings.old)
             ≡ Ok (option_map sequence_read sequence, still_to_read self.new line_strings.new)) }
-        ensures err { IfErr result (IsRefusedBy (gathered None [] (still_to_read self.old line_strings.old))) }
+        ensures err { IfErr result (IsRefusedBy (sequence_from None [] (still_to_read self.old line_strings.old))) }
         ensures well { OnOk result (self.new.failed ≡ None) }
         ensures adds { AddsFiles self.old.lists.program self.new.lists.program }
         ensures keeps { KeepsFiles self.old.lists self.new.lists }

@@ -1,7 +1,7 @@
 //! The texts of a source that is converted.
 
 ghost use Rattle.std.specs.Prelude.{◌≡◌, ◌≢◌, ◌≤◌, [], All, IfOk, IfErr, IfSome, Ok, option_map};
-ghost use Rattle.gimli_core.specs.Reading.{seen};
+ghost use Rattle.gimli_core.specs.Reading.{result_map};
 ghost use Rattle.gimli_core.specs.Values.{value_seen};
 ghost use Rattle.gimli_write.specs.convert.Texts.{IsRefusedBy, if_there, without_zero, source_text, source_path};
 
@@ -13,7 +13,7 @@ use std::marker::Model;
 
 /// Bytes that may be a text. Refused as `InvalidAttributeValue` where a zero byte would end it.
 pub(crate) fn without_zero(text: Vec<u8>) -> ConvertResult<Vec<u8>>
-    ensures text { seen (λ kept. kept.items) result ≡ without_zero text.items }
+    ensures text { result_map (λ kept. kept.items) result ≡ without_zero text.items }
     ensures no_zero { IfOk result (λ kept. All (λ b. b ≢ 0) kept.items) }
 {
     if text.as_slice().contains(&0) {

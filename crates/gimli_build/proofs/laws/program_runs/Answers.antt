@@ -5,7 +5,7 @@ use Rattle.gimli_build.specs.Rows.{initial_row}
 use Rattle.gimli_build.specs.SameRow.{built_rules}
 use Rattle.gimli_build.specs.Runs.{program_instructions}
 use Rattle.gimli_build.proofs.RowRuns.{start-is}
-use Rattle.gimli_build.proofs.ItemRuns.{items-run, start_place}
+use Rattle.gimli_build.proofs.ItemRuns.{items-run, start_position}
 use Rattle.gimli_build.proofs.laws.program_runs.Goals as goal
 
 pub returns : goal.returns
@@ -14,4 +14,4 @@ returns c = λ p can.
     let e = p.line_encoding in
     let first = initial_row encoding.version e.default_is_stmt in
     ap (λ (r : ReadRow). run (built_rules encoding e) r (program_instructions p)) (start-is encoding e can.version)
-    ∙ items-run encoding e can.accepts.address_size can.accepts.lines can.version 0 first p.items (start_place e can.accepts.lines) (lit< tt) can.built can.addresses
+    ∙ items-run encoding e can.accepts.address_size can.accepts.lines can.version 0 first p.items (start_position e can.accepts.lines) (lit< tt) can.built can.addresses

@@ -29,6 +29,6 @@ loop-row-preserved c =
       well = λ s start fault.
           let left = rows_left c.loop-row.program old _ _ _ c.args.rows.now c.loop-row.row-index _ s (ap (λ (q : Built). q.line_encoding) so_far.others)
           (ap (λ (q : Built). q.encoding) so_far.others) c.loop-row-test.true (c.in_ok-base.ensures.well (so_far.start start)) (so_far.well s start fault) in
-          rw (c.in_ok-base.ensures.behind, c.in_ok-base.ensures.place) left;
+          rw (c.in_ok-base.ensures.after, c.in_ok-base.ensures.place) left;
       others = first_of (search rules, grind (arith, common_steps));
     }

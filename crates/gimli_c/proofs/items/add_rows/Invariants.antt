@@ -1,6 +1,6 @@
 use Rattle.std.proofs.Common.{◌≡◌, ℕ, ◌++◌, [], None, length, drop}
 use Rattle.gimli_build.specs.Conditions.{CanWrite}
-use Rattle.gimli_build.specs.Built.{previous_place}
+use Rattle.gimli_build.specs.Built.{previous_position}
 use Rattle.gimli_c.specs.Causes.{HasRowsFault}
 use Rattle.gimli_c.specs.Handed.{items_handed}
 use Rattle.gimli_c.proofs.items.add_rows.Given as goal
@@ -12,10 +12,10 @@ invariant-loop-row l =
     record {
       can : CanWrite l.program [] [];
       items : l.program.items ++ items_handed version l.ids l.base (drop l.row-index l.rows) ≡ l.fn.program.items ++ items_handed version l.ids None l.rows;
-      start : previous_place l.fn.program.items ≡ (0, 0) → l.base ≡ None → previous_place l.program.items ≡ (0, 0);
-      faults : (s : ℕ) → HasRowsFault l.fn.program.line_encoding version (length l.ids) l.base (previous_place l.program.items) (drop l.row-index l.rows) s
-          → HasRowsFault l.fn.program.line_encoding version (length l.ids) None (previous_place l.fn.program.items) l.rows s;
-      well : (s : ℕ) → previous_place l.fn.program.items ≡ (0, 0) → HasRowsFault l.fn.program.line_encoding version (length l.ids) None (0, 0) l.rows s
-          → HasRowsFault l.fn.program.line_encoding version (length l.ids) l.base (previous_place l.program.items) (drop l.row-index l.rows) s;
+      start : previous_position l.fn.program.items ≡ (0, 0) → l.base ≡ None → previous_position l.program.items ≡ (0, 0);
+      faults : (s : ℕ) → HasRowsFault l.fn.program.line_encoding version (length l.ids) l.base (previous_position l.program.items) (drop l.row-index l.rows) s
+          → HasRowsFault l.fn.program.line_encoding version (length l.ids) None (previous_position l.fn.program.items) l.rows s;
+      well : (s : ℕ) → previous_position l.fn.program.items ≡ (0, 0) → HasRowsFault l.fn.program.line_encoding version (length l.ids) None (0, 0) l.rows s
+          → HasRowsFault l.fn.program.line_encoding version (length l.ids) l.base (previous_position l.program.items) (drop l.row-index l.rows) s;
       others : l.program ≡ record l.fn.program { items = l.program.items; row = l.program.row; in_sequence = l.program.in_sequence };
     }

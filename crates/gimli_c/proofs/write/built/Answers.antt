@@ -1,13 +1,13 @@
 use Rattle.std.proofs.Common.{◌<◌, ◌≤◌, None, List, ℕ, length, map, ap, subst, ◌∙◌}
 use Rattle.std.proofs.lemmas.Result.{err_from_is_err_and}
-use Rattle.gimli_build.specs.Built.{Built, previous_place}
+use Rattle.gimli_build.specs.Built.{Built, previous_position}
 use Rattle.gimli_core.specs.declared.common.Encoding.{Encoding}
 use Rattle.gimli_core.specs.declared.common.LineEncoding.{LineEncoding}
 use Rattle.gimli_c.specs.Start.{start_program}
 use Rattle.std.specs.Prelude.{All}
 use Rattle.gimli_build.specs.Advance.{CanEncode}
 use Rattle.gimli_c.specs.Causes.{HasNone, HasTextFault, HasFileFault, HasRowsFault}
-use Rattle.gimli_c.specs.Handing.{handed}
+use Rattle.gimli_c.specs.Handing.{handed_of}
 use Rattle.gimli_c.specs.Handed.{line_encoding_of, encoding_of, AddsDirectories, AddsFiles, text_handed}
 use Rattle.gimli_c.proofs.CauseLemmas.{directory_ids, file_ids, handed_is_well, names_refused, files_refused, rows_refused}
 use Rattle.gimli_c.proofs.Handings.{items_built, can_with}
@@ -19,11 +19,11 @@ add_directories-requires c = rw c.with_details-program.ensures (can_with c.args.
 pub returns-clause-ok : goal.returns-clause-ok
 returns-clause-ok c = λ big.
     let between = c.add_directories.new.program in
-    let behind = c.add_files.new.program in
+    let after = c.add_files.new.program in
     let encoding = ap (λ (q : Built). q.encoding) c.in_ok-start.ensures.start ∙ c.in_ok-units.ensures.encoding in
     let directories = subst (λ (q : Built). AddsDirectories q between (map (text_handed c.args.texts.now) c.args.directories.now) c.in_ok-ids.ids.items)
     c.with_details-program.ensures c.in_ok-ids.ensures.ok in
-    let files = subst (λ (ids : List ℕ). AddsFiles between behind c.args.texts.now ids c.args.files.now c.in_ok-file_ids.file_ids.items)
+    let files = subst (λ (ids : List ℕ). AddsFiles between after c.args.texts.now ids c.args.files.now c.in_ok-file_ids.file_ids.items)
     c.as_slice.ensures.value c.in_ok-file_ids.ensures.ok in
     record {
       start = c.in_ok-start.start;
@@ -36,10 +36,10 @@ returns-clause-ok c = λ big.
       directory_ids = c.in_ok-ids.ids.items;
       file_ids = c.in_ok-file_ids.file_ids.items;
       between = between;
-      behind = behind;
+      after = after;
       directories = directories;
       files = files;
-      items = items_built c.args.details c.args.encoding.now c.in_ok-start.start between behind c.add_rows.new.program _ _ _ _ _ _ c.as_slice-2.result.now c.args.rows.now
+      items = items_built c.args.details c.args.encoding.now c.in_ok-start.start between after c.add_rows.new.program _ _ _ _ _ _ c.as_slice-2.result.now c.args.rows.now
           (ap (λ (q : Built). q.items) c.in_ok-start.ensures.start) encoding directories files c.as_slice-2.ensures.value c.in_ok-add_rows.ensures.ok;
       others = c.in_ok-add_rows.ensures.ok.others;
       can = c.in_ok-add_rows.ensures.can;
@@ -71,11 +71,11 @@ returns-in_err-add_rows-clause-cause c = λ big.
     ∙ ap (λ (q : Built). q.encoding) c.in_ok-start.ensures.start ∙ c.in_ok-units.ensures.encoding in
     let none = ap (λ (q : Built). q.items) files ∙ ap (λ (q : Built). q.items) directories ∙ ap (λ (q : Built). q.items) details ∙ ap (λ (q : Built). q.items) c.in_ok-start.ensures.start in
     let ids = ap (λ (xs : List ℕ). length xs) c.as_slice-2.ensures.value ∙ file_ids _ _ _ _ _ _ c.in_ok-file_ids.ensures.ok in
-    rw (p.1, p.2) (λ s. rows_refused _ c.add_files.new.program _ _ lines encoding ids (c.in_err-add_rows.ensures.cause (ap previous_place none) s))
+    rw (p.1, p.2) (λ s. rows_refused _ c.add_files.new.program _ _ lines encoding ids (c.in_err-add_rows.ensures.cause (ap previous_position none) s))
 
 pub returns-clause-well : goal.returns-clause-well
 returns-clause-well c = λ big.
-    let h = handed c.args.encoding.now big c.args.details c.args.texts.now c.args.directories.now c.args.files.now c.args.rows.now in
+    let h = handed_of c.args.encoding.now big c.args.details c.args.texts.now c.args.directories.now c.args.files.now c.args.rows.now in
     let given = c.in_ok-units.ensures in
     let directories = c.in_ok-ids.ensures.ok.others in
     let files = c.in_ok-file_ids.ensures.ok.others in
@@ -85,7 +85,7 @@ returns-clause-well c = λ big.
     ∙ ap (λ (q : Built). q.line_encoding) start ∙ given.lines in
     let started = ap (λ (q : Built). q.encoding) details ∙ ap (λ (q : Built). q.encoding) start ∙ given.encoding in
     let between = ap (λ (q : Built). q.encoding) directories ∙ started in
-    let behind = ap (λ (q : Built). q.encoding) files ∙ between in
+    let after = ap (λ (q : Built). q.encoding) files ∙ between in
     let none = ap (λ (q : Built). q.items) files ∙ ap (λ (q : Built). q.items) directories ∙ ap (λ (q : Built). q.items) details ∙ ap (λ (q : Built). q.items) start in
     let ids = ap (λ (xs : List ℕ). length xs) c.as_slice.ensures.value ∙ directory_ids _ _ _ _ _ _ c.in_ok-ids.ensures.ok (ap (λ e. e.version) started) in
     let file_count = ap (λ (xs : List ℕ). length xs) c.as_slice-2.ensures.value ∙ file_ids _ _ _ _ _ _ c.in_ok-file_ids.ensures.ok in
@@ -96,6 +96,6 @@ returns-clause-well c = λ big.
     (subst (λ (e : Encoding). All (λ n. HasNone (HasTextFault e.version h.texts n)) h.directories) started c.in_ok-ids.ensures.well)
     (subst (each h.encoding.version) ids (subst (λ (e : Encoding). each e.version (length c.as_slice.result.now)) between c.in_ok-file_ids.ensures.well))
     (subst (rows (line_encoding_of h.encoding) (encoding_of h.encoding)) file_count
-    (subst (λ (e : Encoding). rows (line_encoding_of h.encoding) e (length c.as_slice-2.result.now)) behind
+    (subst (λ (e : Encoding). rows (line_encoding_of h.encoding) e (length c.as_slice-2.result.now)) after
     (subst (λ (l : LineEncoding). rows l c.add_files.new.program.encoding (length c.as_slice-2.result.now)) lines
-    (c.in_ok-add_rows.ensures.well (ap previous_place none)))))
+    (c.in_ok-add_rows.ensures.well (ap previous_position none)))))

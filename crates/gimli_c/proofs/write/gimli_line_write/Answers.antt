@@ -1,7 +1,7 @@
 use Rattle.std.proofs.Common.{List, ℕ, length, inl, inr, ap, ◌∙◌, arith}
 use Rattle.gimli_c.specs.Causes.HasCause.{of_handed, of_unit}
 use Rattle.gimli_c.specs.Handing.{write_status}
-use Rattle.gimli_c.specs.Written.{written}
+use Rattle.gimli_c.specs.Written.{slots_with}
 use Rattle.gimli_c.proofs.SamePrograms.{no_cause}
 use Rattle.gimli_c.proofs.Handings.{appended, built_source}
 use Rattle.gimli_c.proofs.write.gimli_line_write.Goals as goal
@@ -33,7 +33,7 @@ returns-clause-ok c = λ _.
       bytes = c.in-Ok-section_of.section.bytes;
       is_unit = record { unit = appended _ _ c.in-Ok-section_of.ensures.unit; reads_back = c.in-Ok-section_of.ensures.reads_back };
       fits = omega (arith, c.if-bytes-unit.false, same);
-      written_is = c.copy_bytes.ensures ∙ ap (λ (xs : List ℕ). written xs c.args.unit.now) c.slice-bytes.ensures;
+      written_is = c.copy_bytes.ensures ∙ ap (λ (xs : List ℕ). slots_with xs c.args.unit.now) c.slice-bytes.ensures;
       size_is = same;
     }
 

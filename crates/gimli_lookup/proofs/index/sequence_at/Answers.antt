@@ -11,11 +11,11 @@ pub returns-clause-value : goal.returns-clause-value
 returns-clause-value c =
     let steps = c.args.steps.now in
     let count = c.steps_up_to-count.result in
-    let place = count - 1 in
+    let index = count - 1 in
     let there = c.steps_up_to-count.ensures in
     let some : 0 < count = omega arith in
-    let within : place < length steps = omega (arith, there.place) in
-    let s = get_or steps place (record { from = 0; sequence = None }) in
-    sym (last_before c.args.a steps place s within (get_or_default steps place s (record { from = 0; sequence = None }) within)
-    (there.before place (record { from = 0; sequence = None }) (omega arith))
+    let within : index < length steps = omega (arith, there.index) in
+    let s = get_or steps index (record { from = 0; sequence = None }) in
+    sym (last_before c.args.a steps index s within (get_or_default steps index s (record { from = 0; sequence = None }) within)
+    (there.before index (record { from = 0; sequence = None }) (omega arith))
     (λ k d le lt. there.after k d (omega arith) lt))

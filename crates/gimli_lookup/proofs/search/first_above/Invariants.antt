@@ -9,7 +9,7 @@ invariant-loop-low l = record {
   low : l.low ≤ l.high;
   high : l.high ≤ length l.rows;
   before : (k : ℕ) (d : LineRow) → k < l.low → (slice_index_or l.rows k d).address ≤ l.a;
-  behind : (k : ℕ) (d : LineRow) → l.high ≤ k → k < length l.rows → l.a < (slice_index_or l.rows k d).address;
+  after : (k : ℕ) (d : LineRow) → l.high ≤ k → k < length l.rows → l.a < (slice_index_or l.rows k d).address;
   count : l.probes + (l.high - l.low) ≤ l.initial.probes + length l.rows;
   grows : l.initial.probes ≤ l.probes;
   at_least : l.high - l.low < length l.rows → l.initial.probes < l.probes;

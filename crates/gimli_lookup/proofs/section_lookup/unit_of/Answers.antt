@@ -17,14 +17,14 @@ halves-init g c =
       end = λ k d is. omega (arith, ends_at 0 units r.0 k d r.1 is, r.2);
     }
 
-pub halves-preserved-then-places-sequence : goal.halves-preserved-then-places-sequence
-halves-preserved-then-places-sequence g c =
+pub halves-preserved-then-indexes-sequence : goal.halves-preserved-then-indexes-sequence
+halves-preserved-then-indexes-sequence g c =
     let i = c.halves.invariant in
     let units = c.args.units.now in
     let u = c.index-units-middle.result in
     let middle = c.halves.low + (c.halves.high - c.halves.low) / 2 in
     let before : middle < c.halves.high = omega arith in
-    let from : u.first ≤ c.args.sequence = omega (arith, c.places.ensures.start) in
+    let from : u.first ≤ c.args.sequence = omega (arith, c.indexes.ensures.start) in
     record {
       some = before;
       within = i.within;
@@ -40,7 +40,7 @@ halves-preserved g c =
     let u = c.index-units-middle.result in
     let middle = c.halves.low + (c.halves.high - c.halves.low) / 2 in
     let within : middle < length units = omega (arith, i.within) in
-    let above : c.args.sequence < u.first = omega (arith, c.places.ensures.start) in
+    let above : c.args.sequence < u.first = omega (arith, c.indexes.ensures.start) in
     record {
       some = omega arith;
       within = omega (arith, within);

@@ -8,22 +8,22 @@ use Rattle.gimli_lookup.specs.Statements.{is_among}
 use Rattle.gimli_lookup.proofs.statements.append_in.Goals.{then-not-is_of_line, else-not-is_of_line+then-is_stmt+then-not-has_address+in_ok-append, else-not-is_of_line+else-is_stmt, else-is_stmt-via-then-is_stmt+else-not-has_address, else-is_stmt-via-else-is_stmt}
 use Rattle.gimli_lookup.proofs.statements.append_in.Goals as goal
 
-pub loop-place-preserved : goal.loop-place-preserved
-loop-place-preserved c =
+pub loop-index-preserved : goal.loop-index-preserved
+loop-index-preserved c =
     let is_file = is_among c.args.files.now in
     let line = c.args.line in
     let rows = c.args.rows.now in
-    let i = c.loop-place.place in
+    let i = c.loop-index.index in
     let row = c.row-row.result in
     let inside : i < length rows = omega arith in
     let at_row : drop i rows ≡ row ∷ drop (i + 1) rows =
     drop_more rows i row inside ∙ ap (λ (r : LineRow). r ∷ drop (i + 1) rows) (get_or_from_slice_get rows i row row c.row-row.ensures) in
     let rest = drop (i + 1) rows in
-    let kept = c.loop-place.addresses.items in
-    let has = c.loop-place.has_address in
+    let kept = c.loop-index.addresses.items in
+    let has = c.loop-index.has_address in
     let whole = c.args.addresses.now.items ++ addresses_in is_file line rows in
     let before : kept ++ addresses_on is_file line has (row ∷ rest) ≡ whole =
-    ap (λ xs. kept ++ addresses_on is_file line has xs) (sym at_row) ∙ c.loop-place.invariant in
+    ap (λ xs. kept ++ addresses_on is_file line has xs) (sym at_row) ∙ c.loop-index.invariant in
     elim c.if-not-is_of_line.branch [
       | then-not-is_of_line w ↦ rw (w.addresses-is, w.has_address-is)
           (nothing_more is_file line kept whole has false (row ∷ rest) rest (of_none is_file line has row rest (sym c.is_of_line.ensures ∙ w.if-not-is_of_line.true)) before)

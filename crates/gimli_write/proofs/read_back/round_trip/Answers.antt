@@ -1,10 +1,10 @@
 use Rattle.std.proofs.Common.{ℕ, List, drop, refl, subst}
 use Rattle.std.specs.Prelude.{IfErr}
-use Rattle.gimli_build.specs.Version5Tables.{strings_behind, line_strings_behind}
+use Rattle.gimli_build.specs.Version5Tables.{strings_after, line_strings_after}
 use Rattle.gimli_build.specs.Cause.{first_cause}
 use Rattle.gimli_write.specs.RoundTrip.{RefusesUnit, slice_notation, unit_entry_of, to_write}
 use Rattle.gimli_write.proofs.RoundTrips.{write_refused, unwritten_refused, memory_refused, unit_not_answered}
-use Rattle.gimli_build.proofs.EmptySource.{can-write-behind}
+use Rattle.gimli_build.proofs.EmptySource.{can-write-after}
 use Rattle.gimli_write.proofs.read_back.round_trip.Goals as goal
 
 pub returns-in-Ok-clause-refusal : goal.returns-in-Ok-clause-refusal
@@ -12,11 +12,11 @@ returns-in-Ok-clause-refusal g c =
     let big = g.E.Endianity.big c.args.w.now.0.endian in
     let other = g.E.Endianity.big c.write.new.w.0.endian in
     let program = c.args.program.now in
-    let strings = strings_behind program c.args.strings.now in
-    let line_strings = line_strings_behind program c.args.line_strings.now in
-    let behind = drop c.in-Ok.offset.0 c.write.new.w.0.bytes in
-    let read = subst (λ (texts : List (List ℕ)). IfErr c.read_unit.result (RefusesUnit (slice_notation other) (unit_entry_of program texts line_strings) behind)) c.in-Ok.ensures.strings
-    (subst (λ (texts : List (List ℕ)). IfErr c.read_unit.result (RefusesUnit (slice_notation other) (unit_entry_of program c.write.new.strings texts) behind)) c.in-Ok.ensures.line_strings c.read_unit.ensures.err) in
+    let strings = strings_after program c.args.strings.now in
+    let line_strings = line_strings_after program c.args.line_strings.now in
+    let later = drop c.in-Ok.offset.0 c.write.new.w.0.bytes in
+    let read = subst (λ (texts : List (List ℕ)). IfErr c.read_unit.result (RefusesUnit (slice_notation other) (unit_entry_of program texts line_strings) later)) c.in-Ok.ensures.strings
+    (subst (λ (texts : List (List ℕ)). IfErr c.read_unit.result (RefusesUnit (slice_notation other) (unit_entry_of program c.write.new.strings texts) later)) c.in-Ok.ensures.line_strings c.read_unit.ensures.err) in
     unit_not_answered big other (to_write big c.args.encoding program c.args.strings.now c.args.line_strings.now) (unit_entry_of program strings line_strings)
     c.args.w.now.0.bytes c.write.new.w.0.bytes c.in-Ok.offset.0 c.read_unit.result c.in-Ok.ensures.ordered (c.in-Ok.ensures.no_cause refl) (c.in-Ok.ensures.unit refl) c.in-Ok.ensures.offset read
 
@@ -25,7 +25,7 @@ returns-in-Err-clause-refusal g c =
     let big = g.E.Endianity.big c.args.w.now.0.endian in
     let program = c.args.program.now in
     write_refused big (to_write big c.args.encoding program c.args.strings.now c.args.line_strings.now)
-    (unit_entry_of program (strings_behind program c.args.strings.now) (line_strings_behind program c.args.line_strings.now))
+    (unit_entry_of program (strings_after program c.args.strings.now) (line_strings_after program c.args.line_strings.now))
     c.args.w.now.0.bytes c.write.new.w.0.bytes c.in-Err.e c.from_write.result (c.in-Err.ensures.err refl refl) c.from_write.ensures.memory c.from_write.ensures.other
 
 pub returns-in-Ok-clause-never_read : goal.returns-in-Ok-clause-never_read
@@ -39,5 +39,5 @@ returns-in-Err-clause-never_read g c held =
 
 pub read_unit-requires-clause-within : goal.read_unit-requires-clause-within
 read_unit-requires-clause-within g c =
-    let can = can-write-behind c.args.program.now c.args.strings.now c.args.line_strings.now c.requires in
+    let can = can-write-after c.args.program.now c.args.strings.now c.args.line_strings.now c.requires in
     rw (c.in-Ok.ensures.strings, c.in-Ok.ensures.line_strings) can.directories

@@ -4,7 +4,7 @@ use Rattle.gimli_bytes.specs.declared.address.Address.{Address}
 use Rattle.gimli_bytes.specs.declared.address.Address.TheVariants.{Constant}
 use Rattle.gimli_write.specs.convert.ConversionState.{conversion_of}
 use Rattle.gimli_write.specs.convert.DoneConversions.{DoneConversion}
-use Rattle.gimli_write.specs.convert.Preparation.{handed}
+use Rattle.gimli_write.specs.convert.Preparation.{handed_of}
 use Rattle.conversion_text.proofs.conversion.Conversion.built_once.Goals as goal
 
 pub returns : goal.returns
@@ -17,7 +17,7 @@ returns c =
         notation = c.in-Ok.program.notation;
         sections = record { strings = self.strings.slice.now; line_strings = self.line_strings.slice.now };
         header = c.in-Ok.program.meaning;
-        given = handed self.target.encoding self.target.line_encoding (option_map (λ s. s.slice.now) self.name);
+        given = handed_of self.target.encoding self.target.line_encoding (option_map (λ s. s.slice.now) self.name);
       };
       line_strings = c.args.tables.now.line_strings;
       outcome = conversion_of c.in_ok-built.built c.convert_program.new.line_strings;

@@ -1,7 +1,7 @@
 use Rattle.std.proofs.Common.{◌≡◌, ℕ, ap, ◌+◌, ◌<◌, length, drop, take, refl, ◌∙◌, arith, lit<}
-use Rattle.gimli_build.specs.Rows.{initial_row, at_place}
+use Rattle.gimli_build.specs.Rows.{initial_row, at_position}
 use Rattle.gimli_build.specs.Items.{items_bytes, next_previous}
-use Rattle.gimli_build.proofs.ItemRuns.{start_place}
+use Rattle.gimli_build.proofs.ItemRuns.{start_position}
 use Rattle.gimli_build.proofs.ItemsWritten.{taken_next, fit_more, way_on, standing_start, standing_more}
 use Rattle.gimli_build.proofs.Joined.{next_left, begins_self, begins_then}
 use Rattle.gimli_build.proofs.rows.encode.write_items.Goals as goal
@@ -14,7 +14,7 @@ loop-item-init g c =
       keeps = begins_self (g.W.Writer.contents c.args.w.now);
       ordered = refl;
       fit = tt;
-      way = rw c.initial-initial.ensures (record { place = start_place e c.requires.can; line = lit< tt; built = c.requires.built });
+      way = rw c.initial-initial.ensures (record { position = start_position e c.requires.can; line = lit< tt; built = c.requires.built });
       put = λ keeps_bytes. rw c.initial-initial.ensures (standing_start (g.W.Writer.big c.args.w.now) c.args.encoding e (g.W.Writer.contents c.args.w.now) first c.args.items.now);
     }
 
@@ -28,13 +28,13 @@ loop-item-preserved g c =
     let big = g.W.Writer.big c.args.w.now in
     let contents = g.W.Writer.contents in
     let whole = items_bytes big c.args.encoding e (initial_row version e.default_is_stmt) items in
-    let previous = at_place c.loop-item.place c.loop-item.previous.now in
+    let previous = at_position c.loop-item.position c.loop-item.previous.now in
     let lt : i < length items = omega arith in
     let split = next_left items i item lt c.item-item.is in
     let way = rw split at c.loop-item.invariant.way in
-    let next = c.next_row-next.ensures version e.default_is_stmt c.loop-item.place c.initial-initial.ensures in
-    let moved : at_place c.place-next_place.result c.next_row-next.result.now ≡ next_previous version e.default_is_stmt previous item =
-    ap (λ (p : ℕ × ℕ). at_place p c.next_row-next.result.now) c.place-next_place.ensures ∙ next in
+    let next = c.next_row-next.ensures version e.default_is_stmt c.loop-item.position c.initial-initial.ensures in
+    let moved : at_position c.position-next_position.result c.next_row-next.result.now ≡ next_previous version e.default_is_stmt previous item =
+    ap (λ (p : ℕ × ℕ). at_position p c.next_row-next.result.now) c.position-next_position.ensures ∙ next in
     record {
       keeps = begins_then (contents c.args.w.now) (contents c.loop-item.w) (contents c.write_item.new.w) c.loop-item.invariant.keeps c.in_ok-write_item.ensures.writes.keeps;
       ordered = c.in_ok-write_item.ensures.writes.ordered ∙ c.loop-item.invariant.ordered;

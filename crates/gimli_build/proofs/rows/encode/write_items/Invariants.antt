@@ -1,7 +1,7 @@
 use Rattle.std.proofs.Common.{◌≡◌, IsTrue, drop, take}
 use Rattle.gimli_bytes.specs.Written.{Begins}
 use Rattle.gimli_build.specs.Items.{items_bytes, AreFit}
-use Rattle.gimli_build.specs.Rows.{initial_row, at_place}
+use Rattle.gimli_build.specs.Rows.{initial_row, at_position}
 use Rattle.gimli_build.proofs.ItemsWritten.{OnTheWay, Standing}
 use Rattle.gimli_build.proofs.rows.encode.write_items.Given as goal
 
@@ -10,7 +10,7 @@ invariant-loop-item g l =
     let contents = g.W.Writer.contents in
     let big = g.W.Writer.big l.fn.w in
     let first = initial_row l.encoding.version l.line_encoding.default_is_stmt in
-    let previous = at_place l.place l.previous in
+    let previous = at_position l.position l.previous in
     record {
       keeps : Begins (contents l.fn.w) (contents l.w);
       ordered : g.W.Writer.big l.w ≡ big;

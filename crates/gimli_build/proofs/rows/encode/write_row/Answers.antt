@@ -3,7 +3,7 @@ use Rattle.std.proofs.lemmas.Int.{ints}
 use Rattle.std.proofs.lemmas.Result.{err_from_is_err_and}
 use Rattle.gimli_build.specs.Advance.{operations}
 use Rattle.gimli_build.specs.Encode.{marks, changes, line_part, line_opcode, operation_part, row_instructions}
-use Rattle.gimli_build.specs.Rows.{at_place}
+use Rattle.gimli_build.specs.Rows.{at_position}
 use Rattle.gimli_build.specs.InstructionBytes.{instructions_bytes}
 use Rattle.gimli_build.proofs.InstructionsWritten.{four_parts}
 use Rattle.gimli_build.proofs.Writes.{joins, unwritten}
@@ -11,19 +11,19 @@ use Rattle.gimli_build.proofs.rows.encode.write_row.Goals as goal
 
 pub returns-in_err-write_changes-clause-writes : goal.returns-in_err-write_changes-clause-writes
 returns-in_err-write_changes-clause-writes g c =
-    let bytes = instructions_bytes (row_instructions c.args.encoding.version c.args.line_encoding (at_place c.args.place c.args.previous.now) c.args.row.now) in
+    let bytes = instructions_bytes (row_instructions c.args.encoding.version c.args.line_encoding (at_position c.args.position c.args.previous.now) c.args.row.now) in
     let p = err_from_is_err_and c.from_residual-in_err-write_changes.result c.from_residual-in_err-write_changes.ensures.1 in
     rw (p.1, p.2) (unwritten bytes c.in_ok-write_marks.ensures.writes c.in_err-write_changes.ensures.writes)
 
 pub returns-in_err-opcode-clause-writes : goal.returns-in_err-opcode-clause-writes
 returns-in_err-opcode-clause-writes g c =
-    let bytes = instructions_bytes (row_instructions c.args.encoding.version c.args.line_encoding (at_place c.args.place c.args.previous.now) c.args.row.now) in
+    let bytes = instructions_bytes (row_instructions c.args.encoding.version c.args.line_encoding (at_position c.args.position c.args.previous.now) c.args.row.now) in
     let p = err_from_is_err_and c.from_residual-in_err-opcode.result c.from_residual-in_err-opcode.ensures.1 in
     rw (p.1, p.2) (unwritten bytes (joins c.in_ok-write_marks.ensures.writes c.in_ok-write_changes.ensures.writes) c.in_err-opcode.ensures.writes)
 
 pub returns-in_err-write_operation_advance-clause-writes : goal.returns-in_err-write_operation_advance-clause-writes
 returns-in_err-write_operation_advance-clause-writes g c =
-    let bytes = instructions_bytes (row_instructions c.args.encoding.version c.args.line_encoding (at_place c.args.place c.args.previous.now) c.args.row.now) in
+    let bytes = instructions_bytes (row_instructions c.args.encoding.version c.args.line_encoding (at_position c.args.position c.args.previous.now) c.args.row.now) in
     let p = err_from_is_err_and c.from_residual-in_err-write_operation_advance.result c.from_residual-in_err-write_operation_advance.ensures.1 in
     rw (p.1, p.2) (unwritten bytes (joins c.in_ok-write_marks.ensures.writes (joins c.in_ok-write_changes.ensures.writes c.in_ok-opcode.ensures.writes)) c.in_err-write_operation_advance.ensures)
 
@@ -32,7 +32,7 @@ returns-clause-writes g c =
     let e = c.args.line_encoding in
     let version = c.args.encoding.version in
     let row = c.args.row.now in
-    let previous = at_place c.args.place c.args.previous.now in
+    let previous = at_position c.args.position c.args.previous.now in
     let d = pos row.line -ℤ pos previous.line in
     let n = operations e previous.address_offset previous.op_index row.address_offset row.op_index in
     let fits : to_z w64 (of_z w64 c.line_advance.result) ≡ c.line_advance.result = omega (arith, ints) in

@@ -1,8 +1,8 @@
 use Rattle.std.proofs.Common.{rules, ◌≡◌, sym, ap, ◌∙◌, false, true, arith}
 use Rattle.std.specs.Prelude.{slice_get}
-use Rattle.gimli_bytes.specs.Texts.{with_text, place_of_text}
+use Rattle.gimli_bytes.specs.Texts.{with_text, index_of_text}
 use Rattle.gimli_bytes.specs.TextsInside.{texts_of}
-use Rattle.gimli_bytes.proofs.TextLemmas.{is_there, not_there, place_there, place_new, texts_new, with_text-there, byte_count-new, with_text-AreTexts, with_text-found, with_text-KeepsTexts}
+use Rattle.gimli_bytes.proofs.TextLemmas.{is_there, not_there, index_there, place_new, texts_new, with_text-there, byte_count-new, with_text-AreTexts, with_text-found, with_text-KeepsTexts}
 use Rattle.gimli_bytes.proofs.str.Texts.add.Goals as goal
 
 pub returns-in-Some-clause-ok : goal.returns-in-Some-clause-ok
@@ -11,7 +11,7 @@ returns-in-Some-clause-ok c =
 
 pub returns-in-Some-clause-id : goal.returns-in-Some-clause-id
 returns-in-Some-clause-id c =
-    rw (← c.self.view_is) (place_there c.self.inside.strings.keys c.args.text.now c.in-Some.index c.in-Some.ensures.index)
+    rw (← c.self.view_is) (index_there c.self.inside.strings.keys c.args.text.now c.in-Some.index c.in-Some.ensures.index)
 
 added : (c : goal.After-self-1) → texts_of c.insert_full.new.self.keys ≡ with_text (texts_of c.self.inside.strings.keys) c.args.text.now
 added c =
@@ -37,9 +37,9 @@ returns-clause-id c =
 pub returns-in-Some-clause-found : goal.returns-in-Some-clause-found
 returns-in-Some-clause-found c =
     let there = with_text-there (texts_of c.self.inside.strings.keys) c.args.text.now (is_there c.self.inside.strings.keys c.args.text.now true c.in-Some.ensures.found) in
-    let place = place_there c.self.inside.strings.keys c.args.text.now c.in-Some.index c.in-Some.ensures.index in
+    let place = index_there c.self.inside.strings.keys c.args.text.now c.in-Some.index c.in-Some.ensures.index in
     rw (← c.self.view_is) (ap (slice_get (texts_of c.self.inside.strings.keys)) place
-    ∙ ap (λ ts. slice_get ts (place_of_text (texts_of c.self.inside.strings.keys) c.args.text.now)) (sym there)
+    ∙ ap (λ ts. slice_get ts (index_of_text (texts_of c.self.inside.strings.keys) c.args.text.now)) (sym there)
     ∙ with_text-found (texts_of c.self.inside.strings.keys) c.args.text.now)
 
 pub returns-clause-found : goal.returns-clause-found

@@ -1,7 +1,7 @@
 use Rattle.std.proofs.lemmas.Result.{err_from_is_err_and, IfOk-from_err}
 use Rattle.std.proofs.Common.{◌∙◌}
 use Rattle.gimli_bytes.proofs.TablesWritten.{begins_then}
-use Rattle.gimli_bytes.proofs.InitialLengths.{at_end, behind, place_32, place_64, opened_32, opened_64}
+use Rattle.gimli_bytes.proofs.InitialLengths.{at_end, later, place_32, place_64, opened_32, opened_64}
 use Rattle.gimli_bytes.proofs.writer.Writer.write_initial_length.Goals as goal
 
 -- ---- refused
@@ -60,7 +60,7 @@ pub returns-in_ok-write_u32-in-Dwarf32-clause-ok : goal.returns-in_ok-write_u32-
 returns-in_ok-write_u32-in-Dwarf32-clause-ok g c = λ keeps. opened_32 c.args.format (g.Self.Writer.big c.args.self.now) (g.Self.Writer.contents c.args.self.now) (g.Self.Writer.contents c.write_u32.new.self) c.in-Dwarf32.is (c.in_ok-write_u32-in-Dwarf32.ensures.ok keeps)
 
 pub returns-in_ok-write_u64-in-Dwarf64-clause-after : goal.returns-in_ok-write_u64-in-Dwarf64-clause-after
-returns-in_ok-write_u64-in-Dwarf64-clause-after g c = behind (g.Self.Writer.contents c.args.self.now) (g.Self.Writer.contents c.write_u32-in-Dwarf64.new.self) c.len-in-Dwarf64.result c.in_ok-write_u32-in-Dwarf64.ensures.keeps c.len-in-Dwarf64.ensures
+returns-in_ok-write_u64-in-Dwarf64-clause-after g c = later (g.Self.Writer.contents c.args.self.now) (g.Self.Writer.contents c.write_u32-in-Dwarf64.new.self) c.len-in-Dwarf64.result c.in_ok-write_u32-in-Dwarf64.ensures.keeps c.len-in-Dwarf64.ensures
 
 pub returns-in_ok-write_u64-in-Dwarf64-clause-place : goal.returns-in_ok-write_u64-in-Dwarf64-clause-place
 returns-in_ok-write_u64-in-Dwarf64-clause-place g c = λ keeps. place_64 c.args.format (g.Self.Writer.big c.args.self.now) 0xffff_ffff (g.Self.Writer.contents c.args.self.now) (g.Self.Writer.contents c.write_u32-in-Dwarf64.new.self) c.len-in-Dwarf64.result c.in-Dwarf64.is (c.in_ok-write_u32-in-Dwarf64.ensures.ok keeps) c.len-in-Dwarf64.ensures

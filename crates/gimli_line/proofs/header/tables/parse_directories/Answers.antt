@@ -4,7 +4,7 @@ use Rattle.std.proofs.lemmas.Result.{err_from_is_err_and}
 use Rattle.gimli_core.specs.Reading.{text_at}
 use Rattle.gimli_core.specs.Values.{ValueHasOrder}
 use Rattle.gimli_core.specs.declared.attribute_value.AttributeValue.TheVariants.{String}
-use Rattle.gimli_line.specs.header.Outcome.{viewed}
+use Rattle.gimli_line.specs.header.Outcome.{read_map}
 use Rattle.gimli_line.specs.header.Productions.{name}
 use Rattle.gimli_line.proofs.Order.{values_pushed}
 use Rattle.gimli_line.proofs.Tables.{none_yet, text_smaller}
@@ -15,7 +15,7 @@ use Rattle.gimli_line.proofs.header.tables.parse_directories.Goals as goal
 pub returns-in_err-directory-clause-read : goal.returns-in_err-directory-clause-read
 returns-in_err-directory-clause-read g c =
     let p = err_from_is_err_and c.from_residual.result c.from_residual.ensures.1 in
-    rw (p.1, p.2) (λ _. closed_ends String name text_at reads_name _ (g.R.Reader.bytes c.loop-directories.input) _ _ _ (text_refused (g.R.Reader.bytes c.loop-directories.input) _ _ c.in_err-directory.ensures.read) (ap (viewed String) c.in_err-directory.ensures.read) c.loop-directories.invariant.so_far)
+    rw (p.1, p.2) (λ _. closed_ends String name text_at reads_name _ (g.R.Reader.bytes c.loop-directories.input) _ _ _ (text_refused (g.R.Reader.bytes c.loop-directories.input) _ _ c.in_err-directory.ensures.read) (ap (read_map String) c.in_err-directory.ensures.read) c.loop-directories.invariant.so_far)
 
 pub returns-then-is_empty-clause-read : goal.returns-then-is_empty-clause-read
 returns-then-is_empty-clause-read g c =
@@ -23,7 +23,7 @@ returns-then-is_empty-clause-read g c =
 
 pub loop-directories-preserved : goal.loop-directories-preserved
 loop-directories-preserved g c = record {
-  so_far = rw (c.in_ok-push.ensures.ok, map_push) (closed_goes_on String name text_at reads_name _ (g.R.Reader.bytes c.loop-directories.input) _ _ _ (text_free (g.R.Reader.bytes c.loop-directories.input) _ _ c.if-is_empty.ensures c.in_ok-directory.ensures.read) (ap (viewed String) c.in_ok-directory.ensures.read) c.loop-directories.invariant.so_far);
+  so_far = rw (c.in_ok-push.ensures.ok, map_push) (closed_goes_on String name text_at reads_name _ (g.R.Reader.bytes c.loop-directories.input) _ _ _ (text_free (g.R.Reader.bytes c.loop-directories.input) _ _ c.if-is_empty.ensures c.in_ok-directory.ensures.read) (ap (read_map String) c.in_ok-directory.ensures.read) c.loop-directories.invariant.so_far);
   order = c.read_null_terminated_slice.ensures.order ∙ c.loop-directories.invariant.order;
   parts = values_pushed g.R.Reader.big _ _ _ _ _ c.in_ok-push.ensures.ok c.loop-directories.invariant.order c.loop-directories.invariant.parts c.in_ok-directory.ensures.part;
 }

@@ -2,14 +2,14 @@ use Rattle.std.proofs.Common.{◌≡◌, length, map}
 use Rattle.std.specs.List.{All}
 use Rattle.gimli_core.specs.Values.{value_seen, ValueHasOrder}
 use Rattle.gimli_core.specs.declared.attribute_value.AttributeValue.TheVariants.{String}
-use Rattle.gimli_line.specs.header.Outcome.{viewed}
+use Rattle.gimli_line.specs.header.Outcome.{read_map}
 use Rattle.gimli_line.specs.header.HeaderReading.{paths_at}
 use Rattle.gimli_line.proofs.Loops.{collected}
 use Rattle.gimli_line.proofs.header.tables.parse_directories.Given as goal
 
 abbrev pub invariant-loop-directories : goal.invariant-loop-directories
 invariant-loop-directories g l = record {
-  so_far : collected (map (value_seen g.R.Reader.bytes g.R.Offset.ReaderOffset.number) l.directories.items) String (paths_at (g.R.Reader.bytes l.input)) ≡ viewed (map String) (paths_at (g.R.Reader.bytes l.initial.input));
+  so_far : collected (map (value_seen g.R.Reader.bytes g.R.Offset.ReaderOffset.number) l.directories.items) String (paths_at (g.R.Reader.bytes l.input)) ≡ read_map (map String) (paths_at (g.R.Reader.bytes l.initial.input));
   order : g.R.Reader.big l.input ≡ g.R.Reader.big l.initial.input;
   parts : All (ValueHasOrder g.R.Reader.big (g.R.Reader.big l.initial.input)) l.directories.items;
 }

@@ -3,7 +3,7 @@ use Rattle.gimli_core.specs.Reading.{times_at}
 use Rattle.std.proofs.Common.{◌≡◌, ◌-◌, map}
 use Rattle.gimli_core.specs.Notation.{Notation}
 use Rattle.gimli_core.specs.Values.{value_seen, ValueHasOrder}
-use Rattle.gimli_line.specs.header.Outcome.{viewed}
+use Rattle.gimli_line.specs.header.Outcome.{read_map}
 use Rattle.gimli_line.specs.header.HeaderGrammar.{path_of}
 use Rattle.gimli_line.specs.header.HeaderReading.{entry_at, entries_at}
 use Rattle.gimli_line.proofs.Loops.{collected}
@@ -14,7 +14,7 @@ invariant-loop g l =
     let notation : Notation = record { big = g.R.Reader.big l.fn.input; limit = g.R.Offset.ReaderOffset.limit } in
     record {
       so_far : collected (map (value_seen g.R.Reader.bytes g.R.Offset.ReaderOffset.number) l.directories.items) path_of (times_at (l.count - l.counter) (entry_at notation l.format l.formats) (g.R.Reader.bytes l.input))
-          ≡ viewed (map path_of) (entries_at notation l.format l.formats (g.R.Reader.bytes l.fn.input));
+          ≡ read_map (map path_of) (entries_at notation l.format l.formats (g.R.Reader.bytes l.fn.input));
       order : g.R.Reader.big l.input ≡ g.R.Reader.big l.fn.input;
       parts : All (ValueHasOrder g.R.Reader.big (g.R.Reader.big l.fn.input)) l.directories.items;
     }

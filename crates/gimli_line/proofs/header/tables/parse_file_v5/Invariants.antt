@@ -3,7 +3,7 @@ use Rattle.gimli_core.specs.Notation.{Notation}
 use Rattle.gimli_line.specs.header.File.{file_seen, FileHasOrder}
 use Rattle.gimli_line.specs.header.HeaderGrammar.{file_of_entry}
 use Rattle.gimli_line.specs.header.HeaderReading.{entry_at}
-use Rattle.gimli_line.specs.header.Outcome.{viewed}
+use Rattle.gimli_line.specs.header.Outcome.{read_map}
 use Rattle.gimli_line.specs.header.EntryReading.{file_with, folded_at}
 use Rattle.gimli_line.proofs.header.tables.parse_file_v5.Given as goal
 
@@ -12,7 +12,7 @@ invariant-loop-entry_format g l =
     let notation : Notation = record { big = g.R.Reader.big l.initial.input; limit = g.R.Offset.ReaderOffset.limit } in
     record {
       so_far : folded_at notation l.format file_with (file_seen g.R.Reader.bytes g.R.Offset.ReaderOffset.number l.file) (drop l.entry_format-index l.formats) (g.R.Reader.bytes l.input)
-          ≡ viewed file_of_entry (entry_at notation l.format l.formats (g.R.Reader.bytes l.initial.input));
+          ≡ read_map file_of_entry (entry_at notation l.format l.formats (g.R.Reader.bytes l.initial.input));
       order : g.R.Reader.big l.input ≡ g.R.Reader.big l.initial.input;
       part : FileHasOrder g.R.Reader.big (g.R.Reader.big l.initial.input) l.file;
     }

@@ -2,7 +2,7 @@ use Rattle.std.specs.Prelude.{All}
 use Rattle.std.proofs.lemmas.Option.{MatchOption-at_some, MatchOption-at_none}
 use Rattle.gimli_lookup.specs.declared.index.Found.{Found}
 use Rattle.gimli_lookup.specs.FirstPair.{HasNoPair, IsFirstPairIn}
-use Rattle.gimli_lookup.proofs.Pairs.{first_pair_of_place}
+use Rattle.gimli_lookup.proofs.Pairs.{first_pair_of_index}
 use Rattle.gimli_lookup.proofs.lookup.Lookup.find_indexed_counted.Goals as goal
 
 pub returns-in-Some-clause-pair : goal.returns-in-Some-clause-pair
@@ -10,7 +10,7 @@ returns-in-Some-clause-pair g c =
     let sequences = c.as_slice.result.now in
     let found = c.in-Some.found in
     let first = MatchOption-at_some (All (HasNoPair c.args.a) sequences) (λ (f : Found). IsFirstPairIn c.args.a sequences f.sequence f.row f.next) found c.in-Some.is c.find-found.ensures.found in
-    rw (← c.self.view_is, ← c.as_slice.ensures.value) (first_pair_of_place c.args.a sequences found.sequence found.row found.next first)
+    rw (← c.self.view_is, ← c.as_slice.ensures.value) (first_pair_of_index c.args.a sequences found.sequence found.row found.next first)
 
 pub returns-in-Some-clause-at_least : goal.returns-in-Some-clause-at_least
 returns-in-Some-clause-at_least g c = rw (← c.self.view_is, ← c.as_slice.ensures.value) c.find-found.ensures.at_least

@@ -2,9 +2,9 @@ use Rattle.std.specs.Prelude.{All}
 use Rattle.std.proofs.lemmas.Option.{MatchOption-at_some, MatchOption-at_none}
 use Rattle.gimli_lookup.specs.declared.index.Found.{Found}
 use Rattle.gimli_lookup.specs.FirstPair.{HasNoPair, IsFirstPairIn}
-use Rattle.gimli_lookup.proofs.Pairs.{first_pair_of_place}
+use Rattle.gimli_lookup.proofs.Pairs.{first_pair_of_index}
 use Rattle.gimli_lookup.proofs.Sections.{all_are}
-use Rattle.gimli_lookup.proofs.SectionPairs.{place_within, unit_found}
+use Rattle.gimli_lookup.proofs.SectionPairs.{index_within, unit_found}
 use Rattle.gimli_lookup.proofs.section_lookup.SectionLookup.find_counted.Goals as goal
 
 pub unit_of-requires : goal.unit_of-requires
@@ -12,7 +12,7 @@ unit_of-requires g c =
     let sequences = c.as_slice.result.now in
     let found = c.in-Some.found in
     let first = MatchOption-at_some (All (HasNoPair c.args.a) sequences) (λ (f : Found). IsFirstPairIn c.args.a sequences f.sequence f.row f.next) found c.in-Some.is c.find-found.ensures.found in
-    place_within c.args.a c.self.inside.sequences.items sequences c.self.inside.units.items c.as_slice-in-Some.result.now found.sequence found.row found.next
+    index_within c.args.a c.self.inside.sequences.items sequences c.self.inside.units.items c.as_slice-in-Some.result.now found.sequence found.row found.next
     c.self.invariant.0 c.as_slice.ensures.value c.as_slice-in-Some.ensures.value first
 
 pub returns-in-Some-clause-pair : goal.returns-in-Some-clause-pair
@@ -21,7 +21,7 @@ returns-in-Some-clause-pair g c =
     let found = c.in-Some.found in
     let first = MatchOption-at_some (All (HasNoPair c.args.a) sequences) (λ (f : Found). IsFirstPairIn c.args.a sequences f.sequence f.row f.next) found c.in-Some.is c.find-found.ensures.found in
     rw (← all_are c.self.inside.sequences.items c.self.inside.units.items sequences c.args.self.now c.self.invariant.0 c.self.view_is c.as_slice.ensures.value)
-    (first_pair_of_place c.args.a sequences found.sequence found.row found.next first)
+    (first_pair_of_index c.args.a sequences found.sequence found.row found.next first)
 
 pub returns-in-Some-clause-unit : goal.returns-in-Some-clause-unit
 returns-in-Some-clause-unit g c =

@@ -1,6 +1,6 @@
 use Rattle.std.proofs.Common.{◌<◌, List, length, sym, ap, subst, ◌∙◌, arith}
 use Rattle.gimli_line.specs.declared.run.row.LineRow.{LineRow}
-use Rattle.gimli_lookup.proofs.Sections.{HasPlaces, has_places, part_is, within_units}
+use Rattle.gimli_lookup.proofs.Sections.{HasPlaces, has_indexes, part_is, within_units}
 use Rattle.gimli_lookup.proofs.section_lookup.SectionLookup.sequences_of.Goals as goal
 
 pub part-requires : goal.part-requires
@@ -9,11 +9,11 @@ part-requires g c =
     let sequences = c.self.inside.sequences.items in
     let unit = c.index.result.now in
     let lt : c.args.unit < length units = within_units sequences units c.args.unit c.args.self.now c.self.view_is c.requires in
-    let places : HasPlaces 0 (length sequences) unit =
-    subst (HasPlaces 0 (length sequences)) (sym c.index.ensures) (has_places 0 units (length sequences) c.args.unit unit c.self.invariant.0 lt) in
+    let indexes : HasPlaces 0 (length sequences) unit =
+    subst (HasPlaces 0 (length sequences)) (sym c.index.ensures) (has_indexes 0 units (length sequences) c.args.unit unit c.self.invariant.0 lt) in
     record {
-      order = omega (arith, places.order, c.places-places.ensures.start, c.places-places.ensures.end);
-      end = omega (arith, places.ends, c.places-places.ensures.end, ap (λ (rows : List (List LineRow)). length rows) c.as_slice.ensures.value);
+      order = omega (arith, indexes.order, c.indexes-indexes.ensures.start, c.indexes-indexes.ensures.end);
+      end = omega (arith, indexes.ends, c.indexes-indexes.ensures.end, ap (λ (rows : List (List LineRow)). length rows) c.as_slice.ensures.value);
     }
 
 pub returns : goal.returns
@@ -21,5 +21,5 @@ returns g c = λ d.
     let units = c.self.inside.units.items in
     let sequences = c.self.inside.sequences.items in
     let lt = within_units sequences units c.args.unit c.args.self.now c.self.view_is c.requires in
-    (rw (c.places-places.ensures.start, c.places-places.ensures.end, c.as_slice.ensures.value) at c.part.ensures)
+    (rw (c.indexes-indexes.ensures.start, c.indexes-indexes.ensures.end, c.as_slice.ensures.value) at c.part.ensures)
     ∙ part_is sequences units c.args.unit c.index.result.now d c.args.self.now c.self.view_is lt c.index.ensures

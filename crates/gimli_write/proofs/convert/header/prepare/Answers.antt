@@ -2,7 +2,7 @@ use Rattle.std.proofs.Common.{ap, ◌∙◌, sym}
 use Rattle.std.specs.Prelude.{option_map, unwrap_or}
 use Rattle.std.proofs.lemmas.Result.{err_from_is_err_and}
 use Rattle.gimli_write.specs.convert.Lists.{lists_with}
-use Rattle.gimli_write.specs.convert.Preparation.{handed}
+use Rattle.gimli_write.specs.convert.Preparation.{handed_of}
 use Rattle.gimli_write.proofs.ConvertSteps.{kept_then}
 use Rattle.gimli_write.proofs.ConvertHeader.{refused_at_start, at_listed, refused_at_listed}
 use Rattle.gimli_write.proofs.convert.header.prepare.Goals as goal
@@ -11,7 +11,7 @@ pub returns-in_err-lists-clause-err : goal.returns-in_err-lists-clause-err
 returns-in_err-lists-clause-err g c =
     let s = c.args.sections.now in
     let h = c.args.header.now.meaning in
-    let given = handed c.args.encoding c.args.line_encoding (option_map g.R.Reader.bytes c.args.from_comp_name) in
+    let given = handed_of c.args.encoding c.args.line_encoding (option_map g.R.Reader.bytes c.args.from_comp_name) in
     let target = c.unwrap_or-encoding.ensures ∙ ap (λ own. unwrap_or c.args.encoding own) c.encoding.ensures.encoding in
     let p = err_from_is_err_and c.from_residual.result c.from_residual.ensures.1 in
     rw (p.1, p.2)
@@ -21,7 +21,7 @@ pub returns-in_err-add_listed-clause-err : goal.returns-in_err-add_listed-clause
 returns-in_err-add_listed-clause-err g c =
     let s = c.args.sections.now in
     let h = c.args.header.now.meaning in
-    let given = handed c.args.encoding c.args.line_encoding (option_map g.R.Reader.bytes c.args.from_comp_name) in
+    let given = handed_of c.args.encoding c.args.line_encoding (option_map g.R.Reader.bytes c.args.from_comp_name) in
     let target = c.unwrap_or-encoding.ensures ∙ ap (λ own. unwrap_or c.args.encoding own) c.encoding.ensures.encoding in
     let p = err_from_is_err_and c.from_residual-in_err-add_listed.result c.from_residual-in_err-add_listed.ensures.1 in
     rw (p.1, p.2)
@@ -37,7 +37,7 @@ pub returns-clause-ok : goal.returns-clause-ok
 returns-clause-ok g c =
     let s = c.args.sections.now in
     let h = c.args.header.now.meaning in
-    let given = handed c.args.encoding c.args.line_encoding (option_map g.R.Reader.bytes c.args.from_comp_name) in
+    let given = handed_of c.args.encoding c.args.line_encoding (option_map g.R.Reader.bytes c.args.from_comp_name) in
     let target = c.unwrap_or-encoding.ensures ∙ ap (λ own. unwrap_or c.args.encoding own) c.encoding.ensures.encoding in
     sym (at_listed s h given c.args.line_strings.now c.unwrap_or-encoding.result target
     (lists_with c.begun.new.line_strings c.in_ok-lists.lists) c.in_ok-lists.ensures.ok)

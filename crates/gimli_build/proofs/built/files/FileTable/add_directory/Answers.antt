@@ -2,7 +2,7 @@ use Rattle.std.proofs.Common.{List, ◌∙◌, ap}
 use Rattle.gimli_build.specs.LineText.{LineText, line_text}
 use Rattle.gimli_build.specs.Tables.{keys_of}
 use Rattle.gimli_build.specs.TablesInside.{directories_of, files_of}
-use Rattle.gimli_build.proofs.TableLemmas.{directories_insert, directory_place, with_directory-AreTables}
+use Rattle.gimli_build.proofs.TableLemmas.{directories_insert, index_of_equal_directory, with_directory-AreTables}
 use Rattle.gimli_build.proofs.built.files.FileTable.add_directory.Goals as goal
 
 pub invariant_of-self-2 : goal.invariant_of-self-2
@@ -15,4 +15,4 @@ returns-clause-ok c =
     rw (← c.self.view_is) (ap (λ (ds : List LineText). record { directories = ds; files = files_of c.self.inside.files.entries }) (ap directories_of c.in_ok-index.ensures.keys ∙ directories_insert c.self.inside.directories.keys c.args.directory))
 
 pub returns-clause-id : goal.returns-clause-id
-returns-clause-id c = rw (← c.self.view_is) (c.in_ok-index.ensures.index ∙ directory_place c.self.inside.directories.keys c.args.directory)
+returns-clause-id c = rw (← c.self.view_is) (c.in_ok-index.ensures.index ∙ index_of_equal_directory c.self.inside.directories.keys c.args.directory)

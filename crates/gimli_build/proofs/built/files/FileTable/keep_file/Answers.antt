@@ -2,7 +2,7 @@ use Rattle.std.proofs.Common.{◌<◌, List, ◌∙◌, ap, Some, true, false, s
 use Rattle.gimli_build.specs.declared.built.files.FileInfo.{FileInfo}
 use Rattle.gimli_build.specs.Tables.{File, Tables, with_file}
 use Rattle.gimli_build.specs.TablesInside.{details, key, directories_of, files_of}
-use Rattle.gimli_build.proofs.TableLemmas.{files_insert, file_place, place_found, pair_eq, file_found, with_file-AreTables, with_file-kept, with_file-new}
+use Rattle.gimli_build.proofs.TableLemmas.{files_insert, index_of_equal_file, index_found, pair_eq, file_found, with_file-AreTables, with_file-kept, with_file-new}
 use Rattle.gimli_build.proofs.built.files.FileTable.keep_file.Goals as goal
 
 pub returns-in-Some-clause-ok : goal.returns-in-Some-clause-ok
@@ -12,7 +12,7 @@ returns-in-Some-clause-ok c =
 
 pub returns-in-Some-clause-id : goal.returns-in-Some-clause-id
 returns-in-Some-clause-id c =
-    rw (← c.self.view_is) (place_found (pair_eq (c.args.path, c.args.directory)) _ c.in-Some.index c.in-Some.ensures.index ∙ file_place c.self.inside.files.entries (c.args.path, c.args.directory))
+    rw (← c.self.view_is) (index_found (pair_eq (c.args.path, c.args.directory)) _ c.in-Some.index c.in-Some.ensures.index ∙ index_of_equal_file c.self.inside.files.entries (c.args.path, c.args.directory))
 
 pub invariant_of-self-2 : goal.invariant_of-self-2
 invariant_of-self-2 c =
@@ -33,4 +33,4 @@ returns-clause-ok c =
     rw (← c.self.view_is) (ap (λ (fs : List File). record { directories = directories_of c.self.inside.directories.keys; files = fs }) added)
 
 pub returns-clause-id : goal.returns-clause-id
-returns-clause-id c = rw (← c.self.view_is) (c.in_ok-index.ensures.index ∙ file_place c.self.inside.files.entries (c.args.path, c.args.directory))
+returns-clause-id c = rw (← c.self.view_is) (c.in_ok-index.ensures.index ∙ index_of_equal_file c.self.inside.files.entries (c.args.path, c.args.directory))

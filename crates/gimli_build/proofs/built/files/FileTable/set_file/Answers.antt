@@ -1,7 +1,7 @@
 use Rattle.std.proofs.Common.{◌<◌, List, ◌∙◌, ap, length, sym, subst}
 use Rattle.gimli_build.specs.Tables.{File, Tables}
 use Rattle.gimli_build.specs.TablesInside.{details, key, directories_of, files_of}
-use Rattle.gimli_build.proofs.TableLemmas.{files_insert, file_place, with_file-AreTables}
+use Rattle.gimli_build.proofs.TableLemmas.{files_insert, index_of_equal_file, with_file-AreTables}
 use Rattle.gimli_build.proofs.built.files.FileTable.set_file.Goals as goal
 
 pub invariant_of-self-2 : goal.invariant_of-self-2
@@ -15,4 +15,4 @@ returns-clause-ok c =
     rw (← c.self.view_is) (ap (λ (fs : List File). record { directories = directories_of c.self.inside.directories.keys; files = fs }) (ap files_of c.in_ok-index.ensures.entries ∙ files_insert c.self.inside.files.entries (c.args.path, c.args.directory) c.args.info))
 
 pub returns-clause-id : goal.returns-clause-id
-returns-clause-id c = rw (← c.self.view_is) (c.in_ok-index.ensures.index ∙ file_place c.self.inside.files.entries (c.args.path, c.args.directory))
+returns-clause-id c = rw (← c.self.view_is) (c.in_ok-index.ensures.index ∙ index_of_equal_file c.self.inside.files.entries (c.args.path, c.args.directory))

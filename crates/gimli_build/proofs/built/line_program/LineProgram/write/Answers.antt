@@ -3,17 +3,17 @@ use Rattle.std.proofs.lemmas.Result.{err_from_is_err_and}
 use Rattle.gimli_bytes.specs.Written.{Appends}
 use Rattle.gimli_bytes.specs.Texts.{AreTexts, byte_count}
 use Rattle.gimli_build.specs.Joined.{RefusesFor}
-use Rattle.gimli_build.specs.Version5Tables.{strings_behind, line_strings_behind}
+use Rattle.gimli_build.specs.Version5Tables.{strings_after, line_strings_after}
 use Rattle.gimli_build.specs.Unit.{whole_bytes, unit_bytes, is_incompatible}
 use Rattle.gimli_build.proofs.Joined.{appended_bytes}
-use Rattle.gimli_build.proofs.EmptySource.{can-write-behind}
+use Rattle.gimli_build.proofs.EmptySource.{can-write-after}
 use Rattle.gimli_build.proofs.ReadBack.{reads-back}
 use Rattle.gimli_build.proofs.Causes.{no-cause, refused-for}
 use Rattle.gimli_build.proofs.built.line_program.LineProgram.write.Goals as goal
 
 pub write_whole-requires-clause-can : goal.write_whole-requires-clause-can
 write_whole-requires-clause-can g c =
-    rw (c.in_ok-empty.ensures.strings, c.in_ok-empty.ensures.line_strings) (can-write-behind c.args.self.now c.args.strings.now c.args.line_strings.now c.requires)
+    rw (c.in_ok-empty.ensures.strings, c.in_ok-empty.ensures.line_strings) (can-write-after c.args.self.now c.args.strings.now c.args.line_strings.now c.requires)
 
 pub returns-clause-reads_back : goal.returns-clause-reads_back
 returns-clause-reads_back g c = λ keeps_bytes.
@@ -24,12 +24,12 @@ returns-clause-reads_back g c = λ keeps_bytes.
     let line_strings = c.args.line_strings.now in
     let same = c.in_ok-empty.ensures.strings in
     let line_same = c.in_ok-empty.ensures.line_strings in
-    let texts : AreTexts (strings_behind p strings) = rw same at c.in_ok-empty.ensures.texts in
-    let line_texts : AreTexts (line_strings_behind p line_strings) = rw line_same at c.in_ok-empty.ensures.line_texts in
-    let held : byte_count (strings_behind p strings) < 2 ^ 64 = rw same at c.in_ok-empty.ensures.short in
-    let line_held : byte_count (line_strings_behind p line_strings) < 2 ^ 64 = rw line_same at c.in_ok-empty.ensures.line_short in
+    let texts : AreTexts (strings_after p strings) = rw same at c.in_ok-empty.ensures.texts in
+    let line_texts : AreTexts (line_strings_after p line_strings) = rw line_same at c.in_ok-empty.ensures.line_texts in
+    let held : byte_count (strings_after p strings) < 2 ^ 64 = rw same at c.in_ok-empty.ensures.short in
+    let line_held : byte_count (line_strings_after p line_strings) < 2 ^ 64 = rw line_same at c.in_ok-empty.ensures.line_short in
     let written = rw (same, line_same) at (c.in_ok-write_whole.ensures.writes.ok keeps_bytes) in
-    let a = appended_bytes (whole_bytes big p (strings_behind p strings) (line_strings_behind p line_strings)) (contents c.args.w.now.0) (contents c.write_whole.new.w) written in
+    let a = appended_bytes (whole_bytes big p (strings_after p strings) (line_strings_after p line_strings)) (contents c.args.w.now.0) (contents c.write_whole.new.w) written in
     let compatible : is_incompatible c.args.encoding p.encoding ≡ false = search rules in
     let is : unit_bytes big c.args.encoding p strings line_strings ≡ Ok a.0 = rw compatible a.1 in
     let long = ap length a.2 ∙ length-append (contents c.args.w.now.0) a.0 in

@@ -3,7 +3,7 @@ use Rattle.std.specs.Prelude.{option_map}
 use Rattle.std.proofs.lemmas.Result.{err_from_is_err_and}
 use Rattle.gimli_core.specs.declared.attribute_value.AttributeValue.TheVariants.{String}
 use Rattle.gimli_line.specs.header.Parameters.{Parameters}
-use Rattle.gimli_line.specs.header.HeaderGrammar.{taken}
+use Rattle.gimli_line.specs.header.HeaderGrammar.{handed_value}
 use Rattle.gimli_line.proofs.Order.{values_kept, files_kept}
 use Rattle.gimli_line.proofs.Fields.{parameters_end, counts_end, directories_end, files_end, fields_done}
 use Rattle.gimli_line.proofs.header.program_header.LineProgramHeader.parse_fields.Goals as goal
@@ -20,10 +20,10 @@ returns-clause-order g c =
     }
 
 pub returns-clause-directory : goal.returns-clause-directory
-returns-clause-directory g c = c.comp_dir_of.ensures.own ∙ ap (λ encoding. taken encoding c.args.comp_dir) (sym c.in_ok-parameters.ensures.encoding)
+returns-clause-directory g c = c.comp_dir_of.ensures.own ∙ ap (λ encoding. handed_value encoding c.args.comp_dir) (sym c.in_ok-parameters.ensures.encoding)
 
 pub returns-clause-name : goal.returns-clause-name
-returns-clause-name g c = c.comp_file_of.ensures.path ∙ ap (λ encoding. taken encoding (option_map String c.args.comp_name)) (sym c.in_ok-parameters.ensures.encoding)
+returns-clause-name g c = c.comp_file_of.ensures.path ∙ ap (λ encoding. handed_value encoding (option_map String c.args.comp_name)) (sym c.in_ok-parameters.ensures.encoding)
 
 pub returns-in_err-parameters-clause-read : goal.returns-in_err-parameters-clause-read
 returns-in_err-parameters-clause-read g c =

@@ -1,5 +1,5 @@
 use Rattle.std.proofs.Common.{rules, ◌≡◌, refl, ap, arith}
-use Rattle.gimli_core.specs.Notation.{noted}
+use Rattle.gimli_core.specs.Notation.{notation_of}
 use Rattle.gimli_line.specs.declared.run.instruction.LineInstruction.TheVariants.{AdvancePc, ConstAddPc}
 use Rattle.gimli_line.specs.header.Header.{Header}
 use Rattle.gimli_line.proofs.RarerExecutions.{below_executed, advance_read, const_add_read, extended_first}
@@ -7,7 +7,7 @@ use Rattle.gimli_line.proofs.run.instruction.LineInstructions.execute_rarer.Goal
 
 pub returns-then-is_some-clause-ok : goal.returns-then-is_some-clause-ok
 returns-then-is_some-clause-ok g c =
-    let n = noted (g.R.Reader.big c.self.inside.input) g.R.Offset.ReaderOffset.limit in
+    let n = notation_of (g.R.Reader.big c.self.inside.input) g.R.Offset.ReaderOffset.limit in
     let first = extended_first n c.args.header.now.meaning _ _ c.in-Ok.opcode c.if-opcode-eq0.true c.in-Ok.ensures.read in
     rw (← c.self.view_is, first) (rw c.in-Ok.ensures.order at c.exec_extended_opcode-executed.ensures.executed)
 

@@ -3,8 +3,8 @@ use Rattle.gimli_line.specs.declared.run.row.LineRow.{LineRow}
 use Rattle.gimli_line.specs.header.Header.{Header}
 use Rattle.gimli_line.specs.run.Events.{row}
 use Rattle.gimli_line.specs.run.Machine.{reset_row}
-use Rattle.gimli_line.specs.run.Progress.{ready}
-use Rattle.gimli_line.proofs.Runs.{state, keeps_order, none_to_come, end_here, same_end, passes_none, passes_both, refused_behind}
+use Rattle.gimli_line.specs.run.Progress.{with_reset_row}
+use Rattle.gimli_line.proofs.Runs.{state, keeps_order, none_to_come, end_here, same_end, passes_none, passes_both, refused_after}
 use Rattle.gimli_line.proofs.run.rows.LineRows.advance.Goals as goal
 
 pub instructions-init : goal.instructions-init
@@ -19,39 +19,39 @@ instructions-init g c =
       offset = rw (← c.self.view_is) refl;
       order = rw (← c.self.view_is) (keeps_order (at_row c.self.inside.row) (at_row c.reset.new.self) refl refl refl (λ so. so.readers));
       handed = rw (← c.self.view_is) refl;
-      passes = rw (← c.self.view_is) (passes_none (ready (at_row c.self.inside.row)) (at_row c.reset.new.self) (ap at_row (c.reset.ensures ∙ ap (λ (k : Header). reset_row k.parameters c.self.inside.row) c.header.ensures.meaning)));
+      passes = rw (← c.self.view_is) (passes_none (with_reset_row (at_row c.self.inside.row)) (at_row c.reset.new.self) (ap at_row (c.reset.ensures ∙ ap (λ (k : Header). reset_row k.parameters c.self.inside.row) c.header.ensures.meaning)));
     }
 
 pub returns-in-Err-clause-err : goal.returns-in-Err-clause-err
 returns-in-Err-clause-err g c =
-    refused_behind (ready c.args.self.now) c.instructions.self c.step.new.self c.in-Err.e c.instructions.invariant.events c.instructions.invariant.passes c.in-Err.ensures.err
+    refused_after (with_reset_row c.args.self.now) c.instructions.self c.step.new.self c.in-Err.e c.instructions.invariant.events c.instructions.invariant.passes c.in-Err.ensures.err
 
 pub returns-in-Ok-Done-clause-row : goal.returns-in-Ok-Done-clause-row
 returns-in-Ok-Done-clause-row g c =
     let d = rw c.in-Ok-Done.field-0-is at c.in-Ok-Done.ensures.ok in
-    let passed = passes_both (ready c.args.self.now) c.instructions.self c.step.new.self [] [] c.instructions.invariant.passes d.2 in (
+    let passed = passes_both (with_reset_row c.args.self.now) c.instructions.self c.step.new.self [] [] c.instructions.invariant.passes d.2 in (
       c.instructions.invariant.events ∙ d.0,
       none_to_come c.step.new.self d.1,
       d.1,
-      sym (end_here c.step.new.self d.1) ∙ same_end (ready c.args.self.now) c.step.new.self [] passed,
+      sym (end_here c.step.new.self d.1) ∙ same_end (with_reset_row c.args.self.now) c.step.new.self [] passed,
     )
 
 pub returns-in-Ok-Done-clause-passes : goal.returns-in-Ok-Done-clause-passes
 returns-in-Ok-Done-clause-passes g c =
     let d = rw c.in-Ok-Done.field-0-is at c.in-Ok-Done.ensures.ok in
-    (d.1, passes_both (ready c.args.self.now) c.instructions.self c.step.new.self [] [] c.instructions.invariant.passes d.2)
+    (d.1, passes_both (with_reset_row c.args.self.now) c.instructions.self c.step.new.self [] [] c.instructions.invariant.passes d.2)
 
 pub returns-in-Ok-Made-clause-row : goal.returns-in-Ok-Made-clause-row
 returns-in-Ok-Made-clause-row g c =
     let m = rw c.in-Ok-Made.field-0-is at c.in-Ok-Made.ensures.ok in
     let events = row c.step.new.self.row ∷ [] in
-    let passed = passes_both (ready c.args.self.now) c.instructions.self (ready c.step.new.self) [] events c.instructions.invariant.passes m.1 in
-    (c.instructions.invariant.events ∙ m.0, refl, same_end (ready c.args.self.now) (ready c.step.new.self) events passed)
+    let passed = passes_both (with_reset_row c.args.self.now) c.instructions.self (with_reset_row c.step.new.self) [] events c.instructions.invariant.passes m.1 in
+    (c.instructions.invariant.events ∙ m.0, refl, same_end (with_reset_row c.args.self.now) (with_reset_row c.step.new.self) events passed)
 
 pub returns-in-Ok-Made-clause-passes : goal.returns-in-Ok-Made-clause-passes
 returns-in-Ok-Made-clause-passes g c =
     let m = rw c.in-Ok-Made.field-0-is at c.in-Ok-Made.ensures.ok in
-    passes_both (ready c.args.self.now) c.instructions.self (ready c.step.new.self) [] (row c.step.new.self.row ∷ []) c.instructions.invariant.passes m.1
+    passes_both (with_reset_row c.args.self.now) c.instructions.self (with_reset_row c.step.new.self) [] (row c.step.new.self.row ∷ []) c.instructions.invariant.passes m.1
 
 pub instructions-preserved : goal.instructions-preserved
 instructions-preserved g c =
@@ -64,7 +64,7 @@ instructions-preserved g c =
       offset = c.in-Ok-More.ensures.offset ∙ c.instructions.invariant.offset;
       order = λ so. c.in-Ok-More.ensures.order (c.instructions.invariant.order so);
       handed = c.in-Ok-More.ensures.handed ∙ c.instructions.invariant.handed;
-      passes = passes_both (ready c.args.self.now) c.instructions.self c.step.new.self [] [] c.instructions.invariant.passes m.2;
+      passes = passes_both (with_reset_row c.args.self.now) c.instructions.self c.step.new.self [] [] c.instructions.invariant.passes m.2;
     }
 
 -- what stays as it was

@@ -1,5 +1,5 @@
 use Rattle.std.proofs.Common.{◌≡◌, [], length}
-use Rattle.gimli_line.specs.run.Progress.{Progress, ready}
+use Rattle.gimli_line.specs.run.Progress.{Progress, with_reset_row}
 use Rattle.gimli_line.specs.run.Rows.{events_left, live_events, IsOfOneOrder}
 use Rattle.gimli_line.proofs.run.rows.LineRows.advance.Given as goal
 
@@ -12,7 +12,7 @@ invariant-instructions g l = record {
   offset : l.self.offset ≡ l.fn.self.offset;
   order : IsOfOneOrder l.fn.self → IsOfOneOrder l.self;
   handed : l.self.orders.handed ≡ l.fn.self.orders.handed;
-  passes : Progress (ready l.fn.self) l.self [];
+  passes : Progress (with_reset_row l.fn.self) l.self [];
 }
 
 abbrev pub decreases-instructions : goal.decreases-instructions

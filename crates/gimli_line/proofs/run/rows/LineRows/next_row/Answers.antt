@@ -1,5 +1,5 @@
 use Rattle.std.proofs.Common.{refl, sym, ◌∙◌}
-use Rattle.gimli_line.specs.run.Progress.{ready}
+use Rattle.gimli_line.specs.run.Progress.{with_reset_row}
 use Rattle.gimli_line.specs.run.Rows.{KeepsHeader}
 use Rattle.gimli_line.proofs.Runs.{none_to_come, never_refused}
 use Rattle.gimli_line.proofs.RowsAlone.{rest_alone, never_refused_alone}
@@ -50,6 +50,6 @@ returns-in-Err g c =
         order = λ so. tt;
         handed = tt;
         unrefused = λ alone. absurd (never_refused_alone c.args.self.now c.advance.new.self c.in-Err.e c.in-Err.ensures.appends c.in-Err.ensures.err alone);
-        ended = λ empty. absurd (never_refused (ready c.args.self.now) c.advance.new.self c.in-Err.e empty c.in-Err.ensures.err);
+        ended = λ empty. absurd (never_refused (with_reset_row c.args.self.now) c.advance.new.self c.in-Err.e empty c.in-Err.ensures.err);
       },
     )

@@ -3,7 +3,7 @@ use Rattle.gimli_line.specs.header.Header.{Header}
 use Rattle.gimli_line.specs.run.Instruction.{InsHasOrder}
 use Rattle.gimli_line.specs.run.Machine.{reset_row}
 use Rattle.gimli_line.specs.run.Unread.{Unread}
-use Rattle.gimli_line.proofs.Runs.{state, keeps_order, none_left, after_fault, after_quiet, after_hidden, after_seen, after_overflow, is_shorter, only_overflow, passes_none, passes_quiet, passes_hidden, passes_seen, source_same, wants}
+use Rattle.gimli_line.proofs.Runs.{state, keeps_order, none_left, after_fault, after_quiet, after_tombstone, after_seen, after_overflow, is_shorter, only_overflow, passes_none, passes_quiet, passes_tombstone, passes_seen, source_same, wants}
 use Rattle.gimli_line.proofs.run.rows.LineRows.step_any.Goals as goal
 
 pub returns-in-Err-clause-err : goal.returns-in-Err-clause-err
@@ -29,10 +29,10 @@ returns-then-not-made-clause-ok g c =
       passes_quiet g.P.LineProgram.appends _ _ c.header.ensures.meaning (g.P.LineProgram.notation c.self.inside.program) (g.P.LineProgram.notation c.execute.new.program) (g.P.LineProgram.offset c.self.inside.program) (g.P.LineProgram.offset c.execute.new.program) (g.P.LineProgram.orders c.self.inside.program) (g.P.LineProgram.orders c.execute.new.program) _ _ _ c.in-Ok-Some.ensures.notation _ n.0 n.1 n.2 _ _ c.in-Ok.ensures.files c.in-Ok.ensures.fits (sym c.in-Ok.ensures.made ∙ c.if-not-made.true) c.in-Ok.ensures.step,
     )
 
-pub returns-then-not-is_hidden-clause-ok : goal.returns-then-not-is_hidden-clause-ok
-returns-then-not-is_hidden-clause-ok g c =
+pub returns-then-not-is_under_tombstone-clause-ok : goal.returns-then-not-is_under_tombstone-clause-ok
+returns-then-not-is_under_tombstone-clause-ok g c =
     let n = rw c.in-Ok-Some.field-0-is at c.in-Ok-Some.ensures.next in
-    let seen = rw c.in-Ok.ensures.step at (sym c.is_hidden.ensures ∙ c.if-not-is_hidden.true) in
+    let seen = rw c.in-Ok.ensures.step at (sym c.is_under_tombstone.ensures ∙ c.if-not-is_under_tombstone.true) in
     rw (← c.self.view_is) (
       after_seen g.P.LineProgram.appends _ _ c.header.ensures.meaning (g.P.LineProgram.notation c.self.inside.program) (g.P.LineProgram.notation c.execute.new.program) (g.P.LineProgram.offset c.self.inside.program) (g.P.LineProgram.offset c.execute.new.program) (g.P.LineProgram.orders c.self.inside.program) (g.P.LineProgram.orders c.execute.new.program) _ _ _ c.in-Ok-Some.ensures.notation _ n.0 n.1 n.2 _ _ c.in-Ok.ensures.files c.in-Ok.ensures.fits (sym c.in-Ok.ensures.made ∙ c.if-not-made.false) seen c.in-Ok.ensures.step,
       passes_seen g.P.LineProgram.appends _ _ c.header.ensures.meaning (g.P.LineProgram.notation c.self.inside.program) (g.P.LineProgram.notation c.execute.new.program) (g.P.LineProgram.offset c.self.inside.program) (g.P.LineProgram.offset c.execute.new.program) (g.P.LineProgram.orders c.self.inside.program) (g.P.LineProgram.orders c.execute.new.program) _ _ _ c.in-Ok-Some.ensures.notation _ n.0 n.1 n.2 _ _ c.in-Ok.ensures.files c.in-Ok.ensures.fits (sym c.in-Ok.ensures.made ∙ c.if-not-made.false) seen c.in-Ok.ensures.step,
@@ -41,12 +41,12 @@ returns-then-not-is_hidden-clause-ok g c =
 pub returns-clause-ok : goal.returns-clause-ok
 returns-clause-ok g c =
     let n = rw c.in-Ok-Some.field-0-is at c.in-Ok-Some.ensures.next in
-    let hidden = rw c.in-Ok.ensures.step at (sym c.is_hidden.ensures ∙ c.if-not-is_hidden.false) in
+    let tombstone = rw c.in-Ok.ensures.step at (sym c.is_under_tombstone.ensures ∙ c.if-not-is_under_tombstone.false) in
     let again = c.reset.ensures ∙ ap (λ (h : Header). reset_row h.parameters c.execute.new.self) (c.header-2.ensures.meaning ∙ c.in-Ok.ensures.files) ∙ ap (λ r. reset_row (g.P.LineProgram.meaning c.self.inside.program).parameters r) c.in-Ok.ensures.step in
     rw (← c.self.view_is) (
-      after_hidden g.P.LineProgram.appends _ _ c.header.ensures.meaning (g.P.LineProgram.notation c.self.inside.program) (g.P.LineProgram.notation c.execute.new.program) (g.P.LineProgram.offset c.self.inside.program) (g.P.LineProgram.offset c.execute.new.program) (g.P.LineProgram.orders c.self.inside.program) (g.P.LineProgram.orders c.execute.new.program) _ _ _ c.in-Ok-Some.ensures.notation _ n.0 n.1 n.2 _ _ c.in-Ok.ensures.files c.in-Ok.ensures.fits (sym c.in-Ok.ensures.made ∙ c.if-not-made.false) hidden again,
+      after_tombstone g.P.LineProgram.appends _ _ c.header.ensures.meaning (g.P.LineProgram.notation c.self.inside.program) (g.P.LineProgram.notation c.execute.new.program) (g.P.LineProgram.offset c.self.inside.program) (g.P.LineProgram.offset c.execute.new.program) (g.P.LineProgram.orders c.self.inside.program) (g.P.LineProgram.orders c.execute.new.program) _ _ _ c.in-Ok-Some.ensures.notation _ n.0 n.1 n.2 _ _ c.in-Ok.ensures.files c.in-Ok.ensures.fits (sym c.in-Ok.ensures.made ∙ c.if-not-made.false) tombstone again,
       is_shorter g.P.LineProgram.appends _ _ c.header.ensures.meaning (g.P.LineProgram.notation c.self.inside.program) (g.P.LineProgram.notation c.execute.new.program) (g.P.LineProgram.offset c.self.inside.program) (g.P.LineProgram.offset c.execute.new.program) (g.P.LineProgram.orders c.self.inside.program) (g.P.LineProgram.orders c.execute.new.program) c.self.inside.row _ _ c.in-Ok-Some.ensures.notation _ n.0 n.1 n.2,
-      passes_hidden g.P.LineProgram.appends _ _ c.header.ensures.meaning (g.P.LineProgram.notation c.self.inside.program) (g.P.LineProgram.notation c.execute.new.program) (g.P.LineProgram.offset c.self.inside.program) (g.P.LineProgram.offset c.execute.new.program) (g.P.LineProgram.orders c.self.inside.program) (g.P.LineProgram.orders c.execute.new.program) _ _ _ c.in-Ok-Some.ensures.notation _ n.0 n.1 n.2 _ _ c.in-Ok.ensures.files c.in-Ok.ensures.fits (sym c.in-Ok.ensures.made ∙ c.if-not-made.false) hidden again,
+      passes_tombstone g.P.LineProgram.appends _ _ c.header.ensures.meaning (g.P.LineProgram.notation c.self.inside.program) (g.P.LineProgram.notation c.execute.new.program) (g.P.LineProgram.offset c.self.inside.program) (g.P.LineProgram.offset c.execute.new.program) (g.P.LineProgram.orders c.self.inside.program) (g.P.LineProgram.orders c.execute.new.program) _ _ _ c.in-Ok-Some.ensures.notation _ n.0 n.1 n.2 _ _ c.in-Ok.ensures.files c.in-Ok.ensures.fits (sym c.in-Ok.ensures.made ∙ c.if-not-made.false) tombstone again,
     )
 
 pub returns-in-OutOfMemory-clause-err : goal.returns-in-OutOfMemory-clause-err
@@ -112,17 +112,17 @@ returns-then-not-made-clause-notation g c = rw (← c.self.view_is) c.execute.en
 pub returns-then-not-made-clause-offset : goal.returns-then-not-made-clause-offset
 returns-then-not-made-clause-offset g c = rw (← c.self.view_is) c.execute.ensures.offset
 
-pub returns-then-not-is_hidden-clause-fixed : goal.returns-then-not-is_hidden-clause-fixed
-returns-then-not-is_hidden-clause-fixed g c = rw (c.in-Ok.ensures.files, ← c.self.view_is) refl
+pub returns-then-not-is_under_tombstone-clause-fixed : goal.returns-then-not-is_under_tombstone-clause-fixed
+returns-then-not-is_under_tombstone-clause-fixed g c = rw (c.in-Ok.ensures.files, ← c.self.view_is) refl
 
-pub returns-then-not-is_hidden-clause-appends : goal.returns-then-not-is_hidden-clause-appends
-returns-then-not-is_hidden-clause-appends g c = rw (← c.self.view_is) refl
+pub returns-then-not-is_under_tombstone-clause-appends : goal.returns-then-not-is_under_tombstone-clause-appends
+returns-then-not-is_under_tombstone-clause-appends g c = rw (← c.self.view_is) refl
 
-pub returns-then-not-is_hidden-clause-notation : goal.returns-then-not-is_hidden-clause-notation
-returns-then-not-is_hidden-clause-notation g c = rw (← c.self.view_is) c.execute.ensures.notation
+pub returns-then-not-is_under_tombstone-clause-notation : goal.returns-then-not-is_under_tombstone-clause-notation
+returns-then-not-is_under_tombstone-clause-notation g c = rw (← c.self.view_is) c.execute.ensures.notation
 
-pub returns-then-not-is_hidden-clause-offset : goal.returns-then-not-is_hidden-clause-offset
-returns-then-not-is_hidden-clause-offset g c = rw (← c.self.view_is) c.execute.ensures.offset
+pub returns-then-not-is_under_tombstone-clause-offset : goal.returns-then-not-is_under_tombstone-clause-offset
+returns-then-not-is_under_tombstone-clause-offset g c = rw (← c.self.view_is) c.execute.ensures.offset
 
 pub returns-clause-fixed : goal.returns-clause-fixed
 returns-clause-fixed g c = rw (c.in-Ok.ensures.files, ← c.self.view_is) refl
@@ -160,8 +160,8 @@ returns-then-not-made-clause-order g c =
     let operands = rw c.in-Ok-Some.field-0-is at c.in-Ok-Some.ensures.operands in
     c.in-Ok.ensures.order (g.P.LineProgram.notation c.self.inside.program).big (λ adds. subst (λ order. InsHasOrder g.R.Reader.big order c.in-Ok-Some.instruction) (so.unread adds) operands) so.readers))
 
-pub returns-then-not-is_hidden-clause-order : goal.returns-then-not-is_hidden-clause-order
-returns-then-not-is_hidden-clause-order g c =
+pub returns-then-not-is_under_tombstone-clause-order : goal.returns-then-not-is_under_tombstone-clause-order
+returns-then-not-is_under_tombstone-clause-order g c =
     rw (← c.self.view_is) (keeps_order (state g.P.LineProgram.appends (g.P.LineProgram.meaning c.self.inside.program) (g.P.LineProgram.notation c.self.inside.program) (g.P.LineProgram.offset c.self.inside.program) (g.P.LineProgram.orders c.self.inside.program) c.self.inside.row c.self.inside.instructions) _ c.in-Ok.ensures.notation refl c.in-Ok-Some.ensures.notation (λ so.
     let operands = rw c.in-Ok-Some.field-0-is at c.in-Ok-Some.ensures.operands in
     c.in-Ok.ensures.order (g.P.LineProgram.notation c.self.inside.program).big (λ adds. subst (λ order. InsHasOrder g.R.Reader.big order c.in-Ok-Some.instruction) (so.unread adds) operands) so.readers))

@@ -3,10 +3,10 @@ use Rattle.std.proofs.lemmas.List.{map-append, append-nil}
 use Rattle.std.proofs.lemmas.Result.{err_from_is_err_and}
 use Rattle.gimli_line.specs.run.Events.{Event, row}
 use Rattle.gimli_line.specs.header.Orders.{no_orders, header_orders}
-use Rattle.gimli_line.specs.header.Header.{bare}
+use Rattle.gimli_line.specs.header.Header.{without_files}
 use Rattle.gimli_line.specs.run.Unread.{Unread}
-use Rattle.gimli_line.specs.run.Progress.{Progress, ready}
-use Rattle.gimli_line.specs.run.Rows.{started}
+use Rattle.gimli_line.specs.run.Progress.{Progress, with_reset_row}
+use Rattle.gimli_line.specs.run.Rows.{start_of_run}
 use Rattle.gimli_line.specs.run.Sequences.{Part, part_of}
 use Rattle.gimli_line.proofs.Runs.{passes_still, passes_both}
 use Rattle.gimli_line.proofs.Order.{has_one_order}
@@ -19,9 +19,9 @@ run-init g c =
     let h = c.args.self.meaning in
     let at_offset = g.R.Offset.ReaderOffset.number c.args.self.offset.0 in
     let unread : Unread = record { bytes = h.program; notation = c.args.self.notation } in
-    let first = ready (started true h c.args.self.notation at_offset no_orders unread) in
+    let first = with_reset_row (start_of_run true h c.args.self.notation at_offset no_orders unread) in
     record {
-      behind = (
+      after = (
         [],
         rw (c.new-split.ensures, c.clone.ensures ∙ c.instructions.ensures, c.rows-run.ensures.start, c.new-kept.ensures) (starts_keeping h c.args.self.notation at_offset (header_orders g.R.Reader.big c.args.self) unread),
         rw c.rows-run.ensures.start (passes_still first _ refl refl refl refl refl),
@@ -35,7 +35,7 @@ run-init g c =
 pub returns-in_err-advance-clause-err : goal.returns-in_err-advance-clause-err
 returns-in_err-advance-clause-err g c =
     let p = err_from_is_err_and c.from_residual.result c.from_residual.ensures.1 in
-    let b = c.run.invariant.behind in
+    let b = c.run.invariant.after in
     rw (p.1, p.2) (λ other. elim c.in_err-advance.ensures.err [
       | inl m ↦ absurd (other m.0)
       | inr f ↦ has_first_fault c.args.self.notation (g.R.Offset.ReaderOffset.number c.args.self.offset.0) c.args.self.meaning b.0 c.run.run c.advance.new.self _ b.2 f.0
@@ -54,13 +54,13 @@ returns-in_err-row-clause-err g c =
 pub row-requires : goal.row-requires
 row-requires g c =
     let m = rw c.if-branch.true at c.in_ok-advance.ensures.passes in
-    let b = c.run.invariant.behind in
-    rw c.instructions-in-run.ensures (has_front c.args.self.meaning c.run.split b.0 (ready c.run.run) c.advance.new.self b.1.splitting m)
+    let b = c.run.invariant.after in
+    rw c.instructions-in-run.ensures (has_front c.args.self.meaning c.run.split b.0 (with_reset_row c.run.run) c.advance.new.self b.1.splitting m)
 
 pub run-smaller : goal.run-smaller
 run-smaller g c =
     let m = rw c.if-branch.true at c.in_ok-advance.ensures.passes in
-    row_takes (ready c.run.run) (ready c.advance.new.self) (row c.advance.new.self.row) [] m
+    row_takes (with_reset_row c.run.run) (with_reset_row c.advance.new.self) (row c.advance.new.self.row) [] m
 
 pub run-preserved : goal.run-preserved
 run-preserved g c =
@@ -68,14 +68,14 @@ run-preserved g c =
     let at_offset = g.R.Offset.ReaderOffset.number c.args.self.offset.0 in
     let unread : Unread = record { bytes = h.program; notation = c.args.self.notation } in
     let m = rw c.if-branch.true at c.in_ok-advance.ensures.passes in
-    let b = c.run.invariant.behind in
+    let b = c.run.invariant.after in
     let next = c.advance.new.self in
     record {
-      behind = (
+      after = (
         b.0 ++ next.row ∷ [],
-        rw (c.in_ok-row.ensures.ok, c.in_ok-keep.ensures.ok, c.row-row.ensures, c.instructions-in-run.ensures) (goes_keeping h c.run.split b.0 (ready c.run.run) next b.1.splitting m c.run.kept b.1.unended b.1.closed),
-        subst (λ (es : List Event). Progress (ready (started true h c.args.self.notation at_offset no_orders unread)) (ready next) es) (sym (map-append row b.0 (next.row ∷ [])))
-            (passes_both (ready (started true h c.args.self.notation at_offset no_orders unread)) (ready c.run.run) (ready next) (map row b.0) (row next.row ∷ []) b.2 m),
+        rw (c.in_ok-row.ensures.ok, c.in_ok-keep.ensures.ok, c.row-row.ensures, c.instructions-in-run.ensures) (goes_keeping h c.run.split b.0 (with_reset_row c.run.run) next b.1.splitting m c.run.kept b.1.unended b.1.closed),
+        subst (λ (es : List Event). Progress (with_reset_row (start_of_run true h c.args.self.notation at_offset no_orders unread)) (with_reset_row next) es) (sym (map-append row b.0 (next.row ∷ [])))
+            (passes_both (with_reset_row (start_of_run true h c.args.self.notation at_offset no_orders unread)) (with_reset_row c.run.run) (with_reset_row next) (map row b.0) (row next.row ∷ []) b.2 m),
       );
       notation = c.in_ok-advance.ensures.notation ∙ c.run.invariant.notation;
       offset = c.in_ok-advance.ensures.offset ∙ c.run.invariant.offset;
@@ -89,17 +89,17 @@ returns-clause-ok g c =
     let at_offset = g.R.Offset.ReaderOffset.number c.args.self.offset.0 in
     let unread : Unread = record { bytes = h.program; notation = c.args.self.notation } in
     let m = rw c.if-branch.false at c.in_ok-advance.ensures.passes in
-    let b = c.run.invariant.behind in
+    let b = c.run.invariant.after in
     let last = c.advance.new.self in
-    let whole = subst (λ (es : List Event). Progress (ready (started true h c.args.self.notation at_offset no_orders unread)) last es) (append-nil (map row b.0))
-    (passes_both (ready (started true h c.args.self.notation at_offset no_orders unread)) (ready c.run.run) last (map row b.0) [] b.2 m.1) in
-    rw c.into_sequences.ensures (are_sequences c.args.self.notation at_offset h c.header.inside.header.meaning c.run.split b.0 (ready c.run.run) last b.1.splitting whole m.0
-    (ap (λ v. bare v.meaning) c.header.view_is ∙ c.into_program.ensures.header) (ap (λ v. v.meaning.files) c.header.view_is ∙ c.into_program.ensures.files))
+    let whole = subst (λ (es : List Event). Progress (with_reset_row (start_of_run true h c.args.self.notation at_offset no_orders unread)) last es) (append-nil (map row b.0))
+    (passes_both (with_reset_row (start_of_run true h c.args.self.notation at_offset no_orders unread)) (with_reset_row c.run.run) last (map row b.0) [] b.2 m.1) in
+    rw c.into_sequences.ensures (are_sequences c.args.self.notation at_offset h c.header.inside.header.meaning c.run.split b.0 (with_reset_row c.run.run) last b.1.splitting whole m.0
+    (ap (λ v. without_files v.meaning) c.header.view_is ∙ c.into_program.ensures.header) (ap (λ v. v.meaning.files) c.header.view_is ∙ c.into_program.ensures.files))
 
 pub returns-clause-each : goal.returns-clause-each
 returns-clause-each g c =
     let parts = map part_of c.into_sequences.result.items in
-    let all = subst (λ (xs : List Part). AllKept c.args.self.meaning xs c.run.kept.closed) (sym c.into_sequences.ensures) c.run.invariant.behind.1.closed in
+    let all = subst (λ (xs : List Part). AllKept c.args.self.meaning xs c.run.kept.closed) (sym c.into_sequences.ensures) c.run.invariant.after.1.closed in
     rw c.into_rows.ensures (rows_are_kept c.args.self.notation c.args.self.meaning c.header.inside.header.meaning parts c.run.kept.closed (returns-clause-ok g c) all)
 
 pub returns-clause-notation : goal.returns-clause-notation

@@ -3,15 +3,15 @@ use Rattle.gimli_line.specs.declared.run.row.LineRow.{LineRow}
 use Rattle.gimli_line.specs.header.Header.{HasOneOrder}
 use Rattle.gimli_line.specs.header.Orders.{no_orders, header_orders}
 use Rattle.gimli_line.specs.run.Events.{row}
-use Rattle.gimli_line.specs.run.Progress.{Progress, ready}
-use Rattle.gimli_line.specs.run.Rows.{started, IsOfOneOrder}
+use Rattle.gimli_line.specs.run.Progress.{Progress, with_reset_row}
+use Rattle.gimli_line.specs.run.Rows.{start_of_run, IsOfOneOrder}
 use Rattle.gimli_line.proofs.SequenceLaws.{Keeping}
 use Rattle.gimli_line.proofs.run.sequences.IncompleteLineProgram+R.sequences_with_rows.Given as goal
 
 abbrev pub invariant-run : goal.invariant-run
 invariant-run g l = record {
-  behind : (done : List LineRow) × Keeping l.fn.self.meaning l.split l.kept done (ready l.run)
-      × Progress (ready (started true l.fn.self.meaning l.fn.self.notation (g.R.Offset.ReaderOffset.number l.fn.self.offset.0) no_orders (record { bytes = l.fn.self.meaning.program; notation = l.fn.self.notation }))) (ready l.run) (map row done);
+  after : (done : List LineRow) × Keeping l.fn.self.meaning l.split l.kept done (with_reset_row l.run)
+      × Progress (with_reset_row (start_of_run true l.fn.self.meaning l.fn.self.notation (g.R.Offset.ReaderOffset.number l.fn.self.offset.0) no_orders (record { bytes = l.fn.self.meaning.program; notation = l.fn.self.notation }))) (with_reset_row l.run) (map row done);
   notation : l.run.notation ≡ l.fn.self.notation;
   offset : l.run.offset ≡ g.R.Offset.ReaderOffset.number l.fn.self.offset.0;
   order : HasOneOrder g.R.Reader.big l.fn.self → IsOfOneOrder l.run;

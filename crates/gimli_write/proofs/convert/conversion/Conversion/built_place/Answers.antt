@@ -2,7 +2,7 @@ use Rattle.std.proofs.Common.{ℕ, sym, ap, ◌∙◌}
 use Rattle.std.proofs.lemmas.Result.{err_from_is_err_and}
 use Rattle.gimli_write.specs.convert.Lists.{lists_with}
 use Rattle.gimli_write.specs.convert.Offers.{ends, file_id}
-use Rattle.gimli_write.specs.convert.ConversionState.{plain}
+use Rattle.gimli_write.specs.convert.ConversionState.{without_built}
 use Rattle.gimli_write.proofs.Conversions.{row_taken, row_refused, file_found, file_lacks}
 use Rattle.gimli_write.proofs.convert.conversion.Conversion.built_place.Goals as goal
 
@@ -12,7 +12,7 @@ returns-in_err-file-clause-err g c =
     let p = err_from_is_err_and c.from_residual.result c.from_residual.ensures.1 in
     rw (← c.self.view_is) (rw (p.1, p.2) (λ line_strings rest.
     let lists = lists_with line_strings c.self.inside.lists in
-    row_refused version (plain lists) c.args.row.now rest (sym c.end_sequence.ensures ∙ c.if-end_sequence.false) c.in_err-file.field-0.0
+    row_refused version (without_built lists) c.args.row.now rest (sym c.end_sequence.ensures ∙ c.if-end_sequence.false) c.in_err-file.field-0.0
     (c.in_err-file.ensures line_strings ∙ ap (λ (v : ℕ). file_id v lists c.file_index.result) c.version.ensures ∙ ap (file_id version lists) c.file_index.ensures)))
 
 pub returns-clause-ok : goal.returns-clause-ok
@@ -20,7 +20,7 @@ returns-clause-ok g c =
     let version = c.self.inside.source.header.parameters.encoding.version in
     rw (← c.self.view_is) (rw c.built.ensures (λ line_strings rest.
     let lists = lists_with line_strings c.self.inside.lists in
-    row_taken version (plain lists) c.args.row.now rest (sym c.end_sequence.ensures ∙ c.if-end_sequence.false) c.in_ok-file.file
+    row_taken version (without_built lists) c.args.row.now rest (sym c.end_sequence.ensures ∙ c.if-end_sequence.false) c.in_ok-file.file
     (c.in_ok-file.ensures line_strings ∙ ap (λ (v : ℕ). file_id v lists c.file_index.result) c.version.ensures ∙ ap (file_id version lists) c.file_index.ensures)))
 
 pub returns-in_err-file-clause-lacks : goal.returns-in_err-file-clause-lacks

@@ -7,7 +7,7 @@ use Rattle.gimli_write.specs.declared.convert_error.ConvertError.{ConvertError}
 use Rattle.gimli_write.specs.declared.convert.offer.ConvertLineRow.TheVariants.{SetAddress, Row, EndSequence}
 use Rattle.gimli_write.specs.declared.convert.sequence.ConvertLineSequenceEnd.TheVariants.{Address}
 use Rattle.gimli_write.specs.convert.Offers.{Reading, offers}
-use Rattle.gimli_write.specs.convert.Sequences.{SequenceRead, sequence_with, gathered}
+use Rattle.gimli_write.specs.convert.Sequences.{SequenceRead, sequence_with, sequence_from}
 use Rattle.gimli_write.specs.convert.ConversionState.{lists_of, still_to_read}
 use Rattle.gimli_write.proofs.ConvertSteps.{kept_then, refused_same}
 use Rattle.gimli_write.proofs.Feedings.{one_fewer}
@@ -22,7 +22,7 @@ returns-in_err-row-clause-err g c =
     let e = c.in_err-row.field-0.0 in
     let p = err_from_is_err_and c.from_residual.result c.from_residual.ensures.1 in
     rw (p.1, p.2)
-    (refused_same (gathered c.rows.start c.rows.rows.items old) (gathered None [] (still_to_read c.args.self.now c.args.line_strings.now)) e
+    (refused_same (sequence_from c.rows.start c.rows.rows.items old) (sequence_from None [] (still_to_read c.args.self.now c.args.line_strings.now)) e
     c.rows.invariant.same (gather_refused c.rows.start c.rows.rows.items old e c.in_err-row.ensures.err))
 
 pub returns-in_err-row-clause-stays : goal.returns-in_err-row-clause-stays

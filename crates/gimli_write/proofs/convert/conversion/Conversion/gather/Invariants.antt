@@ -3,13 +3,13 @@ use Rattle.std.specs.Prelude.{None}
 use Rattle.gimli_bytes.specs.Texts.{KeepsTexts}
 use Rattle.gimli_write.specs.convert.KeptLists.{KeepsFiles, StaysWritable, KeepsLast}
 use Rattle.gimli_write.specs.convert.ConversionState.{still_to_read, AddsFiles}
-use Rattle.gimli_write.specs.convert.Sequences.{gathered}
+use Rattle.gimli_write.specs.convert.Sequences.{sequence_from}
 use Rattle.gimli_write.proofs.Feedings.{offer_count}
 use Rattle.gimli_write.proofs.convert.conversion.Conversion.gather.Given as goal
 
 abbrev pub invariant-rows : goal.invariant-rows
 invariant-rows g l = record {
-  same : gathered l.start l.rows.items (still_to_read l.self l.line_strings) ≡ gathered None [] (still_to_read l.fn.self l.fn.line_strings);
+  same : sequence_from l.start l.rows.items (still_to_read l.self l.line_strings) ≡ sequence_from None [] (still_to_read l.fn.self l.fn.line_strings);
   adds : AddsFiles l.fn.self.lists.program l.self.lists.program;
   keeps : KeepsFiles l.fn.self.lists l.self.lists;
   writable : StaysWritable l.fn.self.lists l.fn.line_strings l.self.lists l.line_strings;

@@ -8,7 +8,7 @@ use Rattle.gimli_write.specs.declared.convert_error.ConvertError.{ConvertError}
 use Rattle.gimli_write.specs.convert.Lists.{Converted, Lists, lists_with, file_added}
 use Rattle.gimli_write.specs.convert.LastLists.{unless_refused, lists_at_last}
 use Rattle.gimli_write.specs.convert.Offers.{defines, defines_first, after_definitions}
-use Rattle.gimli_write.specs.convert.ConversionState.{plain, source_left}
+use Rattle.gimli_write.specs.convert.ConversionState.{without_built, source_left}
 use Rattle.gimli_write.specs.convert.KeptLists.{source_last}
 use Rattle.gimli_write.proofs.SourceSteps.{none_left}
 use Rattle.gimli_write.proofs.ConvertSteps.{kept_then}
@@ -21,7 +21,7 @@ use Rattle.gimli_write.proofs.convert.conversion.Conversion.next_source_row.Goal
 pub returns-in-Done-clause-ok : goal.returns-in-Done-clause-ok
 returns-in-Done-clause-ok g c =
     let a = c.steps.self-inside in
-    let lists = plain (lists_with c.steps.line_strings a.lists) in
+    let lists = without_built (lists_with c.steps.line_strings a.lists) in
     let read = rw c.in-Done.is at c.in_ok-step.ensures.reading in
     let over = rw c.in-Done.is at c.in_ok-step.ensures.shorter in
     (sym c.steps.invariant.left ∙ ap after_definitions (read a.sections lists), none_left a.sections lists c.step.new.self over)
@@ -36,9 +36,9 @@ steps-preserved g c =
     let leaves = rw c.in-Defines.is at c.in_ok-step.ensures.lists in
     record {
       left =
-          sym (ap after_definitions (read a.sections (plain before) ∙ ap defines (file_taken a.sections c.step.new.self before f after c.in_ok-add_file-in-Defines.ensures.ok)))
+          sym (ap after_definitions (read a.sections (without_built before) ∙ ap defines (file_taken a.sections c.step.new.self before f after c.in_ok-add_file-in-Defines.ensures.ok)))
           ∙ c.steps.invariant.left;
-      first = λ more. c.steps.invariant.first (ap defines_first (read a.sections (plain before)));
+      first = λ more. c.steps.invariant.first (ap defines_first (read a.sections (without_built before)));
       version = ap (λ (h : Header). h.parameters.encoding.version) c.in_ok-step.ensures.header ∙ c.steps.invariant.version;
       sections = c.steps.invariant.sections;
       address = c.steps.invariant.address;
@@ -67,7 +67,7 @@ returns-in_err-add_file-in-Defines-clause-err g c =
     let p = err_from_is_err_and c.from_residual-in_err-add_file-in-Defines.result c.from_residual-in_err-add_file-in-Defines.ensures.1 in
     rw (p.1, p.2)
     (file_refusal a.sections c.step.new.self before f (source_left now c.steps.line_strings) (source_left c.args.self.now c.args.line_strings.now) c.in_err-add_file-in-Defines.field-0.0
-    (read a.sections (plain before)) c.steps.invariant.left c.steps.invariant.first c.in_err-add_file-in-Defines.ensures.err)
+    (read a.sections (without_built before)) c.steps.invariant.left c.steps.invariant.first c.in_err-add_file-in-Defines.ensures.err)
 
 pub returns-in_err-add_file-in-Defines-clause-stays : goal.returns-in_err-add_file-in-Defines-clause-stays
 returns-in_err-add_file-in-Defines-clause-stays g c =

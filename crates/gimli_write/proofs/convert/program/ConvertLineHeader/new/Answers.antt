@@ -3,10 +3,10 @@ use Rattle.std.specs.Prelude.{option_map}
 use Rattle.std.proofs.lemmas.Result.{err_from_is_err_and}
 use Rattle.gimli_build.specs.Texts.{Sections}
 use Rattle.gimli_write.specs.convert.Lists.{Lists, lists_with}
-use Rattle.gimli_write.specs.convert.Preparation.{handed, encoding_of}
+use Rattle.gimli_write.specs.convert.Preparation.{handed_of, encoding_of}
 use Rattle.gimli_write.specs.convert.Offers.{Reads}
-use Rattle.gimli_write.specs.convert.SourceState.{started, reading_left}
-use Rattle.gimli_write.specs.convert.ConversionState.{plain}
+use Rattle.gimli_write.specs.convert.SourceState.{start_of_source, reading_left}
+use Rattle.gimli_write.specs.convert.ConversionState.{without_built}
 use Rattle.gimli_write.proofs.SourceReadings.{start_reads}
 use Rattle.gimli_write.proofs.Conversions.{prepared_plain}
 use Rattle.gimli_write.proofs.MappedLists.{prepared_ready, ready_written}
@@ -24,11 +24,11 @@ returns-clause-reads g c =
     let h = c.args.from_program.meaning in
     let notation = c.args.from_program.notation in
     let lists = lists_with c.prepare.new.line_strings c.in_ok-lists.lists in
-    let given = handed c.args.encoding c.args.line_encoding (option_map g.R.Reader.bytes c.args.from_comp_name) in
+    let given = handed_of c.args.encoding c.args.line_encoding (option_map g.R.Reader.bytes c.args.from_comp_name) in
     let is = rw c.header.ensures at c.in_ok-lists.ensures.ok in
-    let same : plain lists ≡ lists = prepared_plain sections h given c.args.line_strings.now lists is in
+    let same : without_built lists ≡ lists = prepared_plain sections h given c.args.line_strings.now lists is in
     rw c.start-conversion.ensures
-    (subst (λ (x : Lists). Reads notation sections h lists h.program (reading_left sections (started h (record { bytes = h.program; notation = notation })) x))
+    (subst (λ (x : Lists). Reads notation sections h lists h.program (reading_left sections (start_of_source h (record { bytes = h.program; notation = notation })) x))
     (sym same) (start_reads notation sections h lists h.program))
 
 pub returns-clause-unread : goal.returns-clause-unread
@@ -39,7 +39,7 @@ returns-clause-writable g c =
     let sections : Sections = record { strings = g.R.Reader.bytes c.args.debug_str; line_strings = g.R.Reader.bytes c.args.debug_line_str } in
     let h = c.args.from_program.meaning in
     let lists = lists_with c.prepare.new.line_strings c.in_ok-lists.lists in
-    let given = handed c.args.encoding c.args.line_encoding (option_map g.R.Reader.bytes c.args.from_comp_name) in
+    let given = handed_of c.args.encoding c.args.line_encoding (option_map g.R.Reader.bytes c.args.from_comp_name) in
     let is = rw c.header.ensures at c.in_ok-lists.ensures.ok in
     rw c.start-conversion.ensures (record {
       can = λ strings. ready_written strings (encoding_of h given) lists (prepared_ready strings sections h given c.args.line_strings.now lists is);
