@@ -20,7 +20,7 @@ use crate::status::{
     NEED_VERSION_4, NO_ROOM, OK, OUT_OF_MEMORY, UNIT_TOO_LONG, UNKNOWN_VERSION,
     UNSUPPORTED_LINE_ENCODING,
 };
-use crate::tables::{GimliFileName, add_directories, add_files, started};
+use crate::tables::{GimliFileName, add_directories, add_files, empty_built};
 use crate::text::GimliName;
 use gimli_build::LineProgram;
 use gimli_bytes::{DebugLine, EndianVec, Error, LineStringTable, StringTable};
@@ -99,7 +99,7 @@ fn built(
         (handed_of encoding.now big details texts.now directories.now files.now rows.now))) }
 {
     let (units, lines) = encodings(encoding)?;
-    let start = started(alloc, units, lines, texts, directories, files)?;
+    let start = empty_built(alloc, units, lines, texts, directories, files)?;
     let mut program = with_details(start, details);
     let ids = add_directories(alloc, &mut program, texts, directories)?;
     let file_ids = add_files(alloc, &mut program, texts, ids.as_slice(), files)?;

@@ -68,20 +68,20 @@ through_none : (events : List Event) → list_any ends_sequence events ≡ false
 through_none [] none = refl
 through_none (e ∷ events) none = rw none refl
 
-one_ends : (rows : List LineRow) (last : LineRow) (past_at_end : List Event) → last.end_sequence ≡ true
-    → list_any ends_sequence ((map row rows ++ row last ∷ []) ++ past_at_end) ≡ true
-one_ends [] last past_at_end closed = rw closed refl
-one_ends (r ∷ rows) last past_at_end closed = at_test r.end_sequence (one_ends rows last past_at_end closed)
+one_ends : (rows : List LineRow) (last : LineRow) (later : List Event) → last.end_sequence ≡ true
+    → list_any ends_sequence ((map row rows ++ row last ∷ []) ++ later) ≡ true
+one_ends [] last later closed = rw closed refl
+one_ends (r ∷ rows) last later closed = at_test r.end_sequence (one_ends rows last later closed)
   where
     at_test : (b : Bool) → {c : Bool} → c ≡ true → (b || c) ≡ true
     at_test true e = refl
     at_test false e = e
 
-through_one : (rows : List LineRow) (last : LineRow) (past_at_end : List Event) → last.end_sequence ≡ true
-    → through_last_end ((map row rows ++ row last ∷ []) ++ past_at_end) ≡ (map row rows ++ row last ∷ []) ++ through_last_end past_at_end
-through_one [] last past_at_end closed = rw (one_ends [] last past_at_end closed) refl
-through_one (r ∷ rows) last past_at_end closed =
-    rw (one_ends (r ∷ rows) last past_at_end closed) (ap (λ (xs : List Event). row r ∷ xs) (through_one rows last past_at_end closed))
+through_one : (rows : List LineRow) (last : LineRow) (later : List Event) → last.end_sequence ≡ true
+    → through_last_end ((map row rows ++ row last ∷ []) ++ later) ≡ (map row rows ++ row last ∷ []) ++ through_last_end later
+through_one [] last later closed = rw (one_ends [] last later closed) refl
+through_one (r ∷ rows) last later closed =
+    rw (one_ends (r ∷ rows) last later closed) (ap (λ (xs : List Event). row r ∷ xs) (through_one rows last later closed))
 
 -- ---- sequences that are closed
 
@@ -113,19 +113,19 @@ kept_push h [] kept s rows all one = (rows, [], ap (λ (xs : List (List LineRow)
 kept_push h (t ∷ parts) kept s rows all one =
     (all.0, all.1 ++ rows ∷ [], ap (λ (xs : List (List LineRow)). xs ++ rows ∷ []) all.2, all.3, kept_push h parts all.1 s rows all.4 one)
 
-through_events : (events : List Event) (start end : ℕ) → IsSequence events start end → (past_at_end : List Event) → through_last_end (events ++ past_at_end) ≡ events ++ through_last_end past_at_end
-through_events events start end is past_at_end = rw is.given (through_one is.rows is.last past_at_end is.ended)
+through_events : (events : List Event) (start end : ℕ) → IsSequence events start end → (later : List Event) → through_last_end (events ++ later) ≡ events ++ through_last_end later
+through_events events start end is later = rw is.given (through_one is.rows is.last later is.ended)
 
-through_closed : (h : Header) (parts : List Part) (joined : List Event) → AllClosed h parts joined → (past_at_end : List Event)
-    → through_last_end (joined ++ past_at_end) ≡ joined ++ through_last_end past_at_end
-through_closed h [] joined all past_at_end = rw all refl
-through_closed h (s ∷ parts) joined all past_at_end =
-    ap (λ (xs : List Event). through_last_end (xs ++ past_at_end)) all.2
-    ∙ ap through_last_end (append_assoc all.0 all.1 past_at_end)
-    ∙ through_events all.0 s.start s.end all.3.is (all.1 ++ past_at_end)
-    ∙ ap (λ (xs : List Event). all.0 ++ xs) (through_closed h parts all.1 all.4 past_at_end)
-    ∙ sym (append_assoc all.0 all.1 (through_last_end past_at_end))
-    ∙ ap (λ (xs : List Event). xs ++ through_last_end past_at_end) (sym all.2)
+through_closed : (h : Header) (parts : List Part) (joined : List Event) → AllClosed h parts joined → (later : List Event)
+    → through_last_end (joined ++ later) ≡ joined ++ through_last_end later
+through_closed h [] joined all later = rw all refl
+through_closed h (s ∷ parts) joined all later =
+    ap (λ (xs : List Event). through_last_end (xs ++ later)) all.2
+    ∙ ap through_last_end (append_assoc all.0 all.1 later)
+    ∙ through_events all.0 s.start s.end all.3.is (all.1 ++ later)
+    ∙ ap (λ (xs : List Event). all.0 ++ xs) (through_closed h parts all.1 all.4 later)
+    ∙ sym (append_assoc all.0 all.1 (through_last_end later))
+    ∙ ap (λ (xs : List Event). xs ++ through_last_end later) (sym all.2)
 
 -- what is resumed over the header with whatever files
 module _ (h c : Header) (files : List File) (c_is : c ≡ record h { files = files }) where

@@ -113,7 +113,7 @@ pub fn machine_gives_events()
         run parameters (initial parameters) list ≡ events_after parameters [] list }
     ensures machine { (appends : Bool) (h : Header) (list : List Ins) (end : Option Error) →
         machine_events appends h list end ≡ events_with_files_after appends h [] list end }
-    ensures start_of_run { (appends : Bool) (h : Header) (notation : Notation) (o : ℕ)
+    ensures started { (appends : Bool) (h : Header) (notation : Notation) (o : ℕ)
         (orders : HeaderOrders) (unread : Unread)
         → GivesEvents appends h unread (start_of_run appends h notation o orders unread) }
     ensures files { (appends : Bool) (h : Header) (notation : Notation) (o : ℕ)

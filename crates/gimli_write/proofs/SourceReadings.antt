@@ -27,7 +27,7 @@ use Rattle.gimli_write.specs.convert.SourceState.{SourceState, start_of_source, 
 -- ---- the state after a past
 
 abbrev pub state_at : Header → List Ins → Unread → SourceState
-state_at h past unread = record { header = h; row = registers_after h.parameters past; base = base_at past; pending_address = pending_address past; unread = unread }
+state_at h past unread = record { header = h; row = registers_after h.parameters past; base = base_at past; pending = pending_address past; unread = unread }
 
 base_is : (i : Ins) (past : List Ins) → base_after i (base_at past) ≡ base_at (i ∷ past)
 base_is EndSequence past = refl

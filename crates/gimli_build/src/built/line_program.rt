@@ -2,10 +2,10 @@ ghost use Rattle.std.specs.Prelude.{◌≡◌, ◌≢◌, ℕ, ◌+◌, ◌/◌,
 ghost use Rattle.gimli_core.specs.Numbers.{is_address_size};
 ghost use Rattle.gimli_build.specs.Advance.{CanEncode, CanFollow};
 
-use crate::built_of::files::{DirectoryId, FileId, FileInfo, FileTable, Files};
-use crate::built_of::items::{BuiltItem, BuiltItems};
-use crate::built_of::line_string::LineString;
-use crate::built_of::row::LineRow;
+use crate::built::files::{DirectoryId, FileId, FileInfo, FileTable, Files};
+use crate::built::items::{BuiltItem, BuiltItems};
+use crate::built::line_string::LineString;
+use crate::built::row::LineRow;
 use gimli_bytes::{Address, Error, Result};
 use gimli_core::{Encoding, Format, LineEncoding};
 use std::alloc::{AllocError, Global};
@@ -334,7 +334,7 @@ impl LineProgram {
         ensures memory { IfErr result (λ e. e ≡ Error.OutOfMemory) }
     {
         self.items.push(BuiltItem::SetAddress(address))?;
-        self.row = self.row.restarted(self.in_sequence);
+        self.row = self.row.row_after_address(self.in_sequence);
         self.in_sequence = true;
         Ok(())
     }
@@ -455,7 +455,7 @@ impl LineProgram {
     /// What was built, in order.
     pub fn items(&self) -> BuiltItems<'_>
         ensures items { result ≡ self.now.items }
-        ensures built_of { AreBuilt self.now.line_encoding (0, 0) self.now.items }
+        ensures built { AreBuilt self.now.line_encoding (0, 0) self.now.items }
     {
         BuiltItems::new(self.items.as_slice())
     }

@@ -70,11 +70,11 @@ is_out_of_range e = int_le (e.line_base +ℤ pos e.line_range) (pos 0) || nat_lt
 
 -- the one that is handed in, else the source's
 abbrev pub chosen_line_encoding : LineEncoding → Option LineEncoding → Result LineEncoding ConvertError
-chosen_line_encoding own (Some handed_of) = Ok handed_of
+chosen_line_encoding own (Some handed) = Ok handed
 chosen_line_encoding own None = if is_out_of_range own then Err InvalidLineBase else Ok own
 
 abbrev pub line_encoding_of : LineEncoding → Option LineEncoding → Result LineEncoding ConvertError
-line_encoding_of own handed_of = if int_lt (pos 0) own.line_base then Err InvalidLineBase else chosen_line_encoding own handed_of
+line_encoding_of own handed = if int_lt (pos 0) own.line_base then Err InvalidLineBase else chosen_line_encoding own handed
 
 -- ---- the program, with its first directory and file
 

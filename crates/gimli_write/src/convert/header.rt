@@ -185,19 +185,16 @@ fn is_out_of_range(line_encoding: LineEncoding) -> bool
 
 /// What lines are encoded by: as handed in, else as in the source. Refused as `InvalidLineBase` where the source's line
 /// base is above 0, and where the source's encoding is taken and lines can't be written by it.
-fn line_encoding_of(
-    own: LineEncoding,
-    handed_of: Option<LineEncoding>,
-) -> ConvertResult<LineEncoding>
+fn line_encoding_of(own: LineEncoding, handed: Option<LineEncoding>) -> ConvertResult<LineEncoding>
     requires own { IsLineEncoding own }
-    requires handed_of { IfSome handed_of CanEncode }
-    ensures encoding { result ≡ line_encoding_of own handed_of }
+    requires handed { IfSome handed CanEncode }
+    ensures encoding { result ≡ line_encoding_of own handed }
     ensures can { IfOk result CanEncode }
 {
     if own.line_base > 0 {
         return Err(ConvertError::InvalidLineBase);
     }
-    match handed_of {
+    match handed {
         Some(line_encoding) => Ok(line_encoding),
         None if is_out_of_range(own) => Err(ConvertError::InvalidLineBase),
         None => Ok(own),

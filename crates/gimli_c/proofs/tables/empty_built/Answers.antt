@@ -3,7 +3,7 @@ use Rattle.std.proofs.lemmas.Result.{err_from_is_err_and}
 use Rattle.gimli_c.specs.Causes.HasFileFault.{no_directory}
 use Rattle.gimli_c.specs.Causes.HasTableFault.{directory_fault, file_fault}
 use Rattle.gimli_c.proofs.CauseLemmas.{any_at, no_directory_at}
-use Rattle.gimli_c.proofs.tables.started.Goals as goal
+use Rattle.gimli_c.proofs.tables.empty_built.Goals as goal
 
 pub returns-in_err-own-in-Some-name_at-clause-cause : goal.returns-in_err-own-in-Some-name_at-clause-cause
 returns-in_err-own-in-Some-name_at-clause-cause c =
