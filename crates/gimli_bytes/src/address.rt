@@ -1,3 +1,5 @@
+//! Addresses that are written: numbers, or symbols to which a linker gives numbers.
+
 /// An address, or what is to become one.
 #[derive(Clone, Copy, Debug, PartialEq, Eq, Hash)]
 pub enum Address {

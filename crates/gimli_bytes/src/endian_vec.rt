@@ -1,3 +1,5 @@
+//! A writer into one vector.
+
 ghost use Rattle.std.specs.Prelude.{◌≡◌, ◌++◌, [], true, IfOk, IfErr, OnOk, OnErr};
 
 use crate::error::{Error, Result};

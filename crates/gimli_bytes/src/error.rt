@@ -1,3 +1,5 @@
+//! The refusals of writing.
+
 ghost use Rattle.std.specs.Prelude.{◌≡◌};
 ghost use Rattle.gimli_bytes.specs.declared.error.Error.TheVariants.{OutOfMemory};
 

@@ -1,3 +1,5 @@
+//! A writer into pieces of one size, all full but the last.
+
 ghost use Rattle.std.specs.Prelude.{◌≡◌, ℕ, ◌+◌, ◌<◌, ◌≤◌, ◌^◌, ◌++◌, [], true, IsOk, IfOk, IfErr, OnOk, OnErr, All, length};
 ghost use Rattle.std.specs.List.{concat};
 ghost use Rattle.std.specs.Int.{div_ceil};

@@ -1,3 +1,5 @@
+//! The sections that are written: `.debug_line`, `.debug_str` and `.debug_line_str`.
+
 ghost use Rattle.std.specs.Prelude.{◌≡◌, length};
 
 use crate::writer::Writer;

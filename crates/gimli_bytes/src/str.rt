@@ -1,3 +1,5 @@
+//! The tables of texts of `.debug_str` and `.debug_line_str`: each text once, at a fixed offset.
+
 ghost use Rattle.std.specs.Prelude.{◌≡◌, ◌≢◌, ℕ, ◌<◌, ◌^◌, List, [], length, IfOk, IfErr, OnOk, OnErr, Ok, Some, IsOk, IsTrue, All, Contains, slice_get};
 ghost use Rattle.gimli_bytes.specs.Texts.{AreTexts, KeepsTexts, with_text, index_of_text, offset_of, table_bytes, byte_count};
 ghost use Rattle.gimli_bytes.specs.Written.{Begins, Appends, Refuses};

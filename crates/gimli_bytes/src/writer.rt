@@ -1,3 +1,5 @@
+//! What a writer of a section does: appends, and writes over bytes that are there.
+
 ghost use Rattle.std.specs.Prelude.{◌≡◌, ℕ, ◌+◌, ◌≤◌, Bool, List, IsTrue, IfOk, IfErr, OnOk, OnErr, Ok, Err, length, take};
 ghost use Rattle.gimli_core.specs.Numbers.{number_bytes, SpellsUleb128, SpellsSleb128, IsShortest};
 ghost use Rattle.gimli_bytes.specs.Written.{Begins, Appends, Refuses, Untouched, Overwrites, RefusesAt};

@@ -105,6 +105,7 @@ pub(crate) fn rows_fit<R: Reader>(program: &IncompleteLineProgram<R>)
         → length (rows_of (events_of events)) < 2 ^ 64 }
 {
     laws::rows_are_bounded();
+    // For the prover alone: a length is below 2 ^ 64.
     let _bytes = program.header().raw_program_buf().len().into_u64();
 }
 

@@ -248,6 +248,7 @@ pub fn same_parts_say_same<R: Reader>(x: &LineProgramHeader<R>, y: &LineProgramH
     ensures meaning { parts_of x.now ≡ parts_of y.now → x.now.meaning ≡ y.now.meaning }
     ensures notation { parts_of x.now ≡ parts_of y.now → x.now.notation ≡ y.now.notation }
 {
+    // For the prover alone: what is true of a header is known once a field is read.
     let _first = x.parameters;
     let _second = y.parameters;
 }

@@ -111,6 +111,7 @@ fn read(rt: &HostRuntime, name: &str) -> io::Result<Option<Vec<u8>>> {
     match fs::read(rt, name) {
         Ok(bytes) => Ok(Some(bytes)),
         Err(error) => {
+            // Where standard error takes nothing, the status still tells.
             let _ = writeln!(rt.stderr(), "lines: {name}: {error}");
             Ok(None)
         }

@@ -1,3 +1,5 @@
+//! The directories and files that are built: two tables of distinct keys (DWARF 5, 6.2.4, entries 11 to 19).
+
 ghost use Rattle.std.specs.Prelude.{◌≡◌, ℕ, ◌<◌, List, [], length, map, replicate, option_map, IfOk, IfErr, OnOk, OnErr, IfSome, Some, None, slice_get};
 ghost use Rattle.gimli_build.specs.FileNumber.{file_number, initial_file};
 
@@ -265,6 +267,7 @@ impl FileTable {
         ensures err { OnErr result (self.new ≡ self.old) }
         ensures memory { IfErr result (λ e. e ≡ Error.OutOfMemory) }
     {
+        // For the prover alone: the keys are distinct.
         let _count = self.files.len();
         let (index, _) = self.files.insert_full((path, directory), info)?;
         Ok(FileId(index))
@@ -282,6 +285,7 @@ impl FileTable {
         ensures err { OnErr result (self.new ≡ self.old) }
         ensures memory { IfErr result (λ e. e ≡ Error.OutOfMemory) }
     {
+        // For the prover alone: the keys are distinct.
         let _count = self.files.len();
         let key = (path, directory);
         if let Some(index) = self.files.get_index_of(&key) {
@@ -319,6 +323,7 @@ impl FileTable {
         ensures files { result ≡ with_indexes 0 self.now.files }
         ensures tables { AreTables self.now.directories (keys_of self.now.files) }
     {
+        // For the prover alone: what is true of the tables is known once a field is read (`tables`).
         let _files = &self.files;
         Files {
             table: self,

@@ -1,3 +1,5 @@
+//! What is built in a program, in order: set addresses, rows and ends of sequences.
+
 use crate::built::row::LineRow;
 use gimli_bytes::Address;
 use std::marker::Model;

@@ -1,3 +1,5 @@
+//! A line program that is built: gimli's `LineProgram`, its tables, its rows and its flags.
+
 ghost use Rattle.std.specs.Prelude.{◌≡◌, ◌≢◌, ℕ, ◌+◌, ◌/◌, ◌%◌, ◌<◌, ◌≤◌, ◌^◌, Bool, true, false, nat_eq, List, [], ◌∷◌, ◌++◌, length, option_map, slice_get, IfOk, IfErr, OnOk, OnErr, IfSome, Some, None, IsTrue, ◌↔◌};
 ghost use Rattle.gimli_core.specs.Numbers.{is_address_size};
 ghost use Rattle.gimli_build.specs.Advance.{CanEncode, CanFollow};
@@ -188,6 +190,7 @@ impl LineProgram {
         ensures id { result ≡ 0 }
         ensures there { self.now.is_none ≡ false → 0 < length self.now.directories }
     {
+        // For the prover alone: what is true of every program is known once a field is read (`there`).
         let _items = &self.items;
         DirectoryId::working()
     }
@@ -448,6 +451,7 @@ impl LineProgram {
             self.now.directories (keys_of self.now.files) self.now.items }
         ensures tables { AreTables self.now.directories (keys_of self.now.files) }
     {
+        // For the prover alone: what is true of the tables is known once they are read (`tables`).
         let _count = self.tables.file_count();
         self.items.as_slice()
     }

@@ -1,3 +1,5 @@
+//! Texts of directories and files: in the table itself, or references to `.debug_str` and `.debug_line_str`.
+
 ghost use Rattle.std.specs.Prelude.{◌≡◌, ◌≢◌, ℕ, List, IfOk, IfErr, OnOk, OnErr, All};
 
 use gimli_bytes::{Error, LineStringId, LineStringTable, Result, StringId, StringTable};

@@ -1,3 +1,5 @@
+//! A row as it is built: the registers of DWARF 5, 6.2.2, with an offset in place of the address.
+
 ghost use Rattle.std.specs.Prelude.{◌≡◌};
 ghost use Rattle.gimli_build.specs.Rows.{initial_row, without_marks, row_after_address};
 

@@ -44,6 +44,7 @@ pub(crate) fn add_empty_source(
     ensures memory { IfErr result (λ e. e ≡ OutOfMemory) }
 {
     let empty = add_empty(empty_form(program), line_strings, strings)?;
+    // For the prover alone: a table has no more bytes than memory (`short`, `line_short`).
     let _counts = (line_strings.count(), strings.count());
     Ok(empty)
 }
