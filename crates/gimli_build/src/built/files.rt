@@ -1,4 +1,4 @@
-//! The directories and files that are built: two tables of distinct keys (DWARF 5, 6.2.4, entries 11 to 19).
+//! The directories and files that are built: two tables of distinct keys (DWARF 5, 6.2.4, entries 13 to 20).
 
 ghost use Rattle.std.specs.Prelude.{◌≡◌, ℕ, ◌<◌, List, [], length, map, replicate, option_map, IfOk, IfErr, OnOk, OnErr, IfSome, Some, None, slice_get};
 ghost use Rattle.gimli_build.specs.FileNumber.{file_number, initial_file};
