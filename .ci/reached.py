@@ -2,7 +2,7 @@
 """Which definitions of specs/ the clauses of public items reach.
 
   .ci/reached.py               for each library: its definitions, how many are reached, and how many stand in specs/inside/
-  .ci/reached.py CRATE..       the definitions of these crates that aren't reached, by file
+  .ci/reached.py CRATE..       the definitions of these crates that aren't reached and stand elsewhere, and those in specs/inside/ that are
   .ci/reached.py --from NAME   what a definition reaches
   .ci/reached.py --to NAME     a chain from a public item to a definition
 
@@ -258,8 +258,9 @@ def main(words):
             inside = [d for d in own if ".specs.inside." in d.full]
             print("%s: %d definitions, %d reached, %d in specs/inside" % (crate, len(own), len(own) - len(left), len(inside)))
             total = [total[0] + len(own), total[1] + len(own) - len(left), total[2] + len(inside)]
-            for d in left if words else ():
-                print("    %s %s" % (os.path.relpath(d.path, os.path.join(TOP, "crates", crate, "specs")), d.name))
+            for d in own if words else ():
+                if (d in left) != (d in inside):
+                    print("    %s %s" % (os.path.relpath(d.path, os.path.join(TOP, "crates", crate, "specs")), d.name))
         print("all: %d definitions, %d reached, %d in specs/inside" % tuple(total))
 
 
