@@ -13,7 +13,8 @@ use Rattle.gimli_build.specs.Tables.{File, with_directory, with_file}
 use Rattle.gimli_c.specs.declared.row.GimliRow.{GimliRow}
 use Rattle.gimli_c.specs.declared.text.GimliName.{GimliName}
 use Rattle.gimli_c.specs.declared.tables.GimliFileName.{GimliFileName}
-use Rattle.gimli_c.specs.Causes.{HasHandedFault, HasNone, HasTextFault, HasFileFault, HasRowFault, HasRowsFault, first_index, position_after}
+use Rattle.gimli_c.specs.Causes.{HasHandedFault, HasTextFault, HasFileFault, HasRowFault, HasRowsFault, first_index, position_after}
+use Rattle.gimli_c.specs.inside.Causes.{HasNone}
 use Rattle.gimli_c.specs.Causes.HasEncodingFault.{bad_size, bad_lines}
 use Rattle.gimli_c.specs.Causes.HasHandedFault.{of_encoding, of_tables, of_rows}
 use Rattle.gimli_c.specs.Refused.{encoding_fault}

@@ -16,7 +16,7 @@ use Rattle.gimli_line.specs.run.RunState.{RunState}
 use Rattle.gimli_line.specs.run.EventsWithFiles.{FilesAtEnd}
 use Rattle.gimli_c.specs.Place.{Place, notation_at, HasUnit}
 use Rattle.gimli_c.specs.FileSeen.{HasFiles, file_seen_by_c, text_here, bytes_here}
-use Rattle.gimli_c.specs.Run.{header_with}
+use Rattle.gimli_c.specs.inside.Run.{header_with}
 use Rattle.gimli_c.specs.Written.{slots_with}
 use Rattle.gimli_c.proofs.Arrays.{written_none}
 

@@ -18,7 +18,8 @@ use Rattle.gimli_build.specs.declared.built.items.BuiltItem.{BuiltItem}
 use Rattle.gimli_c.specs.declared.encoding.GimliEncoding.{GimliEncoding}
 use Rattle.gimli_c.specs.declared.tables.GimliFileName.{GimliFileName}
 use Rattle.gimli_c.specs.declared.row.GimliRow.{GimliRow}
-use Rattle.gimli_c.specs.Handed.{IsInline, AddsDirectories, AddsFiles, AddsItems, encoding_of, items_handed}
+use Rattle.gimli_c.specs.Handed.{AddsDirectories, AddsFiles, encoding_of, items_handed}
+use Rattle.gimli_c.specs.inside.Handed.{IsInline, AddsItems}
 use Rattle.gimli_build.specs.ReadsBack.{ReadsBackAs}
 use Rattle.gimli_c.specs.Handing.{Handed, IsBuiltOf, program_with}
 

@@ -8,7 +8,8 @@ use Rattle.gimli_build.specs.LineText.{LineText}
 use Rattle.gimli_build.specs.Tables.{File}
 use Rattle.gimli_build.specs.declared.built.row.LineRow.{LineRow}
 use Rattle.gimli_build.specs.declared.built.items.BuiltItem.{BuiltItem}
-use Rattle.gimli_c.specs.Causes.{HasCause, HasHandedFault, HasNone}
+use Rattle.gimli_c.specs.Causes.{HasCause, HasHandedFault}
+use Rattle.gimli_c.specs.inside.Causes.{HasNone}
 use Rattle.gimli_c.specs.Causes.HasCause.{of_handed, of_unit}
 use Rattle.gimli_c.specs.Handed.{AddsDirectories, encoding_of, line_encoding_of, directories_handed, files_handed, first_ids, ids_of_directories, ids_of_files, items_handed, text_handed}
 use Rattle.gimli_c.specs.Handing.{Handed, IsBuiltOf, program_with}

@@ -14,10 +14,6 @@ use Rattle.gimli_c.specs.Handed.{text_handed, line_encoding_of, ends, base_of, b
 use Rattle.gimli_c.specs.Handing.{Handed, IsBuiltOf, write_status}
 use Rattle.gimli_c.specs.Refused.{encoding_fault, HasBadLines}
 
--- no number has a cause of this kind
-abbrev pub HasNone : (ℕ → Type 0) → Type 0
-HasNone HasFault = (status : ℕ) → HasFault status → ⊥
-
 -- why an encoding is refused
 pub data HasEncodingFault (e : GimliEncoding) (status : ℕ) : Type 0 where
   bad_size : encoding_fault e ≡ Some status → HasEncodingFault e status

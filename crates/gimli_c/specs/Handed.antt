@@ -1,12 +1,12 @@
 -- What C hands over to be written.
-use Rattle.std.specs.Prelude.{◌≡◌, ◌≢◌, ◌≤◌, ℕ, ◌+◌, ◌-◌, ◌/◌, ◌%◌, Bool, not, nat_eq, nat_le, if◌then◌else◌, List, [], ◌∷◌, ◌++◌, slice_get, Option, Some, None, unwrap_or, All}
+use Rattle.std.specs.Prelude.{◌≡◌, ◌≤◌, ℕ, ◌+◌, ◌-◌, ◌/◌, ◌%◌, Bool, not, nat_eq, nat_le, if◌then◌else◌, List, [], ◌∷◌, ◌++◌, slice_get, Option, Some, None, unwrap_or}
 use Rattle.std.specs.List.{slice_range}
 use Rattle.gimli_core.specs.declared.common.Encoding.{Encoding}
 use Rattle.gimli_core.specs.declared.common.LineEncoding.{LineEncoding}
 use Rattle.gimli_core.specs.declared.common.Format.TheVariants.{Dwarf32, Dwarf64}
 use Rattle.gimli_bytes.specs.declared.address.Address.TheVariants.{Constant}
 use Rattle.gimli_build.specs.Built.{Built}
-use Rattle.gimli_build.specs.LineText.{LineText, Inline, InStrings, InLineStrings}
+use Rattle.gimli_build.specs.LineText.{LineText, Inline}
 use Rattle.gimli_build.specs.Tables.{File, FileKey, Details, with_directory, index_of_directory, with_file, index_of_file}
 use Rattle.gimli_build.specs.declared.built.row.LineRow.{LineRow}
 use Rattle.gimli_build.specs.declared.built.items.BuiltItem.{BuiltItem}
@@ -43,12 +43,6 @@ line_encoding_of e = record {
 -- the bytes of a text, which stands among these
 abbrev pub text_handed : List ℕ → GimliName → List ℕ
 text_handed texts name = slice_range texts name.place (name.place + name.size)
-
--- a text in the program itself, without a zero byte
-abbrev pub IsInline : LineText → Type 0
-IsInline (Inline bytes) = All (λ b. b ≢ 0) bytes
-IsInline (InStrings i) = ⊥
-IsInline (InLineStrings i) = ⊥
 
 -- ---- rows
 
@@ -110,11 +104,6 @@ items_of_row version ids base r = items_of_start base r.address ++ item_handed v
 abbrev pub items_handed : ℕ → List ℕ → Option ℕ → List GimliRow → List BuiltItem
 items_handed version ids base [] = []
 items_handed version ids base (r ∷ rows) = items_of_row version ids base r ++ items_handed version ids (base_after base r) rows
-
--- a program has these items more, and is else what it was but for the row that is built next
-pub record AddsItems (old new : Built) (items : List BuiltItem) : Type 0 where
-  pub items_are : new.items ≡ old.items ++ items
-  pub others : new ≡ record old { items = new.items; row = new.row; in_sequence = new.in_sequence }
 
 -- ---- tables
 

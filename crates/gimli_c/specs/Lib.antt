@@ -15,3 +15,4 @@ pub mod Causes
 pub mod Owned
 pub mod Indexed
 pub mod Reader
+pub mod inside

@@ -2,19 +2,13 @@
 use Rattle.std.specs.Prelude.{◌≡◌, ◌⊎◌, ℕ, List, [], ◌∷◌, ◌++◌, length, map, drop, Option, Some, None}
 use Rattle.gimli_core.specs.declared.error.Error.{Error}
 use Rattle.gimli_line.specs.declared.run.row.LineRow.{LineRow}
-use Rattle.gimli_line.specs.header.File.{File}
 use Rattle.gimli_line.specs.header.Header.{Header}
 use Rattle.gimli_line.specs.run.Events.{Event, row, fault, Events}
-use Rattle.gimli_line.specs.run.RunState.{RunState}
 use Rattle.gimli_c.specs.declared.row.GimliRow.{GimliRow}
 use Rattle.gimli_c.specs.Place.{Place, notation_at, HasUnit, HasNoUnit}
 use Rattle.gimli_c.specs.Seen.{row_seen}
 use Rattle.gimli_c.specs.Status.{fault_status}
 use Rattle.gimli_c.specs.Written.{slots_with}
-
--- the header of a run, with these files
-abbrev pub header_with : RunState → List File → Header
-header_with a files = record a.fixed { files = files }
 
 -- the rows before the first fault
 abbrev pub rows_of : List Event → List LineRow

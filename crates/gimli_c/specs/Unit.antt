@@ -4,8 +4,7 @@ use Rattle.gimli_core.specs.Numbers.{word_size}
 use Rattle.gimli_line.specs.header.File.{File}
 use Rattle.gimli_line.specs.header.Header.{Header}
 use Rattle.gimli_line.specs.Units.{offset_after}
-use Rattle.gimli_core.specs.Notation.{Notation}
-use Rattle.gimli_line.specs.run.Events.{Event, Events}
+use Rattle.gimli_line.specs.run.Events.{Event}
 use Rattle.gimli_line.specs.run.EventsWithFiles.{FilesAtEnd}
 use Rattle.gimli_c.specs.declared.unit.GimliUnit.{GimliUnit}
 use Rattle.gimli_c.specs.Place.{Place, notation_at}
@@ -27,14 +26,6 @@ unit_seen offset h events files =
       offset_size = word_size encoding.format;
       fault = fault_status (fault_of events);
     }
-
--- what is read of a program, whatever place it has
-pub record IsReadUnit (offset : ℕ) (h : Header) (notation : Notation) (unit : GimliUnit) : Type 0 where
-  pub events : List Event
-  pub given : Events notation h h.program events
-  pub files : List File
-  pub at_end : FilesAtEnd notation true h h.program files
-  pub seen : unit ≡ unit_seen offset h events files
 
 -- the unit at the place
 pub record GivesUnit (p : Place) (unit : GimliUnit) : Type 0 where

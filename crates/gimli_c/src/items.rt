@@ -4,8 +4,10 @@ ghost use Rattle.std.specs.Prelude.{◌≡◌, ◌≢◌, ◌<◌, ◌≤◌, �
 ghost use Rattle.gimli_build.specs.declared.built.items.BuiltItem.{BuiltItem};
 ghost use Rattle.gimli_build.specs.Conditions.{CanWrite};
 ghost use Rattle.gimli_build.specs.Built.{previous_position};
-ghost use Rattle.gimli_c.specs.Causes.{CanStand, HasNone, HasRowFault, HasRowsFault, LacksFile, position_after};
-ghost use Rattle.gimli_c.specs.Handed.{IsRefusal, AddsItems, base_after, base_of, ends, id_of_file, items_handed, items_of_row, items_of_start, row_handed, row_of_file};
+ghost use Rattle.gimli_c.specs.Causes.{CanStand, HasRowFault, HasRowsFault, LacksFile, position_after};
+ghost use Rattle.gimli_c.specs.inside.Causes.{HasNone};
+ghost use Rattle.gimli_c.specs.Handed.{IsRefusal, base_after, base_of, ends, id_of_file, items_handed, items_of_row, items_of_start, row_handed, row_of_file};
+ghost use Rattle.gimli_c.specs.inside.Handed.{AddsItems};
 
 use crate::row::{
     ALL_FLAGS, BASIC_BLOCK, END_SEQUENCE, EPILOGUE_BEGIN, GimliRow, IS_STMT, PROLOGUE_END, has_flag,

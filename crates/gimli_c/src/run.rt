@@ -6,7 +6,8 @@ ghost use Rattle.gimli_line.specs.run.Rows.{events_left, files_at_end};
 ghost use Rattle.gimli_line.specs.header.Header.{file_of};
 ghost use Rattle.gimli_line.specs.run.Sequences.{events_of};
 ghost use Rattle.gimli_line.specs.run.EventsWithFiles.{EventWithFiles, EventsWithFiles};
-ghost use Rattle.gimli_c.specs.Run.{header_with, rows_of, Begun, Copied};
+ghost use Rattle.gimli_c.specs.Run.{rows_of, Begun, Copied};
+ghost use Rattle.gimli_c.specs.inside.Run.{header_with};
 ghost use Rattle.gimli_c.specs.Seen.{row_seen};
 ghost use Rattle.gimli_c.specs.Status.{fault_status};
 

@@ -6,8 +6,10 @@ ghost use Rattle.gimli_build.specs.Built.{empty_built};
 ghost use Rattle.gimli_build.specs.FirstTables.{first_directories, first_files};
 ghost use Rattle.gimli_build.specs.LineText.{line_text, Inline};
 ghost use Rattle.gimli_build.specs.Tables.{index_of_file, with_file};
-ghost use Rattle.gimli_c.specs.Causes.{HasFileFault, HasNone, HasTableFault, HasTextFault};
-ghost use Rattle.gimli_c.specs.Handed.{IsRefusal, IsInline, AddsDirectories, AddsFiles, details_handed, first_ids, key_handed, text_handed};
+ghost use Rattle.gimli_c.specs.Causes.{HasFileFault, HasTableFault, HasTextFault};
+ghost use Rattle.gimli_c.specs.inside.Causes.{HasNone};
+ghost use Rattle.gimli_c.specs.Handed.{IsRefusal, AddsDirectories, AddsFiles, details_handed, first_ids, key_handed, text_handed};
+ghost use Rattle.gimli_c.specs.inside.Handed.{IsInline};
 ghost use Rattle.gimli_c.specs.Start.{start_program};
 
 use crate::status::{NO_SOURCE_FILE, NO_SUCH_DIRECTORY, OUT_OF_MEMORY};

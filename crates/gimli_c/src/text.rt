@@ -2,7 +2,8 @@
 
 ghost use Rattle.std.specs.Prelude.{◌≡◌, ◌≢◌, ◌≤◌, All, Any, IfErr, IfOk, MatchBool, OnOk};
 ghost use Rattle.gimli_build.specs.LineText.{Inline, line_text, HasNoZero, IsNotEmpty};
-ghost use Rattle.gimli_c.specs.Causes.{HasNone, HasTextFault};
+ghost use Rattle.gimli_c.specs.Causes.{HasTextFault};
+ghost use Rattle.gimli_c.specs.inside.Causes.{HasNone};
 ghost use Rattle.gimli_c.specs.Handed.{IsRefusal, text_handed};
 
 use crate::status::{EMPTY_TEXT, OUT_OF_MEMORY, TEXT_OUT_OF_BOUNDS, ZERO_IN_TEXT};

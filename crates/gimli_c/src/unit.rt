@@ -4,7 +4,8 @@ ghost use Rattle.std.specs.Prelude.{◌≡◌, ◌≢◌, ◌≤◌, ◌<◌, �
 ghost use Rattle.gimli_core.specs.Numbers.{is_address_size};
 ghost use Rattle.gimli_c.specs.Place.{place, HasNoUnit};
 ghost use Rattle.gimli_line.specs.Units.{offset_after};
-ghost use Rattle.gimli_c.specs.Unit.{GivesUnit, IsReadUnit};
+ghost use Rattle.gimli_c.specs.Unit.{GivesUnit};
+ghost use Rattle.gimli_c.specs.inside.Unit.{IsReadUnit};
 
 use crate::place::program_at;
 use crate::run::{copy_rows, fault_status, rows_fit, run_on};

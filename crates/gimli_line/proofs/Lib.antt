@@ -25,6 +25,7 @@ pub mod Executions
 pub mod RarerExecutions
 pub mod EventsWithFilesLaws
 pub mod SequenceLaws
+pub mod ResumedRuns
 pub mod NonDecreasingLaws
 pub mod Order
 pub mod Equality

@@ -23,11 +23,11 @@ use Rattle.gimli_line.specs.run.Unread.{Unread, front_of}
 use Rattle.gimli_line.specs.run.RunState.{RunState}
 use Rattle.gimli_line.specs.run.Progress.{Progress, with_reset_row, events_from, registers_from}
 use Rattle.gimli_line.specs.run.Rows.{live_events, events_left, start_of_run, event_of}
-use Rattle.gimli_line.specs.run.Sequences.{Part, events_of, events_of_part, first_address, IsSequence, AreSequences, HasFirstFault}
+use Rattle.gimli_line.specs.run.Sequences.{Part, events_of, first_address, IsSequence, HasRun, HaveRuns, AreSequences, HasFirstFault}
 use Rattle.gimli_line.specs.run.SequenceSplit.{SequenceSplit, with_row, RowSplit, with_kept_row}
 use Rattle.gimli_line.proofs.Backwards.{registers}
 use Rattle.gimli_line.proofs.EventsWithFilesLaws.{gives, goes, files_from_start}
-use Rattle.gimli_line.proofs.InstructionLaws.{is_decoded, one_decoding, takes_bytes}
+use Rattle.gimli_line.proofs.InstructionLaws.{is_decoded, takes_bytes}
 use Rattle.gimli_line.proofs.Runs.{decodes_on, bare_decoding, passes_still, passes_both, events_joined}
 
 -- ---- events alone
@@ -85,71 +85,59 @@ through_one (r ∷ rows) last later closed =
 
 -- ---- sequences that are closed
 
--- a sequence whose instructions give these events
-pub record Closed (h : Header) (s : Part) (events : List Event) : Type 0 where
-  list : List Ins
-  decoding : decoded_at s.unread.notation (without_files h) s.unread.bytes ≡ (list, None)
-  given : events_from h.parameters (initial h.parameters) list ≡ events
-  is : IsSequence events s.start s.end
+abbrev joined_runs : List (List Event) → List Event
+joined_runs runs = flat_map (λ run. run) runs
 
-abbrev AllClosed : Header → List Part → List Event → Type 0
-AllClosed h [] joined = joined ≡ []
-AllClosed h (s ∷ parts) joined = (events : List Event) × (rest : List Event) × (joined ≡ events ++ rest) × Closed h s events × AllClosed h parts rest
+runs_push : (h : Header) (parts : List Part) (runs : List (List Event)) (s : Part) (run : List Event) → HaveRuns h parts runs → HasRun h s run
+    → HaveRuns h (parts ++ s ∷ []) (runs ++ run ∷ [])
+runs_push h [] [] s run all one = (one, tt)
+runs_push h [] (r ∷ runs) s run all one = absurd all
+runs_push h (p ∷ parts) [] s run all one = absurd all
+runs_push h (p ∷ parts) (r ∷ runs) s run all one = (all.0, runs_push h parts runs s run all.1 one)
 
-closed_push : (h : Header) (parts : List Part) (joined : List Event) (s : Part) (events : List Event) → AllClosed h parts joined → Closed h s events
-    → AllClosed h (parts ++ s ∷ []) (joined ++ events)
-closed_push h [] joined s events all one = (events, [], rw all (sym (append-nil events)), one, refl)
-closed_push h (t ∷ parts) joined s events all one =
-    (all.0, all.1 ++ events, ap (λ (xs : List Event). xs ++ events) all.2 ∙ append_assoc all.0 all.1 events, all.3, closed_push h parts all.1 s events all.4 one)
-
--- each sequence gives its rows
-abbrev pub AllKept : Header → List Part → List (List LineRow) → Type 0
-AllKept h [] kept = kept ≡ []
-AllKept h (s ∷ parts) kept = (rows : List LineRow) × (rest : List (List LineRow)) × (kept ≡ rows ∷ rest) × Closed h s (map row rows) × AllKept h parts rest
-
-kept_push : (h : Header) (parts : List Part) (kept : List (List LineRow)) (s : Part) (rows : List LineRow) → AllKept h parts kept → Closed h s (map row rows)
-    → AllKept h (parts ++ s ∷ []) (kept ++ rows ∷ [])
-kept_push h [] kept s rows all one = (rows, [], ap (λ (xs : List (List LineRow)). xs ++ rows ∷ []) all, one, refl)
-kept_push h (t ∷ parts) kept s rows all one =
-    (all.0, all.1 ++ rows ∷ [], ap (λ (xs : List (List LineRow)). xs ++ rows ∷ []) all.2, all.3, kept_push h parts all.1 s rows all.4 one)
+joined_push : (runs : List (List Event)) (run : List Event) → joined_runs (runs ++ run ∷ []) ≡ joined_runs runs ++ run
+joined_push [] run = append-nil run
+joined_push (r ∷ runs) run = ap (λ (xs : List Event). r ++ xs) (joined_push runs run) ∙ sym (append_assoc r (joined_runs runs) run)
 
 through_events : (events : List Event) (start end : ℕ) → IsSequence events start end → (later : List Event) → through_last_end (events ++ later) ≡ events ++ through_last_end later
 through_events events start end is later = rw is.given (through_one is.rows is.last later is.ended)
 
-through_closed : (h : Header) (parts : List Part) (joined : List Event) → AllClosed h parts joined → (later : List Event)
-    → through_last_end (joined ++ later) ≡ joined ++ through_last_end later
-through_closed h [] joined all later = rw all refl
-through_closed h (s ∷ parts) joined all later =
-    ap (λ (xs : List Event). through_last_end (xs ++ later)) all.2
-    ∙ ap through_last_end (append_assoc all.0 all.1 later)
-    ∙ through_events all.0 s.start s.end all.3.is (all.1 ++ later)
-    ∙ ap (λ (xs : List Event). all.0 ++ xs) (through_closed h parts all.1 all.4 later)
-    ∙ sym (append_assoc all.0 all.1 (through_last_end later))
-    ∙ ap (λ (xs : List Event). xs ++ through_last_end later) (sym all.2)
+through_runs : (h : Header) (parts : List Part) (runs : List (List Event)) → HaveRuns h parts runs → (later : List Event)
+    → through_last_end (joined_runs runs ++ later) ≡ joined_runs runs ++ through_last_end later
+through_runs h [] [] all later = refl
+through_runs h [] (run ∷ runs) all later = absurd all
+through_runs h (s ∷ parts) [] all later = absurd all
+through_runs h (s ∷ parts) (run ∷ runs) all later =
+    ap through_last_end (append_assoc run (joined_runs runs) later)
+    ∙ through_events run s.start s.end all.0.is (joined_runs runs ++ later)
+    ∙ ap (λ (xs : List Event). run ++ xs) (through_runs h parts runs all.1 later)
+    ∙ sym (append_assoc run (joined_runs runs) (through_last_end later))
 
--- what is resumed over the header with whatever files
-module _ (h c : Header) (files : List File) (c_is : c ≡ record h { files = files }) where
-  resumed_is : (s : Part) (events : List Event) → Closed h s events → events_of_part c s ≡ events
-  resumed_is s events one =
-      rw (c_is, one.decoding) (events_without_files false h.parameters (initial h.parameters) files one.list None ∙ append-nil (events_from h.parameters (initial h.parameters) one.list) ∙ one.given)
+-- the files of a header mean nothing to the run of a sequence
+run_over : (c : Header) (s : Part) (run : List Event) → HasRun (without_files c) s run → HasRun c s run
+run_over c s run has = record {
+  given = record {
+    list = has.given.list;
+    end = has.given.end;
+    decoding = bare_decoding s.unread.notation c s.unread.bytes has.given.list has.given.end has.given.decoding;
+    given = has.given.given;
+  };
+  is = has.is;
+}
 
-  all_sequences : (parts : List Part) (joined : List Event) → AllClosed h parts joined → AllByRecursion (λ s. IsSequence (events_of_part c s) s.start s.end) parts
-  all_sequences [] joined all = tt
-  all_sequences (s ∷ parts) joined all =
-      (subst (λ (es : List Event). IsSequence es s.start s.end) (sym (resumed_is s all.0 all.3)) all.3.is, all_sequences parts all.1 all.4)
+runs_over : (c : Header) (parts : List Part) (runs : List (List Event)) → HaveRuns (without_files c) parts runs → HaveRuns c parts runs
+runs_over c [] [] all = tt
+runs_over c [] (run ∷ runs) all = absurd all
+runs_over c (s ∷ parts) [] all = absurd all
+runs_over c (s ∷ parts) (run ∷ runs) all = (run_over c s run all.0, runs_over c parts runs all.1)
 
-  all_joined : (parts : List Part) (joined : List Event) → AllClosed h parts joined → flat_map (events_of_part c) parts ≡ joined
-  all_joined [] joined all = sym all
-  all_joined (s ∷ parts) joined all = rw (resumed_is s all.0 all.3, all_joined parts all.1 all.4) (sym all.2)
+complete_runs : (h c : Header) (parts : List Part) (runs : List (List Event)) → without_files c ≡ without_files h → HaveRuns (without_files h) parts runs → HaveRuns c parts runs
+complete_runs h c parts runs same all = runs_over c parts runs (subst (λ (b : Header). HaveRuns b parts runs) (sym same) all)
 
-  all_kept : (parts : List Part) (rows : List (List LineRow)) → AllKept h parts rows → map (map row) rows ≡ map (events_of_part c) parts
-  all_kept [] rows all = rw all refl
-  all_kept (s ∷ parts) rows all = rw (all.2, resumed_is s (map row all.0) all.3, all_kept parts all.1 all.4) refl
-
--- the rows of each sequence, where it gives them, are what it gives when it is resumed
-pub rows_are_kept : (n : Notation) (h c : Header) (parts : List Part) (rows : List (List LineRow)) → AreSequences n h c parts → AllKept h parts rows
-    → map (map row) rows ≡ map (events_of_part c) parts
-rows_are_kept n h c parts rows are all = all_kept h c (defined_files h.files (past_at_end [] are.list)) are.files parts rows all
+-- over the complete header too
+pub runs_are_kept : (n : Notation) (h c : Header) (parts : List Part) (runs : List (List Event)) → AreSequences n h c parts → HaveRuns (without_files h) parts runs
+    → HaveRuns c parts runs
+runs_are_kept n h c parts runs are all = complete_runs h c parts runs (ap (λ (k : Header). without_files k) are.files) all
 
 -- ---- the state of the split after some rows
 
@@ -161,13 +149,13 @@ abbrev began : Header → Notation → ℕ → List File → Unread → RunState
 began h o n files unread = record { fixed = without_files h; files = files; appends = true; notation = o; offset = n; orders = no_orders; row = initial h.parameters; unread = unread }
 
 pub record Splitting (h : Header) (k : SequenceSplit) (done : List LineRow) (point : RunState) : Type 0 where
-  joined : List Event
+  runs : List (List Event)
   rows : List LineRow
   order : Notation
   offset : ℕ
   files : List File
-  done_is : map row done ≡ joined ++ map row rows
-  closed : AllClosed h k.parts joined
+  done_is : map row done ≡ joined_runs runs ++ map row rows
+  closed : HaveRuns (without_files h) k.parts runs
   unended : AreOpen rows
   start_is : k.start ≡ first_of rows
   passes : Progress (began h order offset files k.unread) point (map row rows)
@@ -176,11 +164,11 @@ pub starts_splitting : (h : Header) (o : Notation) (n : ℕ) (w : HeaderOrders) 
 starts_splitting h o n w unread = record {
   order = o;
   offset = n;
-  joined = [];
+  runs = [];
   rows = [];
   files = h.files;
   done_is = refl;
-  closed = refl;
+  closed = tt;
   unended = tt;
   start_is = refl;
   passes = passes_still (began h o n h.files unread) (with_reset_row (start_of_run true h o n w unread)) refl refl refl refl refl;
@@ -190,12 +178,17 @@ starts_splitting h o n w unread = record {
 pub record Keeping (h : Header) (k : SequenceSplit) (kept : RowSplit) (done : List LineRow) (point : RunState) : Type 0 where
   pub splitting : Splitting h k done point
   pub unended : splitting.rows ≡ kept.unended
-  pub closed : AllKept h k.parts kept.closed
+  pub closed : splitting.runs ≡ map (map row) kept.closed
 
 pub starts_keeping : (h : Header) (o : Notation) (n : ℕ) (w : HeaderOrders) (unread : Unread)
     → Keeping h (record { parts = []; unread = unread; start = None }) (record { closed = []; unended = [] }) [] (with_reset_row (start_of_run true h o n w unread))
 unfolding starts_splitting
 starts_keeping h o n w unread = record { splitting = starts_splitting h o n w unread; unended = refl; closed = refl }
+
+-- the rows of each sequence are its run
+pub kept_runs : (h : Header) (k : SequenceSplit) (kept : RowSplit) (done : List LineRow) (point : RunState) → Keeping h k kept done point
+    → HaveRuns (without_files h) k.parts (map (map row) kept.closed)
+kept_runs h k kept done point keeping = subst (λ (runs : List (List Event)). HaveRuns (without_files h) k.parts runs) keeping.closed keeping.splitting.closed
 
 open_push : (rows : List LineRow) (r : LineRow) → AreOpen rows → r.end_sequence ≡ false → AreOpen (rows ++ r ∷ [])
 open_push [] r o e = (e, tt)
@@ -219,18 +212,21 @@ module _ (h : Header) (k : SequenceSplit) (done : List LineRow) (point next : Ru
   whole : Progress (began h c.order c.offset c.files k.unread) (with_reset_row next) (map row c.rows ++ row next.row ∷ [])
   whole = passes_both (began h c.order c.offset c.files k.unread) point (with_reset_row next) (map row c.rows) (row next.row ∷ []) c.passes p
 
-  more_done : map row (done ++ next.row ∷ []) ≡ c.joined ++ (map row c.rows ++ row next.row ∷ [])
+  abbrev last_run : List Event
+  last_run = map row c.rows ++ row next.row ∷ []
+
+  more_done : map row (done ++ next.row ∷ []) ≡ joined_runs c.runs ++ last_run
   more_done =
-      map-append row done (next.row ∷ []) ∙ ap (λ (xs : List Event). xs ++ row next.row ∷ []) c.done_is ∙ append_assoc c.joined (map row c.rows) (row next.row ∷ [])
+      map-append row done (next.row ∷ []) ∙ ap (λ (xs : List Event). xs ++ row next.row ∷ []) c.done_is ∙ append_assoc (joined_runs c.runs) (map row c.rows) (row next.row ∷ [])
 
   goes_open : next.row.end_sequence ≡ false → Splitting h (record k { start = Some (unwrap_or k.start next.row.address) }) (done ++ next.row ∷ []) (with_reset_row next)
   goes_open e = record {
-    joined = c.joined;
+    runs = c.runs;
     rows = c.rows ++ next.row ∷ [];
     order = c.order;
     offset = c.offset;
     files = c.files;
-    done_is = more_done ∙ ap (λ (xs : List Event). c.joined ++ xs) (sym (map-append row c.rows (next.row ∷ [])));
+    done_is = more_done ∙ ap (λ (xs : List Event). joined_runs c.runs ++ xs) (sym (map-append row c.rows (next.row ∷ [])));
     closed = c.closed;
     unended = open_push c.rows next.row c.unended e;
     start_is = first_push c.rows next.row k.start c.start_is;
@@ -243,11 +239,14 @@ module _ (h : Header) (k : SequenceSplit) (done : List LineRow) (point next : Ru
   front_is : take (length k.unread.bytes - length next.unread.bytes) k.unread.bytes ≡ whole.front
   front_is = front_at k.unread.bytes whole.front next.unread.bytes whole.parts
 
-  closes : next.row.end_sequence ≡ true → Closed h ended (map row c.rows ++ row next.row ∷ [])
+  closes : next.row.end_sequence ≡ true → HasRun (without_files h) ended last_run
   closes e = record {
-    list = whole.list;
-    decoding = rw front_is (sym (one_decoding k.unread.notation (without_files h) whole.front whole.list None (record { front = whole.front; rest = []; parts = sym (append-nil whole.front); spelled = whole.spelled; ended = refl })));
-    given = whole.given;
+    given = record {
+      list = whole.list;
+      end = None;
+      decoding = record { front = whole.front; rest = []; parts = front_is ∙ sym (append-nil whole.front); spelled = whole.spelled; ended = refl };
+      given = sym whole.given ∙ from_start h.parameters whole.list ∙ sym (append-nil (events_after h.parameters [] whole.list));
+    };
     is = record {
       rows = c.rows;
       last = next.row;
@@ -261,13 +260,13 @@ module _ (h : Header) (k : SequenceSplit) (done : List LineRow) (point next : Ru
 
   goes_closed : next.row.end_sequence ≡ true → Splitting h (record { parts = k.parts ++ ended ∷ []; unread = next.unread; start = None }) (done ++ next.row ∷ []) (with_reset_row next)
   goes_closed e = record {
-    joined = c.joined ++ (map row c.rows ++ row next.row ∷ []);
+    runs = c.runs ++ last_run ∷ [];
     rows = [];
     order = next.notation;
     offset = next.offset;
     files = next.files;
-    done_is = more_done ∙ sym (append-nil (c.joined ++ (map row c.rows ++ row next.row ∷ [])));
-    closed = closed_push h k.parts c.joined ended (map row c.rows ++ row next.row ∷ []) c.closed (closes e);
+    done_is = more_done ∙ sym (joined_push c.runs last_run) ∙ sym (append-nil (joined_runs (c.runs ++ last_run ∷ [])));
+    closed = runs_push (without_files h) k.parts c.runs ended last_run c.closed (closes e);
     unended = tt;
     start_is = refl;
     passes = passes_still (began h next.notation next.offset next.files next.unread) (with_reset_row next) refl whole.fixed whole.appends (anew_at_end next.fixed.parameters next.row e ∙ ap (λ (x : Header). initial x.parameters) whole.fixed) refl;
@@ -281,7 +280,7 @@ module _ (h : Header) (k : SequenceSplit) (done : List LineRow) (point next : Ru
       at_test true e = goes_closed e
       at_test false e = goes_open e
 
-  pub goes_keeping : (kept : RowSplit) → c.rows ≡ kept.unended → AllKept h k.parts kept.closed
+  pub goes_keeping : (kept : RowSplit) → c.rows ≡ kept.unended → c.runs ≡ map (map row) kept.closed
       → Keeping h (with_row next.row next.unread k) (with_kept_row next.row kept) (done ++ next.row ∷ []) (with_reset_row next)
   unfolding goes_open goes_closed
   goes_keeping kept same all = at_test next.row.end_sequence refl
@@ -289,7 +288,7 @@ module _ (h : Header) (k : SequenceSplit) (done : List LineRow) (point next : Ru
       whole_rows : List LineRow
       whole_rows = kept.unended ++ next.row ∷ []
 
-      whole_same : map row c.rows ++ row next.row ∷ [] ≡ map row whole_rows
+      whole_same : last_run ≡ map row whole_rows
       whole_same = sym (map-append row c.rows (next.row ∷ [])) ∙ ap (λ (xs : List LineRow). map row (xs ++ next.row ∷ [])) same
 
       at_test : (b : Bool) → next.row.end_sequence ≡ b
@@ -298,7 +297,10 @@ module _ (h : Header) (k : SequenceSplit) (done : List LineRow) (point next : Ru
       at_test true e = record {
         splitting = goes_closed e;
         unended = refl;
-        closed = kept_push h k.parts kept.closed ended whole_rows all (subst (λ (es : List Event). Closed h ended es) whole_same (closes e));
+        closed =
+            ap (λ (runs : List (List Event)). runs ++ last_run ∷ []) all
+            ∙ ap (λ (run : List Event). map (map row) kept.closed ++ run ∷ []) whole_same
+            ∙ sym (map-append (map row) kept.closed (whole_rows ∷ []));
       }
       at_test false e = record {
         splitting = goes_open e;
@@ -334,11 +336,11 @@ module _ (n : Notation) (offset : ℕ) (h c : Header) (k : SequenceSplit) (done 
     rows = done;
     given = given;
     files = c_is;
-    each = all_sequences h c (defined_files h.files (past_at_end [] p.list)) c_is k.parts splitting.joined splitting.closed;
+    runs = splitting.runs;
+    each = complete_runs h c k.parts splitting.runs (fixed ∙ p.fixed) splitting.closed;
     joined =
-        all_joined h c (defined_files h.files (past_at_end [] p.list)) c_is k.parts splitting.joined splitting.closed
-        ∙ sym (ap through_last_end (given ∙ splitting.done_is) ∙ through_closed h k.parts splitting.joined splitting.closed (map row splitting.rows)
-        ∙ ap (λ (xs : List Event). splitting.joined ++ xs) (through_none (map row splitting.rows) (none_ends splitting.rows splitting.unended)) ∙ append-nil splitting.joined);
+        sym (ap through_last_end (given ∙ splitting.done_is) ∙ through_runs (without_files h) k.parts splitting.runs splitting.closed (map row splitting.rows)
+        ∙ ap (λ (xs : List Event). joined_runs splitting.runs ++ xs) (through_none (map row splitting.rows) (none_ends splitting.rows splitting.unended)) ∙ append-nil (joined_runs splitting.runs));
   }
     where
       given : program_events h.parameters p.list None ≡ map row done

@@ -10,7 +10,8 @@ use Rattle.gimli_lookup.specs.declared.steps.Step.{Step}
 use Rattle.gimli_lookup.specs.FirstPair.{IsPairAt, HasNoPair}
 use Rattle.gimli_lookup.specs.Covering.{last_address, range, is_between, covers, covering_index, covering_probes}
 use Rattle.gimli_lookup.specs.Probes.{never_go_down, binary_digits}
-use Rattle.gimli_lookup.specs.Steps.{step_at, AreJoined, AreStepsOf}
+use Rattle.gimli_lookup.specs.Steps.{step_at, AreStepsOf}
+use Rattle.gimli_lookup.specs.inside.Steps.{AreJoined}
 use Rattle.gimli_lookup.proofs.Pairs.{rises}
 
 -- ---- rows that cover an address have a pair round it, and other rows that never go down have none

@@ -5,10 +5,12 @@ use Rattle.std.proofs.lemmas.List.{take_all}
 use Rattle.gimli_line.specs.declared.run.row.LineRow.{LineRow}
 use Rattle.gimli_lookup.specs.declared.index.Index.{Index}
 use Rattle.gimli_lookup.specs.declared.index.Found.{Found}
-use Rattle.gimli_lookup.specs.FirstPair.{HasNoPair, IsFirstPairIn}
+use Rattle.gimli_lookup.specs.FirstPair.{HasNoPair}
+use Rattle.gimli_lookup.specs.inside.FirstPair.{IsFirstPairIn}
 use Rattle.gimli_lookup.specs.Covering.{covers, covering_probes, scan_probes, IsLookedInto}
 use Rattle.gimli_lookup.specs.Probes.{binary_digits}
-use Rattle.gimli_lookup.specs.Steps.{step_at, HaveNoUnorderedPair, IsFirstUnorderedPair, IsIndexOf}
+use Rattle.gimli_lookup.specs.Steps.{step_at, IsIndexOf}
+use Rattle.gimli_lookup.specs.inside.Steps.{HaveNoUnorderedPair, IsFirstUnorderedPair}
 use Rattle.gimli_lookup.proofs.CoveringPairs.{IsFirstCovering, cases_covering}
 use Rattle.gimli_lookup.proofs.Digits.{digits_grow}
 use Rattle.gimli_lookup.proofs.Unordered.{NoneCovers, none_before_covering, first_of_unordered, looked_into, some_steps}

@@ -7,7 +7,7 @@ use Rattle.gimli_core.specs.Notation.{Notation}
 use Rattle.gimli_line.specs.declared.run.row.LineRow.{LineRow}
 use Rattle.gimli_line.specs.header.Header.{Header}
 use Rattle.gimli_line.specs.run.Events.{Event, row, ends_sequence, through_last_end}
-use Rattle.gimli_line.specs.run.Sequences.{Part, events_of_part, IsSequence, AreSequences}
+use Rattle.gimli_line.specs.run.Sequences.{Part, HaveRuns, AreSequences}
 use Rattle.gimli_lookup.specs.Cut.{HaveNoEnd, EndOnce}
 use Rattle.gimli_lookup.specs.Run.{AreRowsOfSequences}
 use Rattle.gimli_lookup.proofs.KeptRows.{joined_same}
@@ -55,25 +55,20 @@ through (r ∷ rows) = at_test (list_any ends_sequence (map row (r ∷ rows))) r
 
 -- ---- the rows of sequences
 
-same_cons : {X : Type 0} (x y : X) (xs ys : List X) → x ∷ xs ≡ y ∷ ys → (x ≡ y) × (xs ≡ ys)
-same_cons x y xs ys is = (cc, cc)
-
 -- each has one end row, the last
-each_once : (c : Header) (rows : List (List LineRow)) (parts : List Part) → AllByRecursion (λ s. IsSequence (events_of_part c s) s.start s.end) parts
-    → map (map row) rows ≡ map (events_of_part c) parts → AllByRecursion EndOnce rows
-each_once c [] parts each same = tt
-each_once c (x ∷ rows) [] each same = absurd cc
-each_once c (x ∷ rows) (s ∷ parts) each same =
-    let both = same_cons (map row x) (events_of_part c s) (map (map row) rows) (map (events_of_part c) parts) same in
-    let one = each.0 in (
+each_once : (c : Header) (rows : List (List LineRow)) (parts : List Part) → HaveRuns c parts (map (map row) rows) → AllByRecursion EndOnce rows
+each_once c [] parts kept = tt
+each_once c (x ∷ rows) [] kept = absurd kept
+each_once c (x ∷ rows) (s ∷ parts) kept =
+    let one = kept.0.is in (
       record {
         front = one.rows;
         last = one.last;
-        parts = same_rows x (one.rows ++ one.last ∷ []) (both.0 ∙ one.given ∙ sym (map-append row one.rows (one.last ∷ [])));
+        parts = same_rows x (one.rows ++ one.last ∷ []) (one.given ∙ sym (map-append row one.rows (one.last ∷ [])));
         unended = one.unended;
         ended = one.ended;
       },
-      each_once c rows parts each.1 both.1,
+      each_once c rows parts kept.1,
     )
 
 map_joined : (rows : List (List LineRow)) → map row (flat_map (λ sequence. sequence) rows) ≡ flat_map (map row) rows
@@ -82,18 +77,18 @@ map_joined (x ∷ rows) =
     map-append row x (flat_map (λ sequence. sequence) rows) ∙ ap (λ (es : List Event). map row x ++ es) (map_joined rows)
 
 pub are_cut : (notation : Notation) (h c : Header) (parts : List Part) (rows : List (List LineRow)) → AreSequences notation h c parts
-    → map (map row) rows ≡ map (events_of_part c) parts → AreRowsOfSequences notation h rows
-are_cut notation h c parts rows are same =
+    → HaveRuns c parts (map (map row) rows) → AreRowsOfSequences notation h rows
+are_cut notation h c parts rows are kept =
     let t = through are.rows in
     let joined : flat_map (λ sequence. sequence) rows ≡ t.front = same_rows (flat_map (λ sequence. sequence) rows) t.front
-    (map_joined rows ∙ joined_same c rows parts same ∙ are.joined ∙ ap through_last_end are.given ∙ sym t.given) in
+    (map_joined rows ∙ joined_same c rows parts are.runs are.each kept ∙ are.joined ∙ ap through_last_end are.given ∙ sym t.given) in
     record {
       rows = are.rows;
       given = record { list = are.list; end = None; decoding = are.decoding; given = sym are.given };
       cut = record {
         unended = t.unended;
         joined = t.parts ∙ ap (λ (rs : List LineRow). rs ++ t.unended) (sym joined);
-        each = each_once c rows parts are.each same;
+        each = each_once c rows parts kept;
         no_end = t.no_end;
       };
     }

@@ -7,7 +7,8 @@ use Rattle.std.proofs.lemmas.List.{take_all, length_push, get_or_default}
 use Rattle.std.proofs.lemmas.List.Elements.{All-push, All-weaker}
 use Rattle.std.proofs.lemmas.List.Sums.{fold_push, fold_more}
 use Rattle.gimli_lookup.specs.declared.steps.Step.{Step}
-use Rattle.gimli_lookup.specs.Steps.{step_at, last_step, AreInOrder, AreJoined}
+use Rattle.gimli_lookup.specs.Steps.{step_at, last_step, AreInOrder}
+use Rattle.gimli_lookup.specs.inside.Steps.{AreJoined}
 use Rattle.gimli_lookup.proofs.StepLists.{push_from, push_before, more_from, more_before, in_order_push}
 
 -- so many steps of both lists are merged, of which the last has the address `from`

@@ -8,10 +8,11 @@ use Rattle.std.proofs.lemmas.List.Folds.{list_any-append}
 use Rattle.std.proofs.lemmas.Option.{slice_get_past}
 use Rattle.gimli_line.specs.header.File.{File}
 use Rattle.gimli_line.specs.header.Header.{from_one, file_of}
-use Rattle.gimli_lookup.specs.PathFiles.{is_path, has_path, AreBelow}
+use Rattle.gimli_lookup.specs.PathFiles.{is_path, has_path}
+use Rattle.gimli_lookup.specs.inside.PathFiles.{AreBelow}
 use Rattle.gimli_lookup.specs.Paths.{Paths, file_path}
 use Rattle.gimli_lookup.specs.declared.path_error.PathError.{PathError}
-use Rattle.gimli_lookup.specs.Statements.{is_among}
+use Rattle.gimli_lookup.specs.inside.Statements.{is_among}
 
 same_below : (test : ℕ → Bool) (n i : ℕ) → i ≢ n → nat_lt i (n + 1) ≡ nat_lt i n
 same_below test n i other = elim (cases_lt i n) [

@@ -12,8 +12,8 @@ use Rattle.gimli_line.specs.run.Progress.{with_reset_row}
 use Rattle.gimli_line.specs.run.RunState.{RunState}
 use Rattle.gimli_line.specs.run.Rows.{events_left, files_at_end, KeepsHeader, RowIs, EndIs, FaultIs}
 use Rattle.gimli_line.specs.run.Sequences.{events_of}
-use Rattle.gimli_lookup.specs.SequenceCut.{SequenceCut, with_row, with_rows}
-use Rattle.gimli_lookup.specs.RowsTaken.{AreTaken}
+use Rattle.gimli_lookup.specs.inside.SequenceCut.{SequenceCut, with_row, with_rows}
+use Rattle.gimli_lookup.specs.inside.RowsTaken.{AreTaken}
 
 -- rows were taken in, and others are still to come
 pub record TakesIn (old new : RunState) (from to : SequenceCut) : Type 0 where

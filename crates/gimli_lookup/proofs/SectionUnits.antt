@@ -11,7 +11,8 @@ use Rattle.gimli_line.specs.header.Header.{SeenHeader, UnitEntry}
 use Rattle.gimli_line.specs.run.Unread.{Unread}
 use Rattle.gimli_line.specs.UnitAt.{HasUnitAt, HasUnitFaultAt}
 use Rattle.gimli_line.specs.Units.{UnitWalk}
-use Rattle.gimli_lookup.specs.Section.{ListedUnit, KeptUnit, with_sequences, AreAdjacent, IsOutcome, IsAdded}
+use Rattle.gimli_lookup.specs.Section.{ListedUnit, KeptUnit, with_sequences, AreAdjacent}
+use Rattle.gimli_lookup.specs.inside.Section.{IsOutcome, IsAdded}
 use Rattle.gimli_lookup.specs.SectionUnits.{IsUnitOf}
 use Rattle.gimli_lookup.specs.UnitRun.{IsKept}
 use Rattle.gimli_lookup.proofs.Sections.{up_to_end}

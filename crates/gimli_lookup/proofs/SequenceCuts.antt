@@ -7,7 +7,7 @@ use Rattle.std.proofs.lemmas.Grind.{flat_map-append}
 use Rattle.gimli_line.specs.declared.run.row.LineRow.{LineRow}
 use Rattle.gimli_lookup.specs.Cut.{HaveNoEnd, EndOnce}
 use Rattle.gimli_lookup.specs.UnitRun.{begins_from}
-use Rattle.gimli_lookup.specs.SequenceCut.{SequenceCut, with_sequence, with_row, with_rows}
+use Rattle.gimli_lookup.specs.inside.SequenceCut.{SequenceCut, with_sequence, with_row, with_rows}
 
 -- rows were cut into these sequences and rows that no end follows yet
 pub record IsCut (rows : List LineRow) (a : SequenceCut) : Type 0 where

@@ -6,8 +6,9 @@ use Rattle.std.specs.List.{onto_first}
 use Rattle.std.proofs.lemmas.Bool.{false≢true}
 use Rattle.std.proofs.lemmas.List.Splits.{slice_split-cons_yes, slice_split-cons_no}
 use Rattle.gimli_line.specs.declared.run.row.LineRow.{LineRow}
-use Rattle.gimli_lookup.specs.Statements.{is_among, is_of_line, runs, first_statement, addresses_in, addresses_of, IsFirstLine, AreAddressesFrom}
-use Rattle.gimli_lookup.specs.StatementLines.{has_statement, have_statement, IsFirstWith}
+use Rattle.gimli_lookup.specs.Statements.{is_of_line, runs, first_statement, addresses_in, addresses_of, IsFirstLine, AreAddressesFrom}
+use Rattle.gimli_lookup.specs.inside.Statements.{is_among}
+use Rattle.gimli_lookup.specs.inside.StatementLines.{has_statement, have_statement, IsFirstWith}
 
 -- the addresses that runs give, the first of which has given its own already if `given` says so
 abbrev pub addresses_left : Bool → List (List LineRow) → List ℕ

@@ -7,7 +7,8 @@ use Rattle.std.proofs.lemmas.List.{append-nil, take-append-drop, length-append, 
 use Rattle.std.proofs.lemmas.List.Elements.{All-tail}
 use Rattle.std.proofs.lemmas.List.Sums.{fold_push, fold-append, fold_more}
 use Rattle.gimli_lookup.specs.declared.steps.Step.{Step}
-use Rattle.gimli_lookup.specs.Steps.{step_at, last_step, AreInOrder, AreJoined}
+use Rattle.gimli_lookup.specs.Steps.{step_at, last_step, AreInOrder}
+use Rattle.gimli_lookup.specs.inside.Steps.{AreJoined}
 
 -- what a step says at an address, where so far `current` was said
 abbrev at_step : ℕ → Option ℕ → Step → Option ℕ

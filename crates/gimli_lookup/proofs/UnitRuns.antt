@@ -15,8 +15,9 @@ use Rattle.gimli_line.specs.run.EventsWithFiles.{EventWithFiles, EventsWithFiles
 use Rattle.gimli_line.specs.run.RunState.{RunState}
 use Rattle.gimli_line.specs.run.Rows.{events_left, files_at_end, whole_run}
 use Rattle.gimli_line.specs.run.Sequences.{events_of}
-use Rattle.gimli_lookup.specs.SequenceCut.{SequenceCut, with_rows}
-use Rattle.gimli_lookup.specs.RowsTaken.{AreTaken, StopsAt, header_of}
+use Rattle.gimli_lookup.specs.inside.SequenceCut.{SequenceCut, with_rows}
+use Rattle.gimli_lookup.specs.RowsTaken.{header_of}
+use Rattle.gimli_lookup.specs.inside.RowsTaken.{AreTaken, StopsAt}
 use Rattle.gimli_lookup.specs.UnitRun.{AreBeforeFault, IsKept, begins_from}
 use Rattle.gimli_lookup.proofs.SequenceCuts.{are_cut, starts_cut, same_lowest}
 

@@ -7,10 +7,12 @@ use Rattle.std.proofs.lemmas.List.Sums.{sum_by_more, sum_by_more_le_part, sum_by
 use Rattle.std.proofs.lemmas.Option.{slice_get-get_or, slice_get_within}
 use Rattle.gimli_line.specs.declared.run.row.LineRow.{LineRow}
 use Rattle.gimli_lookup.specs.declared.steps.Step.{Step}
-use Rattle.gimli_lookup.specs.FirstPair.{HasNoPair, IsFirstPairOf, IsFirstPairIn}
+use Rattle.gimli_lookup.specs.FirstPair.{HasNoPair, IsFirstPairOf}
+use Rattle.gimli_lookup.specs.inside.FirstPair.{IsFirstPairIn}
 use Rattle.gimli_lookup.specs.Covering.{covers, covering_index, scan_probes, IsLookedInto}
 use Rattle.gimli_lookup.specs.Probes.{never_go_down}
-use Rattle.gimli_lookup.specs.Steps.{step_at, indexes_out_of_order, HaveNoUnorderedPair, IsFirstUnorderedPair}
+use Rattle.gimli_lookup.specs.Steps.{step_at, indexes_out_of_order}
+use Rattle.gimli_lookup.specs.inside.Steps.{HaveNoUnorderedPair, IsFirstUnorderedPair}
 use Rattle.gimli_lookup.proofs.CoveringPairs.{IsFirstCovering, cases_covering, uncovered_has_none}
 
 -- what holds of each sequence before a place

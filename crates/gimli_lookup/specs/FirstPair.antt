@@ -1,6 +1,6 @@
 -- The rows that cover an address: what a row says holds from its address on, up to that of the next row of its
 -- sequence (DWARF 5, section 6.2).
-use Rattle.std.specs.Prelude.{◌≡◌, ◌≤◌, ◌<◌, ◌+◌, ℕ, List, ◌∷◌, ◌++◌, Some, slice_get, All, take}
+use Rattle.std.specs.Prelude.{◌≡◌, ◌≤◌, ◌<◌, ◌+◌, ℕ, List, ◌∷◌, ◌++◌, Some, slice_get, All}
 use Rattle.gimli_line.specs.declared.run.row.LineRow.{LineRow}
 
 -- x stands at a place among the rows of a sequence and y right after it, x's address is at most a, and y's above a
@@ -27,11 +27,4 @@ pub record IsFirstPair (a : ℕ) (sequences : List (List LineRow)) (x y : LineRo
   pub later : List (List LineRow)
   pub parts : sequences ≡ earlier ++ rows ∷ later
   pub none_earlier : All (HasNoPair a) earlier
-  pub is_first : IsFirstPairOf a rows x y
-
--- x and y are the first such pair of the sequence at a place, and no sequence before it has one
-pub record IsFirstPairIn (a : ℕ) (sequences : List (List LineRow)) (sequence : ℕ) (x y : LineRow) : Type 0 where
-  pub rows : List LineRow
-  pub there : slice_get sequences sequence ≡ Some rows
-  pub none_earlier : All (HasNoPair a) (take sequence sequences)
   pub is_first : IsFirstPairOf a rows x y

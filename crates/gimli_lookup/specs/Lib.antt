@@ -7,13 +7,11 @@ pub mod Cut
 pub mod Strings
 pub mod Paths
 pub mod Run
-pub mod PairSearch
 pub mod Statements
-pub mod StatementLines
 pub mod PathFiles
 pub mod UnitRun
-pub mod SequenceCut
 pub mod RowsTaken
 pub mod Section
 pub mod SectionUnits
 pub mod SectionAddresses
+pub mod inside

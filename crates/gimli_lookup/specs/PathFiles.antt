@@ -1,10 +1,9 @@
 -- The files of a header that have a path.
-use Rattle.std.specs.Prelude.{◌≡◌, ℕ, nat_lt, ◌&&◌, Bool, false, List, Result, Ok, Err, None}
+use Rattle.std.specs.Prelude.{ℕ, Bool, false, List, Result, Ok, Err, None}
 use Rattle.std.specs.Option.{option_map_or}
 use Rattle.std.specs.Str.{bytes_eq}
 use Rattle.gimli_line.specs.header.Header.{Header, file_of}
 use Rattle.gimli_lookup.specs.Paths.{Paths, file_path}
-use Rattle.gimli_lookup.specs.Statements.{is_among}
 use Rattle.gimli_lookup.specs.Strings.{Strings}
 use Rattle.gimli_lookup.specs.declared.path_error.PathError.{PathError}
 
@@ -20,7 +19,3 @@ is_path path (Err e) = false
 -- whether the file of an index has this whole path
 abbrev pub has_path : Paths → List ℕ → ℕ → Bool
 has_path p path i = option_map_or (λ f. is_path path (file_path p f)) (file_of p.header i) false
-
--- these are the indices below an end at which a test passes
-abbrev pub AreBelow : (ℕ → Bool) → ℕ → List ℕ → Type 0
-AreBelow test end indices = (i : ℕ) → is_among indices i ≡ (nat_lt i end && test i)

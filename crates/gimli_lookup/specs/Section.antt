@@ -1,14 +1,13 @@
 -- What a lookup keeps of a section: its units, and the sequences of each.
-use Rattle.std.specs.Prelude.{◌≡◌, ◌≤◌, ◌-◌, ℕ, List, [], ◌∷◌, ◌++◌, length, take, drop, Option, Some, None, Result, Ok, Err, All, slice_get}
+use Rattle.std.specs.Prelude.{◌≡◌, ◌≤◌, ◌-◌, ℕ, List, [], ◌∷◌, take, drop, Option, Some, None, All, slice_get}
 use Rattle.std.specs.List.{flat_map}
 use Rattle.gimli_core.specs.Notation.{Notation}
 use Rattle.gimli_core.specs.declared.error.Error.{Error}
 use Rattle.gimli_line.specs.declared.run.row.LineRow.{LineRow}
-use Rattle.gimli_line.specs.header.Header.{Header, SeenHeader}
+use Rattle.gimli_line.specs.header.Header.{Header}
 use Rattle.gimli_line.specs.run.RunState.{RunState}
 use Rattle.gimli_lookup.specs.FirstPair.{HasNoPair, IsFirstPair}
 use Rattle.gimli_lookup.specs.RowsTaken.{header_of}
-use Rattle.gimli_lookup.specs.UnitRun.{IsKept}
 
 -- a header, with the files that are defined before the first fault, and the notation of its program
 pub record KeptHeader : Type 0 where
@@ -63,17 +62,3 @@ pub record IsFirstPairOfUnit (a : ℕ) (units : List KeptUnit) (index : ℕ) (x 
   pub there : slice_get units index ≡ Some unit
   pub none_earlier : All (λ u. All (HasNoPair a) u.sequences) (take index units)
   pub is_first : IsFirstPair a unit.sequences x y
-
--- what is kept of a program, or of its refusal
-abbrev pub IsOutcome : {R Offset Endian : Type 0} → ℕ → Result (SeenHeader R Offset Endian) Error → ListedUnit → List (List LineRow) → Type 0
-IsOutcome lowest (Ok program) unit sequences =
-    (h : KeptHeader) × (unit.header ≡ Some h) × (h.notation ≡ program.notation) × IsKept program.notation lowest program.meaning h.meaning unit.fault sequences
-IsOutcome lowest (Err e) unit sequences = (unit.header ≡ None) × (unit.fault ≡ Some e) × (sequences ≡ [])
-
--- what is kept of a program, or of its refusal: the sequences are added after others
-pub record IsAdded {R Offset Endian : Type 0} (lowest : ℕ) (program : Result (SeenHeader R Offset Endian) Error) (unit : ListedUnit) (old new : List (List LineRow)) : Type 0 where
-  pub sequences : List (List LineRow)
-  pub added : new ≡ old ++ sequences
-  pub first : unit.first ≡ length old
-  pub end : unit.end ≡ length new
-  pub outcome : IsOutcome lowest program unit sequences

@@ -1,6 +1,6 @@
 -- Where code of a line begins: the addresses for a breakpoint (DWARF 5, section 6.2.2).
 use Rattle.std.specs.Prelude.{◌≡◌, ◌≢◌, ◌≤◌, ◌<◌, ℕ, Bool, not, ◌&&◌, ◌==◌, nat_lt, if◌then◌else◌, List, [], ◌∷◌, flat_map, Option, Some, None}
-use Rattle.std.specs.List.{list_any, slice_split}
+use Rattle.std.specs.List.{slice_split}
 use Rattle.gimli_line.specs.declared.run.row.LineRow.{LineRow}
 use Rattle.gimli_lookup.specs.declared.statements.Addresses.{Addresses}
 
@@ -40,7 +40,3 @@ pub record IsFirstLine (addresses : ℕ → List ℕ) (asked line : ℕ) : Type 
 abbrev pub AreAddressesFrom : (ℕ → List ℕ) → ℕ → Option Addresses → Type 0
 AreAddressesFrom addresses asked None = HasNoLine addresses asked
 AreAddressesFrom addresses asked (Some found) = IsFirstLine addresses asked found.line × (found.addresses.items ≡ addresses found.line)
-
--- whether a number is one of these
-abbrev pub is_among : List ℕ → ℕ → Bool
-is_among numbers n = list_any (λ k. k == n) numbers

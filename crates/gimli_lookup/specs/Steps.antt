@@ -1,12 +1,10 @@
 -- The steps of an index: the first sequence that covers an address, as a function of the address that changes at
 -- few places.
-use Rattle.std.specs.Prelude.{◌≡◌, ◌<◌, ◌≤◌, ◌+◌, ◌*◌, ◌^◌, ℕ, nat_le, if◌then◌else◌, false, List, [], ◌∷◌, length, fold, sum_by, take, slice_get, slice_index_or, All, Option, None, Some}
-use Rattle.std.specs.Option.{option_or}
+use Rattle.std.specs.Prelude.{◌≡◌, ◌<◌, ◌≤◌, ◌+◌, ◌*◌, ◌^◌, ℕ, nat_le, if◌then◌else◌, List, [], ◌∷◌, length, fold, sum_by, slice_index_or, Option, None}
 use Rattle.gimli_line.specs.declared.run.row.LineRow.{LineRow}
 use Rattle.gimli_lookup.specs.declared.steps.Step.{Step}
 use Rattle.gimli_lookup.specs.declared.index.Index.{Index}
 use Rattle.gimli_lookup.specs.Covering.{covering_index}
-use Rattle.gimli_lookup.specs.FirstPair.{HasNoPair, IsFirstPairOf}
 use Rattle.gimli_lookup.specs.Probes.{never_go_down}
 
 -- what the last of the steps says whose address is at most a
@@ -21,13 +19,6 @@ last_step steps = fold (λ current s. s.sequence) None steps
 abbrev pub AreInOrder : List Step → Type 0
 AreInOrder steps = (i j : ℕ) (d : Step) → i ≤ j → j < length steps
     → (slice_index_or steps i d).from ≤ (slice_index_or steps j d).from
-
--- two lists of steps as one: what the left one says, or else what the right one says
-pub record AreJoined (left right steps : List Step) : Type 0 where
-  pub in_order : AreInOrder steps
-  pub value : (a : ℕ) → step_at a steps ≡ option_or (step_at a left) (step_at a right)
-  pub ended : last_step steps ≡ None
-  pub size : length steps ≡ length left + length right
 
 -- the steps say which of these sequences is the first that covers an address, the first of them having the place
 -- `first`; after the last step none does, and a sequence has two steps at most
@@ -48,15 +39,3 @@ pub record IsIndexOf (index : Index) (sequences : List (List LineRow)) : Type 0 
   pub steps : AreStepsOf 0 sequences index.steps.items
   pub unordered : index.unordered.items ≡ indexes_out_of_order 0 sequences
   pub countable : 2 ^ 8 + sum_by length sequences < 2 ^ 64
-
--- none of these sequences has both addresses that go down and a pair round the address
-abbrev pub HaveNoUnorderedPair : ℕ → List (List LineRow) → Type 0
-HaveNoUnorderedPair a sequences = All (λ rows. never_go_down rows ≡ false → HasNoPair a rows) sequences
-
--- x and y are the first pair of the first sequence that has one and whose addresses go down, and it stands before `end`
-pub record IsFirstUnorderedPair (a end : ℕ) (sequences : List (List LineRow)) (sequence : ℕ) (x y : LineRow) : Type 0 where
-  pub rows : List LineRow
-  pub before_end : sequence < end
-  pub there : slice_get sequences sequence ≡ Some rows
-  pub none_earlier : HaveNoUnorderedPair a (take sequence sequences)
-  pub is_first : IsFirstPairOf a rows x y

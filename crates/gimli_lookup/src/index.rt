@@ -3,10 +3,12 @@
 ghost use Rattle.std.specs.Prelude.{◌≡◌, ◌≤◌, ◌<◌, ◌+◌, ◌*◌, ◌^◌, ℕ, true, false, length, slice_index_or, sum_by, take, All, Any, IfErr, IfOk, MatchOption};
 ghost use Rattle.gimli_line.specs.declared.run.row.LineRow.{LineRow};
 ghost use Rattle.gimli_lookup.specs.declared.steps.Step.{Step};
-ghost use Rattle.gimli_lookup.specs.FirstPair.{HasNoPair, IsFirstPairIn};
+ghost use Rattle.gimli_lookup.specs.FirstPair.{HasNoPair};
+ghost use Rattle.gimli_lookup.specs.inside.FirstPair.{IsFirstPairIn};
 ghost use Rattle.gimli_lookup.specs.Covering.{covering_probes, scan_probes, IsLookedInto};
 ghost use Rattle.gimli_lookup.specs.Probes.{binary_digits};
-ghost use Rattle.gimli_lookup.specs.Steps.{step_at, indexes_out_of_order, AreInOrder, HaveNoUnorderedPair, IsFirstUnorderedPair, IsIndexOf};
+ghost use Rattle.gimli_lookup.specs.Steps.{step_at, indexes_out_of_order, AreInOrder, IsIndexOf};
+ghost use Rattle.gimli_lookup.specs.inside.Steps.{HaveNoUnorderedPair, IsFirstUnorderedPair};
 
 use crate::kept_rows::KeptRows;
 use crate::search;

@@ -4,7 +4,7 @@ ghost use Rattle.std.specs.Prelude.{◌≡◌, ◌≢◌, ◌≤◌, ◌+◌, �
 ghost use Rattle.gimli_line.specs.header.Header.{HasOneOrder};
 ghost use Rattle.gimli_line.specs.header.Orders.{header_orders};
 ghost use Rattle.gimli_line.specs.run.Events.{row};
-ghost use Rattle.gimli_line.specs.run.Sequences.{part_of, events_of_part, AreSequences, HasFirstFault};
+ghost use Rattle.gimli_line.specs.run.Sequences.{part_of, AreSequences, HasFirstFault, HaveRuns};
 ghost use Rattle.gimli_lookup.specs.FirstPair.{HasNoPair, IsFirstPair};
 ghost use Rattle.gimli_lookup.specs.Kept.{AreRowsThroughLastEnd, IsOfOneOrder};
 ghost use Rattle.gimli_lookup.specs.Run.{AreRowsOfSequences};
@@ -75,7 +75,7 @@ impl<R: Reader> Lookup<R> {
         ensures sequences { IfOk result (λ lookup.
             AreSequences program.notation program.meaning lookup.header lookup.parts) }
         ensures each { IfOk result (λ lookup.
-            map (map row) lookup.rows ≡ map (events_of_part lookup.header) lookup.parts) }
+            HaveRuns lookup.header lookup.parts (map (map row) lookup.rows)) }
         ensures joined { IfOk result (λ lookup.
             AreRowsThroughLastEnd program.notation program.meaning lookup.rows) }
         ensures cut { IfOk result (λ lookup.

@@ -1,8 +1,9 @@
 //! The files of a header that have a path.
 
 ghost use Rattle.std.specs.Prelude.{◌≡◌, ◌++◌, [], ◌∷◌, if◌then◌else◌, ℕ, length, IfErr, IfOk, OnOk};
-ghost use Rattle.gimli_lookup.specs.PathFiles.{has_path, paths_of, AreBelow};
-ghost use Rattle.gimli_lookup.specs.Statements.{is_among};
+ghost use Rattle.gimli_lookup.specs.PathFiles.{has_path, paths_of};
+ghost use Rattle.gimli_lookup.specs.inside.PathFiles.{AreBelow};
+ghost use Rattle.gimli_lookup.specs.inside.Statements.{is_among};
 ghost use Rattle.gimli_lookup.specs.Strings.{strings};
 
 use crate::path_error::PathError;

@@ -2,7 +2,7 @@
 
 ghost use Rattle.std.specs.Prelude.{◌≡◌, ◌≤◌, ◌<◌, ◌↔◌, ℕ, List, [], ◌∷◌, ◌++◌, IsTrue, IfErr, IfOk};
 ghost use Rattle.gimli_line.specs.declared.run.row.LineRow.{LineRow};
-ghost use Rattle.gimli_lookup.specs.PairSearch.{HasPassed, Knows};
+ghost use Rattle.gimli_lookup.specs.inside.PairSearch.{HasPassed, Knows};
 ghost use Rattle.gimli_lookup.specs.Run.{IsFirstFound, IsFoundInRun, IsRefusedInRun};
 
 use gimli_core::{Reader, Result};

@@ -3,7 +3,8 @@
 ghost use Rattle.std.specs.Prelude.{◌≡◌, ◌<◌, ℕ, IfErr, IfOk, length, nat_eq, slice_index_or};
 ghost use Rattle.gimli_lookup.specs.Section.{KeptUnit};
 ghost use Rattle.gimli_lookup.specs.SectionAddresses.{unit_has_path, unit_addresses, addresses_of_path};
-ghost use Rattle.gimli_lookup.specs.Statements.{is_among, addresses_of, AreAddressesFrom};
+ghost use Rattle.gimli_lookup.specs.Statements.{addresses_of, AreAddressesFrom};
+ghost use Rattle.gimli_lookup.specs.inside.Statements.{is_among};
 ghost use Rattle.gimli_lookup.specs.Strings.{strings};
 
 use crate::path_files::files_with_path;

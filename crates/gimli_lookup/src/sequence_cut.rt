@@ -28,7 +28,7 @@ pub(crate) struct SequenceCut {
 }
 
 impl Model for SequenceCut {
-    ghost use Rattle.gimli_lookup.specs.SequenceCut.{SequenceCut};
+    ghost use Rattle.gimli_lookup.specs.inside.SequenceCut.{SequenceCut};
 
     ghost Value = { SequenceCut };
 
@@ -40,7 +40,7 @@ impl Model for SequenceCut {
 }
 
 impl SequenceCut {
-    ghost use Rattle.gimli_lookup.specs.SequenceCut.{with_row};
+    ghost use Rattle.gimli_lookup.specs.inside.SequenceCut.{with_row};
 
     /// No rows yet.
     pub(crate) fn new(alloc: Global, lowest: u64) -> Self

@@ -3,8 +3,9 @@
 ghost use Rattle.std.specs.Prelude.{◌≡◌, ◌<◌, ◌++◌, ◌==◌, ◌||◌, ℕ, Bool, true, false, List, length, flat_map, IfErr, IfOk, OnOk, MatchOption, [], ◌∷◌};
 ghost use Rattle.std.specs.List.{list_any};
 ghost use Rattle.gimli_line.specs.declared.run.row.LineRow.{LineRow};
-ghost use Rattle.gimli_lookup.specs.Statements.{is_among, is_of_line, addresses_in, addresses_of, AreAddressesFrom};
-ghost use Rattle.gimli_lookup.specs.StatementLines.{is_statement, has_statement, have_statement, IsFirstWith};
+ghost use Rattle.gimli_lookup.specs.Statements.{is_of_line, addresses_in, addresses_of, AreAddressesFrom};
+ghost use Rattle.gimli_lookup.specs.inside.Statements.{is_among};
+ghost use Rattle.gimli_lookup.specs.inside.StatementLines.{is_statement, has_statement, have_statement, IsFirstWith};
 
 use crate::kept_rows::KeptRows;
 use gimli_core::{Error, Result};

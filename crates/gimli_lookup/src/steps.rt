@@ -2,7 +2,8 @@
 
 ghost use Rattle.std.specs.Prelude.{◌≡◌, ◌≤◌, ◌<◌, ◌+◌, ◌^◌, ◌++◌, ◌∷◌, [], ℕ, None, true, false, length, slice_index_or, IfErr, IfOk, MatchOption};
 ghost use Rattle.gimli_lookup.specs.declared.steps.Step.{Step};
-ghost use Rattle.gimli_lookup.specs.Steps.{last_step, AreInOrder, AreJoined, AreStepsOf};
+ghost use Rattle.gimli_lookup.specs.Steps.{last_step, AreInOrder, AreStepsOf};
+ghost use Rattle.gimli_lookup.specs.inside.Steps.{AreJoined};
 
 use crate::kept_rows::KeptRows;
 use gimli_core::{Error, Result};

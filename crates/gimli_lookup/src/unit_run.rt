@@ -4,7 +4,8 @@ ghost use Rattle.std.specs.Prelude.{◌≡◌, ◌≢◌, IfErr, IfOk, Some};
 ghost use Rattle.gimli_line.specs.header.Header.{HasOneOrder};
 ghost use Rattle.gimli_line.specs.run.Rows.{IsOfOneOrder};
 ghost use Rattle.gimli_lookup.specs.UnitRun.{IsKept};
-ghost use Rattle.gimli_lookup.specs.RowsTaken.{AreTaken, header_of};
+ghost use Rattle.gimli_lookup.specs.RowsTaken.{header_of};
+ghost use Rattle.gimli_lookup.specs.inside.RowsTaken.{AreTaken};
 
 use crate::kept_rows::KeptRows;
 use crate::sequence_cut::SequenceCut;

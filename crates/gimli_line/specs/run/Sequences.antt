@@ -1,18 +1,16 @@
 -- The sequences of a program, each run by itself.
-use Rattle.std.specs.Prelude.{◌≡◌, ℕ, true, false, List, [], ◌∷◌, ◌++◌, map, Option, None}
-use Rattle.std.specs.List.{AllByRecursion, flat_map}
+use Rattle.std.specs.Prelude.{◌≡◌, ℕ, true, false, List, [], ◌∷◌, ◌++◌, map, flat_map, Option, None}
+use Rattle.std.specs.List.{AllByRecursion}
 use Rattle.gimli_core.specs.declared.error.Error.{Error}
 use Rattle.gimli_core.specs.Notation.{Notation}
 use Rattle.gimli_line.specs.declared.run.row.LineRow.{LineRow}
 use Rattle.gimli_line.specs.declared.run.sequences.LineSequence.{LineSequence}
-use Rattle.gimli_line.specs.header.Orders.{no_orders}
 use Rattle.gimli_line.specs.header.Header.{Header}
 use Rattle.gimli_line.specs.run.Instruction.{Ins}
 use Rattle.gimli_line.specs.run.InstructionGrammar.{Decodes}
-use Rattle.gimli_line.specs.run.Events.{Event, row, fault, program_events, defined_files, past_at_end, through_last_end}
-use Rattle.gimli_line.specs.run.Unread.{Unread}
+use Rattle.gimli_line.specs.run.Events.{Event, row, fault, Events, program_events, defined_files, past_at_end, through_last_end}
 use Rattle.gimli_line.specs.run.EventsWithFiles.{EventWithFiles}
-use Rattle.gimli_line.specs.run.Rows.{events_left, start_of_run, GivesRowsAlone}
+use Rattle.gimli_line.specs.run.Unread.{Unread}
 
 -- a sequence: the addresses that it names, and the instructions that give its rows
 pub record Part : Type 0 where
@@ -26,14 +24,6 @@ part_of s = record { start = s.start; end = s.end; unread = s.instructions }
 -- the events among events with their files
 abbrev pub events_of : List EventWithFiles → List Event
 events_of events = map (λ t. t.event) events
-
--- what a sequence gives that is resumed over a header, wherever the header stands
-abbrev pub events_of_part : Header → Part → List Event
-events_of_part h s = events_of (events_left (start_of_run false h s.unread.notation 0 no_orders s.unread))
-
--- a sequence that is resumed over a header gives rows alone, and is refused for nothing
-abbrev pub ResumesToRows : Header → Part → Type 0
-ResumesToRows h s = GivesRowsAlone (start_of_run false h s.unread.notation 0 no_orders s.unread)
 
 -- the address of the first row; 0 where there is none
 abbrev pub first_address : List LineRow → ℕ
@@ -50,16 +40,33 @@ pub record IsSequence (events : List Event) (start end : ℕ) : Type 0 where
   pub start_is : start ≡ first_address rows
   pub end_is : end ≡ last.address
 
+-- the run of a sequence over a header: what its bytes give as a program of their own, which is the rows of one sequence
+pub record HasRun (h : Header) (s : Part) (run : List Event) : Type 0 where
+  pub given : Events s.unread.notation h s.unread.bytes run
+  pub is : IsSequence run s.start s.end
+
+-- the runs of sequences, one for each
+abbrev pub HaveRuns : Header → List Part → List (List Event) → Type 0
+HaveRuns h [] [] = Unit {0}
+HaveRuns h (s ∷ parts) (run ∷ runs) = HasRun h s run × HaveRuns h parts runs
+HaveRuns h parts runs = ⊥
+
+-- the bytes of a sequence give rows alone over a header, so that a run of them is refused for nothing
+pub record ResumesToRows (h : Header) (s : Part) : Type 0 where
+  pub rows : List LineRow
+  pub given : Events s.unread.notation h s.unread.bytes (map row rows)
+
 -- the sequences of a program with the header h, over the complete header c: the program has no fault, c has its files,
--- each sequence gives the rows of one, and all in order give those of the program through its last end
+-- each sequence has a run of its own, and all runs in order are that of the program through its last end
 pub record AreSequences (notation : Notation) (h c : Header) (parts : List Part) : Type 0 where
   pub list : List Ins
   pub decoding : Decodes notation h h.program list None
   pub rows : List LineRow
   pub given : program_events h.parameters list None ≡ map row rows
   pub files : c ≡ record h { files = defined_files h.files (past_at_end [] list) }
-  pub each : AllByRecursion (λ s. IsSequence (events_of_part c s) s.start s.end) parts
-  pub joined : flat_map (events_of_part c) parts ≡ through_last_end (program_events h.parameters list None)
+  pub runs : List (List Event)
+  pub each : HaveRuns c parts runs
+  pub joined : flat_map (λ run. run) runs ≡ through_last_end (program_events h.parameters list None)
 
 -- the first fault of a program, after rows
 pub record HasFirstFault (notation : Notation) (h : Header) (e : Error) : Type 0 where

@@ -156,7 +156,7 @@ impl<R: Reader> IncompleteLineProgram<R> {
     ghost use Rattle.gimli_line.specs.header.Header.{HasOneOrder};
     ghost use Rattle.gimli_line.specs.run.Events.{row};
     ghost use Rattle.gimli_line.specs.header.Orders.{header_orders};
-    ghost use Rattle.gimli_line.specs.run.Sequences.{part_of, events_of_part, AreSequences, HasFirstFault, ResumesToRows};
+    ghost use Rattle.gimli_line.specs.run.Sequences.{part_of, AreSequences, HasFirstFault, HaveRuns, ResumesToRows};
 
     /// Runs the whole program, and splits it into its sequences, so that each can be run by itself. Rows after the
     /// last end row are in no sequence. Refused by the first fault of the run, wherever it stands, or by
@@ -193,7 +193,7 @@ impl<R: Reader> IncompleteLineProgram<R> {
         ensures ok { IfOk result (λ found.
             AreSequences self.notation self.meaning found.0.meaning (map part_of found.1.items)) }
         ensures each { IfOk result (λ found.
-            map (map row) found.2.items ≡ map (events_of_part found.0.meaning) (map part_of found.1.items)) }
+            HaveRuns found.0.meaning (map part_of found.1.items) (map (map row) found.2.items)) }
         ensures notation { IfOk result (λ found. found.0.notation ≡ self.notation) }
         ensures offset { IfOk result
             (λ found. R.Offset.number found.0.offset.0 ≡ R.Offset.number self.offset.0) }
@@ -224,12 +224,13 @@ impl<R: Reader> IncompleteLineProgram<R> {
 }
 
 impl<R: Reader> CompleteLineProgram<R> {
-    ghost use Rattle.std.specs.Prelude.{◌≡◌, false};
+    ghost use Rattle.std.specs.Prelude.{◌≡◌, false, List};
     ghost use Rattle.gimli_line.specs.header.Header.{HasOneOrder};
     ghost use Rattle.gimli_line.specs.header.Orders.{header_orders};
-    ghost use Rattle.gimli_line.specs.run.Rows.{events_left, files_at_end, start_of_run, GivesRowsAlone, IsOfOneOrder};
-    ghost use Rattle.gimli_line.specs.run.Sequences.{part_of, ResumesToRows};
+    ghost use Rattle.gimli_line.specs.run.Events.{Event, Events};
     ghost use Rattle.gimli_line.specs.run.EventsWithFiles.{EventsWithFiles};
+    ghost use Rattle.gimli_line.specs.run.Rows.{events_left, files_at_end, start_of_run, GivesRowsAlone, IsOfOneOrder};
+    ghost use Rattle.gimli_line.specs.run.Sequences.{events_of, part_of, ResumesToRows};
 
     /// The rows of one of the program's sequences. The header has all files from the start.
     pub fn resume_from<'program>(
@@ -238,6 +239,8 @@ impl<R: Reader> CompleteLineProgram<R> {
     ) -> ResumedLineRows<'program, R>
         ensures events { EventsWithFiles sequence.now.instructions.notation false self.now.meaning
             sequence.now.instructions.bytes (events_left result) }
+        ensures run { (run : List Event) → Events sequence.now.instructions.notation self.now.meaning
+            sequence.now.instructions.bytes run → events_of (events_left result) ≡ run }
         ensures files { files_at_end result ≡ self.now.meaning.files }
         ensures start { result ≡ start_of_run false self.now.meaning self.now.notation
             (R.Offset.number self.now.offset.0) (header_orders R.big self.now) sequence.now.instructions }

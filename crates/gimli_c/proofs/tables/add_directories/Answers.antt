@@ -2,7 +2,8 @@ use Rattle.std.proofs.Common.{List, ℕ, rules, subst, take_all, arith}
 use Rattle.std.specs.Prelude.{All}
 use Rattle.std.proofs.lemmas.Grind.{common_steps}
 use Rattle.gimli_c.specs.declared.text.GimliName.{GimliName}
-use Rattle.gimli_c.specs.Causes.{HasNone, HasTextFault}
+use Rattle.gimli_c.specs.Causes.{HasTextFault}
+use Rattle.gimli_c.specs.inside.Causes.{HasNone}
 use Rattle.gimli_c.proofs.CauseLemmas.{all_more}
 use Rattle.gimli_c.proofs.tables.add_directories.Goals as goal
 

@@ -1,7 +1,8 @@
 use Rattle.std.proofs.Common.{◌≡◌, ◌<◌, ◌++◌, [], length, map, take, drop}
 use Rattle.std.specs.Prelude.{All}
 use Rattle.gimli_build.specs.Conditions.{CanWrite}
-use Rattle.gimli_c.specs.Causes.{HasNone, HasTextFault}
+use Rattle.gimli_c.specs.Causes.{HasTextFault}
+use Rattle.gimli_c.specs.inside.Causes.{HasNone}
 use Rattle.gimli_c.specs.Handed.{directories_handed, ids_of_directories, first_ids, text_handed}
 use Rattle.gimli_c.proofs.tables.add_directories.Given as goal
 

@@ -3,7 +3,8 @@ use Rattle.std.specs.Prelude.{All}
 use Rattle.std.proofs.lemmas.Grind.{common_steps}
 use Rattle.gimli_build.specs.Built.{Built}
 use Rattle.gimli_c.specs.declared.tables.GimliFileName.{GimliFileName}
-use Rattle.gimli_c.specs.Causes.{HasNone, HasFileFault}
+use Rattle.gimli_c.specs.Causes.{HasFileFault}
+use Rattle.gimli_c.specs.inside.Causes.{HasNone}
 use Rattle.gimli_c.proofs.CauseLemmas.{all_more}
 use Rattle.gimli_c.proofs.tables.add_files.Goals as goal
 

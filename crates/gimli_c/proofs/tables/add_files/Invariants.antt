@@ -1,7 +1,8 @@
 use Rattle.std.proofs.Common.{◌≡◌, ◌++◌, [], length, take, drop}
 use Rattle.std.specs.Prelude.{All}
 use Rattle.gimli_build.specs.Conditions.{CanWrite}
-use Rattle.gimli_c.specs.Causes.{HasNone, HasFileFault}
+use Rattle.gimli_c.specs.Causes.{HasFileFault}
+use Rattle.gimli_c.specs.inside.Causes.{HasNone}
 use Rattle.gimli_c.specs.Handed.{files_handed, ids_of_files}
 use Rattle.gimli_c.proofs.tables.add_files.Given as goal
 

@@ -6,7 +6,8 @@ use Rattle.gimli_core.specs.declared.common.LineEncoding.{LineEncoding}
 use Rattle.gimli_c.specs.Start.{start_program}
 use Rattle.std.specs.Prelude.{All}
 use Rattle.gimli_build.specs.Advance.{CanEncode}
-use Rattle.gimli_c.specs.Causes.{HasNone, HasTextFault, HasFileFault, HasRowsFault}
+use Rattle.gimli_c.specs.Causes.{HasTextFault, HasFileFault, HasRowsFault}
+use Rattle.gimli_c.specs.inside.Causes.{HasNone}
 use Rattle.gimli_c.specs.Handing.{handed_of}
 use Rattle.gimli_c.specs.Handed.{line_encoding_of, encoding_of, AddsDirectories, AddsFiles, text_handed}
 use Rattle.gimli_c.proofs.CauseLemmas.{directory_ids, file_ids, handed_is_well, names_refused, files_refused, rows_refused}

@@ -1,4 +1,5 @@
-use Rattle.gimli_lookup.specs.PathFiles.{has_path, paths_of, AreBelow}
+use Rattle.gimli_lookup.specs.PathFiles.{has_path, paths_of}
+use Rattle.gimli_lookup.specs.inside.PathFiles.{AreBelow}
 use Rattle.gimli_lookup.specs.Strings.{strings}
 use Rattle.gimli_lookup.proofs.path_files.files_below.Given as goal
 

@@ -1,5 +1,6 @@
 use Rattle.std.proofs.Common.{◌∙◌, ap, ◌++◌}
-use Rattle.gimli_lookup.specs.Statements.{is_among, addresses_of}
+use Rattle.gimli_lookup.specs.Statements.{addresses_of}
+use Rattle.gimli_lookup.specs.inside.Statements.{is_among}
 use Rattle.gimli_lookup.proofs.StatementRuns.{no_line, first_line}
 use Rattle.gimli_lookup.proofs.statements.addresses_from.Goals as goal
 

@@ -4,7 +4,7 @@ use Rattle.std.proofs.lemmas.Option.{get_or_from_slice_get}
 use Rattle.gimli_line.specs.declared.run.row.LineRow.{LineRow}
 use Rattle.gimli_lookup.specs.Statements.{addresses_in}
 use Rattle.gimli_lookup.proofs.StatementRuns.{addresses_on, nothing_more, one_more, of_none, of_given, of_first, of_no_statement}
-use Rattle.gimli_lookup.specs.Statements.{is_among}
+use Rattle.gimli_lookup.specs.inside.Statements.{is_among}
 use Rattle.gimli_lookup.proofs.statements.append_in.Goals.{then-not-is_of_line, else-not-is_of_line+then-is_stmt+then-not-has_address+in_ok-append, else-not-is_of_line+else-is_stmt, else-is_stmt-via-then-is_stmt+else-not-has_address, else-is_stmt-via-else-is_stmt}
 use Rattle.gimli_lookup.proofs.statements.append_in.Goals as goal
 

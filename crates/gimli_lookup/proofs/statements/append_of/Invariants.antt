@@ -1,6 +1,6 @@
 use Rattle.std.proofs.Common.{◌≡◌, ◌++◌, take}
 use Rattle.gimli_lookup.specs.Statements.{addresses_of}
-use Rattle.gimli_lookup.specs.Statements.{is_among}
+use Rattle.gimli_lookup.specs.inside.Statements.{is_among}
 use Rattle.gimli_lookup.proofs.statements.append_of.Given as goal
 
 abbrev pub invariant-loop-rows : goal.invariant-loop-rows

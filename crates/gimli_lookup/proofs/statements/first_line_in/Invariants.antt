@@ -1,6 +1,6 @@
 use Rattle.std.proofs.Common.{take}
-use Rattle.gimli_lookup.specs.StatementLines.{has_statement, IsFirstWith}
-use Rattle.gimli_lookup.specs.Statements.{is_among}
+use Rattle.gimli_lookup.specs.inside.StatementLines.{has_statement, IsFirstWith}
+use Rattle.gimli_lookup.specs.inside.Statements.{is_among}
 use Rattle.gimli_lookup.proofs.statements.first_line_in.Given as goal
 
 abbrev pub invariant-loop-index : goal.invariant-loop-index

@@ -3,7 +3,8 @@ use Rattle.std.proofs.lemmas.List.{take-append-drop, take_rest, length-take-le}
 use Rattle.std.proofs.lemmas.Result.{IfOk-weaker}
 use Rattle.gimli_line.specs.declared.run.row.LineRow.{LineRow}
 use Rattle.gimli_lookup.specs.declared.steps.Step.{Step}
-use Rattle.gimli_lookup.specs.Steps.{AreJoined, AreStepsOf}
+use Rattle.gimli_lookup.specs.Steps.{AreStepsOf}
+use Rattle.gimli_lookup.specs.inside.Steps.{AreJoined}
 use Rattle.gimli_lookup.proofs.CoveringPairs.{joined_steps}
 use Rattle.gimli_lookup.proofs.steps.+steps_of.Goals as goal
 

@@ -1,9 +1,10 @@
 use Rattle.std.proofs.Common.{List, sym, subst}
 use Rattle.gimli_line.specs.declared.run.row.LineRow.{LineRow}
 use Rattle.gimli_line.specs.header.Orders.{header_orders}
-use Rattle.gimli_lookup.specs.RowsTaken.{AreTaken, header_of}
+use Rattle.gimli_lookup.specs.RowsTaken.{header_of}
+use Rattle.gimli_lookup.specs.inside.RowsTaken.{AreTaken}
 use Rattle.gimli_lookup.specs.UnitRun.{IsKept}
-use Rattle.gimli_lookup.specs.SequenceCut.{SequenceCut}
+use Rattle.gimli_lookup.specs.inside.SequenceCut.{SequenceCut}
 use Rattle.gimli_lookup.proofs.UnitRuns.{is_kept}
 use Rattle.gimli_lookup.proofs.unit_run.run_unit.Goals as goal
 

@@ -3,7 +3,8 @@ use Rattle.std.specs.Prelude.{slice_index_or}
 use Rattle.std.proofs.Math.Path.{fun_ext}
 use Rattle.gimli_line.specs.declared.run.row.LineRow.{LineRow}
 use Rattle.gimli_lookup.specs.SectionAddresses.{unit_has_path}
-use Rattle.gimli_lookup.specs.Statements.{is_among, addresses_of, AreAddressesFrom}
+use Rattle.gimli_lookup.specs.Statements.{addresses_of, AreAddressesFrom}
+use Rattle.gimli_lookup.specs.inside.Statements.{is_among}
 use Rattle.gimli_lookup.specs.Strings.{strings}
 use Rattle.gimli_lookup.proofs.section_lookup.SectionLookup.unit_addresses.Goals as goal
 

@@ -2,6 +2,7 @@ use Rattle.std.proofs.Common.{false}
 use Rattle.gimli_line.specs.header.Orders.{header_orders}
 use Rattle.gimli_line.proofs.Order.{are_one_order}
 use Rattle.gimli_line.proofs.EventsWithFilesLaws.{started_events, started_files}
+use Rattle.gimli_line.proofs.ResumedRuns.{gives_run, gives_rows_alone}
 use Rattle.gimli_line.proofs.run.sequences.CompleteLineProgram+R.resume_from.Goals as goal
 
 pub returns-clause-events : goal.returns-clause-events
@@ -18,5 +19,13 @@ returns-clause-files g c =
 pub returns-clause-order : goal.returns-clause-order
 returns-clause-order g c = λ has. rw c.start.ensures (record { readers = are_one_order g.R.Reader.big c.args.self.now has; unread = λ adds. absurd cc })
 
+-- what the bytes give by looking back is what is to come
+pub returns-clause-run : goal.returns-clause-run
+returns-clause-run g c = λ run has.
+    let p = c.args.self.now in
+    rw (c.start.ensures, c.clone.ensures) (gives_run p.meaning p.notation (g.R.Offset.ReaderOffset.number p.offset.0) (header_orders g.R.Reader.big p) c.args.sequence.now.instructions run has)
+
 pub returns-clause-unrefused : goal.returns-clause-unrefused
-returns-clause-unrefused g c = λ alone. rw (c.start.ensures, c.clone.ensures) (record { complete = alone.complete; rows = alone.rows })
+returns-clause-unrefused g c = λ alone.
+    let p = c.args.self.now in
+    rw (c.start.ensures, c.clone.ensures) (gives_rows_alone p.meaning p.notation (g.R.Offset.ReaderOffset.number p.offset.0) (header_orders g.R.Reader.big p) c.args.sequence.now.instructions alone.rows alone.given)

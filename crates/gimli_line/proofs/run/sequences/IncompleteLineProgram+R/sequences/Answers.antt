@@ -10,7 +10,7 @@ use Rattle.gimli_line.specs.run.Rows.{start_of_run}
 use Rattle.gimli_line.specs.run.Sequences.{part_of}
 use Rattle.gimli_line.proofs.Runs.{passes_still, passes_both}
 use Rattle.gimli_line.proofs.Order.{has_one_order}
-use Rattle.gimli_line.proofs.RowsAlone.{resume_to_rows}
+use Rattle.gimli_line.proofs.ResumedRuns.{resume_to_rows}
 use Rattle.gimli_line.proofs.SequenceLaws.{starts_splitting, goes_splitting, has_front, row_takes, are_sequences, has_first_fault}
 use Rattle.gimli_line.proofs.run.sequences.IncompleteLineProgram+R.sequences.Goals as goal
 
@@ -111,4 +111,4 @@ returns-clause-handed g c =
 pub returns-clause-unrefused : goal.returns-clause-unrefused
 returns-clause-unrefused g c =
     let are = returns-clause-ok g c in
-    resume_to_rows c.header.inside.header.meaning (map part_of c.into_sequences.result.items) are.each
+    resume_to_rows c.header.inside.header.meaning (map part_of c.into_sequences.result.items) are.runs are.each

@@ -7,11 +7,11 @@ use Rattle.gimli_line.specs.header.Header.{without_files}
 use Rattle.gimli_line.specs.run.Unread.{Unread}
 use Rattle.gimli_line.specs.run.Progress.{Progress, with_reset_row}
 use Rattle.gimli_line.specs.run.Rows.{start_of_run}
-use Rattle.gimli_line.specs.run.Sequences.{Part, part_of}
+use Rattle.gimli_line.specs.run.Sequences.{Part, part_of, HaveRuns}
 use Rattle.gimli_line.proofs.Runs.{passes_still, passes_both}
 use Rattle.gimli_line.proofs.Order.{has_one_order}
-use Rattle.gimli_line.proofs.RowsAlone.{resume_to_rows}
-use Rattle.gimli_line.proofs.SequenceLaws.{starts_keeping, goes_keeping, has_front, row_takes, are_sequences, has_first_fault, rows_are_kept, AllKept}
+use Rattle.gimli_line.proofs.ResumedRuns.{resume_to_rows}
+use Rattle.gimli_line.proofs.SequenceLaws.{starts_keeping, goes_keeping, has_front, row_takes, are_sequences, has_first_fault, kept_runs, runs_are_kept}
 use Rattle.gimli_line.proofs.run.sequences.IncompleteLineProgram+R.sequences_with_rows.Goals as goal
 
 pub run-init : goal.run-init
@@ -98,9 +98,12 @@ returns-clause-ok g c =
 
 pub returns-clause-each : goal.returns-clause-each
 returns-clause-each g c =
+    let h = c.args.self.meaning in
     let parts = map part_of c.into_sequences.result.items in
-    let all = subst (λ (xs : List Part). AllKept c.args.self.meaning xs c.run.kept.closed) (sym c.into_sequences.ensures) c.run.invariant.after.1.closed in
-    rw c.into_rows.ensures (rows_are_kept c.args.self.notation c.args.self.meaning c.header.inside.header.meaning parts c.run.kept.closed (returns-clause-ok g c) all)
+    let b = c.run.invariant.after in
+    let runs : List (List Event) = map (map row) c.run.kept.closed in
+    let have = subst (λ (xs : List Part). HaveRuns (without_files h) xs runs) (sym c.into_sequences.ensures) (kept_runs h c.run.split c.run.kept b.0 (with_reset_row c.run.run) b.1) in
+    rw c.into_rows.ensures (runs_are_kept c.args.self.notation h c.header.inside.header.meaning parts runs (returns-clause-ok g c) have)
 
 pub returns-clause-notation : goal.returns-clause-notation
 returns-clause-notation g c = ap (λ v. v.notation) c.header.view_is ∙ c.into_program.ensures.notation ∙ c.in_ok-advance.ensures.notation ∙ c.run.invariant.notation
@@ -122,4 +125,4 @@ returns-clause-handed g c =
 pub returns-clause-unrefused : goal.returns-clause-unrefused
 returns-clause-unrefused g c =
     let are = returns-clause-ok g c in
-    resume_to_rows c.header.inside.header.meaning (map part_of c.into_sequences.result.items) are.each
+    resume_to_rows c.header.inside.header.meaning (map part_of c.into_sequences.result.items) are.runs are.each

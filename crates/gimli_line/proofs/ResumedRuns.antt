@@ -1,0 +1,89 @@
+-- A sequence that is resumed gives what its bytes give by looking back, as a program of their own.
+use Rattle.std.proofs.Common.{◌≡◌, ℕ, false, List, [], ◌∷◌, ◌++◌, map, Option, refl, sym, ap, subst, ◌∙◌}
+use Rattle.std.specs.List.{All}
+use Rattle.std.proofs.lemmas.List.{map-append}
+use Rattle.std.proofs.lemmas.List.Elements.{All-nil, All-cons}
+use Rattle.gimli_core.specs.declared.error.Error.{Error}
+use Rattle.gimli_core.specs.Notation.{Notation}
+use Rattle.gimli_line.specs.declared.run.row.LineRow.{LineRow}
+use Rattle.gimli_line.specs.header.Header.{Header, without_files}
+use Rattle.gimli_line.specs.header.Orders.{HeaderOrders}
+use Rattle.gimli_line.specs.run.Instruction.{Ins}
+use Rattle.gimli_line.specs.run.InstructionGrammar.{Decodes}
+use Rattle.gimli_line.specs.run.InstructionReading.{decoded_at}
+use Rattle.gimli_line.specs.run.Events.{Event, row, Events, end_events, program_events}
+use Rattle.gimli_line.specs.run.EventsWithFiles.{EventWithFiles}
+use Rattle.gimli_line.specs.run.Machine.{initial}
+use Rattle.gimli_line.specs.run.Rows.{events_left, start_of_run, GivesRowsAlone, IsRow}
+use Rattle.gimli_line.specs.run.Sequences.{Part, events_of, HasRun, HaveRuns, ResumesToRows}
+use Rattle.gimli_line.specs.run.Unread.{Unread}
+use Rattle.gimli_line.proofs.InstructionLaws.{is_decoded, one_decoding}
+use Rattle.gimli_line.proofs.Runs.{bare_decoding}
+use Rattle.gimli_line.proofs.SequenceLaws.{events_without_files, from_start}
+
+-- ---- bytes give one run
+
+module _ (n : Notation) (h : Header) (bytes : List ℕ) where
+  same_decoding : (list other : List Ins) (end finish : Option Error) → Decodes n h bytes list end → Decodes n h bytes other finish
+      → program_events h.parameters list end ≡ program_events h.parameters other finish
+  same_decoding list other end finish a b =
+      ap (λ (p : List Ins × Option Error). program_events h.parameters p.0 p.1) (one_decoding n h bytes list end a ∙ sym (one_decoding n h bytes other finish b))
+
+  pub one_run : (run other : List Event) → Events n h bytes run → Events n h bytes other → run ≡ other
+  one_run run other a b = a.given ∙ same_decoding a.list b.list a.end b.end a.decoding b.decoding ∙ sym b.given
+
+pub one_list_of_runs : (h : Header) (parts : List Part) (runs others : List (List Event)) → HaveRuns h parts runs → HaveRuns h parts others → runs ≡ others
+one_list_of_runs h [] [] [] a b = refl
+one_list_of_runs h [] [] (other ∷ others) a b = absurd b
+one_list_of_runs h [] (run ∷ runs) others a b = absurd a
+one_list_of_runs h (s ∷ parts) [] others a b = absurd a
+one_list_of_runs h (s ∷ parts) (run ∷ runs) [] a b = absurd b
+one_list_of_runs h (s ∷ parts) (run ∷ runs) (other ∷ others) a b =
+    let first : run ≡ other = one_run s.unread.notation h s.unread.bytes run other a.0.given b.0.given in
+    let later : runs ≡ others = one_list_of_runs h parts runs others a.1 b.1 in
+    cc
+
+-- ---- rows at the start of a sequence
+
+are_rows : (events : List EventWithFiles) (rows : List LineRow) → events_of events ≡ map row rows → All IsRow events
+are_rows [] rows same = All-nil IsRow
+are_rows (e ∷ events) [] same = absurd cc
+are_rows (e ∷ events) (r ∷ rows) same = All-cons IsRow e events (r, at_head) (are_rows events rows at_tail)
+  where
+    at_head : e.event ≡ row r
+    at_head = cc
+
+    at_tail : events_of events ≡ map row rows
+    at_tail = cc
+
+module _ (h : Header) (o : Notation) (offset : ℕ) (w : HeaderOrders) (s : Unread) where
+  abbrev decoded : List Ins × Option Error
+  decoded = decoded_at s.notation (without_files h) s.bytes
+
+  decoding : Decodes s.notation h s.bytes decoded.0 decoded.1
+  decoding = bare_decoding s.notation h s.bytes decoded.0 decoded.1 (is_decoded s.notation (without_files h) s.bytes)
+
+  -- they give the run of the bytes
+  pub gives_run : (run : List Event) → Events s.notation h s.bytes run → events_of (events_left (start_of_run false h o offset w s)) ≡ run
+  gives_run run has =
+      events_without_files false h.parameters (initial h.parameters) h.files decoded.0 decoded.1
+      ∙ ap (λ (events : List Event). events ++ end_events decoded.1) (from_start h.parameters decoded.0)
+      ∙ same_decoding s.notation h s.bytes decoded.0 has.list decoded.1 has.end decoding has.decoding
+      ∙ sym has.given
+
+  -- and rows alone, where that has rows alone
+  pub gives_rows_alone : (rows : List LineRow) → Events s.notation h s.bytes (map row rows) → GivesRowsAlone (start_of_run false h o offset w s)
+  gives_rows_alone rows has = record { complete = refl; rows = are_rows (events_left (start_of_run false h o offset w s)) rows (gives_run (map row rows) has) }
+
+-- ---- sequences with runs
+
+to_rows : (h : Header) (s : Part) (run : List Event) → HasRun h s run → ResumesToRows h s
+to_rows h s run has = record {
+  rows = has.is.rows ++ has.is.last ∷ [];
+  given = subst (λ (events : List Event). Events s.unread.notation h s.unread.bytes events) (has.is.given ∙ sym (map-append row has.is.rows (has.is.last ∷ []))) has.given;
+}
+
+pub resume_to_rows : (h : Header) (parts : List Part) (runs : List (List Event)) → HaveRuns h parts runs → All (ResumesToRows h) parts
+resume_to_rows h [] runs all = All-nil (ResumesToRows h)
+resume_to_rows h (s ∷ parts) [] all = absurd all
+resume_to_rows h (s ∷ parts) (run ∷ runs) all = All-cons (ResumesToRows h) s parts (to_rows h s run all.0) (resume_to_rows h parts runs all.1)

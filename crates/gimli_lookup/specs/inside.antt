@@ -1,0 +1,10 @@
+-- What no public clause reaches: private functions and proofs alone speak of it.
+pub mod FirstPair
+pub mod PairSearch
+pub mod PathFiles
+pub mod RowsTaken
+pub mod Section
+pub mod SequenceCut
+pub mod StatementLines
+pub mod Statements
+pub mod Steps

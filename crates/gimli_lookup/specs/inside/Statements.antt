@@ -1,0 +1,7 @@
+-- A list of numbers as a test.
+use Rattle.std.specs.Prelude.{ℕ, Bool, ◌==◌, List}
+use Rattle.std.specs.List.{list_any}
+
+-- whether a number is one of these
+abbrev pub is_among : List ℕ → ℕ → Bool
+is_among numbers n = list_any (λ k. k == n) numbers
