@@ -14,7 +14,7 @@ use Rattle.gimli_write.specs.convert.Lists.{Converted, Lists, lists_with, versio
 use Rattle.gimli_write.specs.convert.Preparation.{Handed, lists_of_header, started_lists, first_texts, encoding_of, working_directory, source_file, line_encoding_of}
 use Rattle.gimli_write.specs.convert.Offers.{Reading, stops, defines, offers, file_id, row_in, built_row, row_offered, row_or_end_offered, defines_first, after_definitions}
 use Rattle.gimli_write.specs.declared.convert.run.SourceRow.{SourceRow}
-use Rattle.gimli_write.specs.declared.convert.offer.ConvertLineRow.TheVariants.{Row, EndSequence}
+use Rattle.gimli_write.specs.declared.convert.rows.ConvertLineRow.TheVariants.{Row, EndSequence}
 use Rattle.gimli_write.specs.convert.SourceState.{SourceState, reading_from, reading_upon, reading_left}
 use Rattle.gimli_write.specs.convert.LastLists.{lacks_file, lists_after_row}
 use Rattle.gimli_write.specs.convert.KeptLists.{source_last, last_lists}

@@ -11,7 +11,7 @@ use Rattle.gimli_build.specs.Built.{Built}
 use Rattle.gimli_build.specs.LineText.{LineText}
 use Rattle.gimli_write.specs.declared.convert_error.ConvertError.{ConvertError}
 use Rattle.gimli_write.specs.declared.convert_error.ConvertError.TheVariants.{MissingLineEndSequence, OutOfMemory, Read}
-use Rattle.gimli_write.specs.declared.convert.offer.ConvertLineRow.{ConvertLineRow}
+use Rattle.gimli_write.specs.declared.convert.rows.ConvertLineRow.{ConvertLineRow}
 use Rattle.gimli_write.specs.convert.Texts.{◌>>=◌, IsRefusedBy}
 use Rattle.gimli_write.specs.convert.Lists.{Lists}
 use Rattle.gimli_write.specs.convert.Offers.{Reading, ends, stops, defines, offers, address_offered, reading_at, with_definition, after_definitions, Reads}

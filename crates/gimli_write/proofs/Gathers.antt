@@ -3,7 +3,7 @@ use Rattle.std.proofs.Common.{◌≡◌, ℕ, false, nat_eq, List, [], ◌∷◌
 use Rattle.std.specs.Prelude.{Option, Some, None, Ok, Err}
 use Rattle.gimli_build.specs.Built.{Built}
 use Rattle.gimli_build.specs.declared.built.row.LineRow.{LineRow}
-use Rattle.gimli_write.specs.declared.convert.offer.ConvertLineRow.TheVariants.{SetAddress, Row}
+use Rattle.gimli_write.specs.declared.convert.rows.ConvertLineRow.TheVariants.{SetAddress, Row}
 use Rattle.gimli_write.specs.convert.Lists.{Lists}
 use Rattle.gimli_write.specs.convert.Offers.{Reading, ends, stops, defines, offers, address_offered, after_definitions}
 use Rattle.gimli_write.specs.convert.Sequences.{sequence_from, sequence_with}
@@ -11,7 +11,7 @@ use Rattle.gimli_write.specs.convert.Texts.{IsRefusedBy}
 use Rattle.gimli_write.specs.convert.ConversionState.{ConversionState, lists_of, version_of_source, after_held, unless_failed, source_left, still_to_read, IsReadRefusal, AddsFiles}
 use Rattle.gimli_write.specs.declared.convert_error.ConvertError.{ConvertError}
 use Rattle.gimli_write.specs.declared.convert_error.ConvertError.TheVariants.{MissingLineEndSequence}
-use Rattle.gimli_write.specs.declared.convert.sequence.ConvertLineSequenceEnd.TheVariants.{Address}
+use Rattle.gimli_write.specs.declared.convert.rows.ConvertLineSequenceEnd.TheVariants.{Address}
 
 -- files that are defined give no row
 pub gathered_after : (start : Option ℕ) (rows : List LineRow) (r : Reading) → sequence_from start rows (after_definitions r) ≡ sequence_from start rows r

@@ -24,8 +24,8 @@ use Rattle.gimli_build.specs.declared.built.items.BuiltItem.TheVariants as item
 use Rattle.gimli_write.specs.declared.convert_error.ConvertError.{ConvertError}
 use Rattle.gimli_write.specs.declared.convert_error.ConvertError.TheVariants.{Read, InvalidAddress, MissingLineEndSequence, UnsupportedLineInstruction}
 use Rattle.gimli_write.specs.declared.convert.run.SourceRow.{SourceRow}
-use Rattle.gimli_write.specs.declared.convert.offer.ConvertLineRow.{ConvertLineRow}
-use Rattle.gimli_write.specs.declared.convert.offer.ConvertLineRow.TheVariants as offer
+use Rattle.gimli_write.specs.declared.convert.rows.ConvertLineRow.{ConvertLineRow}
+use Rattle.gimli_write.specs.declared.convert.rows.ConvertLineRow.TheVariants as offer
 use Rattle.gimli_write.specs.convert.Texts.{◌>>=◌, source_path}
 use Rattle.gimli_write.specs.convert.Lists.{Lists, version_of, with_path, directory_added, file_added}
 use Rattle.gimli_write.specs.convert.Preparation.{Handed, encoding_of, first_ids, lists_of_header}

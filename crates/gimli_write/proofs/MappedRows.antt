@@ -23,7 +23,7 @@ use Rattle.gimli_build.specs.declared.built.items.BuiltItem.{BuiltItem}
 use Rattle.gimli_build.specs.declared.built.items.BuiltItem.TheVariants as item
 use Rattle.gimli_write.specs.declared.convert_error.ConvertError.{ConvertError}
 use Rattle.gimli_write.specs.declared.convert_error.ConvertError.TheVariants.{Read, InvalidFileIndex, MissingLineEndSequence, InvalidAddress, UnsupportedLineInstruction}
-use Rattle.gimli_write.specs.declared.convert.offer.ConvertLineRow.TheVariants as offer
+use Rattle.gimli_write.specs.declared.convert.rows.ConvertLineRow.TheVariants as offer
 use Rattle.gimli_write.specs.convert.Texts.{◌>>=◌}
 use Rattle.gimli_write.specs.convert.Lists.{Lists, FileParts, file_parts, with_parts, version_of}
 use Rattle.gimli_write.specs.convert.Offers.{Reading, stops, offers, base_at, pending_address, source_row, file_id, row_in, built_row, address_offered, row_offered, row_or_end_offered, source_row_offered, reading_at, end_reading, with_lists, lists_after_definition, lists_at, with_definition, reading_after}

@@ -1,6 +1,6 @@
 -- What one instruction of a source does to what is still to be read.
-use Rattle.std.proofs.Common.{◌≡◌, ◌≢◌, ℕ, ◌<◌, ◌≤◌, ◌-◌, ◌*◌, ◌^◌, Bool, true, false, not, ◌&&◌, ◌||◌, if◌then◌else◌, List, [], ◌∷◌, ◌++◌, length, refl, sym, ap, ◌∙◌, subst, append_assoc, arith}
-use Rattle.std.specs.Prelude.{Option, Some, None, unwrap_or, Result, Ok, Err, OnOk, OnErr, IfOk, IfErr, nat_lt, nat_le}
+use Rattle.std.proofs.Common.{◌≡◌, ◌≢◌, ℕ, ◌<◌, ◌≤◌, ◌-◌, Bool, true, false, not, ◌&&◌, ◌||◌, if◌then◌else◌, List, [], ◌∷◌, ◌++◌, length, refl, sym, ap, ◌∙◌, subst, append_assoc, arith}
+use Rattle.std.specs.Prelude.{Option, Some, None, unwrap_or, Result, Ok, Err, OnOk, OnErr, IfOk, IfErr}
 use Rattle.std.proofs.lemmas.List.{length-append, append-nil}
 use Rattle.std.proofs.lemmas.Bool.{false≢true}
 use Rattle.gimli_core.specs.Notation.{Notation}
@@ -16,8 +16,7 @@ use Rattle.gimli_line.specs.declared.header.file_entry.FileEntry.{FileEntry}
 use Rattle.gimli_line.specs.run.Instruction.{Ins, ins_seen, is_end, makes_row, defines_file, files_after}
 use Rattle.gimli_line.specs.run.InstructionGrammar.{SpellsInstruction, instruction_production}
 use Rattle.gimli_line.specs.run.InstructionReading.{decoded_at}
-use Rattle.gimli_line.specs.run.Machine.{step_of, reset_row, is_refused, pointer_of}
-use Rattle.gimli_line.specs.run.OperationPointer.{is_tombstone}
+use Rattle.gimli_line.specs.run.Machine.{step_of, reset_row, is_refused}
 use Rattle.gimli_line.specs.run.EventsWithFiles.{next_registers}
 use Rattle.gimli_line.specs.run.Unread.{Unread}
 use Rattle.gimli_line.proofs.InstructionLaws.{is_decoded, one_decoding, instructions_bounded}
@@ -177,35 +176,27 @@ pub is_overflow : (i : Ins) (e : Error) → (e ≢ AddressOverflow → defines_f
 is_overflow i AddressOverflow memory file = refl
 is_overflow i e memory file = absurd (false≢true (sym file ∙ memory (λ is. absurd cc)))
 
--- the register `tombstone` is known, and registers that are ready don't end a sequence
-abbrev pub IsReady : Bool → LineRow → Type 0
-IsReady tombstone r = (tombstone ≡ r.tombstone) × (r.end_sequence ≡ false)
+-- registers that are ready don't end a sequence
+abbrev pub IsReady : LineRow → Type 0
+IsReady r = r.end_sequence ≡ false
 
-module _ (i : Ins) (tombstone : Bool) (old new : LineRow) (ready : IsReady tombstone old) where
-  pub ready_at_refusal : (p : Parameters) (e : Error) → address_operand i ≡ None → defines_file i ≡ false → (e ≢ AddressOverflow → defines_file i ≡ true)
-      → (e ≡ AddressOverflow → (is_refused p i old ≡ true) × (new ≡ step_of p i old)) → IsReady tombstone new
-  ready_at_refusal p e address file memory over =
+module _ (i : Ins) (old new : LineRow) (ready : IsReady old) where
+  pub ready_at_refusal : (p : Parameters) (e : Error) → defines_file i ≡ false → (e ≢ AddressOverflow → defines_file i ≡ true)
+      → (e ≡ AddressOverflow → (is_refused p i old ≡ true) × (new ≡ step_of p i old)) → IsReady new
+  ready_at_refusal p e file memory over =
       let o = over (is_overflow i e memory file) in
-      let same_tombstone : new.tombstone ≡ old.tombstone = ap (λ (r : LineRow). r.tombstone) o.1 ∙ keeps_tombstone p i old address in
-      let same_end : new.end_sequence ≡ old.end_sequence = ap (λ (r : LineRow). r.end_sequence) o.1 ∙ refusal_keeps_end p i old o.0 in
-      (ready.0 ∙ sym same_tombstone, same_end ∙ ready.1)
+      ap (λ (r : LineRow). r.end_sequence) o.1 ∙ refusal_keeps_end p i old o.0 ∙ ready
 
-  pub ready_when_quiet : (p : Parameters) → address_operand i ≡ None → makes_row i ≡ false → new ≡ step_of p i old → IsReady tombstone new
-  ready_when_quiet p address quiet step =
-      let same_tombstone : new.tombstone ≡ old.tombstone = ap (λ (r : LineRow). r.tombstone) step ∙ keeps_tombstone p i old address in
-      let same_end : new.end_sequence ≡ old.end_sequence = ap (λ (r : LineRow). r.end_sequence) step ∙ keeps_end p i old quiet in
-      (ready.0 ∙ sym same_tombstone, same_end ∙ ready.1)
+  pub ready_when_quiet : (p : Parameters) → makes_row i ≡ false → new ≡ step_of p i old → IsReady new
+  ready_when_quiet p quiet step = ap (λ (r : LineRow). r.end_sequence) step ∙ keeps_end p i old quiet ∙ ready
 
-reset_ready : (q : Parameters) (r : LineRow) (last kept tombstone : Bool) → r.end_sequence ≡ last → kept ≡ (if last then false else tombstone) → tombstone ≡ r.tombstone → IsReady kept (reset_row q r)
-reset_ready q r true kept tombstone e k h = rw e (k, refl)
-reset_ready q r false kept tombstone e k h = rw e (k ∙ h, refl)
+reset_ready : (q : Parameters) (r : LineRow) (last : Bool) → r.end_sequence ≡ last → IsReady (reset_row q r)
+reset_ready q r true e = rw e refl
+reset_ready q r false e = rw e refl
 
 -- after a row, whose registers are reset
-pub ready_after_row : (i : Ins) (tombstone : Bool) (old new after : LineRow) → IsReady tombstone old → (p q : Parameters) → address_operand i ≡ None → new ≡ step_of p i old
-    → (last kept : Bool) → last ≡ new.end_sequence → kept ≡ (if last then false else tombstone) → after ≡ reset_row q new → IsReady kept after
-ready_after_row i tombstone old new after ready p q address step last kept ended kept_is reset =
-    let same_tombstone : tombstone ≡ new.tombstone = ready.0 ∙ sym (ap (λ (r : LineRow). r.tombstone) step ∙ keeps_tombstone p i old address) in
-    rw reset (reset_ready q new last kept tombstone (sym ended) kept_is same_tombstone)
+pub ready_after_row : (q : Parameters) (new after : LineRow) → after ≡ reset_row q new → IsReady after
+ready_after_row q new after reset = rw reset (reset_ready q new new.end_sequence refl)
 
 -- ---- what is done of an instruction that sets no address and defines no file
 
@@ -254,16 +245,17 @@ module _ (i : Ins) (h h2 : Header) (r r2 : LineRow) (b : ℕ) (p : Option ℕ) (
       ∙ ap (λ (m : ℕ). state h (next_registers h.parameters i r) m None u) base
       ∙ ap (λ (o : Option ℕ). state h (next_registers h.parameters i r) (base_after i b) o u) (sym pends)
 
-  pub made_is : {R Endian Offset : Type 0} (given : SourceStep R Endian Offset) (tombstone : Bool) (offset : ℕ)
-      → given ≡ (if tombstone then More else Made (record { set_address = p; address_offset = offset; row = r2 })) → tombstone ≡ r.tombstone → makes_row i ≡ true → offset ≡ r2.address - b
+  pub made_is : {R Endian Offset : Type 0} (given : SourceStep R Endian Offset) (offset : ℕ)
+      → given ≡ (if r2.tombstone then More else Made (record { set_address = p; address_offset = offset; row = r2 })) → makes_row i ≡ true → offset ≡ r2.address - b
       → given ≡ step_made (state h r b p u) i
-  made_is given tombstone offset is same loud counts =
+  made_is given offset is loud counts =
+      let same : r2.tombstone ≡ r.tombstone = ap (λ (w : LineRow). w.tombstone) step ∙ keeps_tombstone h.parameters i r address in
       let x : SourceRow = record { set_address = p; address_offset = offset; row = r2 } in
       let offset_is : x ≡ record { set_address = p; address_offset = r2.address - b; row = r2 } =
       ap (λ (o : ℕ). let y : SourceRow = record { set_address = p; address_offset = o; row = r2 } in y) counts in
       let row_is : record { set_address = p; address_offset = r2.address - b; row = r2 } ≡ row_made (state h r b p u) i =
       ap (λ (w : LineRow). let y : SourceRow = record { set_address = p; address_offset = w.address - b; row = w } in y) step in
-      is ∙ same_or_other (makes_row i) tombstone r.tombstone x (row_made (state h r b p u) i) loud same (offset_is ∙ row_is)
+      is ∙ same_or_other (makes_row i) r2.tombstone r.tombstone x (row_made (state h r b p u) i) loud same (offset_is ∙ row_is)
 
 -- ---- what is done of a set address
 
@@ -274,12 +266,8 @@ module _ (p : Parameters) (a : ℕ) (old new : LineRow) where
   address_done (Ok m) step over memory = step
   address_done (Err e) step over memory = (over (is_overflow (SetAddress a) e (λ n. (memory n).2) refl)).1
 
-  pub address_ready : (tombstone : Bool) (before size : ℕ) → tombstone ≡ (nat_lt a before || nat_le (2 ^ (8 * size) - 2) a) → before ≡ old.address → size ≡ p.encoding.address_size
-      → old.end_sequence ≡ false → new ≡ step_of p (SetAddress a) old → IsReady tombstone new
-  address_ready tombstone before size is b s ended step =
-      let tombstone_is : tombstone ≡ is_tombstone p a (pointer_of old) =
-      is ∙ ap (λ (n : ℕ). nat_lt a n || nat_le (2 ^ (8 * size) - 2) a) b ∙ ap (λ (n : ℕ). nat_lt a old.address || nat_le (2 ^ (8 * n) - 2) a) s in
-      (tombstone_is ∙ sym (ap (λ (r : LineRow). r.tombstone) step), ap (λ (r : LineRow). r.end_sequence) step ∙ ended)
+  pub address_ready : IsReady old → new ≡ step_of p (SetAddress a) old → IsReady new
+  address_ready ready step = ap (λ (r : LineRow). r.end_sequence) step ∙ ready
 
 pub address_header : (a : ℕ) (h h2 : Header) (r : Result Bool Error) → OnOk r (h2 ≡ record h { files = files_after true (SetAddress a) h.files }) → OnErr r (h2 ≡ h) → h2 ≡ h
 address_header a h h2 (Ok m) files kept = files

@@ -104,7 +104,7 @@ writable_with_items old new line_strings same = record {
 }
 
 -- after a builder call, of which a refused one changes nothing
-pub writable_built : {A E : Type 0} (result : Result A E) (old new : ConversionState) (line_strings : List (List ℕ)) (built : Built) → without_items built ≡ without_items old.lists.program
-    → OnOk result (new ≡ with_program built old) → OnErr result (new ≡ old) → StaysWritable old.lists line_strings new.lists line_strings
-writable_built (Ok _) old new line_strings built same is kept = rw is (writable_with_items old.lists (with_program built old).lists line_strings same)
+pub writable_built : {A E : Type 0} (result : Result A E) (old new : Converted) (line_strings : List (List ℕ)) (built : Built) → without_items built ≡ without_items old.program
+    → OnOk result (new ≡ record old { program = built }) → OnErr result (new ≡ old) → StaysWritable old line_strings new line_strings
+writable_built (Ok _) old new line_strings built same is kept = rw is (writable_with_items old (record old { program = built }) line_strings same)
 writable_built (Err _) old new line_strings built same is kept = rw kept (record { still = λ strings can. can })

@@ -16,8 +16,7 @@ ghost use Rattle.gimli_write.specs.convert.Mapped.{IsMapped, HasConstantAddresse
 ghost use Rattle.gimli_write.specs.convert.Preparation.{encoding_of};
 ghost use Rattle.gimli_write.specs.convert.DoneConversions.{DoneConversion, IsToBeFaithful, SourceGives, AreReadAs, UnitReadBack, GivesBack, SourceFilesAre, AreFilesReadBack};
 
-use crate::convert::offer::ConvertLineRow;
-use crate::convert::sequence::{ConvertLineSequence, ConvertLineSequenceEnd};
+use crate::convert::rows::{ConvertLineRow, ConvertLineSequence, ConvertLineSequenceEnd};
 use crate::convert_error::ConvertError;
 
 /// A conversion asks of each row and end what the builder's own calls ask.

@@ -11,7 +11,7 @@ use Rattle.gimli_build.specs.Texts.{Sections}
 use Rattle.gimli_write.specs.declared.convert_error.ConvertError.{ConvertError}
 use Rattle.gimli_write.specs.declared.convert_error.ConvertError.TheVariants.{OutOfMemory, UnsupportedLineInstruction}
 use Rattle.gimli_write.specs.declared.convert.run.SourceRow.{SourceRow}
-use Rattle.gimli_write.specs.declared.convert.offer.ConvertLineRow.{ConvertLineRow}
+use Rattle.gimli_write.specs.declared.convert.rows.ConvertLineRow.{ConvertLineRow}
 use Rattle.gimli_write.specs.convert.Lists.{Converted, Lists, lists_with}
 use Rattle.gimli_write.specs.convert.Offers.{Reading, ends, stops, offers, address_offered, row_or_end_offered, defines_first, after_definitions, Reads}
 use Rattle.gimli_write.specs.convert.SourceState.{SourceState, reading_left}

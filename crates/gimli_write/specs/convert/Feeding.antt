@@ -13,8 +13,8 @@ use Rattle.gimli_write.specs.convert.Lists.{Lists}
 use Rattle.gimli_write.specs.convert.Offers.{Reading, ends, stops, defines, offers}
 use Rattle.gimli_write.specs.declared.convert_error.ConvertError.{ConvertError}
 use Rattle.gimli_write.specs.declared.convert_error.ConvertError.TheVariants.{InvalidAddress, MissingLineEndSequence, UnsupportedLineInstruction}
-use Rattle.gimli_write.specs.declared.convert.offer.ConvertLineRow.{ConvertLineRow}
-use Rattle.gimli_write.specs.declared.convert.offer.ConvertLineRow.TheVariants as offer
+use Rattle.gimli_write.specs.declared.convert.rows.ConvertLineRow.{ConvertLineRow}
+use Rattle.gimli_write.specs.declared.convert.rows.ConvertLineRow.TheVariants as offer
 
 -- ---- the builder's conditions, as tests
 

@@ -19,8 +19,8 @@ use Rattle.gimli_write.specs.convert.Lists.{Lists, file_added}
 use Rattle.gimli_write.specs.declared.convert_error.ConvertError.{ConvertError}
 use Rattle.gimli_write.specs.declared.convert_error.ConvertError.TheVariants.{Read, InvalidFileIndex}
 use Rattle.gimli_write.specs.declared.convert.run.SourceRow.{SourceRow}
-use Rattle.gimli_write.specs.declared.convert.offer.ConvertLineRow.{ConvertLineRow}
-use Rattle.gimli_write.specs.declared.convert.offer.ConvertLineRow.TheVariants.{SetAddress, Row, EndSequence}
+use Rattle.gimli_write.specs.declared.convert.rows.ConvertLineRow.{ConvertLineRow}
+use Rattle.gimli_write.specs.declared.convert.rows.ConvertLineRow.TheVariants.{SetAddress, Row, EndSequence}
 
 -- ---- set addresses
 

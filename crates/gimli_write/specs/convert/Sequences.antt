@@ -3,10 +3,10 @@ use Rattle.std.specs.Prelude.{◌≡◌, ℕ, List, [], ◌∷◌, ◌++◌, Opt
 use Rattle.gimli_build.specs.declared.built.row.LineRow.{LineRow}
 use Rattle.gimli_write.specs.declared.convert_error.ConvertError.{ConvertError}
 use Rattle.gimli_write.specs.declared.convert_error.ConvertError.TheVariants.{MissingLineEndSequence}
-use Rattle.gimli_write.specs.declared.convert.offer.ConvertLineRow.TheVariants.{SetAddress, Row, EndSequence}
-use Rattle.gimli_write.specs.declared.convert.sequence.ConvertLineSequence.{ConvertLineSequence}
-use Rattle.gimli_write.specs.declared.convert.sequence.ConvertLineSequenceEnd.{ConvertLineSequenceEnd}
-use Rattle.gimli_write.specs.declared.convert.sequence.ConvertLineSequenceEnd.TheVariants.{Length, Address}
+use Rattle.gimli_write.specs.declared.convert.rows.ConvertLineRow.TheVariants.{SetAddress, Row, EndSequence}
+use Rattle.gimli_write.specs.declared.convert.rows.ConvertLineSequence.{ConvertLineSequence}
+use Rattle.gimli_write.specs.declared.convert.rows.ConvertLineSequenceEnd.{ConvertLineSequenceEnd}
+use Rattle.gimli_write.specs.declared.convert.rows.ConvertLineSequenceEnd.TheVariants.{Length, Address}
 use Rattle.gimli_write.specs.convert.Lists.{Lists}
 use Rattle.gimli_write.specs.convert.Offers.{Reading, ends, stops, defines, offers}
 use Rattle.gimli_write.specs.convert.Texts.{IsRefusedBy}

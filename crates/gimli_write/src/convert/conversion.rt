@@ -1,21 +1,25 @@
 //! A source that is read, and the program that is built of it.
 
-ghost use Rattle.std.specs.Prelude.{◌≡◌, ◌≢◌, ℕ, ◌⊎◌, List, None, Some, Ok, IfErr, IfOk, OnErr, OnOk, true, false};
+ghost use Rattle.std.specs.Prelude.{◌≡◌, ◌≢◌, ℕ, List, [], Option, None, Some, Ok, Err, option_map, IfErr, IfOk, OnErr, OnOk, true, false};
 ghost use Rattle.gimli_bytes.specs.Texts.{KeepsTexts};
+ghost use Rattle.gimli_bytes.specs.declared.address.Address.{Address};
+ghost use Rattle.gimli_write.specs.convert.Texts.{IsRefusedBy};
 ghost use Rattle.gimli_write.specs.convert.Lists.{lists_with};
-ghost use Rattle.gimli_write.specs.convert.KeptLists.{KeepsFiles, StaysWritable, source_last, IsAtLast, KeepsLast};
+ghost use Rattle.gimli_write.specs.convert.KeptLists.{KeepsFiles, IsWritable, StaysWritable, source_last, IsAtLast, KeepsLast};
 ghost use Rattle.gimli_write.specs.convert.Offers.{Reading, stops, offers, row_or_end_offered};
 ghost use Rattle.gimli_write.specs.convert.SourceState.{start_of_source};
 ghost use Rattle.gimli_write.specs.convert.LastLists.{lacks_file, lists_after_row};
-ghost use Rattle.gimli_write.specs.convert.ConversionState.{start_of_conversion, lists_of, version_of_source, source_left, still_to_read, HandsOut, TakesRow, IsReadRefusal, AddsFiles};
+ghost use Rattle.gimli_write.specs.convert.ConversionState.{start_of_conversion, lists_of, version_of_source, source_left, still_to_read, HandsOut, TakesRow, IsReadRefusal, AddsFiles, with_program, rest_converted, AnswersAs, RestConvertsTo, IsRestRefusal};
+ghost use Rattle.gimli_write.specs.convert.Sequences.{sequence_from, sequence_read};
+ghost use Rattle.gimli_write.specs.convert.Feeding.{after_item, without_items};
 
-use crate::convert::lists::Lists;
-use crate::convert::offer::ConvertLineRow;
+use crate::convert::rows::{ConvertLineRow, ConvertLineSequence, ConvertLineSequenceEnd};
 use crate::convert::run::{SourceRow, SourceRun, SourceStep};
+use crate::convert::tables::Lists;
 use crate::convert_error::{ConvertError, ConvertResult};
 use crate::text::TextSections;
 use gimli_build::{FileId, LineProgram};
-use gimli_bytes::LineStringTable;
+use gimli_bytes::{Address, LineStringTable};
 use gimli_core::Reader;
 use gimli_line::IncompleteLineProgram;
 use std::marker::Model;
@@ -211,4 +215,162 @@ impl<R: Reader> Conversion<R> {
             }
         }
     }
+
+    /// Reads up to the end of a sequence, or to an address that is set after a row, which the next read hands out first.
+    /// Refused as `read_row` is, as `MissingLineEndSequence` for rows without an end, or by `OutOfMemory`; every later
+    /// read repeats the refusal. The line strings keep their texts.
+    pub(crate) fn read_sequence(
+        &mut self,
+        line_strings: &mut LineStringTable,
+    ) -> ConvertResult<Option<ConvertLineSequence>>
+        ensures ok { IfOk result (λ sequence. sequence_from None [] (still_to_read self.old line_strings.old)
+            ≡ Ok (option_map sequence_read sequence, still_to_read self.new line_strings.new)) }
+        ensures err { IfErr result (IsRefusedBy (sequence_from None [] (still_to_read self.old line_strings.old))) }
+        ensures repeats { (e : ConvertError) → self.old.failed ≡ Some e → result ≡ Err e }
+        ensures failed { IfErr result (λ e. self.new.failed ≡ Some e) }
+        ensures well { OnOk result (self.new.failed ≡ None) }
+        ensures adds { AddsFiles self.old.lists.program self.new.lists.program }
+        ensures keeps { KeepsFiles self.old.lists self.new.lists }
+        ensures writable { StaysWritable self.old.lists line_strings.old self.new.lists line_strings.new }
+        ensures last { OnOk result (KeepsLast self.old line_strings.old self.new line_strings.new) }
+        ensures ended { IfOk result (λ sequence. sequence ≡ None →
+            IsAtLast self.old line_strings.old self.new line_strings.new) }
+        ensures stopped { IfErr result (λ e. e ≢ ConvertError.OutOfMemory →
+            IsAtLast self.old line_strings.old self.new line_strings.new) }
+        ensures stays { KeepsTexts line_strings.old line_strings.new }
+    {
+        if let Some(e) = self.failed {
+            return Err(e);
+        }
+        match self.gather(line_strings) {
+            Ok(sequence) => Ok(sequence),
+            Err(e) => {
+                self.failed = Some(e);
+                Err(e)
+            }
+        }
+    }
+
+    /// The same, where no read was refused before.
+    fn gather(
+        &mut self,
+        line_strings: &mut LineStringTable,
+    ) -> ConvertResult<Option<ConvertLineSequence>>
+        ensures ok { IfOk result (λ sequence. sequence_from None [] (still_to_read self.old line_strings.old)
+            ≡ Ok (option_map sequence_read sequence, still_to_read self.new line_strings.new)) }
+        ensures err { IfErr result (IsRefusedBy (sequence_from None [] (still_to_read self.old line_strings.old))) }
+        ensures well { OnOk result (self.new.failed ≡ None) }
+        ensures adds { AddsFiles self.old.lists.program self.new.lists.program }
+        ensures keeps { KeepsFiles self.old.lists self.new.lists }
+        ensures writable { StaysWritable self.old.lists line_strings.old self.new.lists line_strings.new }
+        ensures last { OnOk result (KeepsLast self.old line_strings.old self.new line_strings.new) }
+        ensures ended { IfOk result (λ sequence. sequence ≡ None →
+            IsAtLast self.old line_strings.old self.new line_strings.new) }
+        ensures stopped { IfErr result (λ e. e ≢ ConvertError.OutOfMemory →
+            IsAtLast self.old line_strings.old self.new line_strings.new) }
+        ensures stays { KeepsTexts line_strings.old line_strings.new }
+    {
+        let mut start = None;
+        let mut rows = Vec::new(*line_strings.allocator());
+        'rows: loop {
+            match self.read_row(line_strings)? {
+                Some(ConvertLineRow::Row(row)) => rows.push(row)?,
+                Some(ConvertLineRow::SetAddress(address)) if rows.is_empty() => {
+                    start = Some(address);
+                }
+                Some(ConvertLineRow::SetAddress(address)) => {
+                    self.give_back(address);
+                    let end = ConvertLineSequenceEnd::Address(address);
+                    return Ok(Some(ConvertLineSequence { start, end, rows }));
+                }
+                Some(ConvertLineRow::EndSequence(length)) => {
+                    let end = ConvertLineSequenceEnd::Length(length);
+                    return Ok(Some(ConvertLineSequence { start, end, rows }));
+                }
+                None if rows.is_empty() => return Ok(None),
+                None => return Err(ConvertError::MissingLineEndSequence),
+            }
+        }
+    }
+
+    /// Has an address handed out again by the next read.
+    fn give_back(&mut self, address: u64)
+        ensures { self.new ≡ record self.old { address = Some address } }
+    {
+        self.address = Some(address);
+    }
+
+    /// Builds what was read. Refused as `InvalidAddress` where there is no other address, as `UnsupportedLineInstruction`
+    /// where it can't be built, or by `OutOfMemory`.
+    fn feed<F: Fn(u64) -> Option<Address>>(
+        &mut self,
+        row: ConvertLineRow,
+        convert_address: &F,
+    ) -> ConvertResult<()>
+        requires { F.IsAlwaysCallable convert_address.now }
+        ensures ok { (g : ℕ → Option Address) → AnswersAs (F.post convert_address.now) g
+            → OnOk result (after_item g row self.old.lists.program ≡ Ok self.new.lists.program) }
+        ensures err { (g : ℕ → Option Address) → AnswersAs (F.post convert_address.now) g
+            → IfErr result (IsRefusedBy (after_item g row self.old.lists.program)) }
+        ensures kept { OnOk result (self.new ≡ with_program self.new.lists.program self.old) }
+        ensures items { OnOk result (without_items self.new.lists.program ≡ without_items self.old.lists.program) }
+    {
+        match row {
+            ConvertLineRow::SetAddress(address) => match convert_address(address) {
+                Some(address) => self.lists.set_address(address),
+                None => Err(ConvertError::InvalidAddress),
+            },
+            ConvertLineRow::Row(row) => self.lists.generate_row(row),
+            ConvertLineRow::EndSequence(address_offset) => self.lists.end_sequence(address_offset),
+        }
+    }
+
+    /// Reads and builds all that is still to be read, as `convert_all` does.
+    fn feed_all<F: Fn(u64) -> Option<Address>>(
+        &mut self,
+        line_strings: &mut LineStringTable,
+        convert_address: &F,
+    ) -> ConvertResult<()>
+        requires { F.IsAlwaysCallable convert_address.now }
+        ensures ok { (g : ℕ → Option Address) → AnswersAs (F.post convert_address.now) g
+            → OnOk result (rest_converted g self.old line_strings.old ≡ Ok (record {
+              program = self.new.lists.program;
+              file_ids = self.new.lists.file_ids;
+              line_strings = line_strings.new;
+            })) }
+        ensures err { IfErr result (IsRestRefusal (F.post convert_address.now) self.old line_strings.old) }
+        ensures writable { OnOk result (StaysWritable self.old.lists line_strings.old self.new.lists line_strings.new) }
+        ensures stays { KeepsTexts line_strings.old line_strings.new }
+    {
+        'rows: loop {
+            match self.read_row(line_strings)? {
+                Some(row) => self.feed(row, convert_address)?,
+                None if self.lists.in_sequence() => return Err(
+                    ConvertError::MissingLineEndSequence,
+                ),
+                None => return Ok(()),
+            }
+        }
+    }
+}
+
+/// Reads and builds all that is still to be read. Refused by the first of these: an address that has no other, as
+/// `InvalidAddress`; what can't be built, as `UnsupportedLineInstruction`; a refusal of reading; a sequence that is left
+/// open, as `MissingLineEndSequence`; or by `OutOfMemory`. The line strings keep their texts, and what could be written
+/// still can be.
+pub(crate) fn convert_all<R: Reader, F: Fn(u64) -> Option<Address>>(
+    mut conversion: Conversion<R>,
+    line_strings: &mut LineStringTable,
+    convert_address: F,
+) -> ConvertResult<(LineProgram, Vec<FileId>)>
+    requires { F.IsAlwaysCallable convert_address }
+    ensures ok { IfOk result (λ answer. RestConvertsTo (F.post convert_address)
+        conversion line_strings.old answer line_strings.new) }
+    ensures err { IfErr result (IsRestRefusal (F.post convert_address) conversion line_strings.old) }
+    ensures writable { IsWritable conversion.lists.program line_strings.old
+        → IfOk result (λ answer. IsWritable answer.0 line_strings.new) }
+    ensures stays { KeepsTexts line_strings.old line_strings.new }
+{
+    conversion.feed_all(line_strings, &convert_address)?;
+    Ok(conversion.into_program())
 }

@@ -14,8 +14,8 @@ ghost use Rattle.gimli_write.specs.convert.Texts.{◌>>=◌ as ◌>>>◌, IsRefu
 ghost use Rattle.gimli_write.specs.convert.Lists.{lists_with, directory_added, file_added, all_added};
 ghost use Rattle.gimli_write.specs.convert.Preparation.{first_path, working_directory, file_directory, own_source_file, named_source_file, source_file, is_out_of_range, line_encoding_of, first_texts, started_program, started_lists, first_ids, has_before_5, handed_of, lists_of_header};
 
-use crate::convert::lists::{Lists, made, optional_made};
-use crate::convert::texts::{source_path, source_text, without_zero};
+use crate::convert::tables::Lists;
+use crate::convert::texts::{made, optional_made, source_path, source_text, without_zero};
 use crate::convert_error::{ConvertError, ConvertResult, from_write};
 use crate::text::{TextSections, copied};
 use gimli_build::{DirectoryId, FileId, LineProgram};

@@ -13,12 +13,9 @@ ghost use Rattle.gimli_write.specs.convert.Mapped.{IsFaithfulIfItCan};
 ghost use Rattle.gimli_write.specs.convert.ConversionState.{still_to_read, IsPrepared, IsHeaderRefusal, ReadsWhole, GivesNext, IsReadRefusal, AddsFiles, CanBuildRow, IsBuildRefusal, with_program, ConvertsTo, IsConvertRefusal, RestConvertsTo, IsRestRefusal};
 ghost use Rattle.gimli_write.specs.convert.Sequences.{GathersNext, IsGatherRefusal};
 
-use crate::convert::conversion::Conversion;
-use crate::convert::feeding::convert_all;
+use crate::convert::conversion::{Conversion, convert_all};
 use crate::convert::header::prepare;
-use crate::convert::lists::Lists;
-use crate::convert::offer::ConvertLineRow;
-use crate::convert::sequence::ConvertLineSequence;
+use crate::convert::rows::{ConvertLineRow, ConvertLineSequence};
 use crate::convert_error::{ConvertError, ConvertResult};
 use crate::text::TextSections;
 use gimli_build::{FileId, LineProgram, LineRow};
@@ -215,7 +212,7 @@ impl<'a, 'b, R: Reader> ConvertLineProgram<'a, 'b, R, Conversion<R>> {
             ≡ self.old.line_strings.ghost_name }
         ensures same_strings { self.new.strings.ghost_name ≡ self.old.strings.ghost_name }
     {
-        self.conversion.begin_sequence(address)
+        self.conversion.lists.begin_sequence(address)
     }
 
     /// Sets the address in the program that is built, where a sequence begins if none has. Refused by `OutOfMemory`
@@ -233,7 +230,7 @@ impl<'a, 'b, R: Reader> ConvertLineProgram<'a, 'b, R, Conversion<R>> {
             ≡ self.old.line_strings.ghost_name }
         ensures same_strings { self.new.strings.ghost_name ≡ self.old.strings.ghost_name }
     {
-        self.conversion.set_address(address)
+        self.conversion.lists.set_address(address)
     }
 
     /// Makes this row the current one of the program that is built, and builds it. Refused as
@@ -254,7 +251,7 @@ impl<'a, 'b, R: Reader> ConvertLineProgram<'a, 'b, R, Conversion<R>> {
             ≡ self.old.line_strings.ghost_name }
         ensures same_strings { self.new.strings.ghost_name ≡ self.old.strings.ghost_name }
     {
-        self.conversion.generate_row(row)
+        self.conversion.lists.generate_row(row)
     }
 
     /// Ends a sequence of the program that is built, so many bytes after the address that was last set. Refused as
@@ -275,14 +272,14 @@ impl<'a, 'b, R: Reader> ConvertLineProgram<'a, 'b, R, Conversion<R>> {
             ≡ self.old.line_strings.ghost_name }
         ensures same_strings { self.new.strings.ghost_name ≡ self.old.strings.ghost_name }
     {
-        self.conversion.end_sequence(address_offset)
+        self.conversion.lists.end_sequence(address_offset)
     }
 
     /// Whether a sequence has begun in the program that is built.
     pub fn in_sequence(&self) -> bool
         ensures { result ≡ self.now.conversion.lists.program.in_sequence }
     {
-        self.conversion.in_sequence()
+        self.conversion.lists.in_sequence()
     }
 
     /// The program that was built so far, and for each file number of the source its id there; up to version 4 of the

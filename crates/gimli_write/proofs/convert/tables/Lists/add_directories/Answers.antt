@@ -4,7 +4,7 @@ use Rattle.gimli_core.specs.Values.{value_seen}
 use Rattle.gimli_write.specs.convert.Texts.{◌>>=◌}
 use Rattle.gimli_write.specs.convert.Lists.{Lists, lists_with, directory_added, all_added}
 use Rattle.gimli_write.proofs.ConvertSteps.{done_first, refused_first, refused_same, next_added, kept_self, kept_then}
-use Rattle.gimli_write.proofs.convert.lists.Lists.add_directories.Goals as goal
+use Rattle.gimli_write.proofs.convert.tables.Lists.add_directories.Goals as goal
 
 pub loop-directory-init : goal.loop-directory-init
 loop-directory-init g c = record { left = refl; stays = kept_self c.args.line_strings.now }

@@ -1,24 +1,25 @@
 //! The directories and files of a source, as they are added to the program that is built of it.
 
-ghost use Rattle.std.specs.Prelude.{◌≡◌, ◌≢◌, ◌≤◌, ℕ, List, [], All, IfOk, IfErr, IfSome, OnOk, Ok, length, option_map, map, slice_get, ◌<◌};
-ghost use Rattle.std.specs.Option.{option_map_or};
+ghost use Rattle.std.specs.Prelude.{◌≡◌, ◌≢◌, ◌≤◌, ℕ, List, [], false, All, IfOk, IfErr, IfSome, OnErr, OnOk, Ok, length, map, slice_get, ◌<◌};
 ghost use Rattle.gimli_core.specs.Values.{value_seen};
 ghost use Rattle.gimli_line.specs.header.File.{file_seen};
 ghost use Rattle.gimli_bytes.specs.Texts.{KeepsTexts};
-ghost use Rattle.gimli_build.specs.LineText.{LineText, line_text, made_text, made_table, IsWithin, HasNoZero, IsNotEmpty};
+ghost use Rattle.gimli_build.specs.Built.{previous_position};
+ghost use Rattle.gimli_build.specs.Calls.{after_begin, after_address, after_row, after_end};
+ghost use Rattle.gimli_build.specs.Conditions.{CanBuild, CanGenerateRow, CanEndSequence};
 ghost use Rattle.gimli_write.specs.convert.Texts.{IsRefusedBy};
 ghost use Rattle.gimli_write.specs.convert.Offers.{file_id};
-ghost use Rattle.gimli_write.specs.convert.ConversionState.{AddsFiles};
+ghost use Rattle.gimli_write.specs.convert.ConversionState.{AddsFiles, IsBuildRefusal};
 ghost use Rattle.gimli_write.specs.convert.KeptLists.{KeepsFiles, StaysWritable};
 ghost use Rattle.gimli_write.specs.convert.Lists.{lists_with, directory_added, file_added, file_parts, with_parts, all_added};
 ghost use Rattle.gimli_write.specs.declared.convert_error.ConvertError.TheVariants.{OutOfMemory};
 
-use crate::convert::texts::{optional_text, source_path};
+use crate::convert::texts::{made, optional_made, optional_text, source_path};
 use crate::convert_error::{ConvertError, ConvertResult, from_write};
 use crate::text::TextSections;
-use gimli_build::{DirectoryId, FileId, FileInfo, LineProgram, LineString};
-use gimli_bytes::LineStringTable;
-use gimli_core::{AttributeValue, Encoding, Reader, ReaderOffset};
+use gimli_build::{BuiltItem, DirectoryId, FileId, FileInfo, LineProgram, LineRow};
+use gimli_bytes::{Address, LineStringTable};
+use gimli_core::{AttributeValue, Reader, ReaderOffset};
 use gimli_line::FileEntry;
 use std::alloc::Global;
 use std::marker::Model;
@@ -69,51 +70,6 @@ impl Model for FileParts {
       directory = a.directory;
       source = option_map (λ text. text.items) a.source;
     } };
-}
-
-/// A text of a program of this encoding. Requires bytes without a zero byte. Refused by `OutOfMemory` alone; then the line
-/// strings are as before.
-pub(crate) fn made(
-    text: &[u8],
-    encoding: Encoding,
-    line_strings: &mut LineStringTable,
-) -> ConvertResult<LineString>
-    requires { All (λ b. b ≢ 0) text.now }
-    ensures ok { IfOk result (λ made. line_text made ≡ made_text encoding.version line_strings.old text.now) }
-    ensures table { OnOk result (line_strings.new ≡ made_table encoding.version line_strings.old text.now) }
-    ensures within { IfOk result (λ made. (strings : List (List ℕ)) → IsWithin strings line_strings.new (line_text made)) }
-    ensures no_zero { IfOk result (λ made. HasNoZero (line_text made)) }
-    ensures not_empty { encoding.version ≤ 4 → text.now ≢ [] → IfOk result (λ made. IsNotEmpty (line_text made)) }
-    ensures stays { KeepsTexts line_strings.old line_strings.new }
-    ensures memory { IfErr result (λ e. e ≡ ConvertError.OutOfMemory) }
-{
-    match LineString::new(text, encoding, line_strings) {
-        Ok(made) => Ok(made),
-        Err(e) => Err(from_write(e)),
-    }
-}
-
-/// The same, where there are bytes.
-pub(crate) fn optional_made(
-    text: &Option<Vec<u8>>,
-    encoding: Encoding,
-    line_strings: &mut LineStringTable,
-) -> ConvertResult<Option<LineString>>
-    requires { IfSome text.now (λ text. All (λ b. b ≢ 0) text.items) }
-    ensures ok { IfOk result (λ made. option_map line_text made
-        ≡ option_map (made_text encoding.version line_strings.old) (option_map (λ text. text.items) text.now)) }
-    ensures table { OnOk result (line_strings.new ≡ option_map_or (made_table encoding.version line_strings.old)
-        (option_map (λ text. text.items) text.now) line_strings.old) }
-    ensures within { IfOk result (λ made. IfSome made (λ made. (strings : List (List ℕ)) →
-        IsWithin strings line_strings.new (line_text made))) }
-    ensures no_zero { IfOk result (λ made. IfSome made (λ made. HasNoZero (line_text made))) }
-    ensures stays { KeepsTexts line_strings.old line_strings.new }
-    ensures memory { IfErr result (λ e. e ≡ ConvertError.OutOfMemory) }
-{
-    match text {
-        Some(text) => Ok(Some(made(text.as_slice(), encoding, line_strings)?)),
-        None => Ok(None),
-    }
 }
 
 impl Lists {
@@ -284,6 +240,79 @@ impl Lists {
         }
         Ok(())
     }
+
+    /// Begins a sequence. Refused as `UnsupportedLineInstruction` where one has begun, or by `OutOfMemory`; then nothing
+    /// changes.
+    pub(crate) fn begin_sequence(&mut self, address: Option<Address>) -> ConvertResult<()>
+        ensures ok { OnOk result (self.new ≡ record self.old { program = after_begin address self.old.program }) }
+        ensures outside { OnOk result (self.old.program.in_sequence ≡ false) }
+        ensures err { IfErr result (IsBuildRefusal (self.old.program.in_sequence ≡ false)) }
+        ensures kept { OnErr result (self.new ≡ self.old) }
+    {
+        if self.program.in_sequence() {
+            return Err(ConvertError::UnsupportedLineInstruction);
+        }
+        match self.program.begin_sequence(address) {
+            Ok(()) => Ok(()),
+            Err(e) => Err(from_write(e)),
+        }
+    }
+
+    /// Sets the address. Refused by `OutOfMemory` alone; then nothing changes.
+    pub(crate) fn set_address(&mut self, address: Address) -> ConvertResult<()>
+        ensures ok { OnOk result (self.new ≡ record self.old { program = after_address address self.old.program }) }
+        ensures memory { IfErr result (λ e. e ≡ ConvertError.OutOfMemory) }
+        ensures kept { OnErr result (self.new ≡ self.old) }
+    {
+        match self.program.set_address(address) {
+            Ok(()) => Ok(()),
+            Err(e) => Err(from_write(e)),
+        }
+    }
+
+    /// Builds a row. Refused as `UnsupportedLineInstruction` where it can't be generated, or by `OutOfMemory`; then
+    /// nothing changes.
+    pub(crate) fn generate_row(&mut self, row: LineRow) -> ConvertResult<()>
+        ensures ok { OnOk result (self.new ≡ record self.old { program = after_row row self.old.program }) }
+        ensures can { OnOk result
+            (CanBuild self.old.program.line_encoding (previous_position self.old.program.items) (BuiltItem.Row row)) }
+        ensures err { IfErr result (IsBuildRefusal
+            (CanBuild self.old.program.line_encoding (previous_position self.old.program.items) (BuiltItem.Row row))) }
+        ensures kept { OnErr result (self.new ≡ self.old) }
+    {
+        let program = &mut self.program;
+        let before = *program.row();
+        *program.row() = row;
+        let generated = generate_current(program);
+        if generated.is_err() {
+            *program.row() = before;
+        }
+        generated
+    }
+
+    /// Ends a sequence. Refused as `UnsupportedLineInstruction` where it can't end at this offset, or by `OutOfMemory`;
+    /// then nothing changes.
+    pub(crate) fn end_sequence(&mut self, address_offset: u64) -> ConvertResult<()>
+        ensures ok { OnOk result (self.new ≡ record self.old { program = after_end address_offset self.old.program }) }
+        ensures can { OnOk result (CanEndSequence self.old.program address_offset) }
+        ensures err { IfErr result (IsBuildRefusal (CanEndSequence self.old.program address_offset)) }
+        ensures kept { OnErr result (self.new ≡ self.old) }
+    {
+        if !self.program.can_end_sequence(address_offset) {
+            return Err(ConvertError::UnsupportedLineInstruction);
+        }
+        match self.program.end_sequence(address_offset) {
+            Ok(()) => Ok(()),
+            Err(e) => Err(from_write(e)),
+        }
+    }
+
+    /// Whether a sequence has begun.
+    pub(crate) fn in_sequence(&self) -> bool
+        ensures { result ≡ self.now.program.in_sequence }
+    {
+        self.program.in_sequence()
+    }
 }
 
 /// The id of the directory with an index in the source. No index wraps.
@@ -300,4 +329,22 @@ fn file_at(ids: &[FileId], number: u64) -> Option<FileId>
 {
     let number = usize::try_from(number).ok()?;
     ids.get(number).copied()
+}
+
+/// Builds the current row. Refused as `UnsupportedLineInstruction` where it can't be generated, or by `OutOfMemory`;
+/// then nothing changes.
+fn generate_current(program: &mut LineProgram) -> ConvertResult<()>
+    requires { program.old.is_none ≡ false }
+    ensures ok { OnOk result (program.new ≡ after_row program.old.row program.old) }
+    ensures can { OnOk result (CanGenerateRow program.old) }
+    ensures err { IfErr result (IsBuildRefusal (CanGenerateRow program.old)) }
+    ensures kept { OnErr result (program.new ≡ program.old) }
+{
+    if !program.can_generate_row() {
+        return Err(ConvertError::UnsupportedLineInstruction);
+    }
+    match program.generate_row() {
+        Ok(()) => Ok(()),
+        Err(e) => Err(from_write(e)),
+    }
 }

@@ -2,7 +2,7 @@ use Rattle.gimli_core.specs.Values.{value_seen}
 use Rattle.gimli_build.specs.LineText.{line_text}
 use Rattle.gimli_write.specs.convert.Lists.{Lists}
 use Rattle.gimli_write.proofs.ConvertSteps.{directory_is_added}
-use Rattle.gimli_write.proofs.convert.lists.Lists.add_directory.Goals as goal
+use Rattle.gimli_write.proofs.convert.tables.Lists.add_directory.Goals as goal
 
 pub returns-in-Ok-clause-ok : goal.returns-in-Ok-clause-ok
 returns-in-Ok-clause-ok g c =

@@ -4,7 +4,7 @@ use Rattle.gimli_line.specs.header.File.{file_seen}
 use Rattle.gimli_write.specs.convert.Texts.{◌>>=◌}
 use Rattle.gimli_write.specs.convert.Lists.{Lists, lists_with, file_added, all_added}
 use Rattle.gimli_write.proofs.ConvertSteps.{done_first, refused_first, refused_same, next_added, kept_self, kept_then}
-use Rattle.gimli_write.proofs.convert.lists.Lists.add_files.Goals as goal
+use Rattle.gimli_write.proofs.convert.tables.Lists.add_files.Goals as goal
 
 pub loop-file-init : goal.loop-file-init
 loop-file-init g c = record { left = refl; stays = kept_self c.args.line_strings.now }

@@ -2,7 +2,7 @@ use Rattle.std.proofs.Common.{◌≡◌, map, drop}
 use Rattle.gimli_line.specs.header.File.{file_seen}
 use Rattle.gimli_bytes.specs.Texts.{KeepsTexts}
 use Rattle.gimli_write.specs.convert.Lists.{lists_with, file_added, all_added}
-use Rattle.gimli_write.proofs.convert.lists.Lists.add_files.Given as goal
+use Rattle.gimli_write.proofs.convert.tables.Lists.add_files.Given as goal
 
 -- what is left to be added gives what all gave
 abbrev pub invariant-loop-file : goal.invariant-loop-file

@@ -5,7 +5,7 @@ use Rattle.gimli_line.specs.header.File.{file_seen}
 use Rattle.gimli_write.specs.declared.convert_error.ConvertError.{ConvertError}
 use Rattle.gimli_write.specs.convert.Lists.{Lists, lists_with, version_of, FileParts, file_parts, with_parts}
 use Rattle.gimli_write.proofs.ConvertSteps.{done_first, refused_first}
-use Rattle.gimli_write.proofs.convert.lists.Lists.add_file.Goals as goal
+use Rattle.gimli_write.proofs.convert.tables.Lists.add_file.Goals as goal
 
 pub returns-in_err-parts-clause-err : goal.returns-in_err-parts-clause-err
 returns-in_err-parts-clause-err g c =

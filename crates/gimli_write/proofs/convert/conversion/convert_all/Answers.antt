@@ -1,5 +1,5 @@
 use Rattle.std.proofs.lemmas.Result.{err_from_is_err_and}
-use Rattle.gimli_write.proofs.convert.feeding.convert_all.Goals as goal
+use Rattle.gimli_write.proofs.convert.conversion.convert_all.Goals as goal
 
 pub returns-in_err-feed_all-clause-err : goal.returns-in_err-feed_all-clause-err
 returns-in_err-feed_all-clause-err g c =

@@ -6,7 +6,7 @@ use Rattle.gimli_write.specs.convert.Lists.{Lists, FileParts}
 use Rattle.gimli_write.proofs.ConvertSteps.{parts_are_added, kept_then}
 use Rattle.gimli_write.proofs.KeptFiles.{keeps_more}
 use Rattle.gimli_write.proofs.Writable.{written_later, written_with_parts}
-use Rattle.gimli_write.proofs.convert.lists.Lists.add_parts.Goals as goal
+use Rattle.gimli_write.proofs.convert.tables.Lists.add_parts.Goals as goal
 
 pub returns-in_err-push-in-Ok-clause-stays : goal.returns-in_err-push-in-Ok-clause-stays
 returns-in_err-push-in-Ok-clause-stays g c =
