@@ -3,7 +3,7 @@
 
 ghost use Rattle.std.specs.Prelude.{◌≡◌, IfOk, OnOk};
 ghost use Rattle.gimli_write.specs.Conditions.{CanWrite};
-ghost use Rattle.gimli_write.specs.convert.KeptLists.{IsWritable};
+ghost use Rattle.gimli_write.specs.convert.KeptTables.{IsWritable};
 
 use crate::check::{check, check_equal};
 use gimli_core::{
@@ -53,12 +53,12 @@ fn program_of<R: Reader>(
 }
 
 /// A conversion of a unit as it is, whose header tells all texts.
-fn conversion_of<'a, 'b, R: Reader>(
+fn outcome_with<'a, 'b, R: Reader>(
     program: IncompleteLineProgram<R>,
     line_strings: &'a mut LineStringTable,
     strings: &'b mut StringTable,
 ) -> ConvertResult<ConvertLineProgram<'a, 'b, R>>
-    ensures writable { IfOk result (λ convert. IsWritable convert.conversion.lists.program convert.line_strings.now) }
+    ensures writable { IfOk result (λ convert. IsWritable convert.conversion.tables.program convert.line_strings.now) }
     ensures same { IfOk result (λ convert. convert.line_strings.ghost_name ≡ line_strings.entry.ghost_name) }
     ensures same_strings { IfOk result (λ convert. convert.strings.ghost_name ≡ strings.entry.ghost_name) }
 {
@@ -108,8 +108,8 @@ fn check_read<R: Reader>(
     conversion: &mut ConvertLineProgram<'_, '_, R>,
     wanted: Option<ConvertLineRow>,
 )
-    requires { IsWritable conversion.old.conversion.lists.program conversion.old.line_strings.now }
-    ensures writable { IsWritable conversion.new.conversion.lists.program conversion.new.line_strings.now }
+    requires { IsWritable conversion.old.conversion.tables.program conversion.old.line_strings.now }
+    ensures writable { IsWritable conversion.new.conversion.tables.program conversion.new.line_strings.now }
     ensures same { conversion.new.line_strings.ghost_name ≡ conversion.old.line_strings.ghost_name }
     ensures same_strings { conversion.new.strings.ghost_name ≡ conversion.old.strings.ghost_name }
 {
@@ -118,9 +118,9 @@ fn check_read<R: Reader>(
 
 /// The next read gives a row, which is built.
 fn build_row<R: Reader>(conversion: &mut ConvertLineProgram<'_, '_, R>) -> ConvertResult<()>
-    requires { IsWritable conversion.old.conversion.lists.program conversion.old.line_strings.now }
+    requires { IsWritable conversion.old.conversion.tables.program conversion.old.line_strings.now }
     ensures writable { OnOk result
-        (IsWritable conversion.new.conversion.lists.program conversion.new.line_strings.now) }
+        (IsWritable conversion.new.conversion.tables.program conversion.new.line_strings.now) }
     ensures same { conversion.new.line_strings.ghost_name ≡ conversion.old.line_strings.ghost_name }
     ensures same_strings { conversion.new.strings.ghost_name ≡ conversion.old.strings.ghost_name }
 {
@@ -133,9 +133,9 @@ fn build_first<R: Reader>(
     rt: &impl Abort,
     conversion: &mut ConvertLineProgram<'_, '_, R>,
 ) -> ConvertResult<()>
-    requires { IsWritable conversion.old.conversion.lists.program conversion.old.line_strings.now }
+    requires { IsWritable conversion.old.conversion.tables.program conversion.old.line_strings.now }
     ensures writable { OnOk result
-        (IsWritable conversion.new.conversion.lists.program conversion.new.line_strings.now) }
+        (IsWritable conversion.new.conversion.tables.program conversion.new.line_strings.now) }
     ensures same { conversion.new.line_strings.ghost_name ≡ conversion.old.line_strings.ghost_name }
     ensures same_strings { conversion.new.strings.ghost_name ≡ conversion.old.strings.ghost_name }
 {
@@ -151,9 +151,9 @@ fn build_second<R: Reader>(
     rt: &impl Abort,
     conversion: &mut ConvertLineProgram<'_, '_, R>,
 ) -> ConvertResult<()>
-    requires { IsWritable conversion.old.conversion.lists.program conversion.old.line_strings.now }
+    requires { IsWritable conversion.old.conversion.tables.program conversion.old.line_strings.now }
     ensures writable { OnOk result
-        (IsWritable conversion.new.conversion.lists.program conversion.new.line_strings.now) }
+        (IsWritable conversion.new.conversion.tables.program conversion.new.line_strings.now) }
     ensures same { conversion.new.line_strings.ghost_name ≡ conversion.old.line_strings.ghost_name }
     ensures same_strings { conversion.new.strings.ghost_name ≡ conversion.old.strings.ghost_name }
 {
@@ -171,9 +171,9 @@ fn build_all<R: Reader>(
     rt: &impl Abort,
     conversion: &mut ConvertLineProgram<'_, '_, R>,
 ) -> ConvertResult<()>
-    requires { IsWritable conversion.old.conversion.lists.program conversion.old.line_strings.now }
+    requires { IsWritable conversion.old.conversion.tables.program conversion.old.line_strings.now }
     ensures writable { OnOk result
-        (IsWritable conversion.new.conversion.lists.program conversion.new.line_strings.now) }
+        (IsWritable conversion.new.conversion.tables.program conversion.new.line_strings.now) }
     ensures same { conversion.new.line_strings.ghost_name ≡ conversion.old.line_strings.ghost_name }
     ensures same_strings { conversion.new.strings.ghost_name ≡ conversion.old.strings.ghost_name }
 {
@@ -185,7 +185,7 @@ fn build_all<R: Reader>(
 
 /// The program that a conversion of a source with one file has built.
 fn finished<R: Reader>(rt: &impl Abort, conversion: ConvertLineProgram<'_, '_, R>) -> LineProgram
-    requires { IsWritable conversion.conversion.lists.program conversion.line_strings.now }
+    requires { IsWritable conversion.conversion.tables.program conversion.line_strings.now }
     ensures { CanWrite result conversion.exit.1.0.now conversion.exit.0.now }
 {
     let (built, files) = conversion.program();
@@ -202,7 +202,7 @@ fn built_by_hand<R: Reader>(
 ) -> ConvertResult<LineProgram>
     ensures { IfOk result (λ built. CanWrite built strings.new line_strings.new) }
 {
-    let mut conversion = conversion_of(program, line_strings, strings)?;
+    let mut conversion = outcome_with(program, line_strings, strings)?;
     build_all(rt, &mut conversion)?;
     Ok(finished(rt, conversion))
 }
@@ -288,7 +288,7 @@ fn converted<R: Reader>(
     rt: &impl Abort,
     conversion: ConvertLineProgram<'_, '_, R>,
 ) -> ConvertResult<LineProgram>
-    requires { IsWritable conversion.conversion.lists.program conversion.line_strings.now }
+    requires { IsWritable conversion.conversion.tables.program conversion.line_strings.now }
     ensures { IfOk result (λ built. CanWrite built conversion.exit.1.0.now conversion.exit.0.now) }
 {
     let (built, files) = conversion.convert(|address| Some(Address::Constant(address)))?;
@@ -305,7 +305,7 @@ fn converted_whole<R: Reader>(
 ) -> ConvertResult<LineProgram>
     ensures { IfOk result (λ built. CanWrite built strings.new line_strings.new) }
 {
-    let conversion = conversion_of(program, line_strings, strings)?;
+    let conversion = outcome_with(program, line_strings, strings)?;
     converted(rt, conversion)
 }
 
@@ -318,7 +318,7 @@ fn converted_after_a_row<R: Reader>(
 ) -> ConvertResult<LineProgram>
     ensures { IfOk result (λ built. CanWrite built strings.new line_strings.new) }
 {
-    let mut conversion = conversion_of(program, line_strings, strings)?;
+    let mut conversion = outcome_with(program, line_strings, strings)?;
     build_first(rt, &mut conversion)?;
     converted(rt, conversion)
 }
@@ -409,7 +409,7 @@ fn refused_by_hand<R: Reader>(
     line_strings: &mut LineStringTable,
     strings: &mut StringTable,
 ) -> ConvertResult<LineProgram> {
-    let mut conversion = conversion_of(program, line_strings, strings)?;
+    let mut conversion = outcome_with(program, line_strings, strings)?;
     check_equal(rt, conversion.read_row(), Ok(FIRST));
     let row = row_of(conversion.read_row()?)?;
     check_equal(rt, conversion.begin_sequence(None), Ok(()));
@@ -492,7 +492,7 @@ fn check_mixed_reads<R: Reader>(
     line_strings: &mut LineStringTable,
     strings: &mut StringTable,
 ) -> ConvertResult<()> {
-    let mut conversion = conversion_of(program, line_strings, strings)?;
+    let mut conversion = outcome_with(program, line_strings, strings)?;
     check_equal(rt, conversion.read_row(), Ok(FIRST));
     check(rt, ends_at_second(conversion.read_sequence()));
     check_equal(rt, conversion.read_row(), Ok(SECOND));
@@ -530,7 +530,7 @@ fn check_repeated<R: Reader>(
     strings: &mut StringTable,
 ) -> ConvertResult<()> {
     let refusal = Some(ConvertError::InvalidFileIndex);
-    let mut conversion = conversion_of(program, line_strings, strings)?;
+    let mut conversion = outcome_with(program, line_strings, strings)?;
     check_equal(rt, conversion.read_row().err(), refusal);
     check_equal(rt, conversion.read_row().err(), refusal);
     check_equal(rt, conversion.read_sequence().err(), refusal);
@@ -566,7 +566,7 @@ fn check_open<R: Reader>(
     strings: &mut StringTable,
 ) -> ConvertResult<()> {
     let refusal = Some(ConvertError::MissingLineEndSequence);
-    let mut conversion = conversion_of(program, line_strings, strings)?;
+    let mut conversion = outcome_with(program, line_strings, strings)?;
     check_equal(rt, conversion.read_sequence().err(), refusal);
     check_equal(rt, conversion.read_row().err(), refusal);
     check_equal(rt, conversion.read_sequence().err(), refusal);
@@ -606,7 +606,7 @@ fn refusal_of<R: Reader, F: Fn(u64) -> Option<Address>>(
 ) -> Option<ConvertError>
     requires { F.IsAlwaysCallable convert_address }
 {
-    match conversion_of(program, line_strings, strings) {
+    match outcome_with(program, line_strings, strings) {
         Ok(conversion) => conversion.convert(convert_address).err(),
         Err(error) => Some(error),
     }

@@ -26,9 +26,9 @@ use Rattle.gimli_write.specs.declared.convert_error.ConvertError.TheVariants.{Re
 use Rattle.gimli_write.specs.declared.convert.run.SourceRow.{SourceRow}
 use Rattle.gimli_write.specs.declared.convert.run.SourceStep.{SourceStep}
 use Rattle.gimli_write.specs.declared.convert.run.SourceStep.TheVariants.{More, Made}
-use Rattle.gimli_write.specs.convert.Lists.{Lists, file_added}
-use Rattle.gimli_write.specs.convert.Offers.{Reading, defines, with_definition, ends, stops, address_operand, source_row_offered, lists_after_definition}
-use Rattle.gimli_write.specs.convert.SourceState.{SourceState, row_made, base_after, pending_after, state_after, instruction_reading, reading_from, reading_upon, reading_left, step_reading, step_made, Shortens}
+use Rattle.gimli_write.specs.convert.SourceTables.{TablesAndTexts, file_added}
+use Rattle.gimli_write.specs.convert.Items.{Reading, defines, with_definition, ends, stops, address_operand, source_row_offered, tables_after_definition}
+use Rattle.gimli_write.specs.convert.SourceRun.{SourceRun, row_made, base_after, pending_after, state_after, instruction_reading, reading_from, reading_upon, reading_left, step_reading, step_made, Shortens}
 
 -- ---- what a program is decoded into, by its front
 
@@ -66,79 +66,79 @@ if_true b x y e = ap (λ (c : Bool). if c then x else y) e
 if_false : {A : Type 0} (b : Bool) (x y : A) → b ≡ false → (if b then x else y) ≡ y
 if_false b x y e = ap (λ (c : Bool). if c then x else y) e
 
-pub no_file : (sections : Sections) (lists : Lists) (i : Ins) → defines_file i ≡ false → lists_after_definition sections lists i ≡ Ok lists
-no_file sections lists (DefineFile f) e = absurd cc
-no_file sections lists i e = refl
+pub no_file : (sections : Sections) (tables : TablesAndTexts) (i : Ins) → defines_file i ≡ false → tables_after_definition sections tables i ≡ Ok tables
+no_file sections tables (DefineFile f) e = absurd cc
+no_file sections tables i e = refl
 
 no_definition : (i : Ins) (rest : Reading) → defines_file i ≡ false → with_definition i rest ≡ rest
 no_definition (DefineFile f) rest e = absurd cc
 no_definition i rest e = refl
 
 -- bytes that are unread count by their instructions alone
-same_reading : (sections : Sections) (u v : Unread) (s : SourceState) (there : Result Lists ConvertError) (list : List Ins) (end : Option Error)
+same_reading : (sections : Sections) (u v : Unread) (s : SourceRun) (there : Result TablesAndTexts ConvertError) (list : List Ins) (end : Option Error)
     → reading_from sections (record s { unread = u }) there list end ≡ reading_from sections (record s { unread = v }) there list end
 same_reading sections u v s there [] end = refl
 same_reading sections u v s (Err e) (i ∷ list) end = refl
-same_reading sections u v s (Ok lists) (i ∷ list) end =
-    ap (λ (r : Reading). instruction_reading s lists i (with_definition i r)) (same_reading sections u v (state_after i s) (lists_after_definition sections lists i) list end)
+same_reading sections u v s (Ok tables) (i ∷ list) end =
+    ap (λ (r : Reading). instruction_reading s tables i (with_definition i r)) (same_reading sections u v (state_after i s) (tables_after_definition sections tables i) list end)
 
-module _ (sections : Sections) (lists : Lists) (s : SourceState) where
-  pub none_left : s.unread.bytes ≡ [] → reading_left sections s lists ≡ ends lists
-  none_left e = ap (λ (c : List Ins × Option Error). reading_from sections s (Ok lists) c.0 c.1) (decoded_none s.unread.notation s.header s.unread.bytes e)
+module _ (sections : Sections) (tables : TablesAndTexts) (s : SourceRun) where
+  pub none_left : s.unread.bytes ≡ [] → reading_left sections s tables ≡ ends tables
+  none_left e = ap (λ (c : List Ins × Option Error). reading_from sections s (Ok tables) c.0 c.1) (decoded_none s.unread.notation s.header s.unread.bytes e)
 
-  pub at_fault : (e : Error) → s.unread.bytes ≢ [] → (instruction_production s.unread.notation s.header).Fault s.unread.bytes e → reading_left sections s lists ≡ stops (Read e)
-  at_fault e some f = ap (λ (c : List Ins × Option Error). reading_from sections s (Ok lists) c.0 c.1) (decoded_fault s.unread.notation s.header s.unread.bytes e some f)
+  pub at_fault : (e : Error) → s.unread.bytes ≢ [] → (instruction_production s.unread.notation s.header).Fault s.unread.bytes e → reading_left sections s tables ≡ stops (Read e)
+  at_fault e some f = ap (λ (c : List Ins × Option Error). reading_from sections s (Ok tables) c.0 c.1) (decoded_fault s.unread.notation s.header s.unread.bytes e some f)
 
   module _ (u : Unread) (notation : u.notation ≡ s.unread.notation) (i : Ins) (front : List ℕ) (parts : s.unread.bytes ≡ front ++ u.bytes) (spelled : SpellsInstruction s.unread.notation s.header front i) where
     -- an instruction stands first
-    pub first_is : reading_left sections s lists
-        ≡ instruction_reading s lists i (with_definition i (reading_upon sections (record (state_after i s) { unread = u }) (lists_after_definition sections lists i)))
+    pub first_is : reading_left sections s tables
+        ≡ instruction_reading s tables i (with_definition i (reading_upon sections (record (state_after i s) { unread = u }) (tables_after_definition sections tables i)))
     first_is =
-        let there = lists_after_definition sections lists i in
+        let there = tables_after_definition sections tables i in
         let c = decoded_at s.unread.notation s.header u.bytes in
         let rest : reading_from sections (state_after i s) there c.0 c.1 ≡ reading_upon sections (record (state_after i s) { unread = u }) there =
         same_reading sections s.unread u (state_after i s) there c.0 c.1
         ∙ ap (λ (n : Notation). reading_from sections (record (state_after i s) { unread = u }) there (decoded_at n s.header u.bytes).0 (decoded_at n s.header u.bytes).1) (sym notation) in
-        ap (λ (d : List Ins × Option Error). reading_from sections s (Ok lists) d.0 d.1) (decoded_some s.unread.notation s.header s.unread.bytes i front u.bytes parts spelled)
-        ∙ ap (λ (r : Reading). instruction_reading s lists i (with_definition i r)) rest
+        ap (λ (d : List Ins × Option Error). reading_from sections s (Ok tables) d.0 d.1) (decoded_some s.unread.notation s.header s.unread.bytes i front u.bytes parts spelled)
+        ∙ ap (λ (r : Reading). instruction_reading s tables i (with_definition i r)) rest
 
-    abbrev next : SourceState
+    abbrev next : SourceRun
     next = record (state_after i s) { unread = u }
 
     abbrev rest : Reading
-    rest = with_definition i (reading_upon sections next (lists_after_definition sections lists i))
+    rest = with_definition i (reading_upon sections next (tables_after_definition sections tables i))
 
     abbrev quiet_or_row : Reading
-    quiet_or_row = if makes_row i && not s.row.tombstone then source_row_offered s.header.parameters.encoding.version lists (row_made s i) rest else rest
+    quiet_or_row = if makes_row i && not s.row.tombstone then source_row_offered s.header.parameters.encoding.version tables (row_made s i) rest else rest
 
-    pub after_refusal : is_refused s.header.parameters i s.row ≡ true → reading_left sections s lists ≡ stops (Read AddressOverflow)
+    pub after_refusal : is_refused s.header.parameters i s.row ≡ true → reading_left sections s tables ≡ stops (Read AddressOverflow)
     after_refusal large = first_is ∙ if_true (is_refused s.header.parameters i s.row) (stops (Read AddressOverflow)) quiet_or_row large
 
     module _ (fits : is_refused s.header.parameters i s.row ≡ false) (file : defines_file i ≡ false) where
-      done : reading_left sections s lists ≡ quiet_or_row
+      done : reading_left sections s tables ≡ quiet_or_row
       done = first_is ∙ if_false (is_refused s.header.parameters i s.row) (stops (Read AddressOverflow)) quiet_or_row fits
 
-      later : rest ≡ reading_left sections next lists
-      later = no_definition i (reading_upon sections next (lists_after_definition sections lists i)) file ∙ ap (reading_upon sections next) (no_file sections lists i file)
+      later : rest ≡ reading_left sections next tables
+      later = no_definition i (reading_upon sections next (tables_after_definition sections tables i)) file ∙ ap (reading_upon sections next) (no_file sections tables i file)
 
-      pub after_quiet : (makes_row i && not s.row.tombstone) ≡ false → reading_left sections s lists ≡ reading_left sections next lists
+      pub after_quiet : (makes_row i && not s.row.tombstone) ≡ false → reading_left sections s tables ≡ reading_left sections next tables
       after_quiet quiet =
-          done ∙ if_false (makes_row i && not s.row.tombstone) (source_row_offered s.header.parameters.encoding.version lists (row_made s i) rest) rest quiet ∙ later
+          done ∙ if_false (makes_row i && not s.row.tombstone) (source_row_offered s.header.parameters.encoding.version tables (row_made s i) rest) rest quiet ∙ later
 
       pub after_row : (makes_row i && not s.row.tombstone) ≡ true
-          → reading_left sections s lists ≡ source_row_offered s.header.parameters.encoding.version lists (row_made s i) (reading_left sections next lists)
+          → reading_left sections s tables ≡ source_row_offered s.header.parameters.encoding.version tables (row_made s i) (reading_left sections next tables)
       after_row loud =
-          done ∙ if_true (makes_row i && not s.row.tombstone) (source_row_offered s.header.parameters.encoding.version lists (row_made s i) rest) rest loud
-          ∙ ap (source_row_offered s.header.parameters.encoding.version lists (row_made s i)) later
+          done ∙ if_true (makes_row i && not s.row.tombstone) (source_row_offered s.header.parameters.encoding.version tables (row_made s i) rest) rest loud
+          ∙ ap (source_row_offered s.header.parameters.encoding.version tables (row_made s i)) later
 
   -- a file is defined
   pub after_file : (u : Unread) → u.notation ≡ s.unread.notation → (f : File) (front : List ℕ) → s.unread.bytes ≡ front ++ u.bytes → SpellsInstruction s.unread.notation s.header front (DefineFile f)
-      → reading_left sections s lists ≡ defines (reading_upon sections (record s { unread = u }) (file_added sections lists f))
+      → reading_left sections s tables ≡ defines (reading_upon sections (record s { unread = u }) (file_added sections tables f))
   after_file u notation f front parts spelled = first_is u notation (DefineFile f) front parts spelled
 
 -- ---- the state of a run, by its parts
 
-abbrev pub state : Header → LineRow → ℕ → Option ℕ → Unread → SourceState
+abbrev pub state : Header → LineRow → ℕ → Option ℕ → Unread → SourceRun
 state h r b p u = record { header = h; row = r; base = b; pending = p; unread = u }
 
 -- what an instruction does to registers that a run relies on
@@ -280,47 +280,47 @@ address_state a h h2 r r2 b p u header step =
 
 -- ---- what is read from a step on
 
-abbrev pub with_unread : SourceState → Unread → SourceState
+abbrev pub with_unread : SourceRun → Unread → SourceRun
 with_unread s u = record s { unread = u }
 
 -- a spelling by the header that was lent
 pub spelled_as : (notation : Notation) (h k : Header) (front : List ℕ) (i j : Ins) → k ≡ h → i ≡ j → SpellsInstruction notation k front i → SpellsInstruction notation h front j
 spelled_as notation h k front i j same is s = subst (λ (x : Header). SpellsInstruction notation x front j) same (subst (λ (y : Ins). SpellsInstruction notation k front y) is s)
 
-module _ (R Endian Offset : Type 0) (s old new : SourceState) (i : Ins) where
+module _ (R Endian Offset : Type 0) (s old new : SourceRun) (i : Ins) where
   shortens : length new.unread.bytes < length old.unread.bytes → (b : Bool) → Shortens {R = R} {Endian = Endian} {Offset = Offset} (if b then Made (row_made s i) else More) old new
   shortens lt true = lt
   shortens lt false = lt
 
-module _ {R Endian Offset : Type 0} (s old new : SourceState) (i : Ins) where
+module _ {R Endian Offset : Type 0} (s old new : SourceRun) (i : Ins) where
   pub executed_shortens : (r : Result (SourceStep R Endian Offset) ConvertError) → IfOk r (λ step. step ≡ step_made s i) → length new.unread.bytes < length old.unread.bytes → IfOk r (λ step. Shortens step old new)
   executed_shortens (Ok step) made lt = rw made (shortens R Endian Offset s old new i lt (makes_row i && not s.row.tombstone))
   executed_shortens (Err e) made lt = tt
 
-module _ {R Offset : Type 0} (Endian : Type 0) (bytes : R → List ℕ) (number : Offset → ℕ) (s : SourceState) (u : Unread) (notation : u.notation ≡ s.unread.notation)
+module _ {R Offset : Type 0} (Endian : Type 0) (bytes : R → List ℕ) (number : Offset → ℕ) (s : SourceRun) (u : Unread) (notation : u.notation ≡ s.unread.notation)
     (i : Ins) (front : List ℕ) (parts : s.unread.bytes ≡ front ++ u.bytes) (spelled : SpellsInstruction s.unread.notation s.header front i) where
-  made_reading : is_refused s.header.parameters i s.row ≡ false → defines_file i ≡ false → (sections : Sections) (lists : Lists)
-      → reading_left sections s lists ≡ step_reading {Endian = Endian} bytes number sections lists (step_made (with_unread s u) i) (state_after i (with_unread s u))
-  made_reading fits file sections lists = by (makes_row i && not s.row.tombstone) refl
+  made_reading : is_refused s.header.parameters i s.row ≡ false → defines_file i ≡ false → (sections : Sections) (tables : TablesAndTexts)
+      → reading_left sections s tables ≡ step_reading {Endian = Endian} bytes number sections tables (step_made (with_unread s u) i) (state_after i (with_unread s u))
+  made_reading fits file sections tables = by (makes_row i && not s.row.tombstone) refl
     where
-      by : (b : Bool) → (makes_row i && not s.row.tombstone) ≡ b → reading_left sections s lists ≡ step_reading {Endian = Endian} bytes number sections lists (step_made (with_unread s u) i) (state_after i (with_unread s u))
+      by : (b : Bool) → (makes_row i && not s.row.tombstone) ≡ b → reading_left sections s tables ≡ step_reading {Endian = Endian} bytes number sections tables (step_made (with_unread s u) i) (state_after i (with_unread s u))
       by true e =
-          after_row sections lists s u notation i front parts spelled fits file e
-          ∙ ap (λ (c : Bool). step_reading {Endian = Endian} bytes number sections lists (if c then Made (row_made (with_unread s u) i) else More) (state_after i (with_unread s u))) (sym e)
+          after_row sections tables s u notation i front parts spelled fits file e
+          ∙ ap (λ (c : Bool). step_reading {Endian = Endian} bytes number sections tables (if c then Made (row_made (with_unread s u) i) else More) (state_after i (with_unread s u))) (sym e)
       by false e =
-          after_quiet sections lists s u notation i front parts spelled fits file e
-          ∙ ap (λ (c : Bool). step_reading {Endian = Endian} bytes number sections lists (if c then Made (row_made (with_unread s u) i) else More) (state_after i (with_unread s u))) (sym e)
+          after_quiet sections tables s u notation i front parts spelled fits file e
+          ∙ ap (λ (c : Bool). step_reading {Endian = Endian} bytes number sections tables (if c then Made (row_made (with_unread s u) i) else More) (state_after i (with_unread s u))) (sym e)
 
-  pub executed_reading : (t : SourceState) (r : Result (SourceStep R Endian Offset) ConvertError) → defines_file i ≡ false → OnOk r (is_refused s.header.parameters i s.row ≡ false)
+  pub executed_reading : (t : SourceRun) (r : Result (SourceStep R Endian Offset) ConvertError) → defines_file i ≡ false → OnOk r (is_refused s.header.parameters i s.row ≡ false)
       → OnOk r (t ≡ state_after i (with_unread s u)) → IfOk r (λ step. step ≡ step_made (with_unread s u) i)
-      → IfOk r (λ step. (sections : Sections) (lists : Lists) → reading_left sections s lists ≡ step_reading bytes number sections lists step t)
-  executed_reading t (Ok step) file fits next made = λ sections lists. rw (made, next) (made_reading fits file sections lists)
+      → IfOk r (λ step. (sections : Sections) (tables : TablesAndTexts) → reading_left sections s tables ≡ step_reading bytes number sections tables step t)
+  executed_reading t (Ok step) file fits next made = λ sections tables. rw (made, next) (made_reading fits file sections tables)
   executed_reading t (Err e) file fits next made = tt
 
   pub executed_refusal : (r : Result (SourceStep R Endian Offset) ConvertError) → IfErr r (λ e. (e ≡ Read AddressOverflow) × (is_refused s.header.parameters i s.row ≡ true))
-      → IfErr r (λ e. (sections : Sections) (lists : Lists) → reading_left sections s lists ≡ stops e)
+      → IfErr r (λ e. (sections : Sections) (tables : TablesAndTexts) → reading_left sections s tables ≡ stops e)
   executed_refusal (Ok step) over = tt
-  executed_refusal (Err e) over = λ sections lists. after_refusal sections lists s u notation i front parts spelled over.1 ∙ ap stops (sym over.0)
+  executed_refusal (Err e) over = λ sections tables. after_refusal sections tables s u notation i front parts spelled over.1 ∙ ap stops (sym over.0)
 
 -- an instruction that isn't a definition defines no file
 pub other_kind : {R Offset Endian : Type 0} (bytes : R → List ℕ) (number : Offset → ℕ) (x : LineInstruction R Offset Endian) → ((f : FileEntry R Offset Endian) → x ≢ DefineFile f) → defines_file (ins_seen bytes number x) ≡ false

@@ -7,10 +7,10 @@ ghost use Rattle.gimli_build.specs.Calls.{after_begin, after_address, after_row,
 ghost use Rattle.gimli_build.specs.Advance.{CanEncode};
 ghost use Rattle.gimli_build.specs.Conditions.{CanEndSequence};
 ghost use Rattle.gimli_write.specs.declared.convert_error.ConvertError.TheVariants.{OutOfMemory};
-ghost use Rattle.gimli_write.specs.convert.KeptLists.{IsUnread, IsWritable, StaysWritable, KeepsFiles, IsAtLast, KeepsLast};
+ghost use Rattle.gimli_write.specs.convert.KeptTables.{IsUnread, IsWritable, StaysWritable, KeepsFiles, HasFinalTables, KeepsFinalTables};
 ghost use Rattle.gimli_write.specs.convert.Sources.{source_of};
 ghost use Rattle.gimli_write.specs.convert.Mapped.{IsFaithfulIfItCan};
-ghost use Rattle.gimli_write.specs.convert.ConversionState.{still_to_read, IsPrepared, IsHeaderRefusal, ReadsWhole, GivesNext, IsReadRefusal, AddsFiles, CanBuildRow, IsBuildRefusal, with_program, ConvertsTo, IsConvertRefusal, RestConvertsTo, IsRestRefusal};
+ghost use Rattle.gimli_write.specs.convert.Conversion.{still_to_read, IsPrepared, IsHeaderRefusal, ReadsWhole, GivesNext, IsReadRefusal, AddsFiles, CanBuildRow, IsBuildRefusal, with_program, ConvertsTo, IsConvertRefusal, RestConvertsTo, IsRestRefusal};
 ghost use Rattle.gimli_write.specs.convert.Sequences.{GathersNext, IsGatherRefusal};
 
 use crate::convert::conversion::{Conversion, convert_all};
@@ -59,9 +59,9 @@ pub struct ConvertLineHeader<R: Reader> {
 }
 
 impl<R: Reader> Model for ConvertLineHeader<R> {
-    ghost use Rattle.gimli_write.specs.convert.ConversionState.{ConversionState};
+    ghost use Rattle.gimli_write.specs.convert.Conversion.{Conversion};
 
-    ghost Value = { ConversionState };
+    ghost Value = { Conversion };
 
     ghost view = { λ a. a.conversion };
 }
@@ -97,14 +97,14 @@ impl<R: Reader> ConvertLineHeader<R> {
             from_program from_comp_name encoding line_encoding) header line_strings.new) }
         ensures unread { IfOk result (λ header. IsUnread (source_of R.bytes debug_str debug_line_str
             from_program from_comp_name encoding line_encoding) header) }
-        ensures writable { IfOk result (λ header. IsWritable header.lists.program line_strings.new) }
+        ensures writable { IfOk result (λ header. IsWritable header.tables.program line_strings.new) }
         ensures stays { KeepsTexts line_strings.old line_strings.new }
     {
         let sections = TextSections {
             strings: debug_str,
             line_strings: debug_line_str,
         };
-        let lists = prepare(
+        let tables = prepare(
             &sections,
             from_program.header(),
             from_comp_name,
@@ -112,7 +112,7 @@ impl<R: Reader> ConvertLineHeader<R> {
             line_encoding,
             line_strings,
         )?;
-        let conversion = Conversion::start(sections, from_program, lists);
+        let conversion = Conversion::start(sections, from_program, tables);
         Ok(ConvertLineHeader { conversion })
     }
 
@@ -174,7 +174,7 @@ impl<'a, 'b, R: Reader> ConvertLineProgram<'a, 'b, R, Conversion<R>> {
         ensures unread { IfOk result (λ convert. IsUnread (source_of R.bytes debug_str debug_line_str
             from_program from_comp_name encoding line_encoding) convert.conversion) }
         ensures writable { IfOk result
-            (λ convert. IsWritable convert.conversion.lists.program convert.line_strings.now) }
+            (λ convert. IsWritable convert.conversion.tables.program convert.line_strings.now) }
         ensures stays { IfOk result
             (λ convert. KeepsTexts line_strings.old convert.line_strings.now) }
         ensures strings { IfOk result (λ convert. convert.strings.now ≡ strings.old) }
@@ -199,38 +199,38 @@ impl<'a, 'b, R: Reader> ConvertLineProgram<'a, 'b, R, Conversion<R>> {
     /// by `OutOfMemory`; then nothing changes.
     pub fn begin_sequence(&mut self, address: Option<Address>) -> ConvertResult<()>
         ensures ok { OnOk result (self.new.conversion ≡ with_program
-            (after_begin address self.old.conversion.lists.program) self.old.conversion) }
-        ensures outside { OnOk result (self.old.conversion.lists.program.in_sequence ≡ false) }
+            (after_begin address self.old.conversion.tables.program) self.old.conversion) }
+        ensures outside { OnOk result (self.old.conversion.tables.program.in_sequence ≡ false) }
         ensures err { IfErr result
-            (IsBuildRefusal (self.old.conversion.lists.program.in_sequence ≡ false)) }
+            (IsBuildRefusal (self.old.conversion.tables.program.in_sequence ≡ false)) }
         ensures kept { OnErr result (self.new.conversion ≡ self.old.conversion) }
-        ensures writable { StaysWritable self.old.conversion.lists self.old.line_strings.now
-            self.new.conversion.lists self.new.line_strings.now }
+        ensures writable { StaysWritable self.old.conversion.tables self.old.line_strings.now
+            self.new.conversion.tables self.new.line_strings.now }
         ensures line_strings { self.new.line_strings.now ≡ self.old.line_strings.now }
         ensures strings { self.new.strings.now ≡ self.old.strings.now }
         ensures same_line_strings { self.new.line_strings.ghost_name
             ≡ self.old.line_strings.ghost_name }
         ensures same_strings { self.new.strings.ghost_name ≡ self.old.strings.ghost_name }
     {
-        self.conversion.lists.begin_sequence(address)
+        self.conversion.tables.begin_sequence(address)
     }
 
     /// Sets the address in the program that is built, where a sequence begins if none has. Refused by `OutOfMemory`
     /// alone; then nothing changes.
     pub fn set_address(&mut self, address: Address) -> ConvertResult<()>
         ensures ok { OnOk result (self.new.conversion ≡ with_program
-            (after_address address self.old.conversion.lists.program) self.old.conversion) }
+            (after_address address self.old.conversion.tables.program) self.old.conversion) }
         ensures memory { IfErr result (λ e. e ≡ ConvertError.OutOfMemory) }
         ensures kept { OnErr result (self.new.conversion ≡ self.old.conversion) }
-        ensures writable { StaysWritable self.old.conversion.lists self.old.line_strings.now
-            self.new.conversion.lists self.new.line_strings.now }
+        ensures writable { StaysWritable self.old.conversion.tables self.old.line_strings.now
+            self.new.conversion.tables self.new.line_strings.now }
         ensures line_strings { self.new.line_strings.now ≡ self.old.line_strings.now }
         ensures strings { self.new.strings.now ≡ self.old.strings.now }
         ensures same_line_strings { self.new.line_strings.ghost_name
             ≡ self.old.line_strings.ghost_name }
         ensures same_strings { self.new.strings.ghost_name ≡ self.old.strings.ghost_name }
     {
-        self.conversion.lists.set_address(address)
+        self.conversion.tables.set_address(address)
     }
 
     /// Makes this row the current one of the program that is built, and builds it. Refused as
@@ -238,55 +238,55 @@ impl<'a, 'b, R: Reader> ConvertLineProgram<'a, 'b, R, Conversion<R>> {
     /// nothing changes, nor does the current row.
     pub fn generate_row(&mut self, row: LineRow) -> ConvertResult<()>
         ensures ok { OnOk result (self.new.conversion ≡ with_program
-            (after_row row self.old.conversion.lists.program) self.old.conversion) }
-        ensures can { OnOk result (CanBuildRow self.old.conversion.lists.program row) }
+            (after_row row self.old.conversion.tables.program) self.old.conversion) }
+        ensures can { OnOk result (CanBuildRow self.old.conversion.tables.program row) }
         ensures err { IfErr result
-            (IsBuildRefusal (CanBuildRow self.old.conversion.lists.program row)) }
+            (IsBuildRefusal (CanBuildRow self.old.conversion.tables.program row)) }
         ensures kept { OnErr result (self.new.conversion ≡ self.old.conversion) }
-        ensures writable { StaysWritable self.old.conversion.lists self.old.line_strings.now
-            self.new.conversion.lists self.new.line_strings.now }
+        ensures writable { StaysWritable self.old.conversion.tables self.old.line_strings.now
+            self.new.conversion.tables self.new.line_strings.now }
         ensures line_strings { self.new.line_strings.now ≡ self.old.line_strings.now }
         ensures strings { self.new.strings.now ≡ self.old.strings.now }
         ensures same_line_strings { self.new.line_strings.ghost_name
             ≡ self.old.line_strings.ghost_name }
         ensures same_strings { self.new.strings.ghost_name ≡ self.old.strings.ghost_name }
     {
-        self.conversion.lists.generate_row(row)
+        self.conversion.tables.generate_row(row)
     }
 
     /// Ends a sequence of the program that is built, so many bytes after the address that was last set. Refused as
     /// `UnsupportedLineInstruction` where it can't end there, or by `OutOfMemory`; then nothing changes.
     pub fn end_sequence(&mut self, address_offset: u64) -> ConvertResult<()>
         ensures ok { OnOk result (self.new.conversion ≡ with_program
-            (after_end address_offset self.old.conversion.lists.program) self.old.conversion) }
+            (after_end address_offset self.old.conversion.tables.program) self.old.conversion) }
         ensures can { OnOk result
-            (CanEndSequence self.old.conversion.lists.program address_offset) }
+            (CanEndSequence self.old.conversion.tables.program address_offset) }
         ensures err { IfErr result
-            (IsBuildRefusal (CanEndSequence self.old.conversion.lists.program address_offset)) }
+            (IsBuildRefusal (CanEndSequence self.old.conversion.tables.program address_offset)) }
         ensures kept { OnErr result (self.new.conversion ≡ self.old.conversion) }
-        ensures writable { StaysWritable self.old.conversion.lists self.old.line_strings.now
-            self.new.conversion.lists self.new.line_strings.now }
+        ensures writable { StaysWritable self.old.conversion.tables self.old.line_strings.now
+            self.new.conversion.tables self.new.line_strings.now }
         ensures line_strings { self.new.line_strings.now ≡ self.old.line_strings.now }
         ensures strings { self.new.strings.now ≡ self.old.strings.now }
         ensures same_line_strings { self.new.line_strings.ghost_name
             ≡ self.old.line_strings.ghost_name }
         ensures same_strings { self.new.strings.ghost_name ≡ self.old.strings.ghost_name }
     {
-        self.conversion.lists.end_sequence(address_offset)
+        self.conversion.tables.end_sequence(address_offset)
     }
 
     /// Whether a sequence has begun in the program that is built.
     pub fn in_sequence(&self) -> bool
-        ensures { result ≡ self.now.conversion.lists.program.in_sequence }
+        ensures { result ≡ self.now.conversion.tables.program.in_sequence }
     {
-        self.conversion.lists.in_sequence()
+        self.conversion.tables.in_sequence()
     }
 
     /// The program that was built so far, and for each file number of the source its id there; up to version 4 of the
     /// source none has number 0.
     pub fn program(self) -> (LineProgram, Vec<FileId>)
-        ensures program { result.0 ≡ self.entry.conversion.lists.program }
-        ensures files { result.1.items ≡ self.entry.conversion.lists.file_ids }
+        ensures program { result.0 ≡ self.entry.conversion.tables.program }
+        ensures files { result.1.items ≡ self.entry.conversion.tables.file_ids }
         ensures line_strings { self.exit.0.now ≡ self.entry.line_strings.now }
         ensures strings { self.exit.1.0.now ≡ self.entry.strings.now }
     {
@@ -316,15 +316,15 @@ impl<'a, 'b, R: Reader> ConvertLineProgram<'a, 'b, R, Conversion<R>> {
             → self.old.conversion.failed ≡ Some e → result ≡ Err e }
         ensures failed { IfErr result (λ e. self.new.conversion.failed ≡ Some e) }
         ensures well { OnOk result (self.new.conversion.failed ≡ None) }
-        ensures adds { AddsFiles self.old.conversion.lists.program self.new.conversion.lists.program }
-        ensures keeps { KeepsFiles self.old.conversion.lists self.new.conversion.lists }
-        ensures writable { StaysWritable self.old.conversion.lists self.old.line_strings.now
-            self.new.conversion.lists self.new.line_strings.now }
-        ensures last { OnOk result (KeepsLast self.old.conversion self.old.line_strings.now
+        ensures adds { AddsFiles self.old.conversion.tables.program self.new.conversion.tables.program }
+        ensures keeps { KeepsFiles self.old.conversion.tables self.new.conversion.tables }
+        ensures writable { StaysWritable self.old.conversion.tables self.old.line_strings.now
+            self.new.conversion.tables self.new.line_strings.now }
+        ensures last { OnOk result (KeepsFinalTables self.old.conversion self.old.line_strings.now
             self.new.conversion self.new.line_strings.now) }
-        ensures ended { IfOk result (λ row. row ≡ None → IsAtLast self.old.conversion
+        ensures ended { IfOk result (λ row. row ≡ None → HasFinalTables self.old.conversion
             self.old.line_strings.now self.new.conversion self.new.line_strings.now) }
-        ensures stopped { IfErr result (λ e. e ≢ OutOfMemory → IsAtLast self.old.conversion
+        ensures stopped { IfErr result (λ e. e ≢ OutOfMemory → HasFinalTables self.old.conversion
             self.old.line_strings.now self.new.conversion self.new.line_strings.now) }
         ensures stays { KeepsTexts self.old.line_strings.now self.new.line_strings.now }
         ensures strings { self.new.strings.now ≡ self.old.strings.now }
@@ -348,15 +348,15 @@ impl<'a, 'b, R: Reader> ConvertLineProgram<'a, 'b, R, Conversion<R>> {
             → self.old.conversion.failed ≡ Some e → result ≡ Err e }
         ensures failed { IfErr result (λ e. self.new.conversion.failed ≡ Some e) }
         ensures well { OnOk result (self.new.conversion.failed ≡ None) }
-        ensures adds { AddsFiles self.old.conversion.lists.program self.new.conversion.lists.program }
-        ensures keeps { KeepsFiles self.old.conversion.lists self.new.conversion.lists }
-        ensures writable { StaysWritable self.old.conversion.lists self.old.line_strings.now
-            self.new.conversion.lists self.new.line_strings.now }
-        ensures last { OnOk result (KeepsLast self.old.conversion self.old.line_strings.now
+        ensures adds { AddsFiles self.old.conversion.tables.program self.new.conversion.tables.program }
+        ensures keeps { KeepsFiles self.old.conversion.tables self.new.conversion.tables }
+        ensures writable { StaysWritable self.old.conversion.tables self.old.line_strings.now
+            self.new.conversion.tables self.new.line_strings.now }
+        ensures last { OnOk result (KeepsFinalTables self.old.conversion self.old.line_strings.now
             self.new.conversion self.new.line_strings.now) }
-        ensures ended { IfOk result (λ sequence. sequence ≡ None → IsAtLast self.old.conversion
+        ensures ended { IfOk result (λ sequence. sequence ≡ None → HasFinalTables self.old.conversion
             self.old.line_strings.now self.new.conversion self.new.line_strings.now) }
-        ensures stopped { IfErr result (λ e. e ≢ OutOfMemory → IsAtLast self.old.conversion
+        ensures stopped { IfErr result (λ e. e ≢ OutOfMemory → HasFinalTables self.old.conversion
             self.old.line_strings.now self.new.conversion self.new.line_strings.now) }
         ensures stays { KeepsTexts self.old.line_strings.now self.new.line_strings.now }
         ensures strings { self.new.strings.now ≡ self.old.strings.now }
@@ -381,7 +381,7 @@ impl<'a, 'b, R: Reader> ConvertLineProgram<'a, 'b, R, Conversion<R>> {
             self.entry.conversion self.entry.line_strings.now answer self.exit.0.now) }
         ensures err { IfErr result (IsRestRefusal (F.post convert_address)
             self.entry.conversion self.entry.line_strings.now) }
-        ensures writable { IsWritable self.entry.conversion.lists.program self.entry.line_strings.now
+        ensures writable { IsWritable self.entry.conversion.tables.program self.entry.line_strings.now
             → IfOk result (λ answer. IsWritable answer.0 self.exit.0.now) }
         ensures stays { KeepsTexts self.entry.line_strings.now self.exit.0.now }
         ensures strings { self.exit.1.0.now ≡ self.entry.strings.now }

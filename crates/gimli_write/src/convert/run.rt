@@ -23,10 +23,10 @@ pub(crate) struct SourceRow {
 }
 
 impl SourceRow {
-    ghost use Rattle.gimli_write.specs.convert.Offers.{row_in};
+    ghost use Rattle.gimli_write.specs.convert.Items.{row_in};
 
     /// The row as it is built, with this file.
-    pub(crate) fn built(&self, file: FileId) -> BuiltRow
+    pub(crate) fn built_row(&self, file: FileId) -> BuiltRow
         ensures { result ≡ row_in self.now file }
     {
         let row = &self.row;
@@ -100,9 +100,9 @@ pub(crate) struct SourceRun<R: Reader> {
 
 impl<R: Reader> Model for SourceRun<R> {
     ghost use Rattle.std.specs.Prelude.{◌≡◌, false};
-    ghost use Rattle.gimli_write.specs.convert.SourceState.{SourceState};
+    ghost use Rattle.gimli_write.specs.convert.SourceRun.{SourceRun};
 
-    ghost Value = { SourceState };
+    ghost Value = { SourceRun };
 
     ghost view = { λ a. record {
       header = a.program.meaning;
@@ -119,17 +119,17 @@ impl<R: Reader> SourceRun<R> {
     ghost use Rattle.gimli_line.specs.run.Instruction.{ins_seen, defines_file};
     ghost use Rattle.gimli_line.specs.run.Machine.{IsAllowed, is_refused};
     ghost use Rattle.gimli_build.specs.Texts.{Sections};
-    ghost use Rattle.gimli_write.specs.convert.Lists.{Lists};
-    ghost use Rattle.gimli_write.specs.convert.Offers.{stops, address_operand, Reads};
-    ghost use Rattle.gimli_write.specs.convert.LastLists.{lists_at_last, step_lists};
-    ghost use Rattle.gimli_write.specs.convert.SourceState.{start_of_source, state_after, step_made, reading_left, step_reading, Shortens};
+    ghost use Rattle.gimli_write.specs.convert.SourceTables.{TablesAndTexts};
+    ghost use Rattle.gimli_write.specs.convert.Items.{stops, address_operand, ReadsItems};
+    ghost use Rattle.gimli_write.specs.convert.TablesAtEnd.{tables_at_end, step_tables};
+    ghost use Rattle.gimli_write.specs.convert.SourceRun.{start_of_source, state_after, step_made, reading_left, step_reading, Shortens};
 
     /// The source, from its start on.
     pub(crate) fn start(program: IncompleteLineProgram<R>) -> Self
         ensures start { result ≡ start_of_source program.meaning
             (record { bytes = program.meaning.program; notation = program.notation }) }
-        ensures reads { (sections : Sections) (first : Lists) →
-            Reads program.notation sections program.meaning first program.meaning.program
+        ensures reads { (sections : Sections) (first : TablesAndTexts) →
+            ReadsItems program.notation sections program.meaning first program.meaning.program
             (reading_left sections result first) }
     {
         let header = program.header();
@@ -154,16 +154,16 @@ impl<R: Reader> SourceRun<R> {
     /// Takes the next instruction and executes it, unless it defines a file. Refused by `Read`, as the instruction
     /// is, or by `AddressOverflow`. Takes no memory.
     pub(crate) fn step(&mut self) -> ConvertResult<SourceStep<R>>
-        ensures reading { IfOk result (λ step. (sections : Sections) (lists : Lists)
-            → reading_left sections self.old lists
-            ≡ step_reading R.bytes R.Offset.number sections lists step self.new) }
-        ensures refusal { IfErr result (λ e. (sections : Sections) (lists : Lists)
-            → reading_left sections self.old lists ≡ stops e) }
-        ensures lists { IfOk result (λ step. (sections : Sections) (lists : Lists)
-            → lists_at_last sections self.old lists
-            ≡ step_lists R.bytes R.Offset.number sections lists step self.new) }
-        ensures stopped { IfErr result (λ e. (sections : Sections) (lists : Lists)
-            → lists_at_last sections self.old lists ≡ lists) }
+        ensures reading { IfOk result (λ step. (sections : Sections) (tables : TablesAndTexts)
+            → reading_left sections self.old tables
+            ≡ step_reading R.bytes R.Offset.number sections tables step self.new) }
+        ensures refusal { IfErr result (λ e. (sections : Sections) (tables : TablesAndTexts)
+            → reading_left sections self.old tables ≡ stops e) }
+        ensures tables { IfOk result (λ step. (sections : Sections) (tables : TablesAndTexts)
+            → tables_at_end sections self.old tables
+            ≡ step_tables R.bytes R.Offset.number sections tables step self.new) }
+        ensures stopped { IfErr result (λ e. (sections : Sections) (tables : TablesAndTexts)
+            → tables_at_end sections self.old tables ≡ tables) }
         ensures shorter { IfOk result (λ step. Shortens step self.old self.new) }
         ensures header { self.new.header ≡ self.old.header }
         ensures notation { self.new.unread.notation ≡ self.old.unread.notation }

@@ -8,13 +8,13 @@ ghost use Rattle.gimli_build.specs.Built.{previous_position};
 ghost use Rattle.gimli_build.specs.Calls.{after_begin, after_address, after_row, after_end};
 ghost use Rattle.gimli_build.specs.Conditions.{CanBuild, CanGenerateRow, CanEndSequence};
 ghost use Rattle.gimli_write.specs.convert.Texts.{IsRefusedBy};
-ghost use Rattle.gimli_write.specs.convert.Offers.{file_id};
-ghost use Rattle.gimli_write.specs.convert.ConversionState.{AddsFiles, IsBuildRefusal};
-ghost use Rattle.gimli_write.specs.convert.KeptLists.{KeepsFiles, StaysWritable};
-ghost use Rattle.gimli_write.specs.convert.Lists.{lists_with, directory_added, file_added, file_parts, with_parts, all_added};
+ghost use Rattle.gimli_write.specs.convert.Items.{file_id};
+ghost use Rattle.gimli_write.specs.convert.Conversion.{AddsFiles, IsBuildRefusal};
+ghost use Rattle.gimli_write.specs.convert.KeptTables.{KeepsFiles, StaysWritable};
+ghost use Rattle.gimli_write.specs.convert.SourceTables.{tables_with, directory_added, file_added, file_parts, with_parts, all_added};
 ghost use Rattle.gimli_write.specs.declared.convert_error.ConvertError.TheVariants.{OutOfMemory};
 
-use crate::convert::texts::{made, optional_made, optional_text, source_path};
+use crate::convert::texts::{optional_program_text, optional_text, program_text, source_path};
 use crate::convert_error::{ConvertError, ConvertResult, from_write};
 use crate::text::TextSections;
 use gimli_build::{BuiltItem, DirectoryId, FileId, FileInfo, LineProgram, LineRow};
@@ -27,7 +27,7 @@ use std::marker::Model;
 /// The program that is built, and where it has the directories and files of its source. It isn't a
 /// placeholder.
 #[derive(Debug, Drop)]
-pub(crate) struct Lists {
+pub(crate) struct SourceTables {
     pub(crate) program: LineProgram,
     /// For each directory of the source, by its index there, its id in the program.
     pub(crate) directories: Vec<DirectoryId>,
@@ -35,11 +35,11 @@ pub(crate) struct Lists {
     pub(crate) files: Vec<FileId>,
 }
 
-impl Model for Lists {
+impl Model for SourceTables {
     ghost use Rattle.std.specs.Prelude.{◌≡◌, ◌<◌, false, length, All};
-    ghost use Rattle.gimli_write.specs.convert.Lists.{Converted};
+    ghost use Rattle.gimli_write.specs.convert.SourceTables.{SourceTables};
 
-    ghost Value = { Converted };
+    ghost Value = { SourceTables };
 
     ghost view = { λ a. record {
       program = a.program;
@@ -61,7 +61,7 @@ struct FileParts {
 
 impl Model for FileParts {
     ghost use Rattle.std.specs.Prelude.{option_map};
-    ghost use Rattle.gimli_write.specs.convert.Lists.{FileParts};
+    ghost use Rattle.gimli_write.specs.convert.SourceTables.{FileParts};
 
     ghost Value = { FileParts };
 
@@ -72,7 +72,7 @@ impl Model for FileParts {
     } };
 }
 
-impl Lists {
+impl SourceTables {
     /// Adds a directory after the others. Refused as its path is; the program and the ids are then as before, unless
     /// memory is missing. The line strings keep their texts.
     pub(crate) fn add_directory<R: Reader>(
@@ -81,9 +81,9 @@ impl Lists {
         sections: &TextSections<R>,
         line_strings: &mut LineStringTable,
     ) -> ConvertResult<()>
-        ensures ok { OnOk result (directory_added sections.now (lists_with line_strings.old self.old)
-            (value_seen R.bytes R.Offset.number directory) ≡ Ok (lists_with line_strings.new self.new)) }
-        ensures err { IfErr result (IsRefusedBy (directory_added sections.now (lists_with line_strings.old self.old)
+        ensures ok { OnOk result (directory_added sections.now (tables_with line_strings.old self.old)
+            (value_seen R.bytes R.Offset.number directory) ≡ Ok (tables_with line_strings.new self.new)) }
+        ensures err { IfErr result (IsRefusedBy (directory_added sections.now (tables_with line_strings.old self.old)
             (value_seen R.bytes R.Offset.number directory))) }
         ensures kept { IfErr result (λ e. e ≢ ConvertError.OutOfMemory → self.new ≡ self.old) }
         ensures stays { KeepsTexts line_strings.old line_strings.new }
@@ -91,7 +91,7 @@ impl Lists {
         let alloc = *line_strings.allocator();
         let encoding = self.program.encoding();
         let path = source_path(alloc, encoding.version, directory, sections)?;
-        let text = made(path.as_slice(), encoding, line_strings)?;
+        let text = program_text(path.as_slice(), encoding, line_strings)?;
         match self.program.add_directory(text) {
             Ok(id) => Ok(self.directories.push(id)?),
             Err(e) => Err(from_write(e)),
@@ -140,8 +140,8 @@ impl Lists {
         requires not_empty { self.old.program.encoding.version ≤ 4 → parts.now.path ≢ [] }
         requires source_no_zero { IfSome parts.now.source (λ text. All (λ b. b ≢ 0) text) }
         requires within { parts.now.directory < length self.old.program.directories }
-        ensures ok { OnOk result (with_parts (lists_with line_strings.old self.old)
-            (file_seen R.bytes R.Offset.number file.now) parts.now ≡ lists_with line_strings.new self.new) }
+        ensures ok { OnOk result (with_parts (tables_with line_strings.old self.old)
+            (file_seen R.bytes R.Offset.number file.now) parts.now ≡ tables_with line_strings.new self.new) }
         ensures memory { IfErr result (λ e. e ≡ ConvertError.OutOfMemory) }
         ensures adds { AddsFiles self.old.program self.new.program }
         ensures keeps { KeepsFiles self.old self.new }
@@ -149,8 +149,8 @@ impl Lists {
         ensures stays { KeepsTexts line_strings.old line_strings.new }
     {
         let encoding = self.program.encoding();
-        let path = made(parts.path.as_slice(), encoding, line_strings)?;
-        let source = optional_made(&parts.source, encoding, line_strings)?;
+        let path = program_text(parts.path.as_slice(), encoding, line_strings)?;
+        let source = optional_program_text(&parts.source, encoding, line_strings)?;
         let info = FileInfo {
             timestamp: file.timestamp(),
             size: file.size(),
@@ -171,9 +171,9 @@ impl Lists {
         sections: &TextSections<R>,
         line_strings: &mut LineStringTable,
     ) -> ConvertResult<()>
-        ensures ok { OnOk result (file_added sections.now (lists_with line_strings.old self.old)
-            (file_seen R.bytes R.Offset.number file.now) ≡ Ok (lists_with line_strings.new self.new)) }
-        ensures err { IfErr result (IsRefusedBy (file_added sections.now (lists_with line_strings.old self.old)
+        ensures ok { OnOk result (file_added sections.now (tables_with line_strings.old self.old)
+            (file_seen R.bytes R.Offset.number file.now) ≡ Ok (tables_with line_strings.new self.new)) }
+        ensures err { IfErr result (IsRefusedBy (file_added sections.now (tables_with line_strings.old self.old)
             (file_seen R.bytes R.Offset.number file.now))) }
         ensures kept { IfErr result (λ e. e ≢ ConvertError.OutOfMemory → self.new ≡ self.old) }
         ensures texts { IfErr result (λ e. e ≢ ConvertError.OutOfMemory → line_strings.new ≡ line_strings.old) }
@@ -190,7 +190,7 @@ impl Lists {
     /// source has no file of its number so far.
     pub(crate) fn file_id(&self, source_version: u16, number: u64) -> ConvertResult<FileId>
         ensures { (line_strings : List (List ℕ))
-            → result ≡ file_id source_version (lists_with line_strings self.now) number }
+            → result ≡ file_id source_version (tables_with line_strings self.now) number }
     {
         if source_version <= 4 && number == 0 {
             return Err(ConvertError::InvalidFileIndex);
@@ -209,10 +209,10 @@ impl Lists {
         line_strings: &mut LineStringTable,
     ) -> ConvertResult<()>
         ensures ok { OnOk result (all_added (directory_added sections.now)
-            (map (value_seen R.bytes R.Offset.number) directories.now) (lists_with line_strings.old self.old)
-            ≡ Ok (lists_with line_strings.new self.new)) }
+            (map (value_seen R.bytes R.Offset.number) directories.now) (tables_with line_strings.old self.old)
+            ≡ Ok (tables_with line_strings.new self.new)) }
         ensures err { IfErr result (IsRefusedBy (all_added (directory_added sections.now)
-            (map (value_seen R.bytes R.Offset.number) directories.now) (lists_with line_strings.old self.old))) }
+            (map (value_seen R.bytes R.Offset.number) directories.now) (tables_with line_strings.old self.old))) }
         ensures stays { KeepsTexts line_strings.old line_strings.new }
     {
         for directory in directories {
@@ -229,10 +229,10 @@ impl Lists {
         line_strings: &mut LineStringTable,
     ) -> ConvertResult<()>
         ensures ok { OnOk result (all_added (file_added sections.now)
-            (map (file_seen R.bytes R.Offset.number) files.now) (lists_with line_strings.old self.old)
-            ≡ Ok (lists_with line_strings.new self.new)) }
+            (map (file_seen R.bytes R.Offset.number) files.now) (tables_with line_strings.old self.old)
+            ≡ Ok (tables_with line_strings.new self.new)) }
         ensures err { IfErr result (IsRefusedBy (all_added (file_added sections.now)
-            (map (file_seen R.bytes R.Offset.number) files.now) (lists_with line_strings.old self.old))) }
+            (map (file_seen R.bytes R.Offset.number) files.now) (tables_with line_strings.old self.old))) }
         ensures stays { KeepsTexts line_strings.old line_strings.new }
     {
         for file in files {

@@ -89,7 +89,7 @@ pub(crate) fn source_path<R: Reader>(
 
 /// A text of a program of this encoding. Requires bytes without a zero byte. Refused by `OutOfMemory` alone; then the line
 /// strings are as before.
-pub(crate) fn made(
+pub(crate) fn program_text(
     text: &[u8],
     encoding: Encoding,
     line_strings: &mut LineStringTable,
@@ -110,7 +110,7 @@ pub(crate) fn made(
 }
 
 /// The same, where there are bytes.
-pub(crate) fn optional_made(
+pub(crate) fn optional_program_text(
     text: &Option<Vec<u8>>,
     encoding: Encoding,
     line_strings: &mut LineStringTable,
@@ -127,7 +127,7 @@ pub(crate) fn optional_made(
     ensures memory { IfErr result (λ e. e ≡ ConvertError.OutOfMemory) }
 {
     match text {
-        Some(text) => Ok(Some(made(text.as_slice(), encoding, line_strings)?)),
+        Some(text) => Ok(Some(program_text(text.as_slice(), encoding, line_strings)?)),
         None => Ok(None),
     }
 }

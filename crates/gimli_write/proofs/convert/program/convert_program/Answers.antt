@@ -1,9 +1,9 @@
 use Rattle.std.proofs.lemmas.Result.{err_from_is_err_and, IfOk-weaker, IfErr-weaker}
-use Rattle.gimli_write.specs.convert.Lists.{lists_with}
+use Rattle.gimli_write.specs.convert.SourceTables.{tables_with}
 use Rattle.gimli_write.specs.convert.Sources.{Source, source_of}
-use Rattle.gimli_write.specs.convert.ConversionState.{still_to_read}
+use Rattle.gimli_write.specs.convert.Conversion.{still_to_read}
 use Rattle.gimli_write.proofs.ConvertSteps.{kept_then}
-use Rattle.gimli_write.proofs.Feedings.{all_converted, header_refused, rows_refused}
+use Rattle.gimli_write.proofs.Outcomes.{all_converted, header_refused, rows_refused}
 use Rattle.gimli_write.proofs.MappedLaws.{conversion_mapped, conversion_fits, conversion_constant, conversion_written, conversion_back}
 use Rattle.gimli_write.proofs.convert.program.convert_program.Goals as goal
 
@@ -19,7 +19,7 @@ returns-clause-ok g c =
     let header = c.in_ok-header.header in
     let line_strings = c.new.new.line_strings in
     IfOk-weaker c.convert_all.result _ _
-    (λ answer comes m says. all_converted m source c.args.line_strings.now (lists_with line_strings header.lists) (still_to_read header line_strings) _
+    (λ answer comes m says. all_converted m source c.args.line_strings.now (tables_with line_strings header.tables) (still_to_read header line_strings) _
     c.in_ok-header.ensures.ok c.in_ok-header.ensures.reads (comes m says))
     (rw c.into_conversion.ensures at c.convert_all.ensures.ok)
 
@@ -29,7 +29,7 @@ returns-clause-err g c =
     let header = c.in_ok-header.header in
     let line_strings = c.new.new.line_strings in
     IfErr-weaker c.convert_all.result _ _
-    (λ e refused m says. rows_refused m source c.args.line_strings.now (lists_with line_strings header.lists) (still_to_read header line_strings) e
+    (λ e refused m says. rows_refused m source c.args.line_strings.now (tables_with line_strings header.tables) (still_to_read header line_strings) e
     c.in_ok-header.ensures.ok c.in_ok-header.ensures.reads (refused m says))
     (rw c.into_conversion.ensures at c.convert_all.ensures.err)
 
