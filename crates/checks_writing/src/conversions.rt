@@ -53,7 +53,7 @@ fn program_of<R: Reader>(
 }
 
 /// A conversion of a unit as it is, whose header tells all texts.
-fn outcome_with<'a, 'b, R: Reader>(
+fn conversion_of<'a, 'b, R: Reader>(
     program: IncompleteLineProgram<R>,
     line_strings: &'a mut LineStringTable,
     strings: &'b mut StringTable,
@@ -202,7 +202,7 @@ fn built_by_hand<R: Reader>(
 ) -> ConvertResult<LineProgram>
     ensures { IfOk result (λ built. CanWrite built strings.new line_strings.new) }
 {
-    let mut conversion = outcome_with(program, line_strings, strings)?;
+    let mut conversion = conversion_of(program, line_strings, strings)?;
     build_all(rt, &mut conversion)?;
     Ok(finished(rt, conversion))
 }
@@ -305,7 +305,7 @@ fn converted_whole<R: Reader>(
 ) -> ConvertResult<LineProgram>
     ensures { IfOk result (λ built. CanWrite built strings.new line_strings.new) }
 {
-    let conversion = outcome_with(program, line_strings, strings)?;
+    let conversion = conversion_of(program, line_strings, strings)?;
     converted(rt, conversion)
 }
 
@@ -318,7 +318,7 @@ fn converted_after_a_row<R: Reader>(
 ) -> ConvertResult<LineProgram>
     ensures { IfOk result (λ built. CanWrite built strings.new line_strings.new) }
 {
-    let mut conversion = outcome_with(program, line_strings, strings)?;
+    let mut conversion = conversion_of(program, line_strings, strings)?;
     build_first(rt, &mut conversion)?;
     converted(rt, conversion)
 }
@@ -409,7 +409,7 @@ fn refused_by_hand<R: Reader>(
     line_strings: &mut LineStringTable,
     strings: &mut StringTable,
 ) -> ConvertResult<LineProgram> {
-    let mut conversion = outcome_with(program, line_strings, strings)?;
+    let mut conversion = conversion_of(program, line_strings, strings)?;
     check_equal(rt, conversion.read_row(), Ok(FIRST));
     let row = row_of(conversion.read_row()?)?;
     check_equal(rt, conversion.begin_sequence(None), Ok(()));
@@ -492,7 +492,7 @@ fn check_mixed_reads<R: Reader>(
     line_strings: &mut LineStringTable,
     strings: &mut StringTable,
 ) -> ConvertResult<()> {
-    let mut conversion = outcome_with(program, line_strings, strings)?;
+    let mut conversion = conversion_of(program, line_strings, strings)?;
     check_equal(rt, conversion.read_row(), Ok(FIRST));
     check(rt, ends_at_second(conversion.read_sequence()));
     check_equal(rt, conversion.read_row(), Ok(SECOND));
@@ -530,7 +530,7 @@ fn check_repeated<R: Reader>(
     strings: &mut StringTable,
 ) -> ConvertResult<()> {
     let refusal = Some(ConvertError::InvalidFileIndex);
-    let mut conversion = outcome_with(program, line_strings, strings)?;
+    let mut conversion = conversion_of(program, line_strings, strings)?;
     check_equal(rt, conversion.read_row().err(), refusal);
     check_equal(rt, conversion.read_row().err(), refusal);
     check_equal(rt, conversion.read_sequence().err(), refusal);
@@ -566,7 +566,7 @@ fn check_open<R: Reader>(
     strings: &mut StringTable,
 ) -> ConvertResult<()> {
     let refusal = Some(ConvertError::MissingLineEndSequence);
-    let mut conversion = outcome_with(program, line_strings, strings)?;
+    let mut conversion = conversion_of(program, line_strings, strings)?;
     check_equal(rt, conversion.read_sequence().err(), refusal);
     check_equal(rt, conversion.read_row().err(), refusal);
     check_equal(rt, conversion.read_sequence().err(), refusal);
@@ -606,7 +606,7 @@ fn refusal_of<R: Reader, F: Fn(u64) -> Option<Address>>(
 ) -> Option<ConvertError>
     requires { F.IsAlwaysCallable convert_address }
 {
-    match outcome_with(program, line_strings, strings) {
+    match conversion_of(program, line_strings, strings) {
         Ok(conversion) => conversion.convert(convert_address).err(),
         Err(error) => Some(error),
     }
