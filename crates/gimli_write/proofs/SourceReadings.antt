@@ -41,8 +41,8 @@ pending_is i past = refl
 
 state_is : (h : Header) (u : Unread) (past : List Ins) (i : Ins) → state_after i (state_at h past u) ≡ state_at h (i ∷ past) u
 state_is h u past i =
-    ap (λ (b : ℕ). let s : SourceRun = record { header = h; row = registers_after h.parameters (i ∷ past); base = b; pending_address = pending_after i (pending_address past); unread = u } in s) (base_is i past)
-    ∙ ap (λ (p : Option ℕ). let s : SourceRun = record { header = h; row = registers_after h.parameters (i ∷ past); base = base_at (i ∷ past); pending_address = p; unread = u } in s) (pending_is i past)
+    ap (λ (b : ℕ). let s : SourceRun = record { header = h; row = registers_after h.parameters (i ∷ past); base = b; pending = pending_after i (pending_address past); unread = u } in s) (base_is i past)
+    ∙ ap (λ (p : Option ℕ). let s : SourceRun = record { header = h; row = registers_after h.parameters (i ∷ past); base = base_at (i ∷ past); pending = p; unread = u } in s) (pending_is i past)
 
 -- ---- one place
 

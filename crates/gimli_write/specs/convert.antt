@@ -10,5 +10,6 @@ pub mod Outcome
 pub mod Mapped
 pub mod Conversion
 pub mod KeptTables
+pub mod LentTables
 pub mod DoneConversions
 pub mod Sequences

@@ -19,6 +19,6 @@ write-requires g c =
       source = source;
       line_strings = c.default-line_strings.result;
       outcome = outcome_with (c.in_ok-program.program, c.in_ok-program._files) c.convert_program.new.line_strings;
-      is = c.in_ok-program.ensures.ok itself (λ a r post. search rules);
+      is = c.in_ok-program.ensures.outcome.converts itself (λ a r post. search rules);
     } in
     c.converted_programs_can_be_written.ensures done c.convert_program.new.strings

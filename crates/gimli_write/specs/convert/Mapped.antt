@@ -1,5 +1,5 @@
 -- What it means that a converted program says what its source says, and what is asked of the source for it.
-use Rattle.std.specs.Prelude.{◌≡◌, ◌≢◌, ℕ, ◌+◌, ◌≤◌, Bool, true, false, not, ◌&&◌, ◌||◌, if◌then◌else◌, List, [], ◌∷◌, ◌++◌, map, slice_get, Option, Some, None, option_map}
+use Rattle.std.specs.Prelude.{◌≡◌, ◌≢◌, ℕ, ◌+◌, ◌≤◌, Bool, true, false, not, ◌&&◌, ◌||◌, if◌then◌else◌, List, [], ◌∷◌, ◌++◌, map, slice_get, Option, Some, None, option_map, Result, MatchResult}
 use Rattle.std.specs.List.{AllByRecursion}
 use Rattle.std.specs.declared.vec.Vec.{Vec}
 use Rattle.std.specs.declared.alloc.Global.{Global}
@@ -31,7 +31,8 @@ use Rattle.gimli_write.specs.RoundTrip.{FileAnswer, HasFittingAddresses}
 use Rattle.gimli_write.specs.convert.Outcome.{Outcome}
 use Rattle.gimli_write.specs.convert.Preparation.{encoding_of}
 use Rattle.gimli_write.specs.convert.Sources.{Source}
-use Rattle.gimli_write.specs.convert.Conversion.{AnswersAs, outcome_with}
+use Rattle.gimli_write.specs.declared.convert_error.ConvertError.{ConvertError}
+use Rattle.gimli_write.specs.convert.Conversion.{AnswersAs, outcome_with, ConvertsTo, IsConvertRefusal}
 
 -- ---- what is asked
 
@@ -193,3 +194,13 @@ pub record IsFaithful (s : Source) (strings : List (List ℕ)) (c : Outcome) : T
 abbrev pub IsFaithfulIfItCan : (ℕ → Option Address → Type 0) → Source → List (List ℕ) → Built × Vec ℕ Global → List (List ℕ) → Type 0
 IsFaithfulIfItCan map s strings answer line_strings =
     (g : ℕ → Option Address) → AnswersAs map g → CanBeFaithful g s → IsFaithful s strings (outcome_with answer line_strings)
+
+-- by such a map a source is converted to this answer, which is faithful where it can be, with these tables after it
+pub record ConvertsWell (map : ℕ → Option Address → Type 0) (s : Source) (old : List (List ℕ)) (answer : Built × Vec ℕ Global) (strings line_strings : List (List ℕ)) : Type 0 where
+  pub converts : ConvertsTo map s old answer line_strings
+  pub faithful : IsFaithfulIfItCan map s strings answer line_strings
+
+-- what a call answers that converts a source by such a map: the old line strings are those before it
+abbrev pub IsAnswerOf : (ℕ → Option Address → Type 0) → Source → List (List ℕ) → Result (Built × Vec ℕ Global) ConvertError → List (List ℕ) → List (List ℕ) → Type 0
+IsAnswerOf map s old result strings line_strings =
+    MatchResult result (λ answer. ConvertsWell map s old answer strings line_strings) (IsConvertRefusal map s old)

@@ -8,9 +8,10 @@ ghost use Rattle.gimli_build.specs.Advance.{CanEncode};
 ghost use Rattle.gimli_build.specs.Conditions.{CanEndSequence};
 ghost use Rattle.gimli_write.specs.declared.convert_error.ConvertError.TheVariants.{OutOfMemory};
 ghost use Rattle.gimli_write.specs.convert.KeptTables.{IsUnread, IsWritable, StaysWritable, KeepsFiles, HasFinalTables, KeepsFinalTables};
+ghost use Rattle.gimli_write.specs.convert.LentTables.{SameStringTables, KeepsStringTables};
 ghost use Rattle.gimli_write.specs.convert.Sources.{source_of};
-ghost use Rattle.gimli_write.specs.convert.Mapped.{IsFaithfulIfItCan};
-ghost use Rattle.gimli_write.specs.convert.Conversion.{still_to_read, IsPrepared, IsHeaderRefusal, ReadsWhole, GivesNext, IsReadRefusal, AddsFiles, CanBuildRow, IsBuildRefusal, with_program, ConvertsTo, IsConvertRefusal, RestConvertsTo, IsRestRefusal};
+ghost use Rattle.gimli_write.specs.convert.Mapped.{IsAnswerOf};
+ghost use Rattle.gimli_write.specs.convert.Conversion.{still_to_read, IsPrepared, IsHeaderRefusal, ReadsWhole, GivesNext, IsReadRefusal, AddsFiles, CanBuildRow, IsBuildRefusal, with_program, RestConvertsTo, IsRestRefusal};
 ghost use Rattle.gimli_write.specs.convert.Sequences.{GathersNext, IsGatherRefusal};
 
 use crate::convert::conversion::{Conversion, convert_all};
@@ -126,10 +127,8 @@ impl<R: Reader> ConvertLineHeader<R> {
         strings: &'b mut StringTable,
     ) -> ConvertLineProgram<'a, 'b, R>
         ensures header { result.conversion ≡ self }
-        ensures line_strings { result.line_strings.now ≡ line_strings.old }
-        ensures strings { result.strings.now ≡ strings.old }
-        ensures same_line_strings { result.line_strings.ghost_name ≡ line_strings.entry.ghost_name }
-        ensures same_strings { result.strings.ghost_name ≡ strings.entry.ghost_name }
+        ensures string_tables { SameStringTables line_strings.entry strings.entry
+            result.line_strings result.strings }
     {
         ConvertLineProgram {
             line_strings,
@@ -175,13 +174,8 @@ impl<'a, 'b, R: Reader> ConvertLineProgram<'a, 'b, R, Conversion<R>> {
             from_program from_comp_name encoding line_encoding) convert.conversion) }
         ensures writable { IfOk result
             (λ convert. IsWritable convert.conversion.tables.program convert.line_strings.now) }
-        ensures stays { IfOk result
-            (λ convert. KeepsTexts line_strings.old convert.line_strings.now) }
-        ensures strings { IfOk result (λ convert. convert.strings.now ≡ strings.old) }
-        ensures same_line_strings { IfOk result (λ convert. convert.line_strings.ghost_name
-            ≡ line_strings.entry.ghost_name) }
-        ensures same_strings { IfOk result (λ convert. convert.strings.ghost_name
-            ≡ strings.entry.ghost_name) }
+        ensures string_tables { IfOk result (λ convert. KeepsStringTables line_strings.entry strings.entry
+            convert.line_strings convert.strings) }
     {
         let header = ConvertLineHeader::new(
             debug_str,
@@ -206,11 +200,8 @@ impl<'a, 'b, R: Reader> ConvertLineProgram<'a, 'b, R, Conversion<R>> {
         ensures kept { OnErr result (self.new.conversion ≡ self.old.conversion) }
         ensures writable { StaysWritable self.old.conversion.tables self.old.line_strings.now
             self.new.conversion.tables self.new.line_strings.now }
-        ensures line_strings { self.new.line_strings.now ≡ self.old.line_strings.now }
-        ensures strings { self.new.strings.now ≡ self.old.strings.now }
-        ensures same_line_strings { self.new.line_strings.ghost_name
-            ≡ self.old.line_strings.ghost_name }
-        ensures same_strings { self.new.strings.ghost_name ≡ self.old.strings.ghost_name }
+        ensures string_tables { SameStringTables self.old.line_strings self.old.strings
+            self.new.line_strings self.new.strings }
     {
         self.conversion.tables.begin_sequence(address)
     }
@@ -224,11 +215,8 @@ impl<'a, 'b, R: Reader> ConvertLineProgram<'a, 'b, R, Conversion<R>> {
         ensures kept { OnErr result (self.new.conversion ≡ self.old.conversion) }
         ensures writable { StaysWritable self.old.conversion.tables self.old.line_strings.now
             self.new.conversion.tables self.new.line_strings.now }
-        ensures line_strings { self.new.line_strings.now ≡ self.old.line_strings.now }
-        ensures strings { self.new.strings.now ≡ self.old.strings.now }
-        ensures same_line_strings { self.new.line_strings.ghost_name
-            ≡ self.old.line_strings.ghost_name }
-        ensures same_strings { self.new.strings.ghost_name ≡ self.old.strings.ghost_name }
+        ensures string_tables { SameStringTables self.old.line_strings self.old.strings
+            self.new.line_strings self.new.strings }
     {
         self.conversion.tables.set_address(address)
     }
@@ -245,11 +233,8 @@ impl<'a, 'b, R: Reader> ConvertLineProgram<'a, 'b, R, Conversion<R>> {
         ensures kept { OnErr result (self.new.conversion ≡ self.old.conversion) }
         ensures writable { StaysWritable self.old.conversion.tables self.old.line_strings.now
             self.new.conversion.tables self.new.line_strings.now }
-        ensures line_strings { self.new.line_strings.now ≡ self.old.line_strings.now }
-        ensures strings { self.new.strings.now ≡ self.old.strings.now }
-        ensures same_line_strings { self.new.line_strings.ghost_name
-            ≡ self.old.line_strings.ghost_name }
-        ensures same_strings { self.new.strings.ghost_name ≡ self.old.strings.ghost_name }
+        ensures string_tables { SameStringTables self.old.line_strings self.old.strings
+            self.new.line_strings self.new.strings }
     {
         self.conversion.tables.generate_row(row)
     }
@@ -266,11 +251,8 @@ impl<'a, 'b, R: Reader> ConvertLineProgram<'a, 'b, R, Conversion<R>> {
         ensures kept { OnErr result (self.new.conversion ≡ self.old.conversion) }
         ensures writable { StaysWritable self.old.conversion.tables self.old.line_strings.now
             self.new.conversion.tables self.new.line_strings.now }
-        ensures line_strings { self.new.line_strings.now ≡ self.old.line_strings.now }
-        ensures strings { self.new.strings.now ≡ self.old.strings.now }
-        ensures same_line_strings { self.new.line_strings.ghost_name
-            ≡ self.old.line_strings.ghost_name }
-        ensures same_strings { self.new.strings.ghost_name ≡ self.old.strings.ghost_name }
+        ensures string_tables { SameStringTables self.old.line_strings self.old.strings
+            self.new.line_strings self.new.strings }
     {
         self.conversion.tables.end_sequence(address_offset)
     }
@@ -326,11 +308,8 @@ impl<'a, 'b, R: Reader> ConvertLineProgram<'a, 'b, R, Conversion<R>> {
             self.old.line_strings.now self.new.conversion self.new.line_strings.now) }
         ensures stopped { IfErr result (λ e. e ≢ OutOfMemory → HasFinalTables self.old.conversion
             self.old.line_strings.now self.new.conversion self.new.line_strings.now) }
-        ensures stays { KeepsTexts self.old.line_strings.now self.new.line_strings.now }
-        ensures strings { self.new.strings.now ≡ self.old.strings.now }
-        ensures same_line_strings { self.new.line_strings.ghost_name
-            ≡ self.old.line_strings.ghost_name }
-        ensures same_strings { self.new.strings.ghost_name ≡ self.old.strings.ghost_name }
+        ensures string_tables { KeepsStringTables self.old.line_strings self.old.strings
+            self.new.line_strings self.new.strings }
     {
         self.conversion.read_row(self.line_strings)
     }
@@ -358,11 +337,8 @@ impl<'a, 'b, R: Reader> ConvertLineProgram<'a, 'b, R, Conversion<R>> {
             self.old.line_strings.now self.new.conversion self.new.line_strings.now) }
         ensures stopped { IfErr result (λ e. e ≢ OutOfMemory → HasFinalTables self.old.conversion
             self.old.line_strings.now self.new.conversion self.new.line_strings.now) }
-        ensures stays { KeepsTexts self.old.line_strings.now self.new.line_strings.now }
-        ensures strings { self.new.strings.now ≡ self.old.strings.now }
-        ensures same_line_strings { self.new.line_strings.ghost_name
-            ≡ self.old.line_strings.ghost_name }
-        ensures same_strings { self.new.strings.ghost_name ≡ self.old.strings.ghost_name }
+        ensures string_tables { KeepsStringTables self.old.line_strings self.old.strings
+            self.new.line_strings self.new.strings }
     {
         self.conversion.read_sequence(self.line_strings)
     }
@@ -415,12 +391,8 @@ pub fn convert_program<R: Reader, F: Fn(u64) -> Option<Address>>(
     requires address_size { IfSome encoding (λ e. IsTrue (is_address_size e.address_size)) }
     requires lines { IfSome line_encoding CanEncode }
     requires callable { F.IsAlwaysCallable convert_address }
-    ensures ok { IfOk result (λ answer. ConvertsTo (F.post convert_address) (source_of R.bytes debug_str debug_line_str
-        from_program from_comp_name encoding line_encoding) line_strings.old answer line_strings.new) }
-    ensures err { IfErr result (IsConvertRefusal (F.post convert_address) (source_of R.bytes
-        debug_str debug_line_str from_program from_comp_name encoding line_encoding) line_strings.old) }
-    ensures faithful { IfOk result (λ answer. IsFaithfulIfItCan (F.post convert_address) (source_of R.bytes debug_str
-        debug_line_str from_program from_comp_name encoding line_encoding) strings.new answer line_strings.new) }
+    ensures outcome { IsAnswerOf (F.post convert_address) (source_of R.bytes debug_str debug_line_str from_program
+        from_comp_name encoding line_encoding) line_strings.old result strings.new line_strings.new }
     ensures stays { KeepsTexts line_strings.old line_strings.new }
     ensures strings { strings.new ≡ strings.old }
 {

@@ -21,7 +21,7 @@ round_trip-requires g c =
       source = source;
       line_strings = c.args.line_strings.now;
       outcome = outcome_with (c.in_ok-program.program, c.in_ok-program.files) c.convert_program.new.line_strings;
-      is = c.in_ok-program.ensures.ok itself (λ a r post. search rules);
+      is = c.in_ok-program.ensures.outcome.converts itself (λ a r post. search rules);
     } in
     c.converted_programs_can_be_written.ensures done c.convert_program.new.strings
 
@@ -33,13 +33,13 @@ returns g c =
       source = source;
       line_strings = c.args.line_strings.now;
       outcome = outcome_with (c.in_ok-program.program, c.in_ok-program.files) c.convert_program.new.line_strings;
-      is = c.in_ok-program.ensures.ok itself (λ a r post. search rules);
+      is = c.in_ok-program.ensures.outcome.converts itself (λ a r post. search rules);
     } in
     let encoding : c.in_ok-program.program.encoding ≡ c.args.from_program.meaning.parameters.encoding = c.converted_programs_keep_their_encoding.ensures done in
     record {
       faithful = λ rows seen events.
           let can : CanBeFaithful itself source = record { itself = λ a. refl; wide = omega arith; no_end_under_tombstone = seen } in
-          let faith = c.in_ok-program.ensures.faithful itself (λ a r post. search rules) can in
+          let faith = c.in_ok-program.ensures.outcome.faithful itself (λ a r post. search rules) can in
           subst (λ (e : Encoding). OneByOne (IsReadAs c.args.from_program.meaning.parameters.encoding.version e.version c.in_ok-program.files.items) rows c.in_ok-answer.answer.rows.items) encoding
           (faith.read_back rows c.in_ok-answer.answer.rows.items events (c.in_ok-answer.ensures.built faith.addresses));
     }

@@ -21,6 +21,6 @@ returns c =
       };
       line_strings = c.args.tables.now.line_strings;
       outcome = outcome_with c.in_ok-built.built c.convert_program.new.line_strings;
-      is = c.in_ok-built.ensures.ok same (λ a r post. search rules);
+      is = c.in_ok-built.ensures.outcome.converts same (λ a r post. search rules);
     } in
     (c.converted_programs_can_be_written.ensures done c.convert_program.new.strings).directories
