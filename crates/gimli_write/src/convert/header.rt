@@ -258,7 +258,8 @@ fn with_flags<R: Reader>(mut program: LineProgram, header: &LineProgramHeader<R>
     program
 }
 
-/// The file that stands at number 0 up to version 4, where no row names it.
+/// The id that stands at number 0 up to version 4, where no row names it. `gimli_build` makes ids for files that are added
+/// and for the first row of a program, so this is that of a placeholder's row.
 fn unused_file(alloc: Global) -> FileId
     ensures { result ≡ 0 }
 {
