@@ -3,7 +3,7 @@
 
 ghost use Rattle.std.specs.Prelude.{◌≡◌, IfOk, OnOk};
 ghost use Rattle.gimli_write.specs.Conditions.{CanWrite};
-ghost use Rattle.gimli_write.specs.convert.KeptLists.{IsWritable};
+ghost use Rattle.gimli_write.specs.convert.KeptTables.{IsWritable};
 
 use crate::check::{check, check_equal};
 use gimli_core::{
@@ -58,7 +58,7 @@ fn conversion_of<'a, 'b, R: Reader>(
     line_strings: &'a mut LineStringTable,
     strings: &'b mut StringTable,
 ) -> ConvertResult<ConvertLineProgram<'a, 'b, R>>
-    ensures writable { IfOk result (λ convert. IsWritable convert.conversion.lists.program convert.line_strings.now) }
+    ensures writable { IfOk result (λ convert. IsWritable convert.conversion.tables.program convert.line_strings.now) }
     ensures same { IfOk result (λ convert. convert.line_strings.ghost_name ≡ line_strings.entry.ghost_name) }
     ensures same_strings { IfOk result (λ convert. convert.strings.ghost_name ≡ strings.entry.ghost_name) }
 {
@@ -108,8 +108,8 @@ fn check_read<R: Reader>(
     conversion: &mut ConvertLineProgram<'_, '_, R>,
     wanted: Option<ConvertLineRow>,
 )
-    requires { IsWritable conversion.old.conversion.lists.program conversion.old.line_strings.now }
-    ensures writable { IsWritable conversion.new.conversion.lists.program conversion.new.line_strings.now }
+    requires { IsWritable conversion.old.conversion.tables.program conversion.old.line_strings.now }
+    ensures writable { IsWritable conversion.new.conversion.tables.program conversion.new.line_strings.now }
     ensures same { conversion.new.line_strings.ghost_name ≡ conversion.old.line_strings.ghost_name }
     ensures same_strings { conversion.new.strings.ghost_name ≡ conversion.old.strings.ghost_name }
 {
@@ -118,9 +118,9 @@ fn check_read<R: Reader>(
 
 /// The next read gives a row, which is built.
 fn build_row<R: Reader>(conversion: &mut ConvertLineProgram<'_, '_, R>) -> ConvertResult<()>
-    requires { IsWritable conversion.old.conversion.lists.program conversion.old.line_strings.now }
+    requires { IsWritable conversion.old.conversion.tables.program conversion.old.line_strings.now }
     ensures writable { OnOk result
-        (IsWritable conversion.new.conversion.lists.program conversion.new.line_strings.now) }
+        (IsWritable conversion.new.conversion.tables.program conversion.new.line_strings.now) }
     ensures same { conversion.new.line_strings.ghost_name ≡ conversion.old.line_strings.ghost_name }
     ensures same_strings { conversion.new.strings.ghost_name ≡ conversion.old.strings.ghost_name }
 {
@@ -133,9 +133,9 @@ fn build_first<R: Reader>(
     rt: &impl Abort,
     conversion: &mut ConvertLineProgram<'_, '_, R>,
 ) -> ConvertResult<()>
-    requires { IsWritable conversion.old.conversion.lists.program conversion.old.line_strings.now }
+    requires { IsWritable conversion.old.conversion.tables.program conversion.old.line_strings.now }
     ensures writable { OnOk result
-        (IsWritable conversion.new.conversion.lists.program conversion.new.line_strings.now) }
+        (IsWritable conversion.new.conversion.tables.program conversion.new.line_strings.now) }
     ensures same { conversion.new.line_strings.ghost_name ≡ conversion.old.line_strings.ghost_name }
     ensures same_strings { conversion.new.strings.ghost_name ≡ conversion.old.strings.ghost_name }
 {
@@ -151,9 +151,9 @@ fn build_second<R: Reader>(
     rt: &impl Abort,
     conversion: &mut ConvertLineProgram<'_, '_, R>,
 ) -> ConvertResult<()>
-    requires { IsWritable conversion.old.conversion.lists.program conversion.old.line_strings.now }
+    requires { IsWritable conversion.old.conversion.tables.program conversion.old.line_strings.now }
     ensures writable { OnOk result
-        (IsWritable conversion.new.conversion.lists.program conversion.new.line_strings.now) }
+        (IsWritable conversion.new.conversion.tables.program conversion.new.line_strings.now) }
     ensures same { conversion.new.line_strings.ghost_name ≡ conversion.old.line_strings.ghost_name }
     ensures same_strings { conversion.new.strings.ghost_name ≡ conversion.old.strings.ghost_name }
 {
@@ -171,9 +171,9 @@ fn build_all<R: Reader>(
     rt: &impl Abort,
     conversion: &mut ConvertLineProgram<'_, '_, R>,
 ) -> ConvertResult<()>
-    requires { IsWritable conversion.old.conversion.lists.program conversion.old.line_strings.now }
+    requires { IsWritable conversion.old.conversion.tables.program conversion.old.line_strings.now }
     ensures writable { OnOk result
-        (IsWritable conversion.new.conversion.lists.program conversion.new.line_strings.now) }
+        (IsWritable conversion.new.conversion.tables.program conversion.new.line_strings.now) }
     ensures same { conversion.new.line_strings.ghost_name ≡ conversion.old.line_strings.ghost_name }
     ensures same_strings { conversion.new.strings.ghost_name ≡ conversion.old.strings.ghost_name }
 {
@@ -185,7 +185,7 @@ fn build_all<R: Reader>(
 
 /// The program that a conversion of a source with one file has built.
 fn finished<R: Reader>(rt: &impl Abort, conversion: ConvertLineProgram<'_, '_, R>) -> LineProgram
-    requires { IsWritable conversion.conversion.lists.program conversion.line_strings.now }
+    requires { IsWritable conversion.conversion.tables.program conversion.line_strings.now }
     ensures { CanWrite result conversion.exit.1.0.now conversion.exit.0.now }
 {
     let (built, files) = conversion.program();
@@ -288,7 +288,7 @@ fn converted<R: Reader>(
     rt: &impl Abort,
     conversion: ConvertLineProgram<'_, '_, R>,
 ) -> ConvertResult<LineProgram>
-    requires { IsWritable conversion.conversion.lists.program conversion.line_strings.now }
+    requires { IsWritable conversion.conversion.tables.program conversion.line_strings.now }
     ensures { IfOk result (λ built. CanWrite built conversion.exit.1.0.now conversion.exit.0.now) }
 {
     let (built, files) = conversion.convert(|address| Some(Address::Constant(address)))?;

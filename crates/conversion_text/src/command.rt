@@ -37,7 +37,7 @@ pub fn convert(
         return Ok(2);
     };
     let mut text = String::new(alloc);
-    conversion_of(alloc, &request, sections, attempts).print_items(&mut text)?;
+    outcome_with(alloc, &request, sections, attempts).print_items(&mut text)?;
     printed(text.as_str(), out)
 }
 
@@ -56,7 +56,7 @@ pub fn convert_sequences(
         return Ok(2);
     };
     let mut text = String::new(alloc);
-    conversion_of(alloc, &request, sections, attempts).print_sequences(&mut text)?;
+    outcome_with(alloc, &request, sections, attempts).print_sequences(&mut text)?;
     printed(text.as_str(), out)
 }
 
@@ -69,7 +69,7 @@ fn printed(text: &str, out: &mut Vec<u8>) -> Result<u8, AllocError>
 }
 
 /// The conversion that is asked for, over these sections.
-fn conversion_of<'i>(
+fn outcome_with<'i>(
     alloc: Global,
     request: &'i Request,
     sections: Sections<'i>,

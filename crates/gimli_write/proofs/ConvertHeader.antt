@@ -7,14 +7,14 @@ use Rattle.gimli_line.specs.header.Header.{Header}
 use Rattle.gimli_build.specs.Texts.{Sections}
 use Rattle.gimli_write.specs.declared.convert_error.ConvertError.{ConvertError}
 use Rattle.gimli_write.specs.convert.Texts.{◌>>=◌, IsRefusedBy}
-use Rattle.gimli_write.specs.convert.Lists.{Converted, Lists, lists_with, directory_added, file_added, all_added}
-use Rattle.gimli_write.specs.convert.Preparation.{working_directory, SourceFile, source_file, line_encoding_of, first_texts, started_lists, Handed, encoding_of, lists_of_header}
+use Rattle.gimli_write.specs.convert.SourceTables.{SourceTables, TablesAndTexts, tables_with, directory_added, file_added, all_added}
+use Rattle.gimli_write.specs.convert.Preparation.{working_directory, SourceFile, source_file, line_encoding_of, first_texts, start_of_tables, Handed, encoding_of, tables_of_header}
 use Rattle.gimli_write.proofs.ConvertSteps.{done_first, refused_first, refused_same}
 
--- lists whose parts are these
-pub lists_are : (c : Converted) (line_strings : List (List ℕ)) (want : Lists) → c.program ≡ want.program → c.directory_ids ≡ want.directory_ids
-    → c.file_ids ≡ want.file_ids → line_strings ≡ want.line_strings → lists_with line_strings c ≡ want
-lists_are c line_strings want program directories files texts = rw (program, directories, files, texts) refl
+-- tables whose parts are these
+pub tables_are : (c : SourceTables) (line_strings : List (List ℕ)) (want : TablesAndTexts) → c.program ≡ want.program → c.directory_ids ≡ want.directory_ids
+    → c.file_ids ≡ want.file_ids → line_strings ≡ want.line_strings → tables_with line_strings c ≡ want
+tables_are c line_strings want program directories files texts = rw (program, directories, files, texts) refl
 
 -- what three things say of a result that is there
 pub ok_by_three : {A E : Type 0} (r : Result A E) (P Q R S : A → Type 0) → ((x : A) → P x → Q x → R x → S x) → IfOk r P → IfOk r Q → IfOk r R → IfOk r S
@@ -41,36 +41,36 @@ fourth_step (Err e) b c f k = refl
 -- ---- the preparation
 
 module _ (s : Sections) (h : Header) (given : Handed) (line_strings : List (List ℕ)) (encoding : Encoding) (target : encoding ≡ encoding_of h given) where
-  -- the lists with the first texts
-  abbrev pub begun_lists : List ℕ → SourceFile → LineEncoding → Lists
-  begun_lists directory file e = started_lists encoding e h (first_texts encoding.version line_strings directory file)
+  -- the tables with the first texts
+  abbrev pub begun_lists : List ℕ → SourceFile → LineEncoding → TablesAndTexts
+  begun_lists directory file e = start_of_tables encoding e h (first_texts encoding.version line_strings directory file)
 
-  -- the lists before the directories and files of the header are added
-  abbrev pub begun : Result Lists ConvertError
-  begun =
+  -- the tables before the directories and files of the header are added
+  abbrev pub tables_at_start : Result TablesAndTexts ConvertError
+  tables_at_start =
       working_directory encoding.version s h >>= λ directory. source_file encoding.version s h given.name >>= λ file.
       line_encoding_of h.parameters.line_encoding given.line_encoding >>= λ e. Ok (begun_lists directory file e)
 
   -- they are added
-  abbrev pub listed : Lists → Result Lists ConvertError
-  listed lists = all_added (directory_added s) h.directories lists >>= λ between. all_added (file_added s) h.files between
+  abbrev pub listed : TablesAndTexts → Result TablesAndTexts ConvertError
+  listed tables = all_added (directory_added s) h.directories tables >>= λ between. all_added (file_added s) h.files between
 
-  whole : (begun >>= λ lists. listed lists) ≡ lists_of_header s h given line_strings
+  whole : (tables_at_start >>= λ tables. listed tables) ≡ tables_of_header s h given line_strings
   whole =
       fourth_step (working_directory encoding.version s h) (source_file encoding.version s h given.name) (line_encoding_of h.parameters.line_encoding given.line_encoding)
-      begun_lists (λ lists. listed lists)
+      begun_lists (λ tables. listed tables)
       ∙ ap (λ (encoding : Encoding).
       working_directory encoding.version s h >>= λ directory. source_file encoding.version s h given.name >>= λ file.
       line_encoding_of h.parameters.line_encoding given.line_encoding >>= λ e.
-      all_added (directory_added s) h.directories (started_lists encoding e h (first_texts encoding.version line_strings directory file))
-      >>= λ lists. all_added (file_added s) h.files lists) target
+      all_added (directory_added s) h.directories (start_of_tables encoding e h (first_texts encoding.version line_strings directory file))
+      >>= λ tables. all_added (file_added s) h.files tables) target
 
-  pub refused_at_start : (e : ConvertError) → IsRefusedBy begun e → IsRefusedBy (lists_of_header s h given line_strings) e
+  pub refused_at_start : (e : ConvertError) → IsRefusedBy tables_at_start e → IsRefusedBy (tables_of_header s h given line_strings) e
   refused_at_start e refused =
-      refused_same (begun >>= λ lists. listed lists) (lists_of_header s h given line_strings) e whole (refused_first begun (λ lists. listed lists) e refused)
+      refused_same (tables_at_start >>= λ tables. listed tables) (tables_of_header s h given line_strings) e whole (refused_first tables_at_start (λ tables. listed tables) e refused)
 
-  pub at_listed : (lists : Lists) → begun ≡ Ok lists → listed lists ≡ lists_of_header s h given line_strings
-  at_listed lists start = sym (done_first begun (λ lists. listed lists) lists start) ∙ whole
+  pub at_listed : (tables : TablesAndTexts) → tables_at_start ≡ Ok tables → listed tables ≡ tables_of_header s h given line_strings
+  at_listed tables start = sym (done_first tables_at_start (λ tables. listed tables) tables start) ∙ whole
 
-  pub refused_at_listed : (lists : Lists) (e : ConvertError) → begun ≡ Ok lists → IsRefusedBy (listed lists) e → IsRefusedBy (lists_of_header s h given line_strings) e
-  refused_at_listed lists e start refused = refused_same (listed lists) (lists_of_header s h given line_strings) e (at_listed lists start) refused
+  pub refused_at_listed : (tables : TablesAndTexts) (e : ConvertError) → tables_at_start ≡ Ok tables → IsRefusedBy (listed tables) e → IsRefusedBy (tables_of_header s h given line_strings) e
+  refused_at_listed tables e start refused = refused_same (listed tables) (tables_of_header s h given line_strings) e (at_listed tables start) refused

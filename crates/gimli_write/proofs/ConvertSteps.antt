@@ -12,7 +12,7 @@ use Rattle.gimli_build.specs.Tables.{with_directory, index_of_directory, with_fi
 use Rattle.gimli_build.specs.Texts.{Sections}
 use Rattle.gimli_write.specs.declared.convert_error.ConvertError.{ConvertError}
 use Rattle.gimli_write.specs.convert.Texts.{◌>>=◌, IsRefusedBy, source_path}
-use Rattle.gimli_write.specs.convert.Lists.{Lists, version_of, with_path, directory_added, FileParts, with_parts, all_added}
+use Rattle.gimli_write.specs.convert.SourceTables.{TablesAndTexts, version_of, with_path, directory_added, FileParts, with_parts, all_added}
 
 -- ---- one step and the next
 
@@ -33,43 +33,43 @@ refused_same r s e is (inr refused) = inr (sym is ∙ refused)
 
 -- ---- one directory, and one file
 
--- the lists after a directory, by the text that was made of its path
-pub directory_is_added : (s : Sections) (lists : Lists) (v : Value) (path : List ℕ) (text : LineText) (line_strings : List (List ℕ))
-    → source_path (version_of lists) s v ≡ Ok path
-    → text ≡ made_text (version_of lists) lists.line_strings path → line_strings ≡ made_table (version_of lists) lists.line_strings path
-    → directory_added s lists v ≡ Ok (record lists {
-      program = record lists.program { directories = with_directory lists.program.directories text };
-      directory_ids = lists.directory_ids ++ index_of_directory lists.program.directories text ∷ [];
+-- the tables after a directory, by the text that was made of its path
+pub directory_is_added : (s : Sections) (tables : TablesAndTexts) (v : Value) (path : List ℕ) (text : LineText) (line_strings : List (List ℕ))
+    → source_path (version_of tables) s v ≡ Ok path
+    → text ≡ made_text (version_of tables) tables.line_strings path → line_strings ≡ made_table (version_of tables) tables.line_strings path
+    → directory_added s tables v ≡ Ok (record tables {
+      program = record tables.program { directories = with_directory tables.program.directories text };
+      directory_ids = tables.directory_ids ++ index_of_directory tables.program.directories text ∷ [];
       line_strings = line_strings;
     })
-directory_is_added s lists v path text line_strings is made after =
-    rw (made, after) (done_first (source_path (version_of lists) s v) (λ (p : List ℕ). Ok (with_path lists p)) path is)
+directory_is_added s tables v path text line_strings is made after =
+    rw (made, after) (done_first (source_path (version_of tables) s v) (λ (p : List ℕ). Ok (with_path tables p)) path is)
 
--- the lists after a file of these parts, by the texts that were made of its path and its source
-pub parts_are_added : (lists : Lists) (f : File) (parts : FileParts) (path : LineText) (source : Option LineText) (paths line_strings : List (List ℕ))
-    → path ≡ made_text (version_of lists) lists.line_strings parts.path → paths ≡ made_table (version_of lists) lists.line_strings parts.path
-    → source ≡ option_map (made_text (version_of lists) paths) parts.source
-    → line_strings ≡ option_map_or (made_table (version_of lists) paths) parts.source paths
-    → with_parts lists f parts ≡ record lists {
-      program = record lists.program {
-        files = with_file lists.program.files (path, parts.directory)
+-- the tables after a file of these parts, by the texts that were made of its path and its source
+pub parts_are_added : (tables : TablesAndTexts) (f : File) (parts : FileParts) (path : LineText) (source : Option LineText) (paths line_strings : List (List ℕ))
+    → path ≡ made_text (version_of tables) tables.line_strings parts.path → paths ≡ made_table (version_of tables) tables.line_strings parts.path
+    → source ≡ option_map (made_text (version_of tables) paths) parts.source
+    → line_strings ≡ option_map_or (made_table (version_of tables) paths) parts.source paths
+    → with_parts tables f parts ≡ record tables {
+      program = record tables.program {
+        files = with_file tables.program.files (path, parts.directory)
             (Some (record { timestamp = f.timestamp; size = f.size; md5 = f.md5; source = source }));
       };
-      file_ids = lists.file_ids ++ index_of_file lists.program.files (path, parts.directory) ∷ [];
+      file_ids = tables.file_ids ++ index_of_file tables.program.files (path, parts.directory) ∷ [];
       line_strings = line_strings;
     }
-parts_are_added lists f parts path source paths line_strings made after source_made source_after =
+parts_are_added tables f parts path source paths line_strings made after source_made source_after =
     rw (source_after, source_made, after, made) refl
 
 -- ---- many
 
 -- what is left to be added begins with the next element
-pub next_added : {A B : Type 0} (add : Lists → B → Result Lists ConvertError) (seen : A → B) (xs : List A) (i : ℕ) (x : A) (lists : Lists)
+pub next_added : {A B : Type 0} (add : TablesAndTexts → B → Result TablesAndTexts ConvertError) (seen : A → B) (xs : List A) (i : ℕ) (x : A) (tables : TablesAndTexts)
     → i < length xs → x ≡ get_or xs i x
-    → all_added add (map seen (drop i xs)) lists ≡ (add lists (seen x) >>= λ next. all_added add (map seen (drop (i + 1) xs)) next)
-next_added {A = A} add seen xs i x lists lt is =
-    at_drop_more (λ (l : List A). all_added add (map seen l) lists) xs i x lt
-    ∙ ap (λ (y : A). add lists (seen y) >>= λ next. all_added add (map seen (drop (i + 1) xs)) next) (sym is)
+    → all_added add (map seen (drop i xs)) tables ≡ (add tables (seen x) >>= λ next. all_added add (map seen (drop (i + 1) xs)) next)
+next_added {A = A} add seen xs i x tables lt is =
+    at_drop_more (λ (l : List A). all_added add (map seen l) tables) xs i x lt
+    ∙ ap (λ (y : A). add tables (seen y) >>= λ next. all_added add (map seen (drop (i + 1) xs)) next) (sym is)
 
 -- ---- the line strings
 

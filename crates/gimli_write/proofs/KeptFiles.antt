@@ -4,8 +4,8 @@ use Rattle.std.specs.Prelude.{Some}
 use Rattle.std.proofs.lemmas.List.{length-append, get_or_append_left}
 use Rattle.std.proofs.lemmas.Option.{slice_get-get_or}
 use Rattle.gimli_build.specs.Tables.{Keeps, keys_of}
-use Rattle.gimli_write.specs.convert.Lists.{Converted}
-use Rattle.gimli_write.specs.convert.KeptLists.{KeepsFiles}
+use Rattle.gimli_write.specs.convert.SourceTables.{SourceTables}
+use Rattle.gimli_write.specs.convert.KeptTables.{KeepsFiles}
 
 module _ {A : Type 0} where
   pub keeps_self : (xs : List A) → Keeps xs xs
@@ -27,10 +27,10 @@ module _ {A : Type 0} where
         ∙ sym (slice_get-get_or xs i x h);
   }
 
-pub files_self : (c : Converted) → KeepsFiles c c
+pub files_self : (c : SourceTables) → KeepsFiles c c
 files_self c = record { files = keeps_self (keys_of c.program.files); numbers = keeps_self c.file_ids; directories = refl }
 
-pub files_then : (a b c : Converted) → KeepsFiles a b → KeepsFiles b c → KeepsFiles a c
+pub files_then : (a b c : SourceTables) → KeepsFiles a b → KeepsFiles b c → KeepsFiles a c
 files_then a b c first second = record {
   files = keeps_then (keys_of a.program.files) (keys_of b.program.files) (keys_of c.program.files) first.files second.files;
   numbers = keeps_then a.file_ids b.file_ids c.file_ids first.numbers second.numbers;

@@ -9,19 +9,19 @@ pub mod SourceReadings
 pub mod SourceSteps
 pub mod MappedAddresses
 pub mod MappedRows
-pub mod MappedLists
+pub mod MappedTables
 pub mod MappedPrograms
 pub mod MappedTexts
 pub mod MappedDirectories
 pub mod MappedFiles
 pub mod MappedNames
-pub mod FeedingLemmas
+pub mod OutcomeLemmas
 pub mod MappedEnds
 pub mod Conversions
-mod LastLists
+mod TablesAtEnd
 mod KeptFiles
 mod Writable
-pub mod Feedings
+pub mod Outcomes
 pub mod MappedLaws
 mod WorkedConversions
 pub mod Gathers

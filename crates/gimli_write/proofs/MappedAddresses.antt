@@ -9,7 +9,7 @@ use Rattle.gimli_line.specs.run.Instruction.{Ins, is_end, makes_row}
 use Rattle.gimli_line.specs.run.Events.{row_at}
 use Rattle.gimli_line.specs.run.OperationPointer.{OperationPointer, address_limit, is_tombstone, is_too_large, advanced_by, pointer_at_overflow, next_pointer, pointer_at, is_under_tombstone}
 use Rattle.gimli_line.proofs.NonDecreasingLaws.{rises}
-use Rattle.gimli_write.specs.convert.Offers.{base_at, pending_address}
+use Rattle.gimli_write.specs.convert.Items.{base_at, pending_address}
 use Rattle.gimli_write.specs.convert.Mapped.{gave_row}
 
 -- ---- addresses are below their limit

@@ -20,11 +20,11 @@ use Rattle.gimli_build.proofs.TableLemmas.{directory_found}
 use Rattle.gimli_write.specs.TextReading.{text_of}
 use Rattle.gimli_write.specs.declared.convert_error.ConvertError.TheVariants.{Read, MissingCompilationDirectory, InvalidAttributeValue}
 use Rattle.gimli_write.specs.convert.Texts.{◌>>=◌, without_zero, source_text, source_path}
-use Rattle.gimli_write.specs.convert.Lists.{Lists, version_of, with_path, directory_added, file_parts, with_parts, file_added, all_added}
+use Rattle.gimli_write.specs.convert.SourceTables.{TablesAndTexts, version_of, with_path, directory_added, file_parts, with_parts, file_added, all_added}
 use Rattle.gimli_write.specs.convert.Mapped.{IsDirectoryPath}
-use Rattle.gimli_write.specs.convert.Preparation.{SourceFile, first_path, working_directory, first_texts, started_lists, first_ids, Handed, encoding_of, needed_from_5}
+use Rattle.gimli_write.specs.convert.Preparation.{SourceFile, first_path, working_directory, first_texts, start_of_tables, first_ids, Handed, encoding_of, needed_from_5}
 use Rattle.gimli_write.proofs.ReadTexts.{text_read}
-use Rattle.gimli_write.proofs.MappedLists.{took, same_ok, sources_table, IsPrepared}
+use Rattle.gimli_write.proofs.MappedTables.{took, same_ok, sources_table, IsPrepared}
 use Rattle.gimli_write.proofs.MappedTexts.{grown_place, grown_any, own_place, own_any, same_text, IsMade, HasMade, has_itself, has_then, is_made, is_same, table_has, made_apart}
 
 -- ---- texts of a source
@@ -148,60 +148,60 @@ sources_has version paths None = has_itself version paths
 -- ---- all directories
 
 -- each id of a directory of the source is that of its path
-pub record AreDirectories (sections : Sections) (h : Header) (lists : Lists) : Type 0 where
-  pub each : (d id : ℕ) → slice_get lists.directory_ids d ≡ Some id
-      → (path : List ℕ) × IsDirectoryPath sections (directory_of h d) path × IsDirectoryId (version_of lists) lists.line_strings lists.program.directories path id
+pub record AreDirectories (sections : Sections) (h : Header) (tables : TablesAndTexts) : Type 0 where
+  pub each : (d id : ℕ) → slice_get tables.directory_ids d ≡ Some id
+      → (path : List ℕ) × IsDirectoryPath sections (directory_of h d) path × IsDirectoryId (version_of tables) tables.line_strings tables.program.directories path id
 
 module _ (sections : Sections) (h : Header) where
   -- the next directory of a header is added
-  directory_next : (lists next : Lists) (v : Value) → directory_of h (length lists.directory_ids) ≡ Some v → directory_added sections lists v ≡ Ok next
-      → AreDirectories sections h lists → AreDirectories sections h next × (length next.directory_ids ≡ length lists.directory_ids + 1)
-  directory_next lists next v here is so =
-      let version = version_of lists in
-      let t = took (source_path version sections v) (λ path. Ok (with_path lists path)) next is in
+  directory_next : (tables next : TablesAndTexts) (v : Value) → directory_of h (length tables.directory_ids) ≡ Some v → directory_added sections tables v ≡ Ok next
+      → AreDirectories sections h tables → AreDirectories sections h next × (length next.directory_ids ≡ length tables.directory_ids + 1)
+  directory_next tables next v here is so =
+      let version = version_of tables in
+      let t = took (source_path version sections v) (λ path. Ok (with_path tables path)) next is in
       let path = t.0 in
-      let after = made_table version lists.line_strings path in
-      let text = made_text version lists.line_strings path in
-      let same : made_text version after path ≡ text = is_same version lists.line_strings path in
-      let there = list_any (line_text_eq text) lists.program.directories in
-      let new : IsDirectoryId version after (with_directory lists.program.directories text) path (index_of_directory lists.program.directories text) = record {
-        made = is_made version lists.line_strings path;
-        present = subst (λ (x : LineText). list_any (line_text_eq x) (with_directory lists.program.directories text) ≡ true) (sym same)
-            (own_any (line_text_eq text) there lists.program.directories text refl (same_text text));
-        place = subst (λ (x : LineText). index_of_directory lists.program.directories text ≡ index_of_directory (with_directory lists.program.directories text) x) (sym same)
-            (sym (own_place (line_text_eq text) there lists.program.directories text refl (same_text text)));
+      let after = made_table version tables.line_strings path in
+      let text = made_text version tables.line_strings path in
+      let same : made_text version after path ≡ text = is_same version tables.line_strings path in
+      let there = list_any (line_text_eq text) tables.program.directories in
+      let new : IsDirectoryId version after (with_directory tables.program.directories text) path (index_of_directory tables.program.directories text) = record {
+        made = is_made version tables.line_strings path;
+        present = subst (λ (x : LineText). list_any (line_text_eq x) (with_directory tables.program.directories text) ≡ true) (sym same)
+            (own_any (line_text_eq text) there tables.program.directories text refl (same_text text));
+        place = subst (λ (x : LineText). index_of_directory tables.program.directories text ≡ index_of_directory (with_directory tables.program.directories text) x) (sym same)
+            (sym (own_place (line_text_eq text) there tables.program.directories text refl (same_text text)));
       } in
       let read : IsText sections v path = text_read sections v path (source_path_of version sections v path t.1) in
-      subst (λ (l : Lists). AreDirectories sections h l × (length l.directory_ids ≡ length lists.directory_ids + 1)) (same_ok (with_path lists path) next t.2) (
+      subst (λ (l : TablesAndTexts). AreDirectories sections h l × (length l.directory_ids ≡ length tables.directory_ids + 1)) (same_ok (with_path tables path) next t.2) (
         record {
-          each = λ d id at. elim (grown_cases lists.directory_ids (index_of_directory lists.program.directories text) id d at) [
+          each = λ d id at. elim (grown_cases tables.directory_ids (index_of_directory tables.program.directories text) id d at) [
             | inl old ↦
                 let before = so.each d id old in (
                   before.0,
                   before.1,
-                  longer_texts version lists.line_strings after (with_directory lists.program.directories text) before.0 id (table_has version lists.line_strings path)
-                      (more_directories version lists.line_strings lists.program.directories text before.0 id before.2),
+                  longer_texts version tables.line_strings after (with_directory tables.program.directories text) before.0 id (table_has version tables.line_strings path)
+                      (more_directories version tables.line_strings tables.program.directories text before.0 id before.2),
                 )
             | inr here_it_is ↦ (
               path,
               subst (λ (o : Option Value). IsDirectoryPath sections o path) (sym (ap (directory_of h) here_it_is.0 ∙ here)) read,
-              subst (IsDirectoryId version after (with_directory lists.program.directories text) path) here_it_is.1 new,
+              subst (IsDirectoryId version after (with_directory tables.program.directories text) path) here_it_is.1 new,
             )
           ];
         },
-        length-append lists.directory_ids (index_of_directory lists.program.directories text ∷ []),
+        length-append tables.directory_ids (index_of_directory tables.program.directories text ∷ []),
       )
 
-  directories_next : (done rest : List Value) (lists last : Lists) → h.directories ≡ done ++ rest
-      → length lists.directory_ids ≡ begins_at (nat_le h.parameters.encoding.version 4) + length done
-      → all_added (directory_added sections) rest lists ≡ Ok last → AreDirectories sections h lists → AreDirectories sections h last
-  directories_next done [] lists last parts count is so = subst (AreDirectories sections h) (same_ok lists last is) so
-  directories_next done (v ∷ rest) lists last parts count is so =
-      let t = took (directory_added sections lists v) (all_added (directory_added sections) rest) last is in
-      let here : directory_of h (length lists.directory_ids) ≡ Some v =
-      ap (λ (ds : List Value). if nat_le h.parameters.encoding.version 4 then from_one (option_map String h.comp_dir) ds (length lists.directory_ids) else slice_get ds (length lists.directory_ids)) parts
-      ∙ entry_at (nat_le h.parameters.encoding.version 4) (option_map String h.comp_dir) done rest v (length lists.directory_ids) count in
-      let next = directory_next lists t.0 v here t.1 so in
+  directories_next : (done rest : List Value) (tables last : TablesAndTexts) → h.directories ≡ done ++ rest
+      → length tables.directory_ids ≡ begins_at (nat_le h.parameters.encoding.version 4) + length done
+      → all_added (directory_added sections) rest tables ≡ Ok last → AreDirectories sections h tables → AreDirectories sections h last
+  directories_next done [] tables last parts count is so = subst (AreDirectories sections h) (same_ok tables last is) so
+  directories_next done (v ∷ rest) tables last parts count is so =
+      let t = took (directory_added sections tables v) (all_added (directory_added sections) rest) last is in
+      let here : directory_of h (length tables.directory_ids) ≡ Some v =
+      ap (λ (ds : List Value). if nat_le h.parameters.encoding.version 4 then from_one (option_map String h.comp_dir) ds (length tables.directory_ids) else slice_get ds (length tables.directory_ids)) parts
+      ∙ entry_at (nat_le h.parameters.encoding.version 4) (option_map String h.comp_dir) done rest v (length tables.directory_ids) count in
+      let next = directory_next tables t.0 v here t.1 so in
       directories_next (done ++ v ∷ []) rest t.0 last (parts ∙ sym (append_assoc done (v ∷ []) rest))
       (omega (arith, next.1, count, length-append done (v ∷ []))) t.2 next.0
 
@@ -218,7 +218,7 @@ module _ (sections : Sections) (h : Header) where
       by None so = none (nat_le version 4) so
 
   directories_first : (encoding : Encoding) (line_encoding : LineEncoding) (line_strings : List (List ℕ)) (directory : List ℕ) (file : SourceFile) → IsDirectoryPath sections (directory_of h 0) directory
-      → AreDirectories sections h (started_lists encoding line_encoding h (first_texts encoding.version line_strings directory file))
+      → AreDirectories sections h (start_of_tables encoding line_encoding h (first_texts encoding.version line_strings directory file))
   directories_first encoding line_encoding line_strings directory file read = record { each = each (nat_le h.parameters.encoding.version 4) }
     where
       working : LineText
@@ -265,20 +265,20 @@ module _ (sections : Sections) (h : Header) where
       each false d id at = absurd cc
 
   -- those of a header
-  pub directories_prepared : (given : Handed) (line_strings : List (List ℕ)) (lists : Lists) (p : IsPrepared sections h given line_strings lists) → AreDirectories sections h p.with_directories
-  directories_prepared given line_strings lists p =
+  pub directories_prepared : (given : Handed) (line_strings : List (List ℕ)) (tables : TablesAndTexts) (p : IsPrepared sections h given line_strings tables) → AreDirectories sections h p.with_directories
+  directories_prepared given line_strings tables p =
       directories_next [] h.directories _ p.with_directories refl (first_count h.parameters.encoding.version ∙ omega arith) p.directories
       (directories_first (encoding_of h given) p.line_encoding line_strings p.directory p.file (working_read (encoding_of h given).version p.directory p.directory_is))
 
   -- a file changes none of them
-  pub directories_stay : (lists next : Lists) (f : File) → file_added sections lists f ≡ Ok next → AreDirectories sections h lists → AreDirectories sections h next
-  directories_stay lists next f is so =
-      let version = version_of lists in
-      let t = took (file_parts version sections lists.directory_ids f) (λ parts. Ok (with_parts lists f parts)) next is in
+  pub directories_stay : (tables next : TablesAndTexts) (f : File) → file_added sections tables f ≡ Ok next → AreDirectories sections h tables → AreDirectories sections h next
+  directories_stay tables next f is so =
+      let version = version_of tables in
+      let t = took (file_parts version sections tables.directory_ids f) (λ parts. Ok (with_parts tables f parts)) next is in
       let parts = t.0 in
-      let paths = made_table version lists.line_strings parts.path in
+      let paths = made_table version tables.line_strings parts.path in
       let after = sources_table version paths parts.source in
-      let has : HasMade version lists.line_strings after = has_then version lists.line_strings paths after (table_has version lists.line_strings parts.path) (sources_has version paths parts.source) in
-      subst (AreDirectories sections h) (same_ok (with_parts lists f parts) next t.2) (record {
-        each = λ d id at. let before = so.each d id at in (before.0, before.1, longer_texts version lists.line_strings after lists.program.directories before.0 id has before.2);
+      let has : HasMade version tables.line_strings after = has_then version tables.line_strings paths after (table_has version tables.line_strings parts.path) (sources_has version paths parts.source) in
+      subst (AreDirectories sections h) (same_ok (with_parts tables f parts) next t.2) (record {
+        each = λ d id at. let before = so.each d id at in (before.0, before.1, longer_texts version tables.line_strings after tables.program.directories before.0 id has before.2);
       })

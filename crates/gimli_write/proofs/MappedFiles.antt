@@ -16,10 +16,10 @@ use Rattle.gimli_build.specs.LineText.{LineText, made_text, made_table}
 use Rattle.gimli_build.specs.Tables.{FileKey, Details, File as BuiltFile, key_eq, has_file, index_of_file, with_details, with_file, keys_of}
 use Rattle.gimli_build.specs.Texts.{Sections, OneByOne}
 use Rattle.gimli_build.proofs.TableLemmas.{file_found_at, file_keeps, file_others, some_within}
-use Rattle.gimli_write.specs.convert.Lists.{Lists, version_of, FileParts, file_parts, with_parts, file_added, all_added}
-use Rattle.gimli_write.specs.convert.Offers.{lists_after_definition, lists_at}
+use Rattle.gimli_write.specs.convert.SourceTables.{TablesAndTexts, version_of, FileParts, file_parts, with_parts, file_added, all_added}
+use Rattle.gimli_write.specs.convert.Items.{tables_after_definition, tables_at}
 use Rattle.gimli_write.specs.convert.Preparation.{first_ids}
-use Rattle.gimli_write.proofs.MappedLists.{took, same_ok, sources_table}
+use Rattle.gimli_write.proofs.MappedTables.{took, same_ok, sources_table}
 use Rattle.gimli_write.proofs.MappedTexts.{place_stays, place_new, any_stays, any_new, place_none, last_element, same_key, IsMade, HasMade, has_then, is_made, is_same, table_has, made_apart}
 use Rattle.gimli_write.proofs.MappedDirectories.{sources_has}
 
@@ -202,53 +202,53 @@ source_there version paths None = tt
 
 -- ---- one more file
 
-module _ (sections : Sections) (lists : Lists) (g : File) (added : FileParts) (added_are : HasParts sections (version_of lists) lists.directory_ids added g) where
+module _ (sections : Sections) (tables : TablesAndTexts) (g : File) (added : FileParts) (added_are : HasParts sections (version_of tables) tables.directory_ids added g) where
   abbrev paths_after : List (List ℕ)
-  paths_after = made_table (version_of lists) lists.line_strings added.path
+  paths_after = made_table (version_of tables) tables.line_strings added.path
 
   abbrev texts_after : List (List ℕ)
-  texts_after = sources_table (version_of lists) (made_table (version_of lists) lists.line_strings added.path) added.source
+  texts_after = sources_table (version_of tables) (made_table (version_of tables) tables.line_strings added.path) added.source
 
   abbrev key_of : FileKey
-  key_of = (made_text (version_of lists) lists.line_strings added.path, added.directory)
+  key_of = (made_text (version_of tables) tables.line_strings added.path, added.directory)
 
   abbrev details_of : Details
-  details_of = record { timestamp = g.timestamp; size = g.size; md5 = g.md5; source = option_map (made_text (version_of lists) paths_after) added.source }
+  details_of = record { timestamp = g.timestamp; size = g.size; md5 = g.md5; source = option_map (made_text (version_of tables) paths_after) added.source }
 
   abbrev files_after_it : List BuiltFile
-  files_after_it = with_file lists.program.files key_of (Some details_of)
+  files_after_it = with_file tables.program.files key_of (Some details_of)
 
-  texts_stay : HasMade (version_of lists) lists.line_strings texts_after
+  texts_stay : HasMade (version_of tables) tables.line_strings texts_after
   texts_stay =
-      has_then (version_of lists) lists.line_strings paths_after texts_after (table_has (version_of lists) lists.line_strings added.path) (sources_has (version_of lists) paths_after added.source)
+      has_then (version_of tables) tables.line_strings paths_after texts_after (table_has (version_of tables) tables.line_strings added.path) (sources_has (version_of tables) paths_after added.source)
 
-  own_made : IsMade (version_of lists) texts_after added.path
-  own_made = (sources_has (version_of lists) paths_after added.source).there added.path (is_made (version_of lists) lists.line_strings added.path)
+  own_made : IsMade (version_of tables) texts_after added.path
+  own_made = (sources_has (version_of tables) paths_after added.source).there added.path (is_made (version_of tables) tables.line_strings added.path)
 
-  own_same : made_text (version_of lists) texts_after added.path ≡ made_text (version_of lists) lists.line_strings added.path
-  own_same = (sources_has (version_of lists) paths_after added.source).same added.path (is_made (version_of lists) lists.line_strings added.path) ∙ is_same (version_of lists) lists.line_strings added.path
+  own_same : made_text (version_of tables) texts_after added.path ≡ made_text (version_of tables) tables.line_strings added.path
+  own_same = (sources_has (version_of tables) paths_after added.source).same added.path (is_made (version_of tables) tables.line_strings added.path) ∙ is_same (version_of tables) tables.line_strings added.path
 
-  own_known : IsKnown (version_of lists) texts_after g added.source details_of
+  own_known : IsKnown (version_of tables) texts_after g added.source details_of
   own_known = record {
     timestamp = refl;
     size = refl;
     md5 = refl;
-    source_is = source_known (version_of lists) paths_after added.source;
-    source_made = source_there (version_of lists) paths_after added.source;
+    source_is = source_known (version_of tables) paths_after added.source;
+    source_made = source_there (version_of tables) paths_after added.source;
   }
 
   -- the new file
-  file_new : (source : List File) → IsFileOf sections (version_of lists) texts_after lists.directory_ids files_after_it (source ++ g ∷ []) g (index_of_file lists.program.files key_of)
+  file_new : (source : List File) → IsFileOf sections (version_of tables) texts_after tables.directory_ids files_after_it (source ++ g ∷ []) g (index_of_file tables.program.files key_of)
   file_new source =
       let to = λ (t : LineText). let k : FileKey = (t, added.directory) in k in
       record {
         parts = added;
         parts_are = added_are;
         made = own_made;
-        present = subst (λ (t : LineText). has_file files_after_it (to t) ≡ true) (sym own_same) (new_any lists.program.files key_of details_of);
-        place = subst (λ (t : LineText). index_of_file lists.program.files key_of ≡ index_of_file files_after_it (to t)) (sym own_same) (sym (new_place lists.program.files key_of details_of));
+        present = subst (λ (t : LineText). has_file files_after_it (to t) ≡ true) (sym own_same) (new_any tables.program.files key_of details_of);
+        place = subst (λ (t : LineText). index_of_file tables.program.files key_of ≡ index_of_file files_after_it (to t)) (sym own_same) (sym (new_place tables.program.files key_of details_of));
         details = details_of;
-        entry = subst (λ (t : LineText). slice_get files_after_it (index_of_file lists.program.files key_of) ≡ Some (to t, details_of)) (sym own_same) (new_entry lists.program.files key_of details_of);
+        entry = subst (λ (t : LineText). slice_get files_after_it (index_of_file tables.program.files key_of) ≡ Some (to t, details_of)) (sym own_same) (new_entry tables.program.files key_of details_of);
         last = g;
         last_parts = added;
         last_are = added_are;
@@ -261,32 +261,32 @@ module _ (sections : Sections) (lists : Lists) (g : File) (added : FileParts) (a
       }
 
   -- a file that was there
-  file_old : (source : List File) (f : File) (id : ℕ) → IsFileOf sections (version_of lists) lists.line_strings lists.directory_ids lists.program.files source f id
-      → IsFileOf sections (version_of lists) texts_after lists.directory_ids files_after_it (source ++ g ∷ []) f id
+  file_old : (source : List File) (f : File) (id : ℕ) → IsFileOf sections (version_of tables) tables.line_strings tables.directory_ids tables.program.files source f id
+      → IsFileOf sections (version_of tables) texts_after tables.directory_ids files_after_it (source ++ g ∷ []) f id
   file_old source f id so = elim (same_paths added so.parts) [ inl same ↦ taken same | inr other ↦ left other ]
     where
-      text_same : made_text (version_of lists) texts_after so.parts.path ≡ made_text (version_of lists) lists.line_strings so.parts.path
+      text_same : made_text (version_of tables) texts_after so.parts.path ≡ made_text (version_of tables) tables.line_strings so.parts.path
       text_same = texts_stay.same so.parts.path so.made
 
-      present : has_file files_after_it (made_text (version_of lists) texts_after so.parts.path, so.parts.directory) ≡ true
+      present : has_file files_after_it (made_text (version_of tables) texts_after so.parts.path, so.parts.directory) ≡ true
       present =
           subst (λ (t : LineText). has_file files_after_it (t, so.parts.directory) ≡ true) (sym text_same)
-          (old_any lists.program.files key_of details_of (made_text (version_of lists) lists.line_strings so.parts.path, so.parts.directory) so.present)
+          (old_any tables.program.files key_of details_of (made_text (version_of tables) tables.line_strings so.parts.path, so.parts.directory) so.present)
 
-      place : id ≡ index_of_file files_after_it (made_text (version_of lists) texts_after so.parts.path, so.parts.directory)
+      place : id ≡ index_of_file files_after_it (made_text (version_of tables) texts_after so.parts.path, so.parts.directory)
       place =
           subst (λ (t : LineText). id ≡ index_of_file files_after_it (t, so.parts.directory)) (sym text_same)
-          (so.place ∙ sym (old_place lists.program.files key_of details_of (made_text (version_of lists) lists.line_strings so.parts.path, so.parts.directory) so.present))
+          (so.place ∙ sym (old_place tables.program.files key_of details_of (made_text (version_of tables) tables.line_strings so.parts.path, so.parts.directory) so.present))
 
       -- the added file has its paths
-      taken : SamePaths added so.parts → IsFileOf sections (version_of lists) texts_after lists.directory_ids files_after_it (source ++ g ∷ []) f id
+      taken : SamePaths added so.parts → IsFileOf sections (version_of tables) texts_after tables.directory_ids files_after_it (source ++ g ∷ []) f id
       taken same =
-          let text : made_text (version_of lists) lists.line_strings added.path ≡ made_text (version_of lists) lists.line_strings so.parts.path = ap (made_text (version_of lists) lists.line_strings) same.0 in
-          let key : key_of ≡ (made_text (version_of lists) texts_after so.parts.path, so.parts.directory) =
-          ap (λ (t : LineText). let k : FileKey = (t, added.directory) in k) (text ∙ sym text_same) ∙ ap (λ (n : ℕ). let k : FileKey = (made_text (version_of lists) texts_after so.parts.path, n) in k) same.1 in
-          let old_key : key_of ≡ (made_text (version_of lists) lists.line_strings so.parts.path, so.parts.directory) =
-          ap (λ (t : LineText). let k : FileKey = (t, added.directory) in k) text ∙ ap (λ (n : ℕ). let k : FileKey = (made_text (version_of lists) lists.line_strings so.parts.path, n) in k) same.1 in
-          let at : index_of_file lists.program.files key_of ≡ id = ap (index_of_file lists.program.files) old_key ∙ sym so.place in
+          let text : made_text (version_of tables) tables.line_strings added.path ≡ made_text (version_of tables) tables.line_strings so.parts.path = ap (made_text (version_of tables) tables.line_strings) same.0 in
+          let key : key_of ≡ (made_text (version_of tables) texts_after so.parts.path, so.parts.directory) =
+          ap (λ (t : LineText). let k : FileKey = (t, added.directory) in k) (text ∙ sym text_same) ∙ ap (λ (n : ℕ). let k : FileKey = (made_text (version_of tables) texts_after so.parts.path, n) in k) same.1 in
+          let old_key : key_of ≡ (made_text (version_of tables) tables.line_strings so.parts.path, so.parts.directory) =
+          ap (λ (t : LineText). let k : FileKey = (t, added.directory) in k) text ∙ ap (λ (n : ℕ). let k : FileKey = (made_text (version_of tables) tables.line_strings so.parts.path, n) in k) same.1 in
+          let at : index_of_file tables.program.files key_of ≡ id = ap (index_of_file tables.program.files) old_key ∙ sym so.place in
           record {
             parts = so.parts;
             parts_are = so.parts_are;
@@ -295,8 +295,8 @@ module _ (sections : Sections) (lists : Lists) (g : File) (added : FileParts) (a
             place = place;
             details = details_of;
             entry =
-                subst (λ (n : ℕ). slice_get files_after_it n ≡ Some ((made_text (version_of lists) texts_after so.parts.path, so.parts.directory), details_of)) at
-                (subst (λ (k : FileKey). slice_get files_after_it (index_of_file lists.program.files key_of) ≡ Some (k, details_of)) key (new_entry lists.program.files key_of details_of));
+                subst (λ (n : ℕ). slice_get files_after_it n ≡ Some ((made_text (version_of tables) texts_after so.parts.path, so.parts.directory), details_of)) at
+                (subst (λ (k : FileKey). slice_get files_after_it (index_of_file tables.program.files key_of) ≡ Some (k, details_of)) key (new_entry tables.program.files key_of details_of));
             last = g;
             last_parts = added;
             last_are = added_are;
@@ -309,11 +309,11 @@ module _ (sections : Sections) (lists : Lists) (g : File) (added : FileParts) (a
           }
 
       -- the added file has others
-      left : (SamePaths added so.parts → ⊥) → IsFileOf sections (version_of lists) texts_after lists.directory_ids files_after_it (source ++ g ∷ []) f id
+      left : (SamePaths added so.parts → ⊥) → IsFileOf sections (version_of tables) texts_after tables.directory_ids files_after_it (source ++ g ∷ []) f id
       left other =
-          let apart : (let k : FileKey = (made_text (version_of lists) lists.line_strings so.parts.path, so.parts.directory) in k) ≢ key_of = λ is.
-          let text : made_text (version_of lists) texts_after so.parts.path ≡ made_text (version_of lists) texts_after added.path = text_same ∙ ap (λ (k : FileKey). k.0) is ∙ sym own_same in
-          other (sym (made_apart (version_of lists) texts_after so.parts.path added.path (texts_stay.there so.parts.path so.made) own_made text), sym (ap (λ (k : FileKey). k.1) is)) in
+          let apart : (let k : FileKey = (made_text (version_of tables) tables.line_strings so.parts.path, so.parts.directory) in k) ≢ key_of = λ is.
+          let text : made_text (version_of tables) texts_after so.parts.path ≡ made_text (version_of tables) texts_after added.path = text_same ∙ ap (λ (k : FileKey). k.0) is ∙ sym own_same in
+          other (sym (made_apart (version_of tables) texts_after so.parts.path added.path (texts_stay.there so.parts.path so.made) own_made text), sym (ap (λ (k : FileKey). k.1) is)) in
           record {
             parts = so.parts;
             parts_are = so.parts_are;
@@ -323,65 +323,65 @@ module _ (sections : Sections) (lists : Lists) (g : File) (added : FileParts) (a
             details = so.details;
             entry =
                 subst (λ (t : LineText). slice_get files_after_it id ≡ Some ((t, so.parts.directory), so.details)) (sym text_same)
-                (other_entry lists.program.files key_of details_of (made_text (version_of lists) lists.line_strings so.parts.path, so.parts.directory) so.details id so.entry apart);
+                (other_entry tables.program.files key_of details_of (made_text (version_of tables) tables.line_strings so.parts.path, so.parts.directory) so.details id so.entry apart);
             last = so.last;
             last_parts = so.last_parts;
             last_are = so.last_are;
             same = so.same;
-            known = known_longer (version_of lists) lists.line_strings texts_after so.last so.last_parts.source so.details texts_stay so.known;
+            known = known_longer (version_of tables) tables.line_strings texts_after so.last so.last_parts.source so.details texts_stay so.known;
             before = so.before;
             later = so.later ++ g ∷ [];
             split = ap (λ (l : List File). l ++ g ∷ []) so.split ∙ append_assoc so.before (so.last ∷ so.later) (g ∷ []);
-            none_after = all_push (HasOthers sections (version_of lists) lists.directory_ids so.parts) so.later g so.none_after (record { own = added; own_is = added_are; other = other });
+            none_after = all_push (HasOthers sections (version_of tables) tables.directory_ids so.parts) so.later g so.none_after (record { own = added; own_is = added_are; other = other });
           }
 
 -- ---- all files
 
 -- each id of a file of the source is that of its paths
-pub record AreFiles (sections : Sections) (h : Header) (lists : Lists) (source : List File) : Type 0 where
+pub record AreFiles (sections : Sections) (h : Header) (tables : TablesAndTexts) (source : List File) : Type 0 where
   pub ids : List ℕ
-  pub ids_are : lists.file_ids ≡ first_ids h.parameters.encoding.version ++ ids
-  pub each : OneByOne (IsFileOf sections (version_of lists) lists.line_strings lists.directory_ids lists.program.files source) source ids
+  pub ids_are : tables.file_ids ≡ first_ids h.parameters.encoding.version ++ ids
+  pub each : OneByOne (IsFileOf sections (version_of tables) tables.line_strings tables.directory_ids tables.program.files source) source ids
 
-pub file_next : (sections : Sections) (h : Header) (lists next : Lists) (g : File) (source : List File) → file_added sections lists g ≡ Ok next
-    → AreFiles sections h lists source → AreFiles sections h next (source ++ g ∷ [])
-file_next sections h lists next g source is so =
-    let version = version_of lists in
-    let t = took (file_parts version sections lists.directory_ids g) (λ parts. Ok (with_parts lists g parts)) next is in
+pub file_next : (sections : Sections) (h : Header) (tables next : TablesAndTexts) (g : File) (source : List File) → file_added sections tables g ≡ Ok next
+    → AreFiles sections h tables source → AreFiles sections h next (source ++ g ∷ [])
+file_next sections h tables next g source is so =
+    let version = version_of tables in
+    let t = took (file_parts version sections tables.directory_ids g) (λ parts. Ok (with_parts tables g parts)) next is in
     let parts = t.0 in
-    let paths = made_table version lists.line_strings parts.path in
+    let paths = made_table version tables.line_strings parts.path in
     let after = sources_table version paths parts.source in
-    let k : FileKey = (made_text version lists.line_strings parts.path, parts.directory) in
+    let k : FileKey = (made_text version tables.line_strings parts.path, parts.directory) in
     let d : Details = record { timestamp = g.timestamp; size = g.size; md5 = g.md5; source = option_map (made_text version paths) parts.source } in
-    let R = IsFileOf sections version after lists.directory_ids (with_file lists.program.files k (Some d)) (source ++ g ∷ []) in
-    subst (λ (l : Lists). AreFiles sections h l (source ++ g ∷ [])) (same_ok (with_parts lists g parts) next t.2) (record {
-      ids = so.ids ++ index_of_file lists.program.files k ∷ [];
+    let R = IsFileOf sections version after tables.directory_ids (with_file tables.program.files k (Some d)) (source ++ g ∷ []) in
+    subst (λ (l : TablesAndTexts). AreFiles sections h l (source ++ g ∷ [])) (same_ok (with_parts tables g parts) next t.2) (record {
+      ids = so.ids ++ index_of_file tables.program.files k ∷ [];
       ids_are =
-          ap (λ (l : List ℕ). l ++ index_of_file lists.program.files k ∷ []) so.ids_are
-          ∙ append_assoc (first_ids h.parameters.encoding.version) so.ids (index_of_file lists.program.files k ∷ []);
+          ap (λ (l : List ℕ). l ++ index_of_file tables.program.files k ∷ []) so.ids_are
+          ∙ append_assoc (first_ids h.parameters.encoding.version) so.ids (index_of_file tables.program.files k ∷ []);
       each =
-          one_by_one_push R source so.ids g (index_of_file lists.program.files k)
-          (one_by_one_map (IsFileOf sections version lists.line_strings lists.directory_ids lists.program.files source) R (file_old sections lists g parts t.1 source) source so.ids so.each)
-          (file_new sections lists g parts t.1 source);
+          one_by_one_push R source so.ids g (index_of_file tables.program.files k)
+          (one_by_one_map (IsFileOf sections version tables.line_strings tables.directory_ids tables.program.files source) R (file_old sections tables g parts t.1 source) source so.ids so.each)
+          (file_new sections tables g parts t.1 source);
     })
 
 -- those of a header
-pub files_next : (sections : Sections) (h : Header) (done rest : List File) (lists last : Lists) → all_added (file_added sections) rest lists ≡ Ok last
-    → AreFiles sections h lists done → AreFiles sections h last (done ++ rest)
-files_next sections h done [] lists last is so =
-    subst (AreFiles sections h last) (sym (append-nil done)) (subst (λ (l : Lists). AreFiles sections h l done) (same_ok lists last is) so)
-files_next sections h done (g ∷ rest) lists last is so =
-    let t = took (file_added sections lists g) (all_added (file_added sections) rest) last is in
-    subst (AreFiles sections h last) (append_assoc done (g ∷ []) rest) (files_next sections h (done ++ g ∷ []) rest t.0 last t.2 (file_next sections h lists t.0 g done t.1 so))
+pub files_next : (sections : Sections) (h : Header) (done rest : List File) (tables last : TablesAndTexts) → all_added (file_added sections) rest tables ≡ Ok last
+    → AreFiles sections h tables done → AreFiles sections h last (done ++ rest)
+files_next sections h done [] tables last is so =
+    subst (AreFiles sections h last) (sym (append-nil done)) (subst (λ (l : TablesAndTexts). AreFiles sections h l done) (same_ok tables last is) so)
+files_next sections h done (g ∷ rest) tables last is so =
+    let t = took (file_added sections tables g) (all_added (file_added sections) rest) last is in
+    subst (AreFiles sections h last) (append_assoc done (g ∷ []) rest) (files_next sections h (done ++ g ∷ []) rest t.0 last t.2 (file_next sections h tables t.0 g done t.1 so))
 
 -- and those that a program defines
-pub files_defined : (sections : Sections) (h : Header) (first : Lists) (past : List Ins) (lists : Lists) → lists_at sections first past ≡ Ok lists
-    → AreFiles sections h first h.files → AreFiles sections h lists (defined_files h.files past)
-files_defined sections h first [] lists is so = subst (λ (l : Lists). AreFiles sections h l h.files) (same_ok first lists is) so
-files_defined sections h first (i ∷ past) lists is so =
-    let t = took (lists_at sections first past) (λ l. lists_after_definition sections l i) lists is in
+pub files_defined : (sections : Sections) (h : Header) (first : TablesAndTexts) (past : List Ins) (tables : TablesAndTexts) → tables_at sections first past ≡ Ok tables
+    → AreFiles sections h first h.files → AreFiles sections h tables (defined_files h.files past)
+files_defined sections h first [] tables is so = subst (λ (l : TablesAndTexts). AreFiles sections h l h.files) (same_ok first tables is) so
+files_defined sections h first (i ∷ past) tables is so =
+    let t = took (tables_at sections first past) (λ l. tables_after_definition sections l i) tables is in
     one i t.0 t.2 (files_defined sections h first past t.0 t.1 so)
   where
-    one : (i : Ins) (before : Lists) → lists_after_definition sections before i ≡ Ok lists → AreFiles sections h before (defined_files h.files past) → AreFiles sections h lists (defined_files h.files (i ∷ past))
-    one (DefineFile f) before at q = file_next sections h before lists f (defined_files h.files past) at q
-    one i before at q = subst (λ (l : Lists). AreFiles sections h l (defined_files h.files past)) (same_ok before lists at) q
+    one : (i : Ins) (before : TablesAndTexts) → tables_after_definition sections before i ≡ Ok tables → AreFiles sections h before (defined_files h.files past) → AreFiles sections h tables (defined_files h.files (i ∷ past))
+    one (DefineFile f) before at q = file_next sections h before tables f (defined_files h.files past) at q
+    one i before at q = subst (λ (l : TablesAndTexts). AreFiles sections h l (defined_files h.files past)) (same_ok before tables at) q

@@ -23,12 +23,12 @@ use Rattle.gimli_build.specs.Texts.{OneByOne}
 use Rattle.gimli_build.specs.Version5Tables.{needs_empty, first_form, sources, line_strings_after}
 use Rattle.gimli_write.specs.RoundTrip.{FileAnswer, built_file}
 use Rattle.gimli_write.specs.declared.convert_error.ConvertError.{ConvertError}
-use Rattle.gimli_write.specs.convert.ConversionState.{IsConverted}
-use Rattle.gimli_write.specs.convert.Feeding.{Conversion, outcome_of}
-use Rattle.gimli_write.specs.convert.Lists.{Lists}
+use Rattle.gimli_write.specs.convert.Conversion.{IsConverted}
+use Rattle.gimli_write.specs.convert.Outcome.{Outcome, outcome_of}
+use Rattle.gimli_write.specs.convert.SourceTables.{TablesAndTexts}
 use Rattle.gimli_write.specs.convert.Mapped.{CanBeFaithful, IsMapped, IsReadAs, AreRowsMapped, HasPaths, AreFilesMapped, AreFilesReadAs, HasConstantAddresses}
-use Rattle.gimli_write.specs.convert.Offers.{Reading, Reads}
-use Rattle.gimli_write.specs.convert.Preparation.{encoding_of, lists_of_header}
+use Rattle.gimli_write.specs.convert.Items.{Reading, ReadsItems}
+use Rattle.gimli_write.specs.convert.Preparation.{encoding_of, tables_of_header}
 use Rattle.gimli_write.specs.convert.Sources.{Source}
 use Rattle.gimli_write.specs.convert.DoneConversions.{UnitReadBack, UnitGives}
 use Rattle.gimli_write.proofs.ConvertSteps.{kept_self}
@@ -36,19 +36,19 @@ use Rattle.gimli_write.proofs.MappedEnds.{can_write, encoding_kept, files_same}
 use Rattle.gimli_write.proofs.MappedPrograms.{rows_mapped, addresses_fit, constants_set, rows_again}
 
 -- the parts of a conversion that was done
-record WasConverted (convert_address : ℕ → Option Address) (s : Source) (line_strings : List (List ℕ)) (c : Conversion) : Type 0 where
+record WasConverted (convert_address : ℕ → Option Address) (s : Source) (line_strings : List (List ℕ)) (c : Outcome) : Type 0 where
   reading : Reading
-  first : Lists
-  ready : lists_of_header s.sections s.header s.given line_strings ≡ Ok first
-  reads : Reads s.notation s.sections s.header first s.header.program reading
+  first : TablesAndTexts
+  ready : tables_of_header s.sections s.header s.given line_strings ≡ Ok first
+  reads : ReadsItems s.notation s.sections s.header first s.header.program reading
   is : outcome_of convert_address reading first.program ≡ Ok c
 
-was_converted : (convert_address : ℕ → Option Address) (s : Source) (line_strings : List (List ℕ)) (c : Conversion)
+was_converted : (convert_address : ℕ → Option Address) (s : Source) (line_strings : List (List ℕ)) (c : Outcome)
     → IsConverted convert_address s line_strings (Ok c) → WasConverted convert_address s line_strings c
-was_converted convert_address s line_strings c so = by (lists_of_header s.sections s.header s.given line_strings) refl so.1
+was_converted convert_address s line_strings c so = by (tables_of_header s.sections s.header s.given line_strings) refl so.1
   where
-    by : (r : Result Lists ConvertError) → lists_of_header s.sections s.header s.given line_strings ≡ r
-        → MatchResult r (λ first. Reads s.notation s.sections s.header first s.header.program so.0 × (outcome_of convert_address so.0 first.program ≡ Ok c)) (λ e. (let o : Result Conversion ConvertError = Ok c in o) ≡ Err e)
+    by : (r : Result TablesAndTexts ConvertError) → tables_of_header s.sections s.header s.given line_strings ≡ r
+        → MatchResult r (λ first. ReadsItems s.notation s.sections s.header first s.header.program so.0 × (outcome_of convert_address so.0 first.program ≡ Ok c)) (λ e. (let o : Result Outcome ConvertError = Ok c in o) ≡ Err e)
         → WasConverted convert_address s line_strings c
     by (Ok first) ready m = record { reading = so.0; first = first; ready = ready; reads = m.0; is = m.1 }
     by (Err e) ready m = absurd cc
@@ -88,7 +88,7 @@ element P xs i x all is = subst P (get_or_from_slice_get xs i x x is) (all i x (
 
 -- ---- the laws
 
-module _ (convert_address : ℕ → Option Address) (s : Source) (line_strings : List (List ℕ)) (c : Conversion)
+module _ (convert_address : ℕ → Option Address) (s : Source) (line_strings : List (List ℕ)) (c : Outcome)
     (so : IsConverted convert_address s line_strings (Ok c)) where
   pub conversion_written : (strings : List (List ℕ)) → CanWrite c.program strings c.line_strings
   conversion_written =
@@ -104,7 +104,7 @@ module _ (convert_address : ℕ → Option Address) (s : Source) (line_strings :
     mapped_rows : AreRowsMapped s.notation s.header s.header.program c
     mapped_rows =
         let w = was_converted convert_address s line_strings c so in
-        rows_mapped s.notation s.sections s.header s.given line_strings w.first s.header.program w.reading convert_address c w.ready w.reads can.itself can.wide can.ends_seen w.is
+        rows_mapped s.notation s.sections s.header s.given line_strings w.first s.header.program w.reading convert_address c w.ready w.reads can.itself can.wide can.no_end_under_tombstone w.is
 
     pub conversion_mapped : (strings : List (List ℕ)) → IsMapped s strings c
     conversion_mapped strings =
@@ -119,12 +119,12 @@ module _ (convert_address : ℕ → Option Address) (s : Source) (line_strings :
     pub conversion_fits : AddressesFit c.program.encoding.address_size 0 (0, 0) c.program.items
     conversion_fits =
         let w = was_converted convert_address s line_strings c so in
-        addresses_fit s.notation s.sections s.header s.given line_strings w.first s.header.program w.reading convert_address c w.ready w.reads can.itself can.wide can.ends_seen w.is
+        addresses_fit s.notation s.sections s.header s.given line_strings w.first s.header.program w.reading convert_address c w.ready w.reads can.itself can.wide can.no_end_under_tombstone w.is
 
     pub conversion_constant : HasConstantAddresses c.program
     conversion_constant =
         let w = was_converted convert_address s line_strings c so in
-        constants_set s.notation s.sections s.header s.given line_strings w.first s.header.program w.reading convert_address c w.ready w.reads can.itself can.wide can.ends_seen w.is
+        constants_set s.notation s.sections s.header s.given line_strings w.first s.header.program w.reading convert_address c w.ready w.reads can.itself can.wide can.no_end_under_tombstone w.is
 
     pub conversion_back : (rows back : List ReadRow) → Events s.notation s.header s.header.program (map row rows)
         → (AddressesFit c.program.encoding.address_size 0 (0, 0) c.program.items → RowsMatch c.program.encoding.version [] c.program.items back)

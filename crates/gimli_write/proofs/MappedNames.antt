@@ -12,11 +12,11 @@ use Rattle.gimli_build.specs.Tables.{File as BuiltFile}
 use Rattle.gimli_build.specs.Texts.{Sections, IsText, IsOptionalText, OneByOne}
 use Rattle.gimli_write.specs.declared.convert_error.ConvertError.TheVariants.{InvalidDirectoryIndex}
 use Rattle.gimli_write.specs.convert.Texts.{if_there, source_text, source_path}
-use Rattle.gimli_write.specs.convert.Lists.{Lists, version_of, FileParts}
-use Rattle.gimli_write.specs.convert.Feeding.{Conversion}
+use Rattle.gimli_write.specs.convert.SourceTables.{TablesAndTexts, version_of, FileParts}
+use Rattle.gimli_write.specs.convert.Outcome.{Outcome}
 use Rattle.gimli_write.specs.convert.Mapped.{IsFileId, IsDirectoryPath, HasPaths, IsLastWithPaths, IsMappedFile, AreFilesMapped}
 use Rattle.gimli_write.proofs.ReadTexts.{text_read, text_there}
-use Rattle.gimli_write.proofs.MappedLists.{took, same_ok}
+use Rattle.gimli_write.proofs.MappedTables.{took, same_ok}
 use Rattle.gimli_write.proofs.MappedTexts.{IsMade, made_bytes}
 use Rattle.gimli_write.proofs.MappedDirectories.{source_text_of, source_path_of, IsDirectoryId, directory_there, one_path, AreDirectories}
 use Rattle.gimli_write.proofs.MappedFiles.{HasOthers, HasParts, IsFileOf, AreFiles, one_by_one_map, one_by_one_at, one_by_one_back}
@@ -72,49 +72,49 @@ source_is_text sections version strings line_strings None None is made = tt
 
 -- ---- a file that is mapped
 
-module _ (sections : Sections) (h : Header) (strings : List (List ℕ)) (lists : Lists) (directories : AreDirectories sections h lists) where
+module _ (sections : Sections) (h : Header) (strings : List (List ℕ)) (tables : TablesAndTexts) (directories : AreDirectories sections h tables) where
   -- the paths of a file by its parts
-  paths_of : (parts : FileParts) (f : File) (directory : List ℕ) → HasParts sections (version_of lists) lists.directory_ids parts f
-      → IsDirectoryId (version_of lists) lists.line_strings lists.program.directories directory parts.directory → HasPaths sections h parts.path directory f
+  paths_of : (parts : FileParts) (f : File) (directory : List ℕ) → HasParts sections (version_of tables) tables.directory_ids parts f
+      → IsDirectoryId (version_of tables) tables.line_strings tables.program.directories directory parts.directory → HasPaths sections h parts.path directory f
   paths_of parts f directory is at =
-      let read = are_read sections (version_of lists) lists.directory_ids parts f is in
+      let read = are_read sections (version_of tables) tables.directory_ids parts f is in
       let own = directories.each f.directory_index parts.directory read.directory in
-      let same : own.0 ≡ directory = one_path (version_of lists) lists.line_strings lists.program.directories own.0 directory parts.directory own.2 at in
+      let same : own.0 ≡ directory = one_path (version_of tables) tables.line_strings tables.program.directories own.0 directory parts.directory own.2 at in
       record { own = read.path; of_directory = subst (IsDirectoryPath sections (directory_of h f.directory_index)) same own.1 }
 
   -- so a file with these paths has these parts
-  parts_of : (parts own : FileParts) (g : File) (directory : List ℕ) → HasParts sections (version_of lists) lists.directory_ids own g
-      → IsDirectoryId (version_of lists) lists.line_strings lists.program.directories directory parts.directory → HasPaths sections h parts.path directory g
+  parts_of : (parts own : FileParts) (g : File) (directory : List ℕ) → HasParts sections (version_of tables) tables.directory_ids own g
+      → IsDirectoryId (version_of tables) tables.line_strings tables.program.directories directory parts.directory → HasPaths sections h parts.path directory g
       → (own.path ≡ parts.path) × (own.directory ≡ parts.directory)
   parts_of parts own g directory is at has =
-      let read = are_read sections (version_of lists) lists.directory_ids own g is in
+      let read = are_read sections (version_of tables) tables.directory_ids own g is in
       let there = directories.each g.directory_index own.directory read.directory in
       let same : there.0 ≡ directory = one_directory sections (directory_of h g.directory_index) there.0 directory there.1 has.of_directory in
-      let moved : IsDirectoryId (version_of lists) lists.line_strings lists.program.directories directory own.directory =
-      subst (λ (path : List ℕ). IsDirectoryId (version_of lists) lists.line_strings lists.program.directories path own.directory) same there.2 in
+      let moved : IsDirectoryId (version_of tables) tables.line_strings tables.program.directories directory own.directory =
+      subst (λ (path : List ℕ). IsDirectoryId (version_of tables) tables.line_strings tables.program.directories path own.directory) same there.2 in
       (one_text sections g.path_name own.path parts.path read.path has.own, moved.place ∙ sym at.place)
 
-  others_after : (parts : FileParts) (directory : List ℕ) → IsDirectoryId (version_of lists) lists.line_strings lists.program.directories directory parts.directory
-      → (later : List File) → AllByRecursion (HasOthers sections (version_of lists) lists.directory_ids parts) later
+  others_after : (parts : FileParts) (directory : List ℕ) → IsDirectoryId (version_of tables) tables.line_strings tables.program.directories directory parts.directory
+      → (later : List File) → AllByRecursion (HasOthers sections (version_of tables) tables.directory_ids parts) later
       → AllByRecursion (λ g. HasPaths sections h parts.path directory g → ⊥) later
   others_after parts directory at [] all = tt
   others_after parts directory at (g ∷ later) all =
       (λ has. all.0.other (parts_of parts all.0.own g directory all.0.own_is at has), others_after parts directory at later all.1)
 
-  file_mapped : (source : List File) (c : Conversion) (f : File) (id : ℕ) → c.program.directories ≡ lists.program.directories → c.program.files ≡ lists.program.files → c.line_strings ≡ lists.line_strings
-      → IsFileOf sections (version_of lists) lists.line_strings lists.directory_ids lists.program.files source f id → IsMappedFile sections h source strings c f id
+  file_mapped : (source : List File) (c : Outcome) (f : File) (id : ℕ) → c.program.directories ≡ tables.program.directories → c.program.files ≡ tables.program.files → c.line_strings ≡ tables.line_strings
+      → IsFileOf sections (version_of tables) tables.line_strings tables.directory_ids tables.program.files source f id → IsMappedFile sections h source strings c f id
   file_mapped source c f id directories_same files_same texts_same so =
-      let version = version_of lists in
-      let read = are_read sections version lists.directory_ids so.parts f so.parts_are in
+      let version = version_of tables in
+      let read = are_read sections version tables.directory_ids so.parts f so.parts_are in
       let d = directories.each f.directory_index so.parts.directory read.directory in
-      let text = made_text version lists.line_strings so.parts.path in
-      let directory = made_text version lists.line_strings d.0 in
-      let path_bytes : so.parts.path ≡ bytes_in strings c.line_strings text = sym (ap (λ (t : List (List ℕ)). bytes_in strings t text) texts_same ∙ made_bytes version strings lists.line_strings so.parts.path so.made) in
-      let directory_bytes : d.0 ≡ bytes_in strings c.line_strings directory = sym (ap (λ (t : List (List ℕ)). bytes_in strings t directory) texts_same ∙ made_bytes version strings lists.line_strings d.0 d.2.made) in
+      let text = made_text version tables.line_strings so.parts.path in
+      let directory = made_text version tables.line_strings d.0 in
+      let path_bytes : so.parts.path ≡ bytes_in strings c.line_strings text = sym (ap (λ (t : List (List ℕ)). bytes_in strings t text) texts_same ∙ made_bytes version strings tables.line_strings so.parts.path so.made) in
+      let directory_bytes : d.0 ≡ bytes_in strings c.line_strings directory = sym (ap (λ (t : List (List ℕ)). bytes_in strings t directory) texts_same ∙ made_bytes version strings tables.line_strings d.0 d.2.made) in
       let to = λ (P : List ℕ → List ℕ → Type 0) (p : P so.parts.path d.0). subst (λ (x : List ℕ). P x (bytes_in strings c.line_strings directory)) path_bytes (subst (P so.parts.path) directory_bytes p) in
-      let last_read = are_read sections version lists.directory_ids so.last_parts so.last so.last_are in
-      let at_last : IsDirectoryId version lists.line_strings lists.program.directories d.0 so.last_parts.directory =
-      subst (IsDirectoryId version lists.line_strings lists.program.directories d.0) (sym so.same.1) d.2 in
+      let last_read = are_read sections version tables.directory_ids so.last_parts so.last so.last_are in
+      let at_last : IsDirectoryId version tables.line_strings tables.program.directories d.0 so.last_parts.directory =
+      subst (IsDirectoryId version tables.line_strings tables.program.directories d.0) (sym so.same.1) d.2 in
       let last_has : HasPaths sections h so.parts.path d.0 so.last = subst (λ (path : List ℕ). HasPaths sections h path d.0 so.last) so.same.0 (paths_of so.last_parts so.last d.0 so.last_are at_last) in
       let is_last : IsLastWithPaths sections h so.parts.path d.0 source so.last = record {
         before = so.before;
@@ -127,7 +127,7 @@ module _ (sections : Sections) (h : Header) (strings : List (List ℕ)) (lists :
         built = ((text, so.parts.directory), so.details);
         there = ap (λ (files : List BuiltFile). slice_get files id) files_same ∙ so.entry;
         directory = directory;
-        directory_there = ap (λ (ds : List LineText). slice_get ds so.parts.directory) directories_same ∙ directory_there version lists.line_strings lists.program.directories d.0 so.parts.directory d.2;
+        directory_there = ap (λ (ds : List LineText). slice_get ds so.parts.directory) directories_same ∙ directory_there version tables.line_strings tables.program.directories d.0 so.parts.directory d.2;
         has = to (λ path directory. HasPaths sections h path directory f) (paths_of so.parts f d.0 so.parts_are d.2);
         last = so.last;
         is_last = to (λ path directory. IsLastWithPaths sections h path directory source so.last) is_last;
@@ -135,8 +135,8 @@ module _ (sections : Sections) (h : Header) (strings : List (List ℕ)) (lists :
         size = so.known.size;
         md5 = so.known.md5;
         source = subst (λ (t : List (List ℕ)). IsOptionalText sections so.last.source (option_map (bytes_in strings t) so.details.source)) (sym texts_same)
-            (subst (λ (o : Option LineText). IsOptionalText sections so.last.source (option_map (bytes_in strings lists.line_strings) o)) (sym so.known.source_is)
-            (source_is_text sections version strings lists.line_strings so.last.source so.last_parts.source last_read.source so.known.source_made));
+            (subst (λ (o : Option LineText). IsOptionalText sections so.last.source (option_map (bytes_in strings tables.line_strings) o)) (sym so.known.source_is)
+            (source_is_text sections version strings tables.line_strings so.last.source so.last_parts.source last_read.source so.known.source_made));
       }
 
 -- ---- file numbers
@@ -162,13 +162,13 @@ module _ (version : ℕ) (R : File → ℕ → Type 0) (files : List File) (ids 
 
 -- ---- all files
 
-pub files_mapped : (sections : Sections) (h : Header) (strings : List (List ℕ)) (lists : Lists) (source : List File) (c : Conversion) → AreDirectories sections h lists → AreFiles sections h lists source
-    → c.program.directories ≡ lists.program.directories → c.program.files ≡ lists.program.files → c.file_ids ≡ lists.file_ids → c.line_strings ≡ lists.line_strings
+pub files_mapped : (sections : Sections) (h : Header) (strings : List (List ℕ)) (tables : TablesAndTexts) (source : List File) (c : Outcome) → AreDirectories sections h tables → AreFiles sections h tables source
+    → c.program.directories ≡ tables.program.directories → c.program.files ≡ tables.program.files → c.file_ids ≡ tables.file_ids → c.line_strings ≡ tables.line_strings
     → AreFilesMapped sections h source strings c
-files_mapped sections h strings lists source c directories so directories_same files_same ids_same texts_same =
+files_mapped sections h strings tables source c directories so directories_same files_same ids_same texts_same =
     let version = h.parameters.encoding.version in
-    let all = one_by_one_map (IsFileOf sections (version_of lists) lists.line_strings lists.directory_ids lists.program.files source) (IsMappedFile sections h source strings c)
-    (λ f id is. file_mapped sections h strings lists directories source c f id directories_same files_same texts_same is) source so.ids so.each in
+    let all = one_by_one_map (IsFileOf sections (version_of tables) tables.line_strings tables.directory_ids tables.program.files source) (IsMappedFile sections h source strings c)
+    (λ f id is. file_mapped sections h strings tables directories source c f id directories_same files_same texts_same is) source so.ids so.each in
     record {
       each = each_number version (IsMappedFile sections h source strings c) source so.ids c.file_ids all (nat_le version 4) refl (ids_same ∙ so.ids_are);
       only = only_number version (IsMappedFile sections h source strings c) source so.ids c.file_ids all (nat_le version 4) refl (ids_same ∙ so.ids_are);

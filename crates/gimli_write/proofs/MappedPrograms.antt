@@ -21,14 +21,14 @@ use Rattle.gimli_build.specs.Texts.{Sections, OneByOne}
 use Rattle.gimli_build.specs.declared.built.row.LineRow.{LineRow}
 use Rattle.gimli_build.specs.declared.built.items.BuiltItem.{BuiltItem}
 use Rattle.gimli_build.specs.declared.built.items.BuiltItem.TheVariants.{SetAddress, Row, End}
-use Rattle.gimli_write.specs.convert.Lists.{Lists}
-use Rattle.gimli_write.specs.convert.Preparation.{Handed, encoding_of, lists_of_header}
-use Rattle.gimli_write.specs.convert.Offers.{Reading, Reads}
-use Rattle.gimli_write.specs.convert.Feeding.{Conversion, outcome_of}
-use Rattle.gimli_write.specs.convert.Mapped.{MapsToItself, SeesEnds, SeesEndsAfter, RowsMapped, AreRowsMapped, IsReadAs, SetsConstant, HasConstantAddresses}
+use Rattle.gimli_write.specs.convert.SourceTables.{TablesAndTexts}
+use Rattle.gimli_write.specs.convert.Preparation.{Handed, encoding_of, tables_of_header}
+use Rattle.gimli_write.specs.convert.Items.{Reading, ReadsItems}
+use Rattle.gimli_write.specs.convert.Outcome.{Outcome, outcome_of}
+use Rattle.gimli_write.specs.convert.Mapped.{MapsToItself, NoSequenceEndsUnderTombstone, NoneEndsUnderTombstone, RowsMapped, AreRowsMapped, IsReadAs, SetsConstant, HasConstantAddresses}
 use Rattle.gimli_write.proofs.MappedAddresses.{follows_start}
 use Rattle.gimli_write.proofs.MappedEnds.{encoding_kept}
-use Rattle.gimli_write.proofs.MappedLists.{IsReady, prepared_ready}
+use Rattle.gimli_write.proofs.MappedTables.{IsReady, prepared_ready}
 use Rattle.gimli_write.proofs.MappedRows.{Rest, rest_mapped}
 
 -- ---- one row
@@ -44,10 +44,10 @@ same_others source_version version base built source back mapped matches =
 
 -- ---- the whole
 
-module _ (notation : Notation) (sections : Sections) (h : Header) (given : Handed) (line_strings : List (List ℕ)) (first : Lists) (bytes : List ℕ) (reading : Reading)
-    (convert_address : ℕ → Option Address) (c : Conversion)
-    (ready : lists_of_header sections h given line_strings ≡ Ok first) (reads : Reads notation sections h first bytes reading) (itself : MapsToItself convert_address)
-    (wide : h.parameters.encoding.address_size ≤ (encoding_of h given).address_size) (ends_seen : SeesEnds notation h bytes)
+module _ (notation : Notation) (sections : Sections) (h : Header) (given : Handed) (line_strings : List (List ℕ)) (first : TablesAndTexts) (bytes : List ℕ) (reading : Reading)
+    (convert_address : ℕ → Option Address) (c : Outcome)
+    (ready : tables_of_header sections h given line_strings ≡ Ok first) (reads : ReadsItems notation sections h first bytes reading) (itself : MapsToItself convert_address)
+    (wide : h.parameters.encoding.address_size ≤ (encoding_of h given).address_size) (no_end_under_tombstone : NoSequenceEndsUnderTombstone notation h bytes)
     (is : outcome_of convert_address reading first.program ≡ Ok c) where
   first_ready : (strings : List (List ℕ)) → IsReady strings (encoding_of h given) first
   first_ready strings = prepared_ready strings sections h given line_strings first ready
@@ -60,7 +60,7 @@ module _ (notation : Notation) (sections : Sections) (h : Header) (given : Hande
   whole =
       rest_mapped sections h.parameters first convert_address itself (encoding_of h given).address_size (pow_mono (omega (arith, wide))) c [] reads.list reads.end 0 (0, 0) first.program
       (follows_start h.parameters)
-      (subst (SeesEndsAfter h.parameters []) (decodes_once ends_seen.list ends_seen.end ends_seen.decoding) ends_seen.seen)
+      (subst (NoneEndsUnderTombstone h.parameters []) (decodes_once no_end_under_tombstone.list no_end_under_tombstone.end no_end_under_tombstone.decoding) no_end_under_tombstone.seen)
       (ap (λ (r : Reading). outcome_of convert_address r first.program) (sym reads.given) ∙ is)
 
   -- what was built is what was built after the start

@@ -23,13 +23,13 @@ use Rattle.gimli_build.specs.declared.built.items.BuiltItem.{BuiltItem}
 use Rattle.gimli_build.specs.declared.built.items.BuiltItem.TheVariants as item
 use Rattle.gimli_write.specs.declared.convert_error.ConvertError.{ConvertError}
 use Rattle.gimli_write.specs.declared.convert_error.ConvertError.TheVariants.{Read, InvalidFileIndex, MissingLineEndSequence, InvalidAddress, UnsupportedLineInstruction}
-use Rattle.gimli_write.specs.declared.convert.offer.ConvertLineRow.TheVariants as offer
+use Rattle.gimli_write.specs.declared.convert.rows.ConvertLineRow.TheVariants as offer
 use Rattle.gimli_write.specs.convert.Texts.{◌>>=◌}
-use Rattle.gimli_write.specs.convert.Lists.{Lists, FileParts, file_parts, with_parts, version_of}
-use Rattle.gimli_write.specs.convert.Offers.{Reading, stops, offers, base_at, pending_address, source_row, file_id, row_in, built_row, address_offered, row_offered, row_or_end_offered, source_row_offered, reading_at, end_reading, with_lists, lists_after_definition, lists_at, with_definition, reading_after}
-use Rattle.gimli_write.specs.convert.Feeding.{Conversion, outcome_of, with_tables, can_build}
-use Rattle.gimli_write.specs.convert.Mapped.{MapsToItself, gave_row, SeesEndsAfter, IsFileId, RowsMapped, SetsConstant}
-use Rattle.gimli_write.proofs.Feedings.{definition_passed}
+use Rattle.gimli_write.specs.convert.SourceTables.{TablesAndTexts, FileParts, file_parts, with_parts, version_of}
+use Rattle.gimli_write.specs.convert.Items.{Reading, stops, offers, base_at, pending_address, source_row, file_id, row_in, built_row, address_offered, row_offered, row_or_end_offered, source_row_offered, reading_at, end_reading, reading_with, tables_after_definition, tables_at, with_definition, reading_after}
+use Rattle.gimli_write.specs.convert.Outcome.{Outcome, outcome_of, with_tables, can_build}
+use Rattle.gimli_write.specs.convert.Mapped.{MapsToItself, gave_row, NoneEndsUnderTombstone, IsFileId, RowsMapped, SetsConstant}
+use Rattle.gimli_write.proofs.Outcomes.{definition_passed}
 use Rattle.gimli_write.proofs.MappedAddresses.{address_within, base_below, base_below_row, pending_is_base, Follows, follows_end, follows_row, follows_quiet}
 
 -- ---- ids stay
@@ -40,33 +40,33 @@ slice_stays (y ∷ xs) ys zero x is = is
 slice_stays (y ∷ xs) ys (suc i) x is = slice_stays xs ys i x is
 
 -- ids that are there stay after an instruction
-pub ids_stay : (sections : Sections) (lists next : Lists) (i : Ins) → lists_after_definition sections lists i ≡ Ok next
-    → (n id : ℕ) → slice_get lists.file_ids n ≡ Some id → slice_get next.file_ids n ≡ Some id
-ids_stay sections lists next (DefineFile f) is n id there = by (file_parts (version_of lists) sections lists.directory_ids f) is
+pub ids_stay : (sections : Sections) (tables next : TablesAndTexts) (i : Ins) → tables_after_definition sections tables i ≡ Ok next
+    → (n id : ℕ) → slice_get tables.file_ids n ≡ Some id → slice_get next.file_ids n ≡ Some id
+ids_stay sections tables next (DefineFile f) is n id there = by (file_parts (version_of tables) sections tables.directory_ids f) is
   where
-    by : (r : Result FileParts ConvertError) → (r >>= λ parts. Ok (with_parts lists f parts)) ≡ Ok next → slice_get next.file_ids n ≡ Some id
+    by : (r : Result FileParts ConvertError) → (r >>= λ parts. Ok (with_parts tables f parts)) ≡ Ok next → slice_get next.file_ids n ≡ Some id
     by (Err e) so = absurd cc
     by (Ok parts) so =
-        let same : with_parts lists f parts ≡ next = cc in
-        subst (λ (l : Lists). slice_get l.file_ids n ≡ Some id) same (slice_stays lists.file_ids _ n id there)
-ids_stay sections lists next i is n id there =
-    let same : lists ≡ next = cc in
-    subst (λ (l : Lists). slice_get l.file_ids n ≡ Some id) same there
+        let same : with_parts tables f parts ≡ next = cc in
+        subst (λ (l : TablesAndTexts). slice_get l.file_ids n ≡ Some id) same (slice_stays tables.file_ids _ n id there)
+ids_stay sections tables next i is n id there =
+    let same : tables ≡ next = cc in
+    subst (λ (l : TablesAndTexts). slice_get l.file_ids n ≡ Some id) same there
 
 -- ---- one place
 
-file_id-is : (version : ℕ) (lists : Lists) (n id : ℕ) → file_id version lists n ≡ Ok id → IsFileId version lists.file_ids n id
-file_id-is version lists n id is = by (nat_le version 4 && nat_eq n 0) refl is
+file_id-is : (version : ℕ) (tables : TablesAndTexts) (n id : ℕ) → file_id version tables n ≡ Ok id → IsFileId version tables.file_ids n id
+file_id-is version tables n id is = by (nat_le version 4 && nat_eq n 0) refl is
   where
     there : (o : Option ℕ) → ok_or o InvalidFileIndex ≡ Ok id → o ≡ Some id
     there (Some x) so = cc
     there None so = absurd cc
 
-    by : (b : Bool) → (nat_le version 4 && nat_eq n 0) ≡ b → (if b then Err InvalidFileIndex else ok_or (slice_get lists.file_ids n) InvalidFileIndex) ≡ Ok id → IsFileId version lists.file_ids n id
+    by : (b : Bool) → (nat_le version 4 && nat_eq n 0) ≡ b → (if b then Err InvalidFileIndex else ok_or (slice_get tables.file_ids n) InvalidFileIndex) ≡ Ok id → IsFileId version tables.file_ids n id
     by true at so = absurd cc
     by false at so = record {
       from_one = λ old zero. absurd (true≢false (sym (and_from (nat_le version 4) (nat_eq n 0) (le-leb version 4 old) (eq-eqb n 0 zero)) ∙ at));
-      there = there (slice_get lists.file_ids n) so;
+      there = there (slice_get tables.file_ids n) so;
     }
 
 row_parts : (r : ReadRow) (address : ℕ) → r.tombstone ≡ false → r.address ≡ address → r.end_sequence ≡ false → r ≡ record r { tombstone = false; address = address; end_sequence = false }
@@ -78,7 +78,7 @@ row_parts r address seen at inner =
 -- ---- what comes of the rest of a program
 
 -- what comes of these instructions and this end after a past, from a program on
-pub record Rest (sections : Sections) (parameters : Parameters) (first : Lists) (size : ℕ) (c : Conversion) (past list : List Ins) (end : Option Error) (base : ℕ) (place : ℕ × ℕ) (p : Built) : Type 0 where
+pub record Rest (sections : Sections) (parameters : Parameters) (first : TablesAndTexts) (size : ℕ) (c : Outcome) (past list : List Ins) (end : Option Error) (base : ℕ) (place : ℕ × ℕ) (p : Built) : Type 0 where
   pub rows : List ReadRow
   pub events : events_after parameters past list ++ end_events end ≡ map row rows
   pub items : List BuiltItem
@@ -86,25 +86,25 @@ pub record Rest (sections : Sections) (parameters : Parameters) (first : Lists) 
   pub mapped : RowsMapped parameters.encoding.version c.file_ids base items rows
   pub fit : AddressesFit size base place items
   pub constants : AllByRecursion SetsConstant items
-  pub lists : Lists
-  pub there : lists_at sections first past ≡ Ok lists
-  pub stay : (n id : ℕ) → slice_get lists.file_ids n ≡ Some id → slice_get c.file_ids n ≡ Some id
+  pub tables : TablesAndTexts
+  pub there : tables_at sections first past ≡ Ok tables
+  pub stay : (n id : ℕ) → slice_get tables.file_ids n ≡ Some id → slice_get c.file_ids n ≡ Some id
 
-module _ (sections : Sections) (parameters : Parameters) (first : Lists) (convert_address : ℕ → Option Address) (itself : MapsToItself convert_address)
-    (size : ℕ) (wide : address_limit parameters ≤ 2 ^ (8 * size)) (c : Conversion) where
+module _ (sections : Sections) (parameters : Parameters) (first : TablesAndTexts) (convert_address : ℕ → Option Address) (itself : MapsToItself convert_address)
+    (size : ℕ) (wide : address_limit parameters ≤ 2 ^ (8 * size)) (c : Outcome) where
   -- nothing follows
   none_left : (past : List Ins) (end : Option Error) (base : ℕ) (place : ℕ × ℕ) (p : Built)
       → outcome_of convert_address (reading_after sections parameters first past [] end) p ≡ Ok c → Rest sections parameters first size c past [] end base place p
-  none_left past end base place p is = by (lists_at sections first past) refl end is
+  none_left past end base place p is = by (tables_at sections first past) refl end is
     where
-      closed : (lists : Lists) → lists_at sections first past ≡ Ok lists → (b : Bool)
-          → (if b then Err MissingLineEndSequence else Ok (record { program = with_tables lists p; file_ids = lists.file_ids; line_strings = lists.line_strings })) ≡ Ok c
+      closed : (tables : TablesAndTexts) → tables_at sections first past ≡ Ok tables → (b : Bool)
+          → (if b then Err MissingLineEndSequence else Ok (record { program = with_tables tables p; file_ids = tables.file_ids; line_strings = tables.line_strings })) ≡ Ok c
           → Rest sections parameters first size c past [] None base place p
-      closed lists there true so = absurd cc
-      closed lists there false so =
-          let done : Conversion = record { program = with_tables lists p; file_ids = lists.file_ids; line_strings = lists.line_strings } in
+      closed tables there true so = absurd cc
+      closed tables there false so =
+          let done : Outcome = record { program = with_tables tables p; file_ids = tables.file_ids; line_strings = tables.line_strings } in
           let same : done ≡ c = cc in
-          subst (λ (c : Conversion). Rest sections parameters first size c past [] None base place p) same (record {
+          subst (λ (c : Outcome). Rest sections parameters first size c past [] None base place p) same (record {
             rows = [];
             events = refl;
             items = [];
@@ -112,20 +112,20 @@ module _ (sections : Sections) (parameters : Parameters) (first : Lists) (conver
             mapped = refl;
             fit = tt;
             constants = tt;
-            lists = lists;
+            tables = tables;
             there = there;
             stay = λ n id at. at;
           })
 
-      by : (there : Result Lists ConvertError) → lists_at sections first past ≡ there → (end : Option Error)
-          → outcome_of convert_address (with_lists there (end_reading end)) p ≡ Ok c → Rest sections parameters first size c past [] end base place p
+      by : (there : Result TablesAndTexts ConvertError) → tables_at sections first past ≡ there → (end : Option Error)
+          → outcome_of convert_address (reading_with there (end_reading end)) p ≡ Ok c → Rest sections parameters first size c past [] end base place p
       by (Err e) there end so = absurd cc
-      by (Ok lists) there (Some e) so = absurd cc
-      by (Ok lists) there None so = closed lists there p.in_sequence so
+      by (Ok tables) there (Some e) so = absurd cc
+      by (Ok tables) there None so = closed tables there p.in_sequence so
 
-  module _ (past : List Ins) (i : Ins) (list : List Ins) (end : Option Error) (lists : Lists) (at : lists_at sections first past ≡ Ok lists) where
-    stays : (next : Lists) → lists_at sections first (i ∷ past) ≡ Ok next → (n id : ℕ) → slice_get lists.file_ids n ≡ Some id → slice_get next.file_ids n ≡ Some id
-    stays next there = ids_stay sections lists next i (sym (ap (λ (r : Result Lists ConvertError). r >>= λ l. lists_after_definition sections l i) at) ∙ there)
+  module _ (past : List Ins) (i : Ins) (list : List Ins) (end : Option Error) (tables : TablesAndTexts) (at : tables_at sections first past ≡ Ok tables) where
+    stays : (next : TablesAndTexts) → tables_at sections first (i ∷ past) ≡ Ok next → (n id : ℕ) → slice_get tables.file_ids n ≡ Some id → slice_get next.file_ids n ≡ Some id
+    stays next there = ids_stay sections tables next i (sym (ap (λ (r : Result TablesAndTexts ConvertError). r >>= λ l. tables_after_definition sections l i) at) ∙ there)
 
     -- a place gives nothing
     passed : (base : ℕ) (place : ℕ × ℕ) (p : Built) → events_at parameters past i ≡ []
@@ -138,9 +138,9 @@ module _ (sections : Sections) (parameters : Parameters) (first : Lists) (conver
       mapped = r.mapped;
       fit = r.fit;
       constants = r.constants;
-      lists = lists;
+      tables = tables;
       there = at;
-      stay = λ n id is. r.stay n id (stays r.lists r.there n id is);
+      stay = λ n id is. r.stay n id (stays r.tables r.there n id is);
     }
 
     -- a place gives a row, and an item is built of it
@@ -157,14 +157,14 @@ module _ (sections : Sections) (parameters : Parameters) (first : Lists) (conver
       mapped = mapped r.items r.rows r.mapped;
       fit = fit r.items r.fit;
       constants = (constant, r.constants);
-      lists = lists;
+      tables = tables;
       there = at;
-      stay = λ n id is. r.stay n id (stays r.lists r.there n id is);
+      stay = λ n id is. r.stay n id (stays r.tables r.there n id is);
     }
 
     -- an address is set before what a place gives
     address_taken : (base : ℕ) (place : ℕ × ℕ) (p : Built) (a : ℕ) → base + place.0 ≤ a → a < address_limit parameters - 2
-        → Rest sections parameters first size c past (i ∷ list) end a (0, 0) (after_address (Constant a) (with_tables lists p)) → Rest sections parameters first size c past (i ∷ list) end base place p
+        → Rest sections parameters first size c past (i ∷ list) end a (0, 0) (after_address (Constant a) (with_tables tables p)) → Rest sections parameters first size c past (i ∷ list) end base place p
     address_taken base place p a ahead below r = record {
       rows = r.rows;
       events = r.events;
@@ -173,7 +173,7 @@ module _ (sections : Sections) (parameters : Parameters) (first : Lists) (conver
       mapped = r.mapped;
       fit = (ahead, omega (arith, wide), r.fit);
       constants = ((a, refl), r.constants);
-      lists = r.lists;
+      tables = r.tables;
       there = r.there;
       stay = r.stay;
     }
@@ -191,10 +191,10 @@ module _ (sections : Sections) (parameters : Parameters) (first : Lists) (conver
 
     -- an end
     end_placed : (base : ℕ) (place : ℕ × ℕ) (p : Built) → events_at parameters past i ≡ row (row_at parameters past i) ∷ [] → is_end i ≡ true → is_under_tombstone parameters past ≡ false → base ≡ base_at past
-        → outcome_of convert_address (offers (offer.EndSequence ((row_at parameters past i).address - base_at past)) lists (reading_after sections parameters first (i ∷ past) list end)) p ≡ Ok c
+        → outcome_of convert_address (offers (offer.EndSequence ((row_at parameters past i).address - base_at past)) tables (reading_after sections parameters first (i ∷ past) list end)) p ≡ Ok c
         → Follow → Rest sections parameters first size c past (i ∷ list) end base place p
     end_placed base place p one closes seen same is follow =
-        let q : Built = with_tables lists p in
+        let q : Built = with_tables tables p in
         let offset = (row_at parameters past i).address - base_at past in
         let built : BuiltItem = item.End offset q.row.op_index in
         let next : Built = after_end offset q in
@@ -209,11 +209,11 @@ module _ (sections : Sections) (parameters : Parameters) (first : Lists) (conver
 
     -- a row of a file that is there
     row_placed : (base : ℕ) (place : ℕ × ℕ) (p : Built) (file : ℕ) → events_at parameters past i ≡ row (row_at parameters past i) ∷ [] → makes_row i ≡ true → is_end i ≡ false → is_under_tombstone parameters past ≡ false → base ≡ base_at past
-        → file_id parameters.encoding.version lists (row_at parameters past i).file ≡ Ok file
-        → outcome_of convert_address (offers (offer.Row (row_in (source_row parameters past i) file)) lists (reading_after sections parameters first (i ∷ past) list end)) p ≡ Ok c
+        → file_id parameters.encoding.version tables (row_at parameters past i).file ≡ Ok file
+        → outcome_of convert_address (offers (offer.Row (row_in (source_row parameters past i) file)) tables (reading_after sections parameters first (i ∷ past) list end)) p ≡ Ok c
         → Follow → Rest sections parameters first size c past (i ∷ list) end base place p
     row_placed base place p file one loud inner seen same known is follow =
-        let q : Built = with_tables lists p in
+        let q : Built = with_tables tables p in
         let r : LineRow = row_in (source_row parameters past i) file in
         let built : BuiltItem = item.Row r in
         let next : Built = after_row r q in
@@ -224,8 +224,8 @@ module _ (sections : Sections) (parameters : Parameters) (first : Lists) (conver
         let rest = follow (base_at past) (r.address_offset, r.op_index) next
         (subst (λ (a : ℕ). Follows parameters (i ∷ past) (base_at past) (a - base_at past)) (sym address) (follows_row parameters past i loud inner seen))
         (was_built (can_build q.line_encoding (previous_position q.items) built) next (reading_after sections parameters first (i ∷ past) list end) is) in
-        let number : IsFileId parameters.encoding.version lists.file_ids (row_at parameters past i).file file = file_id-is parameters.encoding.version lists (row_at parameters past i).file file known in
-        let later : slice_get c.file_ids (row_at parameters past i).file ≡ Some file = rest.stay (row_at parameters past i).file file (stays rest.lists rest.there (row_at parameters past i).file file number.there) in
+        let number : IsFileId parameters.encoding.version tables.file_ids (row_at parameters past i).file file = file_id-is parameters.encoding.version tables (row_at parameters past i).file file known in
+        let later : slice_get c.file_ids (row_at parameters past i).file ≡ Some file = rest.stay (row_at parameters past i).file file (stays rest.tables rest.there (row_at parameters past i).file file number.there) in
         taken base (base_at past) place (r.address_offset, r.op_index) p next (row_at parameters past i) built one refl tt
         (λ items rows mapped. (
           record { file = record { from_one = number.from_one; there = later }; others = row_parts (row_at parameters past i) (base + ((row_at parameters past i).address - base_at past)) refl sum inner },
@@ -236,48 +236,48 @@ module _ (sections : Sections) (parameters : Parameters) (first : Lists) (conver
 
     -- a row, or an end
     placed : (base : ℕ) (place : ℕ × ℕ) (p : Built) → events_at parameters past i ≡ row (row_at parameters past i) ∷ [] → makes_row i ≡ true → is_under_tombstone parameters past ≡ false → base ≡ base_at past
-        → outcome_of convert_address (row_or_end_offered parameters.encoding.version lists (source_row parameters past i) (reading_after sections parameters first (i ∷ past) list end)) p ≡ Ok c
+        → outcome_of convert_address (row_or_end_offered parameters.encoding.version tables (source_row parameters past i) (reading_after sections parameters first (i ∷ past) list end)) p ≡ Ok c
         → Follow → Rest sections parameters first size c past (i ∷ list) end base place p
     placed base place p one loud seen same is follow = by (is_end i) refl is
       where
         rest : Reading
         rest = reading_after sections parameters first (i ∷ past) list end
 
-        known : (r : Result ℕ ConvertError) → file_id parameters.encoding.version lists (row_at parameters past i).file ≡ r → is_end i ≡ false
-            → outcome_of convert_address (row_offered (r >>= λ file. Ok (row_in (source_row parameters past i) file)) lists rest) p ≡ Ok c → Rest sections parameters first size c past (i ∷ list) end base place p
+        known : (r : Result ℕ ConvertError) → file_id parameters.encoding.version tables (row_at parameters past i).file ≡ r → is_end i ≡ false
+            → outcome_of convert_address (row_offered (r >>= λ file. Ok (row_in (source_row parameters past i) file)) tables rest) p ≡ Ok c → Rest sections parameters first size c past (i ∷ list) end base place p
         known (Err e) at inner so = absurd cc
         known (Ok file) at inner so = row_placed base place p file one loud inner seen same at so follow
 
         by : (b : Bool) → is_end i ≡ b
-            → outcome_of convert_address (if b then offers (offer.EndSequence ((row_at parameters past i).address - base_at past)) lists rest else row_offered (built_row parameters.encoding.version lists (source_row parameters past i)) lists rest) p ≡ Ok c
+            → outcome_of convert_address (if b then offers (offer.EndSequence ((row_at parameters past i).address - base_at past)) tables rest else row_offered (built_row parameters.encoding.version tables (source_row parameters past i)) tables rest) p ≡ Ok c
             → Rest sections parameters first size c past (i ∷ list) end base place p
         by true closes so = end_placed base place p one closes seen same so follow
-        by false inner so = known (file_id parameters.encoding.version lists (row_at parameters past i).file) refl inner so
+        by false inner so = known (file_id parameters.encoding.version tables (row_at parameters past i).file) refl inner so
 
     -- the same after an address that may be pending
     place_taken : (base : ℕ) (place : ℕ × ℕ) (p : Built) → events_at parameters past i ≡ row (row_at parameters past i) ∷ [] → makes_row i ≡ true → is_under_tombstone parameters past ≡ false → Follows parameters past base place.0
-        → outcome_of convert_address (source_row_offered parameters.encoding.version lists (source_row parameters past i) (reading_after sections parameters first (i ∷ past) list end)) p ≡ Ok c
+        → outcome_of convert_address (source_row_offered parameters.encoding.version tables (source_row parameters past i) (reading_after sections parameters first (i ∷ past) list end)) p ≡ Ok c
         → Follow → Rest sections parameters first size c past (i ∷ list) end base place p
     place_taken base place p one loud seen f is follow = by (pending_address past) refl is
       where
         here : Reading
-        here = row_or_end_offered parameters.encoding.version lists (source_row parameters past i) (reading_after sections parameters first (i ∷ past) list end)
+        here = row_or_end_offered parameters.encoding.version tables (source_row parameters past i) (reading_after sections parameters first (i ∷ past) list end)
 
-        by : (o : Option ℕ) → pending_address past ≡ o → outcome_of convert_address (address_offered o lists here) p ≡ Ok c → Rest sections parameters first size c past (i ∷ list) end base place p
+        by : (o : Option ℕ) → pending_address past ≡ o → outcome_of convert_address (address_offered o tables here) p ≡ Ok c → Rest sections parameters first size c past (i ∷ list) end base place p
         by None at so = placed base place p one loud seen (f.counted seen at) so follow
         by (Some a) at so =
             let ahead = f.ahead a seen at in
-            let next : Built = after_address (Constant a) (with_tables lists p) in
+            let next : Built = after_address (Constant a) (with_tables tables p) in
             let mapped : outcome_of convert_address here next ≡ Ok c =
-            sym (ap (λ (o : Option Address). (ok_or o InvalidAddress >>= λ m. Ok (after_address m (with_tables lists p))) >>= λ n. outcome_of convert_address here n) (itself a)) ∙ so in
+            sym (ap (λ (o : Option Address). (ok_or o InvalidAddress >>= λ m. Ok (after_address m (with_tables tables p))) >>= λ n. outcome_of convert_address here n) (itself a)) ∙ so in
             address_taken base place p a ahead.0 ahead.1 (placed a (0, 0) next one loud seen (sym (pending_is_base past a at)) mapped follow)
 
     -- any place
     place_passed : (base : ℕ) (place : ℕ × ℕ) (p : Built) → Follows parameters past base place.0
         → (is_end i ≡ true → is_under_tombstone parameters past ≡ true → gave_row parameters past ≡ false)
-        → outcome_of convert_address (reading_at parameters lists past i (reading_after sections parameters first (i ∷ past) list end)) p ≡ Ok c
+        → outcome_of convert_address (reading_at parameters tables past i (reading_after sections parameters first (i ∷ past) list end)) p ≡ Ok c
         → Follow → Rest sections parameters first size c past (i ∷ list) end base place p
-    place_passed base place p f ends_seen is follow = by (overflows parameters past i) (makes_row i) (is_under_tombstone parameters past) refl refl refl is
+    place_passed base place p f no_end_under_tombstone is follow = by (overflows parameters past i) (makes_row i) (is_under_tombstone parameters past) refl refl refl is
       where
         rest : Reading
         rest = reading_after sections parameters first (i ∷ past) list end
@@ -290,28 +290,28 @@ module _ (sections : Sections) (parameters : Parameters) (first : Lists) (conver
         quiet m tombstone made seen none = rw (made, seen) none
 
         by : (o m tombstone : Bool) → overflows parameters past i ≡ o → makes_row i ≡ m → is_under_tombstone parameters past ≡ tombstone
-            → outcome_of convert_address (if o then stops (Read AddressOverflow) else (if m && not tombstone then source_row_offered parameters.encoding.version lists (source_row parameters past i) rest else rest)) p ≡ Ok c
+            → outcome_of convert_address (if o then stops (Read AddressOverflow) else (if m && not tombstone then source_row_offered parameters.encoding.version tables (source_row parameters past i) rest else rest)) p ≡ Ok c
             → Rest sections parameters first size c past (i ∷ list) end base place p
         by true m tombstone at made seen so = absurd cc
         by false true false at made seen so = place_taken base place p (gives false true false at made seen) made seen f so follow
         by false true true at made seen so =
-            passed base place p (gives false true true at made seen) (follow base place p (follows_quiet parameters past i base place.0 (quiet true true made seen refl) ends_seen f) so)
+            passed base place p (gives false true true at made seen) (follow base place p (follows_quiet parameters past i base place.0 (quiet true true made seen refl) no_end_under_tombstone f) so)
         by false false tombstone at made seen so =
-            passed base place p (gives false false tombstone at made seen) (follow base place p (follows_quiet parameters past i base place.0 (quiet false tombstone made seen refl) ends_seen f) so)
+            passed base place p (gives false false tombstone at made seen) (follow base place p (follows_quiet parameters past i base place.0 (quiet false tombstone made seen refl) no_end_under_tombstone f) so)
 
   -- what comes of the rest of a program
-  pub rest_mapped : (past list : List Ins) (end : Option Error) (base : ℕ) (place : ℕ × ℕ) (p : Built) → Follows parameters past base place.0 → SeesEndsAfter parameters past list
+  pub rest_mapped : (past list : List Ins) (end : Option Error) (base : ℕ) (place : ℕ × ℕ) (p : Built) → Follows parameters past base place.0 → NoneEndsUnderTombstone parameters past list
       → outcome_of convert_address (reading_after sections parameters first past list end) p ≡ Ok c → Rest sections parameters first size c past list end base place p
   rest_mapped past [] end base place p f seen is = none_left past end base place p is
   rest_mapped past (i ∷ list) end base place p f seen is =
-      by (λ base place p f so. rest_mapped (i ∷ past) list end base place p f seen.1 so) (lists_at sections first past) refl is
+      by (λ base place p f so. rest_mapped (i ∷ past) list end base place p f seen.1 so) (tables_at sections first past) refl is
     where
       by : ((base : ℕ) (place : ℕ × ℕ) (p : Built) → Follows parameters (i ∷ past) base place.0
           → outcome_of convert_address (reading_after sections parameters first (i ∷ past) list end) p ≡ Ok c → Rest sections parameters first size c (i ∷ past) list end base place p)
-          → (there : Result Lists ConvertError) → lists_at sections first past ≡ there
-          → outcome_of convert_address (with_lists there (λ lists. reading_at parameters lists past i (with_definition i (reading_after sections parameters first (i ∷ past) list end)))) p ≡ Ok c
+          → (there : Result TablesAndTexts ConvertError) → tables_at sections first past ≡ there
+          → outcome_of convert_address (reading_with there (λ tables. reading_at parameters tables past i (with_definition i (reading_after sections parameters first (i ∷ past) list end)))) p ≡ Ok c
           → Rest sections parameters first size c past (i ∷ list) end base place p
       by follow (Err e) at so = absurd cc
-      by follow (Ok lists) at so =
-          place_passed past i list end lists at base place p f seen.0
-          (sym (definition_passed convert_address parameters lists past i (reading_after sections parameters first (i ∷ past) list end) p) ∙ so) follow
+      by follow (Ok tables) at so =
+          place_passed past i list end tables at base place p f seen.0
+          (sym (definition_passed convert_address parameters tables past i (reading_after sections parameters first (i ∷ past) list end) p) ∙ so) follow

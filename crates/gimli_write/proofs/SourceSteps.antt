@@ -1,6 +1,6 @@
 -- What one instruction of a source does to what is still to be read.
-use Rattle.std.proofs.Common.{◌≡◌, ◌≢◌, ℕ, ◌<◌, ◌≤◌, ◌-◌, ◌*◌, ◌^◌, Bool, true, false, not, ◌&&◌, ◌||◌, if◌then◌else◌, List, [], ◌∷◌, ◌++◌, length, refl, sym, ap, ◌∙◌, subst, append_assoc, arith}
-use Rattle.std.specs.Prelude.{Option, Some, None, unwrap_or, Result, Ok, Err, OnOk, OnErr, IfOk, IfErr, nat_lt, nat_le}
+use Rattle.std.proofs.Common.{◌≡◌, ◌≢◌, ℕ, ◌<◌, ◌≤◌, ◌-◌, Bool, true, false, not, ◌&&◌, ◌||◌, if◌then◌else◌, List, [], ◌∷◌, ◌++◌, length, refl, sym, ap, ◌∙◌, subst, append_assoc, arith}
+use Rattle.std.specs.Prelude.{Option, Some, None, unwrap_or, Result, Ok, Err, OnOk, OnErr, IfOk, IfErr}
 use Rattle.std.proofs.lemmas.List.{length-append, append-nil}
 use Rattle.std.proofs.lemmas.Bool.{false≢true}
 use Rattle.gimli_core.specs.Notation.{Notation}
@@ -16,8 +16,7 @@ use Rattle.gimli_line.specs.declared.header.file_entry.FileEntry.{FileEntry}
 use Rattle.gimli_line.specs.run.Instruction.{Ins, ins_seen, is_end, makes_row, defines_file, files_after}
 use Rattle.gimli_line.specs.run.InstructionGrammar.{SpellsInstruction, instruction_production}
 use Rattle.gimli_line.specs.run.InstructionReading.{decoded_at}
-use Rattle.gimli_line.specs.run.Machine.{step_of, reset_row, is_refused, pointer_of}
-use Rattle.gimli_line.specs.run.OperationPointer.{is_tombstone}
+use Rattle.gimli_line.specs.run.Machine.{step_of, reset_row, is_refused}
 use Rattle.gimli_line.specs.run.EventsWithFiles.{next_registers}
 use Rattle.gimli_line.specs.run.Unread.{Unread}
 use Rattle.gimli_line.proofs.InstructionLaws.{is_decoded, one_decoding, instructions_bounded}
@@ -27,9 +26,9 @@ use Rattle.gimli_write.specs.declared.convert_error.ConvertError.TheVariants.{Re
 use Rattle.gimli_write.specs.declared.convert.run.SourceRow.{SourceRow}
 use Rattle.gimli_write.specs.declared.convert.run.SourceStep.{SourceStep}
 use Rattle.gimli_write.specs.declared.convert.run.SourceStep.TheVariants.{More, Made}
-use Rattle.gimli_write.specs.convert.Lists.{Lists, file_added}
-use Rattle.gimli_write.specs.convert.Offers.{Reading, defines, with_definition, ends, stops, address_operand, source_row_offered, lists_after_definition}
-use Rattle.gimli_write.specs.convert.SourceState.{SourceState, row_made, base_after, pending_after, state_after, instruction_reading, reading_from, reading_upon, reading_left, step_reading, step_made, Shortens}
+use Rattle.gimli_write.specs.convert.SourceTables.{TablesAndTexts, file_added}
+use Rattle.gimli_write.specs.convert.Items.{Reading, defines, with_definition, ends, stops, address_operand, source_row_offered, tables_after_definition}
+use Rattle.gimli_write.specs.convert.SourceRun.{SourceRun, row_made, base_after, pending_after, state_after, instruction_reading, reading_from, reading_upon, reading_left, step_reading, step_made, Shortens}
 
 -- ---- what a program is decoded into, by its front
 
@@ -67,79 +66,79 @@ if_true b x y e = ap (λ (c : Bool). if c then x else y) e
 if_false : {A : Type 0} (b : Bool) (x y : A) → b ≡ false → (if b then x else y) ≡ y
 if_false b x y e = ap (λ (c : Bool). if c then x else y) e
 
-pub no_file : (sections : Sections) (lists : Lists) (i : Ins) → defines_file i ≡ false → lists_after_definition sections lists i ≡ Ok lists
-no_file sections lists (DefineFile f) e = absurd cc
-no_file sections lists i e = refl
+pub no_file : (sections : Sections) (tables : TablesAndTexts) (i : Ins) → defines_file i ≡ false → tables_after_definition sections tables i ≡ Ok tables
+no_file sections tables (DefineFile f) e = absurd cc
+no_file sections tables i e = refl
 
 no_definition : (i : Ins) (rest : Reading) → defines_file i ≡ false → with_definition i rest ≡ rest
 no_definition (DefineFile f) rest e = absurd cc
 no_definition i rest e = refl
 
 -- bytes that are unread count by their instructions alone
-same_reading : (sections : Sections) (u v : Unread) (s : SourceState) (there : Result Lists ConvertError) (list : List Ins) (end : Option Error)
+same_reading : (sections : Sections) (u v : Unread) (s : SourceRun) (there : Result TablesAndTexts ConvertError) (list : List Ins) (end : Option Error)
     → reading_from sections (record s { unread = u }) there list end ≡ reading_from sections (record s { unread = v }) there list end
 same_reading sections u v s there [] end = refl
 same_reading sections u v s (Err e) (i ∷ list) end = refl
-same_reading sections u v s (Ok lists) (i ∷ list) end =
-    ap (λ (r : Reading). instruction_reading s lists i (with_definition i r)) (same_reading sections u v (state_after i s) (lists_after_definition sections lists i) list end)
+same_reading sections u v s (Ok tables) (i ∷ list) end =
+    ap (λ (r : Reading). instruction_reading s tables i (with_definition i r)) (same_reading sections u v (state_after i s) (tables_after_definition sections tables i) list end)
 
-module _ (sections : Sections) (lists : Lists) (s : SourceState) where
-  pub none_left : s.unread.bytes ≡ [] → reading_left sections s lists ≡ ends lists
-  none_left e = ap (λ (c : List Ins × Option Error). reading_from sections s (Ok lists) c.0 c.1) (decoded_none s.unread.notation s.header s.unread.bytes e)
+module _ (sections : Sections) (tables : TablesAndTexts) (s : SourceRun) where
+  pub none_left : s.unread.bytes ≡ [] → reading_left sections s tables ≡ ends tables
+  none_left e = ap (λ (c : List Ins × Option Error). reading_from sections s (Ok tables) c.0 c.1) (decoded_none s.unread.notation s.header s.unread.bytes e)
 
-  pub at_fault : (e : Error) → s.unread.bytes ≢ [] → (instruction_production s.unread.notation s.header).Fault s.unread.bytes e → reading_left sections s lists ≡ stops (Read e)
-  at_fault e some f = ap (λ (c : List Ins × Option Error). reading_from sections s (Ok lists) c.0 c.1) (decoded_fault s.unread.notation s.header s.unread.bytes e some f)
+  pub at_fault : (e : Error) → s.unread.bytes ≢ [] → (instruction_production s.unread.notation s.header).Fault s.unread.bytes e → reading_left sections s tables ≡ stops (Read e)
+  at_fault e some f = ap (λ (c : List Ins × Option Error). reading_from sections s (Ok tables) c.0 c.1) (decoded_fault s.unread.notation s.header s.unread.bytes e some f)
 
   module _ (u : Unread) (notation : u.notation ≡ s.unread.notation) (i : Ins) (front : List ℕ) (parts : s.unread.bytes ≡ front ++ u.bytes) (spelled : SpellsInstruction s.unread.notation s.header front i) where
     -- an instruction stands first
-    pub first_is : reading_left sections s lists
-        ≡ instruction_reading s lists i (with_definition i (reading_upon sections (record (state_after i s) { unread = u }) (lists_after_definition sections lists i)))
+    pub first_is : reading_left sections s tables
+        ≡ instruction_reading s tables i (with_definition i (reading_upon sections (record (state_after i s) { unread = u }) (tables_after_definition sections tables i)))
     first_is =
-        let there = lists_after_definition sections lists i in
+        let there = tables_after_definition sections tables i in
         let c = decoded_at s.unread.notation s.header u.bytes in
         let rest : reading_from sections (state_after i s) there c.0 c.1 ≡ reading_upon sections (record (state_after i s) { unread = u }) there =
         same_reading sections s.unread u (state_after i s) there c.0 c.1
         ∙ ap (λ (n : Notation). reading_from sections (record (state_after i s) { unread = u }) there (decoded_at n s.header u.bytes).0 (decoded_at n s.header u.bytes).1) (sym notation) in
-        ap (λ (d : List Ins × Option Error). reading_from sections s (Ok lists) d.0 d.1) (decoded_some s.unread.notation s.header s.unread.bytes i front u.bytes parts spelled)
-        ∙ ap (λ (r : Reading). instruction_reading s lists i (with_definition i r)) rest
+        ap (λ (d : List Ins × Option Error). reading_from sections s (Ok tables) d.0 d.1) (decoded_some s.unread.notation s.header s.unread.bytes i front u.bytes parts spelled)
+        ∙ ap (λ (r : Reading). instruction_reading s tables i (with_definition i r)) rest
 
-    abbrev next : SourceState
+    abbrev next : SourceRun
     next = record (state_after i s) { unread = u }
 
     abbrev rest : Reading
-    rest = with_definition i (reading_upon sections next (lists_after_definition sections lists i))
+    rest = with_definition i (reading_upon sections next (tables_after_definition sections tables i))
 
     abbrev quiet_or_row : Reading
-    quiet_or_row = if makes_row i && not s.row.tombstone then source_row_offered s.header.parameters.encoding.version lists (row_made s i) rest else rest
+    quiet_or_row = if makes_row i && not s.row.tombstone then source_row_offered s.header.parameters.encoding.version tables (row_made s i) rest else rest
 
-    pub after_refusal : is_refused s.header.parameters i s.row ≡ true → reading_left sections s lists ≡ stops (Read AddressOverflow)
+    pub after_refusal : is_refused s.header.parameters i s.row ≡ true → reading_left sections s tables ≡ stops (Read AddressOverflow)
     after_refusal large = first_is ∙ if_true (is_refused s.header.parameters i s.row) (stops (Read AddressOverflow)) quiet_or_row large
 
     module _ (fits : is_refused s.header.parameters i s.row ≡ false) (file : defines_file i ≡ false) where
-      done : reading_left sections s lists ≡ quiet_or_row
+      done : reading_left sections s tables ≡ quiet_or_row
       done = first_is ∙ if_false (is_refused s.header.parameters i s.row) (stops (Read AddressOverflow)) quiet_or_row fits
 
-      later : rest ≡ reading_left sections next lists
-      later = no_definition i (reading_upon sections next (lists_after_definition sections lists i)) file ∙ ap (reading_upon sections next) (no_file sections lists i file)
+      later : rest ≡ reading_left sections next tables
+      later = no_definition i (reading_upon sections next (tables_after_definition sections tables i)) file ∙ ap (reading_upon sections next) (no_file sections tables i file)
 
-      pub after_quiet : (makes_row i && not s.row.tombstone) ≡ false → reading_left sections s lists ≡ reading_left sections next lists
+      pub after_quiet : (makes_row i && not s.row.tombstone) ≡ false → reading_left sections s tables ≡ reading_left sections next tables
       after_quiet quiet =
-          done ∙ if_false (makes_row i && not s.row.tombstone) (source_row_offered s.header.parameters.encoding.version lists (row_made s i) rest) rest quiet ∙ later
+          done ∙ if_false (makes_row i && not s.row.tombstone) (source_row_offered s.header.parameters.encoding.version tables (row_made s i) rest) rest quiet ∙ later
 
       pub after_row : (makes_row i && not s.row.tombstone) ≡ true
-          → reading_left sections s lists ≡ source_row_offered s.header.parameters.encoding.version lists (row_made s i) (reading_left sections next lists)
+          → reading_left sections s tables ≡ source_row_offered s.header.parameters.encoding.version tables (row_made s i) (reading_left sections next tables)
       after_row loud =
-          done ∙ if_true (makes_row i && not s.row.tombstone) (source_row_offered s.header.parameters.encoding.version lists (row_made s i) rest) rest loud
-          ∙ ap (source_row_offered s.header.parameters.encoding.version lists (row_made s i)) later
+          done ∙ if_true (makes_row i && not s.row.tombstone) (source_row_offered s.header.parameters.encoding.version tables (row_made s i) rest) rest loud
+          ∙ ap (source_row_offered s.header.parameters.encoding.version tables (row_made s i)) later
 
   -- a file is defined
   pub after_file : (u : Unread) → u.notation ≡ s.unread.notation → (f : File) (front : List ℕ) → s.unread.bytes ≡ front ++ u.bytes → SpellsInstruction s.unread.notation s.header front (DefineFile f)
-      → reading_left sections s lists ≡ defines (reading_upon sections (record s { unread = u }) (file_added sections lists f))
+      → reading_left sections s tables ≡ defines (reading_upon sections (record s { unread = u }) (file_added sections tables f))
   after_file u notation f front parts spelled = first_is u notation (DefineFile f) front parts spelled
 
 -- ---- the state of a run, by its parts
 
-abbrev pub state : Header → LineRow → ℕ → Option ℕ → Unread → SourceState
+abbrev pub state : Header → LineRow → ℕ → Option ℕ → Unread → SourceRun
 state h r b p u = record { header = h; row = r; base = b; pending = p; unread = u }
 
 -- what an instruction does to registers that a run relies on
@@ -177,35 +176,27 @@ pub is_overflow : (i : Ins) (e : Error) → (e ≢ AddressOverflow → defines_f
 is_overflow i AddressOverflow memory file = refl
 is_overflow i e memory file = absurd (false≢true (sym file ∙ memory (λ is. absurd cc)))
 
--- the register `tombstone` is known, and registers that are ready don't end a sequence
-abbrev pub IsReady : Bool → LineRow → Type 0
-IsReady tombstone r = (tombstone ≡ r.tombstone) × (r.end_sequence ≡ false)
+-- registers that are ready don't end a sequence
+abbrev pub IsReady : LineRow → Type 0
+IsReady r = r.end_sequence ≡ false
 
-module _ (i : Ins) (tombstone : Bool) (old new : LineRow) (ready : IsReady tombstone old) where
-  pub ready_at_refusal : (p : Parameters) (e : Error) → address_operand i ≡ None → defines_file i ≡ false → (e ≢ AddressOverflow → defines_file i ≡ true)
-      → (e ≡ AddressOverflow → (is_refused p i old ≡ true) × (new ≡ step_of p i old)) → IsReady tombstone new
-  ready_at_refusal p e address file memory over =
+module _ (i : Ins) (old new : LineRow) (ready : IsReady old) where
+  pub ready_at_refusal : (p : Parameters) (e : Error) → defines_file i ≡ false → (e ≢ AddressOverflow → defines_file i ≡ true)
+      → (e ≡ AddressOverflow → (is_refused p i old ≡ true) × (new ≡ step_of p i old)) → IsReady new
+  ready_at_refusal p e file memory over =
       let o = over (is_overflow i e memory file) in
-      let same_tombstone : new.tombstone ≡ old.tombstone = ap (λ (r : LineRow). r.tombstone) o.1 ∙ keeps_tombstone p i old address in
-      let same_end : new.end_sequence ≡ old.end_sequence = ap (λ (r : LineRow). r.end_sequence) o.1 ∙ refusal_keeps_end p i old o.0 in
-      (ready.0 ∙ sym same_tombstone, same_end ∙ ready.1)
+      ap (λ (r : LineRow). r.end_sequence) o.1 ∙ refusal_keeps_end p i old o.0 ∙ ready
 
-  pub ready_when_quiet : (p : Parameters) → address_operand i ≡ None → makes_row i ≡ false → new ≡ step_of p i old → IsReady tombstone new
-  ready_when_quiet p address quiet step =
-      let same_tombstone : new.tombstone ≡ old.tombstone = ap (λ (r : LineRow). r.tombstone) step ∙ keeps_tombstone p i old address in
-      let same_end : new.end_sequence ≡ old.end_sequence = ap (λ (r : LineRow). r.end_sequence) step ∙ keeps_end p i old quiet in
-      (ready.0 ∙ sym same_tombstone, same_end ∙ ready.1)
+  pub ready_when_quiet : (p : Parameters) → makes_row i ≡ false → new ≡ step_of p i old → IsReady new
+  ready_when_quiet p quiet step = ap (λ (r : LineRow). r.end_sequence) step ∙ keeps_end p i old quiet ∙ ready
 
-reset_ready : (q : Parameters) (r : LineRow) (last kept tombstone : Bool) → r.end_sequence ≡ last → kept ≡ (if last then false else tombstone) → tombstone ≡ r.tombstone → IsReady kept (reset_row q r)
-reset_ready q r true kept tombstone e k h = rw e (k, refl)
-reset_ready q r false kept tombstone e k h = rw e (k ∙ h, refl)
+reset_ready : (q : Parameters) (r : LineRow) (last : Bool) → r.end_sequence ≡ last → IsReady (reset_row q r)
+reset_ready q r true e = rw e refl
+reset_ready q r false e = rw e refl
 
 -- after a row, whose registers are reset
-pub ready_after_row : (i : Ins) (tombstone : Bool) (old new after : LineRow) → IsReady tombstone old → (p q : Parameters) → address_operand i ≡ None → new ≡ step_of p i old
-    → (last kept : Bool) → last ≡ new.end_sequence → kept ≡ (if last then false else tombstone) → after ≡ reset_row q new → IsReady kept after
-ready_after_row i tombstone old new after ready p q address step last kept ended kept_is reset =
-    let same_tombstone : tombstone ≡ new.tombstone = ready.0 ∙ sym (ap (λ (r : LineRow). r.tombstone) step ∙ keeps_tombstone p i old address) in
-    rw reset (reset_ready q new last kept tombstone (sym ended) kept_is same_tombstone)
+pub ready_after_row : (q : Parameters) (new after : LineRow) → after ≡ reset_row q new → IsReady after
+ready_after_row q new after reset = rw reset (reset_ready q new new.end_sequence refl)
 
 -- ---- what is done of an instruction that sets no address and defines no file
 
@@ -254,16 +245,17 @@ module _ (i : Ins) (h h2 : Header) (r r2 : LineRow) (b : ℕ) (p : Option ℕ) (
       ∙ ap (λ (m : ℕ). state h (next_registers h.parameters i r) m None u) base
       ∙ ap (λ (o : Option ℕ). state h (next_registers h.parameters i r) (base_after i b) o u) (sym pends)
 
-  pub made_is : {R Endian Offset : Type 0} (given : SourceStep R Endian Offset) (tombstone : Bool) (offset : ℕ)
-      → given ≡ (if tombstone then More else Made (record { set_address = p; address_offset = offset; row = r2 })) → tombstone ≡ r.tombstone → makes_row i ≡ true → offset ≡ r2.address - b
+  pub made_is : {R Endian Offset : Type 0} (given : SourceStep R Endian Offset) (offset : ℕ)
+      → given ≡ (if r2.tombstone then More else Made (record { set_address = p; address_offset = offset; row = r2 })) → makes_row i ≡ true → offset ≡ r2.address - b
       → given ≡ step_made (state h r b p u) i
-  made_is given tombstone offset is same loud counts =
+  made_is given offset is loud counts =
+      let same : r2.tombstone ≡ r.tombstone = ap (λ (w : LineRow). w.tombstone) step ∙ keeps_tombstone h.parameters i r address in
       let x : SourceRow = record { set_address = p; address_offset = offset; row = r2 } in
       let offset_is : x ≡ record { set_address = p; address_offset = r2.address - b; row = r2 } =
       ap (λ (o : ℕ). let y : SourceRow = record { set_address = p; address_offset = o; row = r2 } in y) counts in
       let row_is : record { set_address = p; address_offset = r2.address - b; row = r2 } ≡ row_made (state h r b p u) i =
       ap (λ (w : LineRow). let y : SourceRow = record { set_address = p; address_offset = w.address - b; row = w } in y) step in
-      is ∙ same_or_other (makes_row i) tombstone r.tombstone x (row_made (state h r b p u) i) loud same (offset_is ∙ row_is)
+      is ∙ same_or_other (makes_row i) r2.tombstone r.tombstone x (row_made (state h r b p u) i) loud same (offset_is ∙ row_is)
 
 -- ---- what is done of a set address
 
@@ -274,12 +266,8 @@ module _ (p : Parameters) (a : ℕ) (old new : LineRow) where
   address_done (Ok m) step over memory = step
   address_done (Err e) step over memory = (over (is_overflow (SetAddress a) e (λ n. (memory n).2) refl)).1
 
-  pub address_ready : (tombstone : Bool) (before size : ℕ) → tombstone ≡ (nat_lt a before || nat_le (2 ^ (8 * size) - 2) a) → before ≡ old.address → size ≡ p.encoding.address_size
-      → old.end_sequence ≡ false → new ≡ step_of p (SetAddress a) old → IsReady tombstone new
-  address_ready tombstone before size is b s ended step =
-      let tombstone_is : tombstone ≡ is_tombstone p a (pointer_of old) =
-      is ∙ ap (λ (n : ℕ). nat_lt a n || nat_le (2 ^ (8 * size) - 2) a) b ∙ ap (λ (n : ℕ). nat_lt a old.address || nat_le (2 ^ (8 * n) - 2) a) s in
-      (tombstone_is ∙ sym (ap (λ (r : LineRow). r.tombstone) step), ap (λ (r : LineRow). r.end_sequence) step ∙ ended)
+  pub address_ready : IsReady old → new ≡ step_of p (SetAddress a) old → IsReady new
+  address_ready ready step = ap (λ (r : LineRow). r.end_sequence) step ∙ ready
 
 pub address_header : (a : ℕ) (h h2 : Header) (r : Result Bool Error) → OnOk r (h2 ≡ record h { files = files_after true (SetAddress a) h.files }) → OnErr r (h2 ≡ h) → h2 ≡ h
 address_header a h h2 (Ok m) files kept = files
@@ -292,47 +280,47 @@ address_state a h h2 r r2 b p u header step =
 
 -- ---- what is read from a step on
 
-abbrev pub with_unread : SourceState → Unread → SourceState
+abbrev pub with_unread : SourceRun → Unread → SourceRun
 with_unread s u = record s { unread = u }
 
 -- a spelling by the header that was lent
 pub spelled_as : (notation : Notation) (h k : Header) (front : List ℕ) (i j : Ins) → k ≡ h → i ≡ j → SpellsInstruction notation k front i → SpellsInstruction notation h front j
 spelled_as notation h k front i j same is s = subst (λ (x : Header). SpellsInstruction notation x front j) same (subst (λ (y : Ins). SpellsInstruction notation k front y) is s)
 
-module _ (R Endian Offset : Type 0) (s old new : SourceState) (i : Ins) where
+module _ (R Endian Offset : Type 0) (s old new : SourceRun) (i : Ins) where
   shortens : length new.unread.bytes < length old.unread.bytes → (b : Bool) → Shortens {R = R} {Endian = Endian} {Offset = Offset} (if b then Made (row_made s i) else More) old new
   shortens lt true = lt
   shortens lt false = lt
 
-module _ {R Endian Offset : Type 0} (s old new : SourceState) (i : Ins) where
+module _ {R Endian Offset : Type 0} (s old new : SourceRun) (i : Ins) where
   pub executed_shortens : (r : Result (SourceStep R Endian Offset) ConvertError) → IfOk r (λ step. step ≡ step_made s i) → length new.unread.bytes < length old.unread.bytes → IfOk r (λ step. Shortens step old new)
   executed_shortens (Ok step) made lt = rw made (shortens R Endian Offset s old new i lt (makes_row i && not s.row.tombstone))
   executed_shortens (Err e) made lt = tt
 
-module _ {R Offset : Type 0} (Endian : Type 0) (bytes : R → List ℕ) (number : Offset → ℕ) (s : SourceState) (u : Unread) (notation : u.notation ≡ s.unread.notation)
+module _ {R Offset : Type 0} (Endian : Type 0) (bytes : R → List ℕ) (number : Offset → ℕ) (s : SourceRun) (u : Unread) (notation : u.notation ≡ s.unread.notation)
     (i : Ins) (front : List ℕ) (parts : s.unread.bytes ≡ front ++ u.bytes) (spelled : SpellsInstruction s.unread.notation s.header front i) where
-  made_reading : is_refused s.header.parameters i s.row ≡ false → defines_file i ≡ false → (sections : Sections) (lists : Lists)
-      → reading_left sections s lists ≡ step_reading {Endian = Endian} bytes number sections lists (step_made (with_unread s u) i) (state_after i (with_unread s u))
-  made_reading fits file sections lists = by (makes_row i && not s.row.tombstone) refl
+  made_reading : is_refused s.header.parameters i s.row ≡ false → defines_file i ≡ false → (sections : Sections) (tables : TablesAndTexts)
+      → reading_left sections s tables ≡ step_reading {Endian = Endian} bytes number sections tables (step_made (with_unread s u) i) (state_after i (with_unread s u))
+  made_reading fits file sections tables = by (makes_row i && not s.row.tombstone) refl
     where
-      by : (b : Bool) → (makes_row i && not s.row.tombstone) ≡ b → reading_left sections s lists ≡ step_reading {Endian = Endian} bytes number sections lists (step_made (with_unread s u) i) (state_after i (with_unread s u))
+      by : (b : Bool) → (makes_row i && not s.row.tombstone) ≡ b → reading_left sections s tables ≡ step_reading {Endian = Endian} bytes number sections tables (step_made (with_unread s u) i) (state_after i (with_unread s u))
       by true e =
-          after_row sections lists s u notation i front parts spelled fits file e
-          ∙ ap (λ (c : Bool). step_reading {Endian = Endian} bytes number sections lists (if c then Made (row_made (with_unread s u) i) else More) (state_after i (with_unread s u))) (sym e)
+          after_row sections tables s u notation i front parts spelled fits file e
+          ∙ ap (λ (c : Bool). step_reading {Endian = Endian} bytes number sections tables (if c then Made (row_made (with_unread s u) i) else More) (state_after i (with_unread s u))) (sym e)
       by false e =
-          after_quiet sections lists s u notation i front parts spelled fits file e
-          ∙ ap (λ (c : Bool). step_reading {Endian = Endian} bytes number sections lists (if c then Made (row_made (with_unread s u) i) else More) (state_after i (with_unread s u))) (sym e)
+          after_quiet sections tables s u notation i front parts spelled fits file e
+          ∙ ap (λ (c : Bool). step_reading {Endian = Endian} bytes number sections tables (if c then Made (row_made (with_unread s u) i) else More) (state_after i (with_unread s u))) (sym e)
 
-  pub executed_reading : (t : SourceState) (r : Result (SourceStep R Endian Offset) ConvertError) → defines_file i ≡ false → OnOk r (is_refused s.header.parameters i s.row ≡ false)
+  pub executed_reading : (t : SourceRun) (r : Result (SourceStep R Endian Offset) ConvertError) → defines_file i ≡ false → OnOk r (is_refused s.header.parameters i s.row ≡ false)
       → OnOk r (t ≡ state_after i (with_unread s u)) → IfOk r (λ step. step ≡ step_made (with_unread s u) i)
-      → IfOk r (λ step. (sections : Sections) (lists : Lists) → reading_left sections s lists ≡ step_reading bytes number sections lists step t)
-  executed_reading t (Ok step) file fits next made = λ sections lists. rw (made, next) (made_reading fits file sections lists)
+      → IfOk r (λ step. (sections : Sections) (tables : TablesAndTexts) → reading_left sections s tables ≡ step_reading bytes number sections tables step t)
+  executed_reading t (Ok step) file fits next made = λ sections tables. rw (made, next) (made_reading fits file sections tables)
   executed_reading t (Err e) file fits next made = tt
 
   pub executed_refusal : (r : Result (SourceStep R Endian Offset) ConvertError) → IfErr r (λ e. (e ≡ Read AddressOverflow) × (is_refused s.header.parameters i s.row ≡ true))
-      → IfErr r (λ e. (sections : Sections) (lists : Lists) → reading_left sections s lists ≡ stops e)
+      → IfErr r (λ e. (sections : Sections) (tables : TablesAndTexts) → reading_left sections s tables ≡ stops e)
   executed_refusal (Ok step) over = tt
-  executed_refusal (Err e) over = λ sections lists. after_refusal sections lists s u notation i front parts spelled over.1 ∙ ap stops (sym over.0)
+  executed_refusal (Err e) over = λ sections tables. after_refusal sections tables s u notation i front parts spelled over.1 ∙ ap stops (sym over.0)
 
 -- an instruction that isn't a definition defines no file
 pub other_kind : {R Offset Endian : Type 0} (bytes : R → List ℕ) (number : Offset → ℕ) (x : LineInstruction R Offset Endian) → ((f : FileEntry R Offset Endian) → x ≢ DefineFile f) → defines_file (ins_seen bytes number x) ≡ false

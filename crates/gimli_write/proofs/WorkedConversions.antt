@@ -15,10 +15,10 @@ use Rattle.gimli_build.specs.declared.built.items.BuiltItem.{BuiltItem}
 use Rattle.gimli_build.specs.declared.built.items.BuiltItem.TheVariants as item
 use Rattle.gimli_write.specs.declared.convert_error.ConvertError.{ConvertError}
 use Rattle.gimli_write.specs.declared.convert_error.ConvertError.TheVariants.{InvalidFileIndex, InvalidAddress, MissingLineEndSequence, UnsupportedLineInstruction}
-use Rattle.gimli_write.specs.convert.Lists.{Lists}
-use Rattle.gimli_write.specs.convert.Mapped.{SeesEndsAfter}
-use Rattle.gimli_write.specs.convert.Offers.{Reading, reading_after}
-use Rattle.gimli_write.specs.convert.Feeding.{outcome_of}
+use Rattle.gimli_write.specs.convert.SourceTables.{TablesAndTexts}
+use Rattle.gimli_write.specs.convert.Mapped.{NoneEndsUnderTombstone}
+use Rattle.gimli_write.specs.convert.Items.{Reading, reading_after}
+use Rattle.gimli_write.specs.convert.Outcome.{outcome_of}
 
 -- a source of version 4 with addresses of 4 bytes, whose instructions have this length at least
 abbrev source : ℕ → Parameters
@@ -29,8 +29,8 @@ source length = record {
 }
 
 -- its directory is /w, and its file a.c there
-abbrev lists : ℕ → Lists
-lists length = record {
+abbrev tables : ℕ → TablesAndTexts
+tables length = record {
   program = empty_built false (source length).encoding (source length).line_encoding (Inline (47 ∷ 119 ∷ []) ∷ []) (((Inline (97 ∷ 46 ∷ 99 ∷ []), 0), no_details) ∷ []);
   directory_ids = 0 ∷ [];
   file_ids = 0 ∷ 0 ∷ [];
@@ -38,11 +38,11 @@ lists length = record {
 }
 
 abbrev read : ℕ → List Ins → Reading
-read length list = reading_after (record { strings = []; line_strings = [] }) (source length) (lists length) [] list None
+read length list = reading_after (record { strings = []; line_strings = [] }) (source length) (tables length) [] list None
 
 -- what is built, where addresses are mapped so
 abbrev items_of : (ℕ → Option Address) → ℕ → List Ins → Result (List BuiltItem) ConvertError
-items_of convert_address length list = elim (outcome_of convert_address (read length list) (lists length).program) [
+items_of convert_address length list = elim (outcome_of convert_address (read length list) (tables length).program) [
   | Ok c ↦ Ok c.program.items
   | Err e ↦ Err e
 ]
@@ -79,7 +79,7 @@ row_under_tombstone : items_of itself 1 (SetAddress 16 ∷ Copy ∷ SetAddress 8
     ≡ Ok (item.SetAddress (Constant 16) ∷ item.Row (a_row 0 1) ∷ item.SetAddress (Constant 32) ∷ item.Row (a_row 0 3) ∷ item.End 0 0 ∷ [])
 row_under_tombstone = refl
 
-row_under_tombstone_seen : SeesEndsAfter (source 1) [] (SetAddress 16 ∷ Copy ∷ SetAddress 8 ∷ AdvanceLine (pos 1) ∷ Copy ∷ SetAddress 32 ∷ AdvanceLine (pos 1) ∷ Copy ∷ EndSequence ∷ [])
+row_under_tombstone_seen : NoneEndsUnderTombstone (source 1) [] (SetAddress 16 ∷ Copy ∷ SetAddress 8 ∷ AdvanceLine (pos 1) ∷ Copy ∷ SetAddress 32 ∷ AdvanceLine (pos 1) ∷ Copy ∷ EndSequence ∷ [])
 row_under_tombstone_seen =
     (λ e h. absurd cc, (λ e h. absurd cc, (λ e h. absurd cc, (λ e h. absurd cc, (λ e h. absurd cc, (λ e h. absurd cc, (λ e h. absurd cc, (λ e h. absurd cc, (λ e h. absurd cc, tt)))))))))
 
@@ -91,7 +91,7 @@ all_under_tombstone = refl
 ends_under_tombstone : items_of itself 1 (SetAddress 16 ∷ Copy ∷ SetAddress 4294967295 ∷ EndSequence ∷ []) ≡ Err MissingLineEndSequence
 ends_under_tombstone = refl
 
-unseen_end_under_tombstone : SeesEndsAfter (source 1) [] (SetAddress 16 ∷ Copy ∷ SetAddress 4294967295 ∷ EndSequence ∷ []) → ⊥
+unseen_end_under_tombstone : NoneEndsUnderTombstone (source 1) [] (SetAddress 16 ∷ Copy ∷ SetAddress 4294967295 ∷ EndSequence ∷ []) → ⊥
 unseen_end_under_tombstone seen = let open_sequence = seen.1.1.1.0 refl refl in absurd cc
 
 -- ---- refusals

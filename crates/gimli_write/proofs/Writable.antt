@@ -8,12 +8,12 @@ use Rattle.gimli_build.specs.Calls.{after_file}
 use Rattle.gimli_build.specs.Conditions.{CanWrite}
 use Rattle.gimli_build.specs.LineText.{LineText, IsWithin, HasNoZero}
 use Rattle.gimli_build.specs.Tables.{Details, File as BuiltFile}
-use Rattle.gimli_write.specs.convert.Lists.{Converted}
-use Rattle.gimli_write.specs.convert.Feeding.{without_items}
-use Rattle.gimli_write.specs.convert.ConversionState.{ConversionState, with_program}
-use Rattle.gimli_write.specs.convert.KeptLists.{StaysWritable}
+use Rattle.gimli_write.specs.convert.SourceTables.{SourceTables}
+use Rattle.gimli_write.specs.convert.Outcome.{without_items}
+use Rattle.gimli_write.specs.convert.Conversion.{Conversion, with_program}
+use Rattle.gimli_write.specs.convert.KeptTables.{StaysWritable}
 use Rattle.gimli_write.proofs.ConvertSteps.{kept_then, still_there}
-use Rattle.gimli_write.proofs.MappedLists.{within_where, if_some_where, files_with}
+use Rattle.gimli_write.proofs.MappedTables.{within_where, if_some_where, files_with}
 
 -- with more texts after the others
 module _ (strings old new : List (List ℕ)) (kept : KeepsTexts old new) where
@@ -65,7 +65,7 @@ module _ {A : Type 0} (text : A → LineText) where
       (source_so HasNoZero source ends)
       (written_later strings old new (kept_then old between new first second) p can)
 
-pub writable_then : {a b c : Converted} {first second third : List (List ℕ)} → StaysWritable a first b second → StaysWritable b second c third → StaysWritable a first c third
+pub writable_then : {a b c : SourceTables} {first second third : List (List ℕ)} → StaysWritable a first b second → StaysWritable b second c third → StaysWritable a first c third
 writable_then before after = record { still = λ strings can. after.still strings (before.still strings can) }
 
 -- ---- with more items
@@ -96,7 +96,7 @@ written_tables p strings line_strings has = record {
   sources_end = has.sources_end;
 }
 
-pub writable_with_items : (old new : Converted) (line_strings : List (List ℕ)) → without_items new.program ≡ without_items old.program → StaysWritable old line_strings new line_strings
+pub writable_with_items : (old new : SourceTables) (line_strings : List (List ℕ)) → without_items new.program ≡ without_items old.program → StaysWritable old line_strings new line_strings
 writable_with_items old new line_strings same = record {
   still = λ strings can.
       written_tables new.program strings line_strings
@@ -104,7 +104,7 @@ writable_with_items old new line_strings same = record {
 }
 
 -- after a builder call, of which a refused one changes nothing
-pub writable_built : {A E : Type 0} (result : Result A E) (old new : ConversionState) (line_strings : List (List ℕ)) (built : Built) → without_items built ≡ without_items old.lists.program
-    → OnOk result (new ≡ with_program built old) → OnErr result (new ≡ old) → StaysWritable old.lists line_strings new.lists line_strings
-writable_built (Ok _) old new line_strings built same is kept = rw is (writable_with_items old.lists (with_program built old).lists line_strings same)
+pub writable_built : {A E : Type 0} (result : Result A E) (old new : SourceTables) (line_strings : List (List ℕ)) (built : Built) → without_items built ≡ without_items old.program
+    → OnOk result (new ≡ record old { program = built }) → OnErr result (new ≡ old) → StaysWritable old line_strings new line_strings
+writable_built (Ok _) old new line_strings built same is kept = rw is (writable_with_items old (record old { program = built }) line_strings same)
 writable_built (Err _) old new line_strings built same is kept = rw kept (record { still = λ strings can. can })

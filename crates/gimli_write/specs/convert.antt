@@ -1,14 +1,15 @@
 -- Programs of a source that are converted.
 pub mod Texts
-pub mod Lists
+pub mod SourceTables
 pub mod Preparation
 pub mod Sources
-pub mod Offers
-pub mod SourceState
-pub mod LastLists
-pub mod Feeding
+pub mod Items
+pub mod SourceRun
+pub mod TablesAtEnd
+pub mod Outcome
 pub mod Mapped
-pub mod ConversionState
-pub mod KeptLists
+pub mod Conversion
+pub mod KeptTables
+pub mod LentTables
 pub mod DoneConversions
 pub mod Sequences

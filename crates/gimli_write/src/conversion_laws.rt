@@ -10,14 +10,13 @@ ghost use Rattle.gimli_line.specs.declared.run.row.LineRow.{LineRow as ReadRow};
 ghost use Rattle.gimli_build.specs.Conditions.{CanBuild, CanWrite};
 ghost use Rattle.gimli_build.specs.declared.built.items.BuiltItem.{BuiltItem};
 ghost use Rattle.gimli_write.specs.RoundTrip.{HasFittingAddresses, AreBuiltRows};
-ghost use Rattle.gimli_write.specs.convert.Feeding.{can_build};
+ghost use Rattle.gimli_write.specs.convert.Outcome.{can_build};
 ghost use Rattle.gimli_write.specs.convert.Sequences.{sequence_read};
 ghost use Rattle.gimli_write.specs.convert.Mapped.{IsMapped, HasConstantAddresses};
 ghost use Rattle.gimli_write.specs.convert.Preparation.{encoding_of};
 ghost use Rattle.gimli_write.specs.convert.DoneConversions.{DoneConversion, IsToBeFaithful, SourceGives, AreReadAs, UnitReadBack, GivesBack, SourceFilesAre, AreFilesReadBack};
 
-use crate::convert::offer::ConvertLineRow;
-use crate::convert::sequence::{ConvertLineSequence, ConvertLineSequenceEnd};
+use crate::convert::rows::{ConvertLineRow, ConvertLineSequence, ConvertLineSequenceEnd};
 use crate::convert_error::ConvertError;
 
 /// A conversion asks of each row and end what the builder's own calls ask.

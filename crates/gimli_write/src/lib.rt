@@ -10,9 +10,8 @@ mod convert_error;
 mod read_back;
 mod text;
 
-pub use convert::offer::ConvertLineRow;
 pub use convert::program::{ConvertLineHeader, ConvertLineProgram, convert_program};
-pub use convert::sequence::{ConvertLineSequence, ConvertLineSequenceEnd};
+pub use convert::rows::{ConvertLineRow, ConvertLineSequence, ConvertLineSequenceEnd};
 pub use convert_error::{ConvertError, ConvertResult};
 pub use gimli_build::{
     BuiltItem, BuiltItems, DirectoryId, FileId, FileInfo, Files, LineProgram, LineRow, LineString,

@@ -3,7 +3,7 @@
 
 ghost use Rattle.std.specs.Prelude.{◌+◌, ◌<◌, ◌^◌, IfOk};
 ghost use Rattle.std.specs.Option.{SomeIff};
-ghost use Rattle.gimli_write.specs.convert.KeptLists.{IsWritable};
+ghost use Rattle.gimli_write.specs.convert.KeptTables.{IsWritable};
 
 use anyhow::{Result, bail};
 use gimli_core::{DebugLineOffset, Encoding, EndianSlice, LittleEndian, Reader};
@@ -116,7 +116,7 @@ fn converted<R: Reader>(
     conversion: ConvertLineProgram<'_, '_, R>,
     by: u64,
 ) -> ConvertResult<LineProgram>
-    requires { IsWritable conversion.conversion.lists.program conversion.line_strings.now }
+    requires { IsWritable conversion.conversion.tables.program conversion.line_strings.now }
     ensures { IfOk result (λ program. IsWritable program conversion.exit.0.now) }
 {
     let (program, _files) = conversion.convert(|address| address_after(address, by))?;

@@ -3,7 +3,7 @@ use Rattle.std.proofs.Common.{rules, ℕ}
 use Rattle.std.specs.Prelude.{Option, Some, None}
 use Rattle.gimli_bytes.specs.declared.address.Address.{Address}
 use Rattle.gimli_bytes.specs.declared.address.Address.TheVariants.{Constant}
-use Rattle.gimli_write.specs.convert.ConversionState.{conversion_of}
+use Rattle.gimli_write.specs.convert.Conversion.{outcome_with}
 use Rattle.gimli_write.specs.convert.DoneConversions.{DoneConversion}
 use Rattle.gimli_write.specs.convert.Sources.{Source, source_of}
 use Rattle.bench_convert.proofs.converted.Goals as goal
@@ -18,7 +18,7 @@ write-requires g c =
       convert_address = itself;
       source = source;
       line_strings = c.default-line_strings.result;
-      outcome = conversion_of (c.in_ok-program.program, c.in_ok-program._files) c.convert_program.new.line_strings;
-      is = c.in_ok-program.ensures.ok itself (λ a r post. search rules);
+      outcome = outcome_with (c.in_ok-program.program, c.in_ok-program._files) c.convert_program.new.line_strings;
+      is = c.in_ok-program.ensures.outcome.converts itself (λ a r post. search rules);
     } in
     c.converted_programs_can_be_written.ensures done c.convert_program.new.strings

@@ -192,7 +192,8 @@ impl LineRow {
     }
 
     /// Whether the row is under a tombstone.
-    pub(crate) fn is_under_tombstone(&self) -> bool
+    /// `LineRows` gives no such row, but `execute` makes them.
+    pub fn is_under_tombstone(&self) -> bool
         ensures { result ≡ self.now.tombstone }
     {
         self.tombstone

@@ -13,8 +13,8 @@ use Rattle.gimli_build.specs.ReadsBack.{ReadsBack}
 use Rattle.gimli_build.specs.Texts.{Sections, OneByOne}
 use Rattle.gimli_build.specs.Version5Tables.{line_strings_after}
 use Rattle.gimli_write.specs.RoundTrip.{built_file}
-use Rattle.gimli_write.specs.convert.ConversionState.{IsConverted}
-use Rattle.gimli_write.specs.convert.Feeding.{Conversion}
+use Rattle.gimli_write.specs.convert.Conversion.{IsConverted}
+use Rattle.gimli_write.specs.convert.Outcome.{Outcome}
 use Rattle.gimli_write.specs.convert.Mapped.{CanBeFaithful, IsReadAs, AreFilesReadAs}
 use Rattle.gimli_write.specs.convert.Sources.{Source}
 
@@ -23,7 +23,7 @@ pub record DoneConversion : Type 0 where
   pub convert_address : ℕ → Option Address
   pub source : Source
   pub line_strings : List (List ℕ)
-  pub outcome : Conversion
+  pub outcome : Outcome
   pub is : IsConverted convert_address source line_strings (Ok outcome)
 
 -- what was asked holds, so that it is faithful

@@ -1,5 +1,5 @@
 -- What it means that a converted program says what its source says, and what is asked of the source for it.
-use Rattle.std.specs.Prelude.{◌≡◌, ◌≢◌, ℕ, ◌+◌, ◌≤◌, Bool, true, false, not, ◌&&◌, ◌||◌, if◌then◌else◌, List, [], ◌∷◌, ◌++◌, map, slice_get, Option, Some, None, option_map}
+use Rattle.std.specs.Prelude.{◌≡◌, ◌≢◌, ℕ, ◌+◌, ◌≤◌, Bool, true, false, not, ◌&&◌, ◌||◌, if◌then◌else◌, List, [], ◌∷◌, ◌++◌, map, slice_get, Option, Some, None, option_map, Result, MatchResult}
 use Rattle.std.specs.List.{AllByRecursion}
 use Rattle.std.specs.declared.vec.Vec.{Vec}
 use Rattle.std.specs.declared.alloc.Global.{Global}
@@ -28,10 +28,11 @@ use Rattle.gimli_build.specs.declared.built.row.LineRow.{LineRow}
 use Rattle.gimli_build.specs.declared.built.items.BuiltItem.{BuiltItem}
 use Rattle.gimli_build.specs.declared.built.items.BuiltItem.TheVariants.{SetAddress, Row, End}
 use Rattle.gimli_write.specs.RoundTrip.{FileAnswer, HasFittingAddresses}
-use Rattle.gimli_write.specs.convert.Feeding.{Conversion}
+use Rattle.gimli_write.specs.convert.Outcome.{Outcome}
 use Rattle.gimli_write.specs.convert.Preparation.{encoding_of}
 use Rattle.gimli_write.specs.convert.Sources.{Source}
-use Rattle.gimli_write.specs.convert.ConversionState.{AnswersAs, conversion_of}
+use Rattle.gimli_write.specs.declared.convert_error.ConvertError.{ConvertError}
+use Rattle.gimli_write.specs.convert.Conversion.{AnswersAs, outcome_with, ConvertsTo, IsConvertRefusal}
 
 -- ---- what is asked
 
@@ -45,23 +46,23 @@ gave_row parameters [] = false
 gave_row parameters (i ∷ past) = if is_end i then false else ((makes_row i && not (is_under_tombstone parameters past)) || gave_row parameters past)
 
 -- none of these instructions after a past ends a sequence under a tombstone that gave a row
-abbrev pub SeesEndsAfter : Parameters → List Ins → List Ins → Type 0
-SeesEndsAfter parameters past [] = Unit {0}
-SeesEndsAfter parameters past (i ∷ list) =
-    (is_end i ≡ true → is_under_tombstone parameters past ≡ true → gave_row parameters past ≡ false) × SeesEndsAfter parameters (i ∷ past) list
+abbrev pub NoneEndsUnderTombstone : Parameters → List Ins → List Ins → Type 0
+NoneEndsUnderTombstone parameters past [] = Unit {0}
+NoneEndsUnderTombstone parameters past (i ∷ list) =
+    (is_end i ≡ true → is_under_tombstone parameters past ≡ true → gave_row parameters past ≡ false) × NoneEndsUnderTombstone parameters (i ∷ past) list
 
 -- no sequence of a program that gave a row ends under a tombstone
-pub record SeesEnds (notation : Notation) (h : Header) (bytes : List ℕ) : Type 0 where
+pub record NoSequenceEndsUnderTombstone (notation : Notation) (h : Header) (bytes : List ℕ) : Type 0 where
   pub list : List Ins
   pub end : Option Error
   pub decoding : Decodes notation h bytes list end
-  pub seen : SeesEndsAfter h.parameters [] list
+  pub seen : NoneEndsUnderTombstone h.parameters [] list
 
 -- what is asked of a source and of what is handed, so that a conversion is faithful
 pub record CanBeFaithful (convert_address : ℕ → Option Address) (s : Source) : Type 0 where
   pub itself : MapsToItself convert_address
   pub wide : s.header.parameters.encoding.address_size ≤ (encoding_of s.header s.given).address_size
-  pub ends_seen : SeesEnds s.notation s.header s.header.program
+  pub no_end_under_tombstone : NoSequenceEndsUnderTombstone s.notation s.header s.header.program
 
 -- ---- rows and ends
 
@@ -90,7 +91,7 @@ RowsMapped version file_ids base (End offset op_index ∷ items) (source ∷ row
 RowsMapped version file_ids base (item ∷ items) [] = ⊥
 
 -- the events of a source are rows, and these are the built rows and ends
-pub record AreRowsMapped (notation : Notation) (h : Header) (bytes : List ℕ) (c : Conversion) : Type 0 where
+pub record AreRowsMapped (notation : Notation) (h : Header) (bytes : List ℕ) (c : Outcome) : Type 0 where
   pub rows : List ReadRow
   pub events : Events notation h bytes (map row rows)
   pub mapped : RowsMapped h.parameters.encoding.version c.file_ids 0 c.program.items rows
@@ -116,7 +117,7 @@ pub record IsLastWithPaths (sections : Sections) (h : Header) (path directory : 
   pub none_after : AllByRecursion (λ g. HasPaths sections h path directory g → ⊥) later
 
 -- the file with this id has the paths of a file of the source, and what is known of the last one that has them
-pub record IsMappedFile (sections : Sections) (h : Header) (files : List File) (strings : List (List ℕ)) (c : Conversion) (f : File) (id : ℕ) : Type 0 where
+pub record IsMappedFile (sections : Sections) (h : Header) (files : List File) (strings : List (List ℕ)) (c : Outcome) (f : File) (id : ℕ) : Type 0 where
   pub built : BuiltFile
   pub there : slice_get c.program.files id ≡ Some built
   pub directory : LineText
@@ -130,7 +131,7 @@ pub record IsMappedFile (sections : Sections) (h : Header) (files : List File) (
   pub source : IsOptionalText sections last.source (option_map (bytes_in strings c.line_strings) built.1.source)
 
 -- each file number of the source has an id, whose file is the one that it stands for; no other number has one
-pub record AreFilesMapped (sections : Sections) (h : Header) (files : List File) (strings : List (List ℕ)) (c : Conversion) : Type 0 where
+pub record AreFilesMapped (sections : Sections) (h : Header) (files : List File) (strings : List (List ℕ)) (c : Outcome) : Type 0 where
   pub each : (n : ℕ) (f : File) → entry_of h.parameters.encoding.version None files n ≡ Some f
       → (id : ℕ) × IsFileId h.parameters.encoding.version c.file_ids n id × IsMappedFile sections h files strings c f id
   pub only : (n id : ℕ) → IsFileId h.parameters.encoding.version c.file_ids n id → (f : File) × (entry_of h.parameters.encoding.version None files n ≡ Some f)
@@ -138,7 +139,7 @@ pub record AreFilesMapped (sections : Sections) (h : Header) (files : List File)
 -- ---- all of it
 
 -- a converted program says what its source says: its rows and ends, and its files, those that the program defines too
-pub record IsMapped (s : Source) (strings : List (List ℕ)) (c : Conversion) : Type 0 where
+pub record IsMapped (s : Source) (strings : List (List ℕ)) (c : Outcome) : Type 0 where
   pub rows : AreRowsMapped s.notation s.header s.header.program c
   pub source_files : List File
   pub at_end : FilesAtEnd s.notation true s.header s.header.program source_files
@@ -179,7 +180,7 @@ HasConstantAddresses p = AllByRecursion SetsConstant p.items
 
 -- a converted program can be written; it says what its source says, in addresses that are numbers, fit and hide nothing;
 -- and rows that are read back as it was built say what the rows of the source say
-pub record IsFaithful (s : Source) (strings : List (List ℕ)) (c : Conversion) : Type 0 where
+pub record IsFaithful (s : Source) (strings : List (List ℕ)) (c : Outcome) : Type 0 where
   pub can_write : CanWrite c.program strings c.line_strings
   pub mapped : IsMapped s strings c
   pub addresses : HasFittingAddresses c.program
@@ -192,4 +193,14 @@ pub record IsFaithful (s : Source) (strings : List (List ℕ)) (c : Conversion) 
 -- these tables after it
 abbrev pub IsFaithfulIfItCan : (ℕ → Option Address → Type 0) → Source → List (List ℕ) → Built × Vec ℕ Global → List (List ℕ) → Type 0
 IsFaithfulIfItCan map s strings answer line_strings =
-    (g : ℕ → Option Address) → AnswersAs map g → CanBeFaithful g s → IsFaithful s strings (conversion_of answer line_strings)
+    (g : ℕ → Option Address) → AnswersAs map g → CanBeFaithful g s → IsFaithful s strings (outcome_with answer line_strings)
+
+-- by such a map a source is converted to this answer, which is faithful where it can be, with these tables after it
+pub record ConvertsWell (map : ℕ → Option Address → Type 0) (s : Source) (old : List (List ℕ)) (answer : Built × Vec ℕ Global) (strings line_strings : List (List ℕ)) : Type 0 where
+  pub converts : ConvertsTo map s old answer line_strings
+  pub faithful : IsFaithfulIfItCan map s strings answer line_strings
+
+-- what a call answers that converts a source by such a map: the old line strings are those before it
+abbrev pub IsAnswerOf : (ℕ → Option Address → Type 0) → Source → List (List ℕ) → Result (Built × Vec ℕ Global) ConvertError → List (List ℕ) → List (List ℕ) → Type 0
+IsAnswerOf map s old result strings line_strings =
+    MatchResult result (λ answer. ConvertsWell map s old answer strings line_strings) (IsConvertRefusal map s old)

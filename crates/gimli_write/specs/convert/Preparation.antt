@@ -13,7 +13,7 @@ use Rattle.gimli_build.specs.Texts.{Sections}
 use Rattle.gimli_write.specs.declared.convert_error.ConvertError.{ConvertError}
 use Rattle.gimli_write.specs.declared.convert_error.ConvertError.TheVariants.{MissingCompilationDirectory, MissingCompilationName, InvalidDirectoryIndex, InvalidLineBase}
 use Rattle.gimli_write.specs.convert.Texts.{◌>>=◌, without_zero, source_text, source_path}
-use Rattle.gimli_write.specs.convert.Lists.{Lists, directory_added, file_added, all_added}
+use Rattle.gimli_write.specs.convert.SourceTables.{TablesAndTexts, directory_added, file_added, all_added}
 
 -- what a program of version 5 asks, and one up to version 4 can do without
 abbrev pub needed_from_5 : {A : Type 0} → ℕ → A → ConvertError → Result A ConvertError
@@ -103,8 +103,8 @@ first_texts version line_strings directory file =
 abbrev pub has_before_5 : ℕ → Header → Bool
 has_before_5 content h = nat_le h.parameters.encoding.version 4 || has_content content h.file_formats
 
-abbrev pub started_program : Encoding → LineEncoding → Header → FirstTexts → Built
-started_program encoding line_encoding h texts =
+abbrev pub start_of_program : Encoding → LineEncoding → Header → FirstTexts → Built
+start_of_program encoding line_encoding h texts =
     record (empty_built false encoding line_encoding
     (first_directories encoding.version texts.working_directory texts.source_directory)
     (first_files encoding.version texts.working_directory texts.source_directory texts.source_file None)) {
@@ -114,13 +114,13 @@ started_program encoding line_encoding h texts =
       file_has_source = has_content 0x2001 h.file_formats;
     }
 
--- up to version 4 the lists of a source begin at 1
+-- up to version 4 the tables of a source begin at 1
 abbrev pub first_ids : ℕ → List ℕ
 first_ids source_version = if nat_le source_version 4 then 0 ∷ [] else []
 
-abbrev pub started_lists : Encoding → LineEncoding → Header → FirstTexts → Lists
-started_lists encoding line_encoding h texts = record {
-  program = started_program encoding line_encoding h texts;
+abbrev pub start_of_tables : Encoding → LineEncoding → Header → FirstTexts → TablesAndTexts
+start_of_tables encoding line_encoding h texts = record {
+  program = start_of_program encoding line_encoding h texts;
   directory_ids = first_ids h.parameters.encoding.version;
   file_ids = first_ids h.parameters.encoding.version;
   line_strings = texts.line_strings;
@@ -141,13 +141,13 @@ handed_of encoding line_encoding name = record { encoding = encoding; line_encod
 abbrev pub encoding_of : Header → Handed → Encoding
 encoding_of h given = unwrap_or given.encoding h.parameters.encoding
 
--- the lists after all directories and files of a header, from the line strings before it
-abbrev pub lists_of_header : Sections → Header → Handed → List (List ℕ) → Result Lists ConvertError
-lists_of_header sections h given line_strings =
+-- the tables after all directories and files of a header, from the line strings before it
+abbrev pub tables_of_header : Sections → Header → Handed → List (List ℕ) → Result TablesAndTexts ConvertError
+tables_of_header sections h given line_strings =
     let encoding = encoding_of h given in
     working_directory encoding.version sections h >>= λ directory.
     source_file encoding.version sections h given.name >>= λ file.
     line_encoding_of h.parameters.line_encoding given.line_encoding >>= λ line_encoding.
     all_added (directory_added sections) h.directories
-    (started_lists encoding line_encoding h (first_texts encoding.version line_strings directory file)) >>= λ lists.
-    all_added (file_added sections) h.files lists
+    (start_of_tables encoding line_encoding h (first_texts encoding.version line_strings directory file)) >>= λ tables.
+    all_added (file_added sections) h.files tables

@@ -1,21 +1,25 @@
 //! A source that is read, and the program that is built of it.
 
-ghost use Rattle.std.specs.Prelude.{◌≡◌, ◌≢◌, ℕ, ◌⊎◌, List, None, Some, Ok, IfErr, IfOk, OnErr, OnOk, true, false};
+ghost use Rattle.std.specs.Prelude.{◌≡◌, ◌≢◌, ℕ, List, [], Option, None, Some, Ok, Err, option_map, IfErr, IfOk, OnErr, OnOk, true, false};
 ghost use Rattle.gimli_bytes.specs.Texts.{KeepsTexts};
-ghost use Rattle.gimli_write.specs.convert.Lists.{lists_with};
-ghost use Rattle.gimli_write.specs.convert.KeptLists.{KeepsFiles, StaysWritable, source_last, IsAtLast, KeepsLast};
-ghost use Rattle.gimli_write.specs.convert.Offers.{Reading, stops, offers, row_or_end_offered};
-ghost use Rattle.gimli_write.specs.convert.SourceState.{start_of_source};
-ghost use Rattle.gimli_write.specs.convert.LastLists.{lacks_file, lists_after_row};
-ghost use Rattle.gimli_write.specs.convert.ConversionState.{start_of_conversion, lists_of, version_of_source, source_left, still_to_read, HandsOut, TakesRow, IsReadRefusal, AddsFiles};
+ghost use Rattle.gimli_bytes.specs.declared.address.Address.{Address};
+ghost use Rattle.gimli_write.specs.convert.Texts.{IsRefusedBy};
+ghost use Rattle.gimli_write.specs.convert.SourceTables.{tables_with};
+ghost use Rattle.gimli_write.specs.convert.KeptTables.{KeepsFiles, IsWritable, StaysWritable, final_tables_of_source, HasFinalTables, KeepsFinalTables};
+ghost use Rattle.gimli_write.specs.convert.Items.{Reading, stops, offers, row_or_end_offered};
+ghost use Rattle.gimli_write.specs.convert.SourceRun.{start_of_source};
+ghost use Rattle.gimli_write.specs.convert.TablesAtEnd.{lacks_file, tables_after_row};
+ghost use Rattle.gimli_write.specs.convert.Conversion.{start_of_conversion, tables_of, version_of_source, source_left, still_to_read, HandsOut, TakesRow, IsReadRefusal, AddsFiles, with_program, outcome_of_rest, AnswersAs, RestConvertsTo, IsRestRefusal};
+ghost use Rattle.gimli_write.specs.convert.Sequences.{sequence_from, sequence_read};
+ghost use Rattle.gimli_write.specs.convert.Outcome.{after_item, without_items};
 
-use crate::convert::lists::Lists;
-use crate::convert::offer::ConvertLineRow;
+use crate::convert::rows::{ConvertLineRow, ConvertLineSequence, ConvertLineSequenceEnd};
 use crate::convert::run::{SourceRow, SourceRun, SourceStep};
+use crate::convert::tables::SourceTables;
 use crate::convert_error::{ConvertError, ConvertResult};
 use crate::text::TextSections;
 use gimli_build::{FileId, LineProgram};
-use gimli_bytes::LineStringTable;
+use gimli_bytes::{Address, LineStringTable};
 use gimli_core::Reader;
 use gimli_line::IncompleteLineProgram;
 use std::marker::Model;
@@ -26,7 +30,7 @@ use std::marker::Model;
 pub struct Conversion<R: Reader> {
     sections: TextSections<R>,
     source: SourceRun<R>,
-    pub(crate) lists: Lists,
+    pub(crate) tables: SourceTables,
     /// An address that is handed out next.
     pub(crate) address: Option<u64>,
     /// A row of the source that is handed out after it, whose own set address was handed out.
@@ -36,14 +40,14 @@ pub struct Conversion<R: Reader> {
 }
 
 impl<R: Reader> Model for Conversion<R> {
-    ghost use Rattle.gimli_write.specs.convert.ConversionState.{ConversionState};
+    ghost use Rattle.gimli_write.specs.convert.Conversion.{Conversion};
 
-    ghost Value = { ConversionState };
+    ghost Value = { Conversion };
 
     ghost view = { λ a. record {
       sections = a.sections;
       source = a.source;
-      lists = a.lists;
+      tables = a.tables;
       address = a.address;
       held = a.held;
       failed = a.failed;
@@ -55,15 +59,15 @@ impl<R: Reader> Conversion<R> {
     pub(crate) fn start(
         sections: TextSections<R>,
         program: IncompleteLineProgram<R>,
-        lists: Lists,
+        tables: SourceTables,
     ) -> Self
         ensures { result ≡ start_of_conversion sections (start_of_source program.meaning
-            (record { bytes = program.meaning.program; notation = program.notation })) lists }
+            (record { bytes = program.meaning.program; notation = program.notation })) tables }
     {
         Conversion {
             sections,
             source: SourceRun::start(program),
-            lists,
+            tables,
             address: None,
             held: None,
             failed: None,
@@ -72,11 +76,11 @@ impl<R: Reader> Conversion<R> {
 
     /// The program that is built, and for each file number of the source its id there.
     pub(crate) fn into_program(self) -> (LineProgram, Vec<FileId>)
-        ensures program { result.0 ≡ self.lists.program }
-        ensures files { result.1.items ≡ self.lists.file_ids }
+        ensures program { result.0 ≡ self.tables.program }
+        ensures files { result.1.items ≡ self.tables.file_ids }
     {
-        let lists = self.lists;
-        (lists.program, lists.files)
+        let tables = self.tables;
+        (tables.program, tables.files)
     }
 
     /// Reads up to the next row, end, or address that one of these follows. Refused as the source is read, or by
@@ -86,20 +90,20 @@ impl<R: Reader> Conversion<R> {
         line_strings: &mut LineStringTable,
     ) -> ConvertResult<Option<ConvertLineRow>>
         ensures ok { IfOk result (λ row. HandsOut (still_to_read self.old line_strings.old) row
-            (lists_of self.new line_strings.new) (still_to_read self.new line_strings.new)) }
+            (tables_of self.new line_strings.new) (still_to_read self.new line_strings.new)) }
         ensures err { IfErr result (IsReadRefusal (still_to_read self.old line_strings.old)) }
         ensures repeats { (e : ConvertError) → self.old.failed ≡ Some e → result ≡ Err e }
         ensures failed { IfErr result (λ e. self.new.failed ≡ Some e) }
         ensures well { OnOk result (self.new.failed ≡ None) }
         ensures given { OnOk result (self.new.address ≡ None) }
-        ensures adds { AddsFiles self.old.lists.program self.new.lists.program }
-        ensures keeps { KeepsFiles self.old.lists self.new.lists }
-        ensures writable { StaysWritable self.old.lists line_strings.old self.new.lists line_strings.new }
-        ensures last { OnOk result (KeepsLast self.old line_strings.old self.new line_strings.new) }
+        ensures adds { AddsFiles self.old.tables.program self.new.tables.program }
+        ensures keeps { KeepsFiles self.old.tables self.new.tables }
+        ensures writable { StaysWritable self.old.tables line_strings.old self.new.tables line_strings.new }
+        ensures last { OnOk result (KeepsFinalTables self.old line_strings.old self.new line_strings.new) }
         ensures ended { IfOk result (λ row. row ≡ None →
-            IsAtLast self.old line_strings.old self.new line_strings.new) }
+            HasFinalTables self.old line_strings.old self.new line_strings.new) }
         ensures stopped { IfErr result (λ e. e ≢ ConvertError.OutOfMemory →
-            IsAtLast self.old line_strings.old self.new line_strings.new) }
+            HasFinalTables self.old line_strings.old self.new line_strings.new) }
         ensures stays { KeepsTexts line_strings.old line_strings.new }
     {
         if let Some(e) = self.failed {
@@ -121,25 +125,25 @@ impl<R: Reader> Conversion<R> {
     ) -> ConvertResult<Option<ConvertLineRow>>
         requires { self.old.failed ≡ None }
         ensures ok { IfOk result (λ row. HandsOut (still_to_read self.old line_strings.old) row
-            (lists_of self.new line_strings.new) (still_to_read self.new line_strings.new)) }
+            (tables_of self.new line_strings.new) (still_to_read self.new line_strings.new)) }
         ensures err { IfErr result (IsReadRefusal (still_to_read self.old line_strings.old)) }
         ensures well { self.new.failed ≡ None }
         ensures given { OnOk result (self.new.address ≡ None) }
-        ensures adds { AddsFiles self.old.lists.program self.new.lists.program }
-        ensures keeps { KeepsFiles self.old.lists self.new.lists }
-        ensures writable { StaysWritable self.old.lists line_strings.old self.new.lists line_strings.new }
-        ensures last { OnOk result (KeepsLast self.old line_strings.old self.new line_strings.new) }
+        ensures adds { AddsFiles self.old.tables.program self.new.tables.program }
+        ensures keeps { KeepsFiles self.old.tables self.new.tables }
+        ensures writable { StaysWritable self.old.tables line_strings.old self.new.tables line_strings.new }
+        ensures last { OnOk result (KeepsFinalTables self.old line_strings.old self.new line_strings.new) }
         ensures ended { IfOk result (λ row. row ≡ None →
-            IsAtLast self.old line_strings.old self.new line_strings.new) }
+            HasFinalTables self.old line_strings.old self.new line_strings.new) }
         ensures stopped { IfErr result (λ e. e ≢ ConvertError.OutOfMemory →
-            IsAtLast self.old line_strings.old self.new line_strings.new) }
+            HasFinalTables self.old line_strings.old self.new line_strings.new) }
         ensures stays { KeepsTexts line_strings.old line_strings.new }
     {
         if let Some(address) = self.address.take() {
             return Ok(Some(ConvertLineRow::SetAddress(address)));
         }
         if let Some(row) = self.held.take() {
-            return Ok(Some(self.built_place(&row)?));
+            return Ok(Some(self.row_or_end(&row)?));
         }
         let Some(row) = self.next_source_row(line_strings)? else {
             return Ok(None);
@@ -149,30 +153,30 @@ impl<R: Reader> Conversion<R> {
                 self.held = Some(row);
                 Ok(Some(ConvertLineRow::SetAddress(address)))
             }
-            None => Ok(Some(self.built_place(&row)?)),
+            None => Ok(Some(self.row_or_end(&row)?)),
         }
     }
 
     /// A row or an end of the source, as it is handed out. Refused as `InvalidFileIndex` where the source has no file of
     /// the row's number so far.
-    fn built_place(&self, row: &SourceRow) -> ConvertResult<ConvertLineRow>
+    fn row_or_end(&self, row: &SourceRow) -> ConvertResult<ConvertLineRow>
         ensures ok { IfOk result (λ place. (line_strings : List (List ℕ)) (rest : Reading) →
-            row_or_end_offered (version_of_source self.now) (lists_of self.now line_strings) row.now rest
-            ≡ offers place (lists_of self.now line_strings) rest) }
+            row_or_end_offered (version_of_source self.now) (tables_of self.now line_strings) row.now rest
+            ≡ offers place (tables_of self.now line_strings) rest) }
         ensures err { IfErr result (λ e. (line_strings : List (List ℕ)) (rest : Reading) →
-            row_or_end_offered (version_of_source self.now) (lists_of self.now line_strings) row.now rest ≡ stops e) }
+            row_or_end_offered (version_of_source self.now) (tables_of self.now line_strings) row.now rest ≡ stops e) }
         ensures found { OnOk result ((line_strings : List (List ℕ)) →
-            lacks_file (version_of_source self.now) (lists_with line_strings self.now.lists) row.now ≡ false) }
+            lacks_file (version_of_source self.now) (tables_with line_strings self.now.tables) row.now ≡ false) }
         ensures lacks { OnErr result ((line_strings : List (List ℕ)) →
-            lacks_file (version_of_source self.now) (lists_with line_strings self.now.lists) row.now ≡ true) }
+            lacks_file (version_of_source self.now) (tables_with line_strings self.now.tables) row.now ≡ true) }
     {
         if row.row.end_sequence() {
             return Ok(ConvertLineRow::EndSequence(row.address_offset));
         }
         let file = self
-            .lists
+            .tables
             .file_id(self.source.version(), row.row.file_index())?;
-        Ok(ConvertLineRow::Row(row.built(file)))
+        Ok(ConvertLineRow::Row(row.built_row(file)))
     }
 
     /// Executes the source up to the next row that isn't under a tombstone, and adds the files that it defines.
@@ -182,22 +186,22 @@ impl<R: Reader> Conversion<R> {
     ) -> ConvertResult<Option<SourceRow>>
         ensures ok { IfOk result (λ row. TakesRow (version_of_source self.old)
             (source_left self.old line_strings.old) row
-            (lists_of self.new line_strings.new) (source_left self.new line_strings.new)) }
+            (tables_of self.new line_strings.new) (source_left self.new line_strings.new)) }
         ensures err { IfErr result (IsReadRefusal (source_left self.old line_strings.old)) }
         ensures version { version_of_source self.new ≡ version_of_source self.old }
         ensures address { self.new.address ≡ self.old.address }
         ensures held { self.new.held ≡ self.old.held }
         ensures failed { self.new.failed ≡ self.old.failed }
-        ensures adds { AddsFiles self.old.lists.program self.new.lists.program }
-        ensures keeps { KeepsFiles self.old.lists self.new.lists }
-        ensures writable { StaysWritable self.old.lists line_strings.old self.new.lists line_strings.new }
-        ensures last { IfOk result (λ row. lists_after_row (version_of_source self.new)
-            (lists_with line_strings.new self.new.lists) row (source_last self.new line_strings.new)
-            ≡ source_last self.old line_strings.old) }
+        ensures adds { AddsFiles self.old.tables.program self.new.tables.program }
+        ensures keeps { KeepsFiles self.old.tables self.new.tables }
+        ensures writable { StaysWritable self.old.tables line_strings.old self.new.tables line_strings.new }
+        ensures last { IfOk result (λ row. tables_after_row (version_of_source self.new)
+            (tables_with line_strings.new self.new.tables) row (final_tables_of_source self.new line_strings.new)
+            ≡ final_tables_of_source self.old line_strings.old) }
         ensures ended { IfOk result (λ row. row ≡ None →
-            lists_with line_strings.new self.new.lists ≡ source_last self.old line_strings.old) }
+            tables_with line_strings.new self.new.tables ≡ final_tables_of_source self.old line_strings.old) }
         ensures stopped { IfErr result (λ e. e ≢ ConvertError.OutOfMemory →
-            lists_with line_strings.new self.new.lists ≡ source_last self.old line_strings.old) }
+            tables_with line_strings.new self.new.tables ≡ final_tables_of_source self.old line_strings.old) }
         ensures stays { KeepsTexts line_strings.old line_strings.new }
     {
         'steps: loop {
@@ -205,10 +209,168 @@ impl<R: Reader> Conversion<R> {
                 SourceStep::Done => return Ok(None),
                 SourceStep::More => {}
                 SourceStep::Defines(file) => {
-                    self.lists.add_file(&file, &self.sections, line_strings)?;
+                    self.tables.add_file(&file, &self.sections, line_strings)?;
                 }
                 SourceStep::Made(row) => return Ok(Some(row)),
             }
         }
     }
+
+    /// Reads up to the end of a sequence, or to an address that is set after a row, which the next read hands out first.
+    /// Refused as `read_row` is, as `MissingLineEndSequence` for rows without an end, or by `OutOfMemory`; every later
+    /// read repeats the refusal. The line strings keep their texts.
+    pub(crate) fn read_sequence(
+        &mut self,
+        line_strings: &mut LineStringTable,
+    ) -> ConvertResult<Option<ConvertLineSequence>>
+        ensures ok { IfOk result (λ sequence. sequence_from None [] (still_to_read self.old line_strings.old)
+            ≡ Ok (option_map sequence_read sequence, still_to_read self.new line_strings.new)) }
+        ensures err { IfErr result (IsRefusedBy (sequence_from None [] (still_to_read self.old line_strings.old))) }
+        ensures repeats { (e : ConvertError) → self.old.failed ≡ Some e → result ≡ Err e }
+        ensures failed { IfErr result (λ e. self.new.failed ≡ Some e) }
+        ensures well { OnOk result (self.new.failed ≡ None) }
+        ensures adds { AddsFiles self.old.tables.program self.new.tables.program }
+        ensures keeps { KeepsFiles self.old.tables self.new.tables }
+        ensures writable { StaysWritable self.old.tables line_strings.old self.new.tables line_strings.new }
+        ensures last { OnOk result (KeepsFinalTables self.old line_strings.old self.new line_strings.new) }
+        ensures ended { IfOk result (λ sequence. sequence ≡ None →
+            HasFinalTables self.old line_strings.old self.new line_strings.new) }
+        ensures stopped { IfErr result (λ e. e ≢ ConvertError.OutOfMemory →
+            HasFinalTables self.old line_strings.old self.new line_strings.new) }
+        ensures stays { KeepsTexts line_strings.old line_strings.new }
+    {
+        if let Some(e) = self.failed {
+            return Err(e);
+        }
+        match self.gather(line_strings) {
+            Ok(sequence) => Ok(sequence),
+            Err(e) => {
+                self.failed = Some(e);
+                Err(e)
+            }
+        }
+    }
+
+    /// The same, where no read was refused before.
+    fn gather(
+        &mut self,
+        line_strings: &mut LineStringTable,
+    ) -> ConvertResult<Option<ConvertLineSequence>>
+        ensures ok { IfOk result (λ sequence. sequence_from None [] (still_to_read self.old line_strings.old)
+            ≡ Ok (option_map sequence_read sequence, still_to_read self.new line_strings.new)) }
+        ensures err { IfErr result (IsRefusedBy (sequence_from None [] (still_to_read self.old line_strings.old))) }
+        ensures well { OnOk result (self.new.failed ≡ None) }
+        ensures adds { AddsFiles self.old.tables.program self.new.tables.program }
+        ensures keeps { KeepsFiles self.old.tables self.new.tables }
+        ensures writable { StaysWritable self.old.tables line_strings.old self.new.tables line_strings.new }
+        ensures last { OnOk result (KeepsFinalTables self.old line_strings.old self.new line_strings.new) }
+        ensures ended { IfOk result (λ sequence. sequence ≡ None →
+            HasFinalTables self.old line_strings.old self.new line_strings.new) }
+        ensures stopped { IfErr result (λ e. e ≢ ConvertError.OutOfMemory →
+            HasFinalTables self.old line_strings.old self.new line_strings.new) }
+        ensures stays { KeepsTexts line_strings.old line_strings.new }
+    {
+        let mut start = None;
+        let mut rows = Vec::new(*line_strings.allocator());
+        'rows: loop {
+            match self.read_row(line_strings)? {
+                Some(ConvertLineRow::Row(row)) => rows.push(row)?,
+                Some(ConvertLineRow::SetAddress(address)) if rows.is_empty() => {
+                    start = Some(address);
+                }
+                Some(ConvertLineRow::SetAddress(address)) => {
+                    self.give_back(address);
+                    let end = ConvertLineSequenceEnd::Address(address);
+                    return Ok(Some(ConvertLineSequence { start, end, rows }));
+                }
+                Some(ConvertLineRow::EndSequence(length)) => {
+                    let end = ConvertLineSequenceEnd::Length(length);
+                    return Ok(Some(ConvertLineSequence { start, end, rows }));
+                }
+                None if rows.is_empty() => return Ok(None),
+                None => return Err(ConvertError::MissingLineEndSequence),
+            }
+        }
+    }
+
+    /// Has an address handed out again by the next read.
+    fn give_back(&mut self, address: u64)
+        ensures { self.new ≡ record self.old { address = Some address } }
+    {
+        self.address = Some(address);
+    }
+
+    /// Builds what was read. Refused as `InvalidAddress` where there is no other address, as `UnsupportedLineInstruction`
+    /// where it can't be built, or by `OutOfMemory`.
+    fn feed<F: Fn(u64) -> Option<Address>>(
+        &mut self,
+        row: ConvertLineRow,
+        convert_address: &F,
+    ) -> ConvertResult<()>
+        requires { F.IsAlwaysCallable convert_address.now }
+        ensures ok { (g : ℕ → Option Address) → AnswersAs (F.post convert_address.now) g
+            → OnOk result (after_item g row self.old.tables.program ≡ Ok self.new.tables.program) }
+        ensures err { (g : ℕ → Option Address) → AnswersAs (F.post convert_address.now) g
+            → IfErr result (IsRefusedBy (after_item g row self.old.tables.program)) }
+        ensures kept { OnOk result (self.new ≡ with_program self.new.tables.program self.old) }
+        ensures items { OnOk result (without_items self.new.tables.program ≡ without_items self.old.tables.program) }
+    {
+        match row {
+            ConvertLineRow::SetAddress(address) => match convert_address(address) {
+                Some(address) => self.tables.set_address(address),
+                None => Err(ConvertError::InvalidAddress),
+            },
+            ConvertLineRow::Row(row) => self.tables.generate_row(row),
+            ConvertLineRow::EndSequence(address_offset) => self.tables.end_sequence(address_offset),
+        }
+    }
+
+    /// Reads and builds all that is still to be read, as `convert_all` does.
+    fn feed_all<F: Fn(u64) -> Option<Address>>(
+        &mut self,
+        line_strings: &mut LineStringTable,
+        convert_address: &F,
+    ) -> ConvertResult<()>
+        requires { F.IsAlwaysCallable convert_address.now }
+        ensures ok { (g : ℕ → Option Address) → AnswersAs (F.post convert_address.now) g
+            → OnOk result (outcome_of_rest g self.old line_strings.old ≡ Ok (record {
+              program = self.new.tables.program;
+              file_ids = self.new.tables.file_ids;
+              line_strings = line_strings.new;
+            })) }
+        ensures err { IfErr result (IsRestRefusal (F.post convert_address.now) self.old line_strings.old) }
+        ensures writable { OnOk result (StaysWritable self.old.tables line_strings.old self.new.tables line_strings.new) }
+        ensures stays { KeepsTexts line_strings.old line_strings.new }
+    {
+        'rows: loop {
+            match self.read_row(line_strings)? {
+                Some(row) => self.feed(row, convert_address)?,
+                None if self.tables.in_sequence() => return Err(
+                    ConvertError::MissingLineEndSequence,
+                ),
+                None => return Ok(()),
+            }
+        }
+    }
+}
+
+/// Reads and builds all that is still to be read. Refused by the first of these: an address that has no other, as
+/// `InvalidAddress`; what can't be built, as `UnsupportedLineInstruction`; a refusal of reading; a sequence that is left
+/// open, as `MissingLineEndSequence`; or by `OutOfMemory`. The line strings keep their texts, and what could be written
+/// still can be.
+pub(crate) fn convert_all<R: Reader, F: Fn(u64) -> Option<Address>>(
+    mut conversion: Conversion<R>,
+    line_strings: &mut LineStringTable,
+    convert_address: F,
+) -> ConvertResult<(LineProgram, Vec<FileId>)>
+    requires { F.IsAlwaysCallable convert_address }
+    ensures ok { IfOk result (λ answer. RestConvertsTo (F.post convert_address)
+        conversion line_strings.old answer line_strings.new) }
+    ensures err { IfErr result (IsRestRefusal (F.post convert_address) conversion line_strings.old) }
+    ensures writable { IsWritable conversion.tables.program line_strings.old
+        → IfOk result (λ answer. IsWritable answer.0 line_strings.new) }
+    ensures stays { KeepsTexts line_strings.old line_strings.new }
+{
+    conversion.feed_all(line_strings, &convert_address)?;
+    Ok(conversion.into_program())
 }

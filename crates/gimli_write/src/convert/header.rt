@@ -11,11 +11,13 @@ ghost use Rattle.gimli_build.specs.Advance.{CanEncode};
 ghost use Rattle.gimli_build.specs.Conditions.{Accepts};
 ghost use Rattle.gimli_build.specs.LineText.{line_text, HasNoZero};
 ghost use Rattle.gimli_write.specs.convert.Texts.{◌>>=◌ as ◌>>>◌, IsRefusedBy};
-ghost use Rattle.gimli_write.specs.convert.Lists.{lists_with, directory_added, file_added, all_added};
-ghost use Rattle.gimli_write.specs.convert.Preparation.{first_path, working_directory, file_directory, own_source_file, named_source_file, source_file, is_out_of_range, line_encoding_of, first_texts, started_program, started_lists, first_ids, has_before_5, handed_of, lists_of_header};
+ghost use Rattle.gimli_write.specs.convert.SourceTables.{tables_with, directory_added, file_added, all_added};
+ghost use Rattle.gimli_write.specs.convert.Preparation.{first_path, working_directory, file_directory, own_source_file, named_source_file, source_file, is_out_of_range, line_encoding_of, first_texts, start_of_program, start_of_tables, first_ids, has_before_5, handed_of, tables_of_header};
 
-use crate::convert::lists::{Lists, made, optional_made};
-use crate::convert::texts::{source_path, source_text, without_zero};
+use crate::convert::tables::SourceTables;
+use crate::convert::texts::{
+    optional_program_text, program_text, source_path, source_text, without_zero,
+};
 use crate::convert_error::{ConvertError, ConvertResult, from_write};
 use crate::text::{TextSections, copied};
 use gimli_build::{DirectoryId, FileId, LineProgram};
@@ -215,7 +217,7 @@ fn first_program<R: Reader>(
     requires working { All (λ b. b ≢ 0) directory.now }
     requires directory { IfSome file.now.directory (λ text. All (λ b. b ≢ 0) text) }
     requires path { All (λ b. b ≢ 0) file.now.path }
-    ensures ok { IfOk result (λ program. program ≡ started_program encoding line_encoding header.now.meaning
+    ensures ok { IfOk result (λ program. program ≡ start_of_program encoding line_encoding header.now.meaning
         (first_texts encoding.version line_strings.old directory.now file.now)) }
     ensures table { OnOk result (line_strings.new
         ≡ (first_texts encoding.version line_strings.old directory.now file.now).line_strings) }
@@ -223,9 +225,9 @@ fn first_program<R: Reader>(
     ensures memory { IfErr result (λ e. e ≡ ConvertError.OutOfMemory) }
 {
     let alloc = *line_strings.allocator();
-    let working_dir = made(directory, encoding, line_strings)?;
-    let source_dir = optional_made(&file.directory, encoding, line_strings)?;
-    let source_file = made(file.path.as_slice(), encoding, line_strings)?;
+    let working_dir = program_text(directory, encoding, line_strings)?;
+    let source_dir = optional_program_text(&file.directory, encoding, line_strings)?;
+    let source_file = program_text(file.path.as_slice(), encoding, line_strings)?;
     match LineProgram::new(
         alloc,
         encoding,
@@ -256,7 +258,8 @@ fn with_flags<R: Reader>(mut program: LineProgram, header: &LineProgramHeader<R>
     program
 }
 
-/// The file that stands at number 0 up to version 4, where no row names it.
+/// The id that stands at number 0 up to version 4, where no row names it. `gimli_build` makes ids for files that are added
+/// and for the first row of a program, so this is that of a placeholder's row.
 fn unused_file(alloc: Global) -> FileId
     ensures { result ≡ 0 }
 {
@@ -265,11 +268,15 @@ fn unused_file(alloc: Global) -> FileId
 }
 
 /// The program, and no directory or file of its source but those at 0 up to version 4. Refused by `OutOfMemory` alone.
-fn first_lists(alloc: Global, program: LineProgram, source_version: u16) -> ConvertResult<Lists>
+fn first_tables(
+    alloc: Global,
+    program: LineProgram,
+    source_version: u16,
+) -> ConvertResult<SourceTables>
     requires { program.is_none ≡ false }
-    ensures program { IfOk result (λ lists. lists.program ≡ program) }
-    ensures directories { IfOk result (λ lists. lists.directory_ids ≡ first_ids source_version) }
-    ensures files { IfOk result (λ lists. lists.file_ids ≡ first_ids source_version) }
+    ensures program { IfOk result (λ tables. tables.program ≡ program) }
+    ensures directories { IfOk result (λ tables. tables.directory_ids ≡ first_ids source_version) }
+    ensures files { IfOk result (λ tables. tables.file_ids ≡ first_ids source_version) }
     ensures memory { IfErr result (λ e. e ≡ ConvertError.OutOfMemory) }
 {
     let mut directories = Vec::new(alloc);
@@ -278,33 +285,33 @@ fn first_lists(alloc: Global, program: LineProgram, source_version: u16) -> Conv
         directories.push(program.default_directory())?;
         files.push(unused_file(alloc))?;
     }
-    Ok(Lists {
+    Ok(SourceTables {
         program,
         directories,
         files,
     })
 }
 
-/// The lists of a header before its directories and files are added, with the texts of the first of them. Requires texts
+/// The tables of a header before its directories and files are added, with the texts of the first of them. Requires texts
 /// without zero bytes. Refused as the encoding of lines is, or by `OutOfMemory`. The line strings keep their texts.
-fn begun_with<R: Reader>(
+fn tables_with_texts<R: Reader>(
     encoding: Encoding,
     line_encoding: Option<LineEncoding>,
     header: &LineProgramHeader<R>,
     directory: &[u8],
     file: &SourceFile,
     line_strings: &mut LineStringTable,
-) -> ConvertResult<Lists>
+) -> ConvertResult<SourceTables>
     requires address_size { IsTrue (is_address_size encoding.address_size) }
     requires lines { IfSome line_encoding CanEncode }
     requires working { All (λ b. b ≢ 0) directory.now }
     requires directory { IfSome file.now.directory (λ text. All (λ b. b ≢ 0) text) }
     requires path { All (λ b. b ≢ 0) file.now.path }
-    ensures ok { IfOk result (λ lists.
+    ensures ok { IfOk result (λ tables.
         (line_encoding_of header.now.meaning.parameters.line_encoding line_encoding >>> λ e.
-        Ok (started_lists encoding e header.now.meaning
+        Ok (start_of_tables encoding e header.now.meaning
         (first_texts encoding.version line_strings.old directory.now file.now)))
-        ≡ Ok (lists_with line_strings.new lists)) }
+        ≡ Ok (tables_with line_strings.new tables)) }
     ensures err { IfErr result
         (IsRefusedBy (line_encoding_of header.now.meaning.parameters.line_encoding line_encoding)) }
     ensures stays { KeepsTexts line_strings.old line_strings.new }
@@ -312,40 +319,40 @@ fn begun_with<R: Reader>(
     let alloc = *line_strings.allocator();
     let lines = line_encoding_of(header.line_encoding(), line_encoding)?;
     let program = first_program(encoding, lines, header, directory, file, line_strings)?;
-    first_lists(alloc, program, header.version())
+    first_tables(alloc, program, header.version())
 }
 
-/// The lists of a header before its directories and files are added. Refused by the first of these that is refused: the
+/// The tables of a header before its directories and files are added. Refused by the first of these that is refused: the
 /// working directory, the source file, the encoding of lines; or by `OutOfMemory`. The line strings keep their texts.
-fn begun<R: Reader>(
+fn tables_at_start<R: Reader>(
     sections: &TextSections<R>,
     header: &LineProgramHeader<R>,
     from_comp_name: Option<R>,
     encoding: Encoding,
     line_encoding: Option<LineEncoding>,
     line_strings: &mut LineStringTable,
-) -> ConvertResult<Lists>
+) -> ConvertResult<SourceTables>
     requires address_size { IsTrue (is_address_size encoding.address_size) }
     requires lines { IfSome line_encoding CanEncode }
-    ensures ok { IfOk result (λ lists.
+    ensures ok { IfOk result (λ tables.
         (working_directory encoding.version sections.now header.now.meaning >>> λ directory.
         source_file encoding.version sections.now header.now.meaning (option_map R.bytes from_comp_name) >>> λ file.
         line_encoding_of header.now.meaning.parameters.line_encoding line_encoding >>> λ e.
-        Ok (started_lists encoding e header.now.meaning
+        Ok (start_of_tables encoding e header.now.meaning
         (first_texts encoding.version line_strings.old directory file)))
-        ≡ Ok (lists_with line_strings.new lists)) }
+        ≡ Ok (tables_with line_strings.new tables)) }
     ensures err { IfErr result (IsRefusedBy
         (working_directory encoding.version sections.now header.now.meaning >>> λ directory.
         source_file encoding.version sections.now header.now.meaning (option_map R.bytes from_comp_name) >>> λ file.
         line_encoding_of header.now.meaning.parameters.line_encoding line_encoding >>> λ e.
-        Ok (started_lists encoding e header.now.meaning
+        Ok (start_of_tables encoding e header.now.meaning
         (first_texts encoding.version line_strings.old directory file)))) }
     ensures stays { KeepsTexts line_strings.old line_strings.new }
 {
     let alloc = *line_strings.allocator();
     let directory = working_directory(alloc, encoding.version, header, sections)?;
     let file = source_file(alloc, encoding.version, header, from_comp_name, sections)?;
-    begun_with(
+    tables_with_texts(
         encoding,
         line_encoding,
         header,
@@ -357,25 +364,25 @@ fn begun<R: Reader>(
 
 /// Adds the directories and files of a header. Refused by the first that is refused, or by `OutOfMemory`. The line
 /// strings keep their texts.
-fn add_listed<R: Reader>(
-    lists: &mut Lists,
+fn add_directories_and_files<R: Reader>(
+    tables: &mut SourceTables,
     sections: &TextSections<R>,
     header: &LineProgramHeader<R>,
     line_strings: &mut LineStringTable,
 ) -> ConvertResult<()>
     ensures ok { OnOk result
         ((all_added (directory_added sections.now) header.now.meaning.directories
-        (lists_with line_strings.old lists.old) >>> λ between.
+        (tables_with line_strings.old tables.old) >>> λ between.
         all_added (file_added sections.now) header.now.meaning.files between)
-        ≡ Ok (lists_with line_strings.new lists.new)) }
+        ≡ Ok (tables_with line_strings.new tables.new)) }
     ensures err { IfErr result (IsRefusedBy
         (all_added (directory_added sections.now) header.now.meaning.directories
-        (lists_with line_strings.old lists.old) >>> λ between.
+        (tables_with line_strings.old tables.old) >>> λ between.
         all_added (file_added sections.now) header.now.meaning.files between)) }
     ensures stays { KeepsTexts line_strings.old line_strings.new }
 {
-    lists.add_directories(header.include_directories(), sections, line_strings)?;
-    lists.add_files(header.file_names(), sections, line_strings)
+    tables.add_directories(header.include_directories(), sections, line_strings)?;
+    tables.add_files(header.file_names(), sections, line_strings)
 }
 
 /// The program of a header with its directories and files, and where it has those of the source. Requires encodings that a
@@ -389,18 +396,18 @@ pub(crate) fn prepare<R: Reader>(
     encoding: Option<Encoding>,
     line_encoding: Option<LineEncoding>,
     line_strings: &mut LineStringTable,
-) -> ConvertResult<Lists>
+) -> ConvertResult<SourceTables>
     requires address_size { IfSome encoding (λ e. IsTrue (is_address_size e.address_size)) }
     requires lines { IfSome line_encoding CanEncode }
-    ensures ok { IfOk result (λ lists. lists_of_header sections.now header.now.meaning
+    ensures ok { IfOk result (λ tables. tables_of_header sections.now header.now.meaning
         (handed_of encoding line_encoding (option_map R.bytes from_comp_name)) line_strings.old
-        ≡ Ok (lists_with line_strings.new lists)) }
-    ensures err { IfErr result (IsRefusedBy (lists_of_header sections.now header.now.meaning
+        ≡ Ok (tables_with line_strings.new tables)) }
+    ensures err { IfErr result (IsRefusedBy (tables_of_header sections.now header.now.meaning
         (handed_of encoding line_encoding (option_map R.bytes from_comp_name)) line_strings.old)) }
     ensures stays { KeepsTexts line_strings.old line_strings.new }
 {
     let encoding = encoding.unwrap_or(header.encoding());
-    let mut lists = begun(
+    let mut tables = tables_at_start(
         sections,
         header,
         from_comp_name,
@@ -408,6 +415,6 @@ pub(crate) fn prepare<R: Reader>(
         line_encoding,
         line_strings,
     )?;
-    add_listed(&mut lists, sections, header, line_strings)?;
-    Ok(lists)
+    add_directories_and_files(&mut tables, sections, header, line_strings)?;
+    Ok(tables)
 }

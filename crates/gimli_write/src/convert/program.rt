@@ -7,18 +7,16 @@ ghost use Rattle.gimli_build.specs.Calls.{after_begin, after_address, after_row,
 ghost use Rattle.gimli_build.specs.Advance.{CanEncode};
 ghost use Rattle.gimli_build.specs.Conditions.{CanEndSequence};
 ghost use Rattle.gimli_write.specs.declared.convert_error.ConvertError.TheVariants.{OutOfMemory};
-ghost use Rattle.gimli_write.specs.convert.KeptLists.{IsUnread, IsWritable, StaysWritable, KeepsFiles, IsAtLast, KeepsLast};
+ghost use Rattle.gimli_write.specs.convert.KeptTables.{IsUnread, IsWritable, StaysWritable, KeepsFiles, HasFinalTables, KeepsFinalTables};
+ghost use Rattle.gimli_write.specs.convert.LentTables.{SameStringTables, KeepsStringTables};
 ghost use Rattle.gimli_write.specs.convert.Sources.{source_of};
-ghost use Rattle.gimli_write.specs.convert.Mapped.{IsFaithfulIfItCan};
-ghost use Rattle.gimli_write.specs.convert.ConversionState.{still_to_read, IsPrepared, IsHeaderRefusal, ReadsWhole, GivesNext, IsReadRefusal, AddsFiles, CanBuildRow, IsBuildRefusal, with_program, ConvertsTo, IsConvertRefusal, RestConvertsTo, IsRestRefusal};
+ghost use Rattle.gimli_write.specs.convert.Mapped.{IsAnswerOf};
+ghost use Rattle.gimli_write.specs.convert.Conversion.{still_to_read, IsPrepared, IsHeaderRefusal, ReadsWhole, GivesNext, IsReadRefusal, AddsFiles, CanBuildRow, IsBuildRefusal, with_program, RestConvertsTo, IsRestRefusal};
 ghost use Rattle.gimli_write.specs.convert.Sequences.{GathersNext, IsGatherRefusal};
 
-use crate::convert::conversion::Conversion;
-use crate::convert::feeding::convert_all;
+use crate::convert::conversion::{Conversion, convert_all};
 use crate::convert::header::prepare;
-use crate::convert::lists::Lists;
-use crate::convert::offer::ConvertLineRow;
-use crate::convert::sequence::ConvertLineSequence;
+use crate::convert::rows::{ConvertLineRow, ConvertLineSequence};
 use crate::convert_error::{ConvertError, ConvertResult};
 use crate::text::TextSections;
 use gimli_build::{FileId, LineProgram, LineRow};
@@ -62,9 +60,9 @@ pub struct ConvertLineHeader<R: Reader> {
 }
 
 impl<R: Reader> Model for ConvertLineHeader<R> {
-    ghost use Rattle.gimli_write.specs.convert.ConversionState.{ConversionState};
+    ghost use Rattle.gimli_write.specs.convert.Conversion.{Conversion};
 
-    ghost Value = { ConversionState };
+    ghost Value = { Conversion };
 
     ghost view = { λ a. a.conversion };
 }
@@ -100,14 +98,14 @@ impl<R: Reader> ConvertLineHeader<R> {
             from_program from_comp_name encoding line_encoding) header line_strings.new) }
         ensures unread { IfOk result (λ header. IsUnread (source_of R.bytes debug_str debug_line_str
             from_program from_comp_name encoding line_encoding) header) }
-        ensures writable { IfOk result (λ header. IsWritable header.lists.program line_strings.new) }
+        ensures writable { IfOk result (λ header. IsWritable header.tables.program line_strings.new) }
         ensures stays { KeepsTexts line_strings.old line_strings.new }
     {
         let sections = TextSections {
             strings: debug_str,
             line_strings: debug_line_str,
         };
-        let lists = prepare(
+        let tables = prepare(
             &sections,
             from_program.header(),
             from_comp_name,
@@ -115,7 +113,7 @@ impl<R: Reader> ConvertLineHeader<R> {
             line_encoding,
             line_strings,
         )?;
-        let conversion = Conversion::start(sections, from_program, lists);
+        let conversion = Conversion::start(sections, from_program, tables);
         Ok(ConvertLineHeader { conversion })
     }
 
@@ -129,10 +127,8 @@ impl<R: Reader> ConvertLineHeader<R> {
         strings: &'b mut StringTable,
     ) -> ConvertLineProgram<'a, 'b, R>
         ensures header { result.conversion ≡ self }
-        ensures line_strings { result.line_strings.now ≡ line_strings.old }
-        ensures strings { result.strings.now ≡ strings.old }
-        ensures same_line_strings { result.line_strings.ghost_name ≡ line_strings.entry.ghost_name }
-        ensures same_strings { result.strings.ghost_name ≡ strings.entry.ghost_name }
+        ensures string_tables { SameStringTables line_strings.entry strings.entry
+            result.line_strings result.strings }
     {
         ConvertLineProgram {
             line_strings,
@@ -177,14 +173,9 @@ impl<'a, 'b, R: Reader> ConvertLineProgram<'a, 'b, R, Conversion<R>> {
         ensures unread { IfOk result (λ convert. IsUnread (source_of R.bytes debug_str debug_line_str
             from_program from_comp_name encoding line_encoding) convert.conversion) }
         ensures writable { IfOk result
-            (λ convert. IsWritable convert.conversion.lists.program convert.line_strings.now) }
-        ensures stays { IfOk result
-            (λ convert. KeepsTexts line_strings.old convert.line_strings.now) }
-        ensures strings { IfOk result (λ convert. convert.strings.now ≡ strings.old) }
-        ensures same_line_strings { IfOk result (λ convert. convert.line_strings.ghost_name
-            ≡ line_strings.entry.ghost_name) }
-        ensures same_strings { IfOk result (λ convert. convert.strings.ghost_name
-            ≡ strings.entry.ghost_name) }
+            (λ convert. IsWritable convert.conversion.tables.program convert.line_strings.now) }
+        ensures string_tables { IfOk result (λ convert. KeepsStringTables line_strings.entry strings.entry
+            convert.line_strings convert.strings) }
     {
         let header = ConvertLineHeader::new(
             debug_str,
@@ -202,38 +193,32 @@ impl<'a, 'b, R: Reader> ConvertLineProgram<'a, 'b, R, Conversion<R>> {
     /// by `OutOfMemory`; then nothing changes.
     pub fn begin_sequence(&mut self, address: Option<Address>) -> ConvertResult<()>
         ensures ok { OnOk result (self.new.conversion ≡ with_program
-            (after_begin address self.old.conversion.lists.program) self.old.conversion) }
-        ensures outside { OnOk result (self.old.conversion.lists.program.in_sequence ≡ false) }
+            (after_begin address self.old.conversion.tables.program) self.old.conversion) }
+        ensures outside { OnOk result (self.old.conversion.tables.program.in_sequence ≡ false) }
         ensures err { IfErr result
-            (IsBuildRefusal (self.old.conversion.lists.program.in_sequence ≡ false)) }
+            (IsBuildRefusal (self.old.conversion.tables.program.in_sequence ≡ false)) }
         ensures kept { OnErr result (self.new.conversion ≡ self.old.conversion) }
-        ensures writable { StaysWritable self.old.conversion.lists self.old.line_strings.now
-            self.new.conversion.lists self.new.line_strings.now }
-        ensures line_strings { self.new.line_strings.now ≡ self.old.line_strings.now }
-        ensures strings { self.new.strings.now ≡ self.old.strings.now }
-        ensures same_line_strings { self.new.line_strings.ghost_name
-            ≡ self.old.line_strings.ghost_name }
-        ensures same_strings { self.new.strings.ghost_name ≡ self.old.strings.ghost_name }
+        ensures writable { StaysWritable self.old.conversion.tables self.old.line_strings.now
+            self.new.conversion.tables self.new.line_strings.now }
+        ensures string_tables { SameStringTables self.old.line_strings self.old.strings
+            self.new.line_strings self.new.strings }
     {
-        self.conversion.begin_sequence(address)
+        self.conversion.tables.begin_sequence(address)
     }
 
     /// Sets the address in the program that is built, where a sequence begins if none has. Refused by `OutOfMemory`
     /// alone; then nothing changes.
     pub fn set_address(&mut self, address: Address) -> ConvertResult<()>
         ensures ok { OnOk result (self.new.conversion ≡ with_program
-            (after_address address self.old.conversion.lists.program) self.old.conversion) }
+            (after_address address self.old.conversion.tables.program) self.old.conversion) }
         ensures memory { IfErr result (λ e. e ≡ ConvertError.OutOfMemory) }
         ensures kept { OnErr result (self.new.conversion ≡ self.old.conversion) }
-        ensures writable { StaysWritable self.old.conversion.lists self.old.line_strings.now
-            self.new.conversion.lists self.new.line_strings.now }
-        ensures line_strings { self.new.line_strings.now ≡ self.old.line_strings.now }
-        ensures strings { self.new.strings.now ≡ self.old.strings.now }
-        ensures same_line_strings { self.new.line_strings.ghost_name
-            ≡ self.old.line_strings.ghost_name }
-        ensures same_strings { self.new.strings.ghost_name ≡ self.old.strings.ghost_name }
+        ensures writable { StaysWritable self.old.conversion.tables self.old.line_strings.now
+            self.new.conversion.tables self.new.line_strings.now }
+        ensures string_tables { SameStringTables self.old.line_strings self.old.strings
+            self.new.line_strings self.new.strings }
     {
-        self.conversion.set_address(address)
+        self.conversion.tables.set_address(address)
     }
 
     /// Makes this row the current one of the program that is built, and builds it. Refused as
@@ -241,55 +226,49 @@ impl<'a, 'b, R: Reader> ConvertLineProgram<'a, 'b, R, Conversion<R>> {
     /// nothing changes, nor does the current row.
     pub fn generate_row(&mut self, row: LineRow) -> ConvertResult<()>
         ensures ok { OnOk result (self.new.conversion ≡ with_program
-            (after_row row self.old.conversion.lists.program) self.old.conversion) }
-        ensures can { OnOk result (CanBuildRow self.old.conversion.lists.program row) }
+            (after_row row self.old.conversion.tables.program) self.old.conversion) }
+        ensures can { OnOk result (CanBuildRow self.old.conversion.tables.program row) }
         ensures err { IfErr result
-            (IsBuildRefusal (CanBuildRow self.old.conversion.lists.program row)) }
+            (IsBuildRefusal (CanBuildRow self.old.conversion.tables.program row)) }
         ensures kept { OnErr result (self.new.conversion ≡ self.old.conversion) }
-        ensures writable { StaysWritable self.old.conversion.lists self.old.line_strings.now
-            self.new.conversion.lists self.new.line_strings.now }
-        ensures line_strings { self.new.line_strings.now ≡ self.old.line_strings.now }
-        ensures strings { self.new.strings.now ≡ self.old.strings.now }
-        ensures same_line_strings { self.new.line_strings.ghost_name
-            ≡ self.old.line_strings.ghost_name }
-        ensures same_strings { self.new.strings.ghost_name ≡ self.old.strings.ghost_name }
+        ensures writable { StaysWritable self.old.conversion.tables self.old.line_strings.now
+            self.new.conversion.tables self.new.line_strings.now }
+        ensures string_tables { SameStringTables self.old.line_strings self.old.strings
+            self.new.line_strings self.new.strings }
     {
-        self.conversion.generate_row(row)
+        self.conversion.tables.generate_row(row)
     }
 
     /// Ends a sequence of the program that is built, so many bytes after the address that was last set. Refused as
     /// `UnsupportedLineInstruction` where it can't end there, or by `OutOfMemory`; then nothing changes.
     pub fn end_sequence(&mut self, address_offset: u64) -> ConvertResult<()>
         ensures ok { OnOk result (self.new.conversion ≡ with_program
-            (after_end address_offset self.old.conversion.lists.program) self.old.conversion) }
+            (after_end address_offset self.old.conversion.tables.program) self.old.conversion) }
         ensures can { OnOk result
-            (CanEndSequence self.old.conversion.lists.program address_offset) }
+            (CanEndSequence self.old.conversion.tables.program address_offset) }
         ensures err { IfErr result
-            (IsBuildRefusal (CanEndSequence self.old.conversion.lists.program address_offset)) }
+            (IsBuildRefusal (CanEndSequence self.old.conversion.tables.program address_offset)) }
         ensures kept { OnErr result (self.new.conversion ≡ self.old.conversion) }
-        ensures writable { StaysWritable self.old.conversion.lists self.old.line_strings.now
-            self.new.conversion.lists self.new.line_strings.now }
-        ensures line_strings { self.new.line_strings.now ≡ self.old.line_strings.now }
-        ensures strings { self.new.strings.now ≡ self.old.strings.now }
-        ensures same_line_strings { self.new.line_strings.ghost_name
-            ≡ self.old.line_strings.ghost_name }
-        ensures same_strings { self.new.strings.ghost_name ≡ self.old.strings.ghost_name }
+        ensures writable { StaysWritable self.old.conversion.tables self.old.line_strings.now
+            self.new.conversion.tables self.new.line_strings.now }
+        ensures string_tables { SameStringTables self.old.line_strings self.old.strings
+            self.new.line_strings self.new.strings }
     {
-        self.conversion.end_sequence(address_offset)
+        self.conversion.tables.end_sequence(address_offset)
     }
 
     /// Whether a sequence has begun in the program that is built.
     pub fn in_sequence(&self) -> bool
-        ensures { result ≡ self.now.conversion.lists.program.in_sequence }
+        ensures { result ≡ self.now.conversion.tables.program.in_sequence }
     {
-        self.conversion.in_sequence()
+        self.conversion.tables.in_sequence()
     }
 
     /// The program that was built so far, and for each file number of the source its id there; up to version 4 of the
     /// source none has number 0.
     pub fn program(self) -> (LineProgram, Vec<FileId>)
-        ensures program { result.0 ≡ self.entry.conversion.lists.program }
-        ensures files { result.1.items ≡ self.entry.conversion.lists.file_ids }
+        ensures program { result.0 ≡ self.entry.conversion.tables.program }
+        ensures files { result.1.items ≡ self.entry.conversion.tables.file_ids }
         ensures line_strings { self.exit.0.now ≡ self.entry.line_strings.now }
         ensures strings { self.exit.1.0.now ≡ self.entry.strings.now }
     {
@@ -319,21 +298,18 @@ impl<'a, 'b, R: Reader> ConvertLineProgram<'a, 'b, R, Conversion<R>> {
             → self.old.conversion.failed ≡ Some e → result ≡ Err e }
         ensures failed { IfErr result (λ e. self.new.conversion.failed ≡ Some e) }
         ensures well { OnOk result (self.new.conversion.failed ≡ None) }
-        ensures adds { AddsFiles self.old.conversion.lists.program self.new.conversion.lists.program }
-        ensures keeps { KeepsFiles self.old.conversion.lists self.new.conversion.lists }
-        ensures writable { StaysWritable self.old.conversion.lists self.old.line_strings.now
-            self.new.conversion.lists self.new.line_strings.now }
-        ensures last { OnOk result (KeepsLast self.old.conversion self.old.line_strings.now
+        ensures adds { AddsFiles self.old.conversion.tables.program self.new.conversion.tables.program }
+        ensures keeps { KeepsFiles self.old.conversion.tables self.new.conversion.tables }
+        ensures writable { StaysWritable self.old.conversion.tables self.old.line_strings.now
+            self.new.conversion.tables self.new.line_strings.now }
+        ensures last { OnOk result (KeepsFinalTables self.old.conversion self.old.line_strings.now
             self.new.conversion self.new.line_strings.now) }
-        ensures ended { IfOk result (λ row. row ≡ None → IsAtLast self.old.conversion
+        ensures ended { IfOk result (λ row. row ≡ None → HasFinalTables self.old.conversion
             self.old.line_strings.now self.new.conversion self.new.line_strings.now) }
-        ensures stopped { IfErr result (λ e. e ≢ OutOfMemory → IsAtLast self.old.conversion
+        ensures stopped { IfErr result (λ e. e ≢ OutOfMemory → HasFinalTables self.old.conversion
             self.old.line_strings.now self.new.conversion self.new.line_strings.now) }
-        ensures stays { KeepsTexts self.old.line_strings.now self.new.line_strings.now }
-        ensures strings { self.new.strings.now ≡ self.old.strings.now }
-        ensures same_line_strings { self.new.line_strings.ghost_name
-            ≡ self.old.line_strings.ghost_name }
-        ensures same_strings { self.new.strings.ghost_name ≡ self.old.strings.ghost_name }
+        ensures string_tables { KeepsStringTables self.old.line_strings self.old.strings
+            self.new.line_strings self.new.strings }
     {
         self.conversion.read_row(self.line_strings)
     }
@@ -351,21 +327,18 @@ impl<'a, 'b, R: Reader> ConvertLineProgram<'a, 'b, R, Conversion<R>> {
             → self.old.conversion.failed ≡ Some e → result ≡ Err e }
         ensures failed { IfErr result (λ e. self.new.conversion.failed ≡ Some e) }
         ensures well { OnOk result (self.new.conversion.failed ≡ None) }
-        ensures adds { AddsFiles self.old.conversion.lists.program self.new.conversion.lists.program }
-        ensures keeps { KeepsFiles self.old.conversion.lists self.new.conversion.lists }
-        ensures writable { StaysWritable self.old.conversion.lists self.old.line_strings.now
-            self.new.conversion.lists self.new.line_strings.now }
-        ensures last { OnOk result (KeepsLast self.old.conversion self.old.line_strings.now
+        ensures adds { AddsFiles self.old.conversion.tables.program self.new.conversion.tables.program }
+        ensures keeps { KeepsFiles self.old.conversion.tables self.new.conversion.tables }
+        ensures writable { StaysWritable self.old.conversion.tables self.old.line_strings.now
+            self.new.conversion.tables self.new.line_strings.now }
+        ensures last { OnOk result (KeepsFinalTables self.old.conversion self.old.line_strings.now
             self.new.conversion self.new.line_strings.now) }
-        ensures ended { IfOk result (λ sequence. sequence ≡ None → IsAtLast self.old.conversion
+        ensures ended { IfOk result (λ sequence. sequence ≡ None → HasFinalTables self.old.conversion
             self.old.line_strings.now self.new.conversion self.new.line_strings.now) }
-        ensures stopped { IfErr result (λ e. e ≢ OutOfMemory → IsAtLast self.old.conversion
+        ensures stopped { IfErr result (λ e. e ≢ OutOfMemory → HasFinalTables self.old.conversion
             self.old.line_strings.now self.new.conversion self.new.line_strings.now) }
-        ensures stays { KeepsTexts self.old.line_strings.now self.new.line_strings.now }
-        ensures strings { self.new.strings.now ≡ self.old.strings.now }
-        ensures same_line_strings { self.new.line_strings.ghost_name
-            ≡ self.old.line_strings.ghost_name }
-        ensures same_strings { self.new.strings.ghost_name ≡ self.old.strings.ghost_name }
+        ensures string_tables { KeepsStringTables self.old.line_strings self.old.strings
+            self.new.line_strings self.new.strings }
     {
         self.conversion.read_sequence(self.line_strings)
     }
@@ -384,7 +357,7 @@ impl<'a, 'b, R: Reader> ConvertLineProgram<'a, 'b, R, Conversion<R>> {
             self.entry.conversion self.entry.line_strings.now answer self.exit.0.now) }
         ensures err { IfErr result (IsRestRefusal (F.post convert_address)
             self.entry.conversion self.entry.line_strings.now) }
-        ensures writable { IsWritable self.entry.conversion.lists.program self.entry.line_strings.now
+        ensures writable { IsWritable self.entry.conversion.tables.program self.entry.line_strings.now
             → IfOk result (λ answer. IsWritable answer.0 self.exit.0.now) }
         ensures stays { KeepsTexts self.entry.line_strings.now self.exit.0.now }
         ensures strings { self.exit.1.0.now ≡ self.entry.strings.now }
@@ -418,12 +391,8 @@ pub fn convert_program<R: Reader, F: Fn(u64) -> Option<Address>>(
     requires address_size { IfSome encoding (λ e. IsTrue (is_address_size e.address_size)) }
     requires lines { IfSome line_encoding CanEncode }
     requires callable { F.IsAlwaysCallable convert_address }
-    ensures ok { IfOk result (λ answer. ConvertsTo (F.post convert_address) (source_of R.bytes debug_str debug_line_str
-        from_program from_comp_name encoding line_encoding) line_strings.old answer line_strings.new) }
-    ensures err { IfErr result (IsConvertRefusal (F.post convert_address) (source_of R.bytes
-        debug_str debug_line_str from_program from_comp_name encoding line_encoding) line_strings.old) }
-    ensures faithful { IfOk result (λ answer. IsFaithfulIfItCan (F.post convert_address) (source_of R.bytes debug_str
-        debug_line_str from_program from_comp_name encoding line_encoding) strings.new answer line_strings.new) }
+    ensures outcome { IsAnswerOf (F.post convert_address) (source_of R.bytes debug_str debug_line_str from_program
+        from_comp_name encoding line_encoding) line_strings.old result strings.new line_strings.new }
     ensures stays { KeepsTexts line_strings.old line_strings.new }
     ensures strings { strings.new ≡ strings.old }
 {

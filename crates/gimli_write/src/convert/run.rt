@@ -1,12 +1,11 @@
 //! The run over a source: its registers, and where its addresses count from.
 
-ghost use Rattle.std.specs.Prelude.{◌≡◌, ◌-◌, ◌*◌, ◌^◌, ◌||◌, nat_lt, nat_le, if◌then◌else◌, true, false, None, IfErr, IfOk, IsTrue, OnOk};
-ghost use Rattle.gimli_core.specs.Numbers.{is_address_size};
+ghost use Rattle.std.specs.Prelude.{◌≡◌, if◌then◌else◌, true, false, None, IfErr, IfOk, OnOk};
 ghost use Rattle.gimli_core.specs.declared.error.Error.TheVariants.{AddressOverflow};
 
 use crate::convert_error::{ConvertError, ConvertResult};
 use gimli_build::{FileId, LineRow as BuiltRow};
-use gimli_core::{Reader, ReaderAddress};
+use gimli_core::Reader;
 use gimli_line::{
     ColumnType, FileEntry, IncompleteLineProgram, LineInstruction, LineInstructions, LineRow,
 };
@@ -24,10 +23,10 @@ pub(crate) struct SourceRow {
 }
 
 impl SourceRow {
-    ghost use Rattle.gimli_write.specs.convert.Offers.{row_in};
+    ghost use Rattle.gimli_write.specs.convert.Items.{row_in};
 
     /// The row as it is built, with this file.
-    pub(crate) fn built(&self, file: FileId) -> BuiltRow
+    pub(crate) fn built_row(&self, file: FileId) -> BuiltRow
         ensures { result ≡ row_in self.now file }
     {
         let row = &self.row;
@@ -67,10 +66,10 @@ pub(crate) enum SourceStep<R: Reader> {
 
 impl<R: Reader> SourceStep<R> {
     /// The step of an instruction that made a row, which may be under a tombstone.
-    fn of_row(row: SourceRow, tombstone: bool) -> Self
-        ensures { result ≡ (if tombstone then SourceStep.More else SourceStep.Made row) }
+    fn of_row(row: SourceRow) -> Self
+        ensures { result ≡ (if row.row.tombstone then SourceStep.More else SourceStep.Made row) }
     {
-        if tombstone {
+        if row.row.is_under_tombstone() {
             SourceStep::More
         } else {
             SourceStep::Made(row)
@@ -78,26 +77,11 @@ impl<R: Reader> SourceStep<R> {
     }
 }
 
-/// Whether a set address is a tombstone, by the address before it and the size of addresses.
-fn is_tombstone(address: u64, before: u64, address_size: u8) -> bool
-    requires { IsTrue (is_address_size address_size) }
-    ensures { result ≡ (nat_lt address before || nat_le (2 ^ (8 * address_size) - 2) address) }
-{
-    address < before || address >= u64::min_tombstone(address_size)
-}
-
 /// The address from which offsets count after a row, which may end its sequence.
 fn base_after_row(base: u64, ends: bool) -> u64
     ensures { result ≡ (if ends then 0 else base) }
 {
     if ends { 0 } else { base }
-}
-
-/// Whether what follows a row is under a tombstone, where the row was or wasn't, and may end its sequence.
-fn tombstone_after_row(tombstone: bool, ends: bool) -> bool
-    ensures { result ≡ (if ends then false else tombstone) }
-{
-    if ends { false } else { tombstone }
 }
 
 /// A source, as far as it was read.
@@ -112,15 +96,13 @@ pub(crate) struct SourceRun<R: Reader> {
     base: u64,
     /// The address that was set after the last place that made a row, under a tombstone or not.
     pending: Option<u64>,
-    /// Whether the last set address is a tombstone.
-    tombstone: bool,
 }
 
 impl<R: Reader> Model for SourceRun<R> {
     ghost use Rattle.std.specs.Prelude.{◌≡◌, false};
-    ghost use Rattle.gimli_write.specs.convert.SourceState.{SourceState};
+    ghost use Rattle.gimli_write.specs.convert.SourceRun.{SourceRun};
 
-    ghost Value = { SourceState };
+    ghost Value = { SourceRun };
 
     ghost view = { λ a. record {
       header = a.program.meaning;
@@ -130,24 +112,24 @@ impl<R: Reader> Model for SourceRun<R> {
       unread = a.instructions;
     } };
 
-    ghost invariant = { λ a. (a.tombstone ≡ a.row.tombstone) × (a.row.end_sequence ≡ false) };
+    ghost invariant = { λ a. a.row.end_sequence ≡ false };
 }
 
 impl<R: Reader> SourceRun<R> {
     ghost use Rattle.gimli_line.specs.run.Instruction.{ins_seen, defines_file};
     ghost use Rattle.gimli_line.specs.run.Machine.{IsAllowed, is_refused};
     ghost use Rattle.gimli_build.specs.Texts.{Sections};
-    ghost use Rattle.gimli_write.specs.convert.Lists.{Lists};
-    ghost use Rattle.gimli_write.specs.convert.Offers.{stops, address_operand, Reads};
-    ghost use Rattle.gimli_write.specs.convert.LastLists.{lists_at_last, step_lists};
-    ghost use Rattle.gimli_write.specs.convert.SourceState.{start_of_source, state_after, step_made, reading_left, step_reading, Shortens};
+    ghost use Rattle.gimli_write.specs.convert.SourceTables.{TablesAndTexts};
+    ghost use Rattle.gimli_write.specs.convert.Items.{stops, address_operand, ReadsItems};
+    ghost use Rattle.gimli_write.specs.convert.TablesAtEnd.{tables_at_end, step_tables};
+    ghost use Rattle.gimli_write.specs.convert.SourceRun.{start_of_source, state_after, step_made, reading_left, step_reading, Shortens};
 
     /// The source, from its start on.
     pub(crate) fn start(program: IncompleteLineProgram<R>) -> Self
         ensures start { result ≡ start_of_source program.meaning
             (record { bytes = program.meaning.program; notation = program.notation }) }
-        ensures reads { (sections : Sections) (first : Lists) →
-            Reads program.notation sections program.meaning first program.meaning.program
+        ensures reads { (sections : Sections) (first : TablesAndTexts) →
+            ReadsItems program.notation sections program.meaning first program.meaning.program
             (reading_left sections result first) }
     {
         let header = program.header();
@@ -159,7 +141,6 @@ impl<R: Reader> SourceRun<R> {
             instructions,
             base: 0,
             pending: None,
-            tombstone: false,
         }
     }
 
@@ -173,16 +154,16 @@ impl<R: Reader> SourceRun<R> {
     /// Takes the next instruction and executes it, unless it defines a file. Refused by `Read`, as the instruction
     /// is, or by `AddressOverflow`. Takes no memory.
     pub(crate) fn step(&mut self) -> ConvertResult<SourceStep<R>>
-        ensures reading { IfOk result (λ step. (sections : Sections) (lists : Lists)
-            → reading_left sections self.old lists
-            ≡ step_reading R.bytes R.Offset.number sections lists step self.new) }
-        ensures refusal { IfErr result (λ e. (sections : Sections) (lists : Lists)
-            → reading_left sections self.old lists ≡ stops e) }
-        ensures lists { IfOk result (λ step. (sections : Sections) (lists : Lists)
-            → lists_at_last sections self.old lists
-            ≡ step_lists R.bytes R.Offset.number sections lists step self.new) }
-        ensures stopped { IfErr result (λ e. (sections : Sections) (lists : Lists)
-            → lists_at_last sections self.old lists ≡ lists) }
+        ensures reading { IfOk result (λ step. (sections : Sections) (tables : TablesAndTexts)
+            → reading_left sections self.old tables
+            ≡ step_reading R.bytes R.Offset.number sections tables step self.new) }
+        ensures refusal { IfErr result (λ e. (sections : Sections) (tables : TablesAndTexts)
+            → reading_left sections self.old tables ≡ stops e) }
+        ensures tables { IfOk result (λ step. (sections : Sections) (tables : TablesAndTexts)
+            → tables_at_end sections self.old tables
+            ≡ step_tables R.bytes R.Offset.number sections tables step self.new) }
+        ensures stopped { IfErr result (λ e. (sections : Sections) (tables : TablesAndTexts)
+            → tables_at_end sections self.old tables ≡ tables) }
         ensures shorter { IfOk result (λ step. Shortens step self.old self.new) }
         ensures header { self.new.header ≡ self.old.header }
         ensures notation { self.new.unread.notation ≡ self.old.unread.notation }
@@ -206,9 +187,6 @@ impl<R: Reader> SourceRun<R> {
     fn set_address(&mut self, address: u64)
         ensures { self.new ≡ state_after (LineInstruction.SetAddress address) self.old }
     {
-        let size = self.program.header().encoding().address_size;
-        let before = self.row.address();
-        self.tombstone = is_tombstone(address, before, size);
         self.base = address;
         self.pending = Some(address);
         let set_address = LineInstruction::SetAddress(address);
@@ -244,8 +222,7 @@ impl<R: Reader> SourceRun<R> {
             address_offset: address.saturating_sub(self.base),
             row: self.row,
         };
-        let step = SourceStep::of_row(source_row, self.tombstone);
-        self.tombstone = tombstone_after_row(self.tombstone, ends);
+        let step = SourceStep::of_row(source_row);
         self.base = base_after_row(self.base, ends);
         self.pending = None;
         self.row.reset(self.program.header());

@@ -1,13 +1,18 @@
-//! The texts of a source that is converted.
+//! The texts of a source that is converted, and those of the program that is built of it.
 
-ghost use Rattle.std.specs.Prelude.{◌≡◌, ◌≢◌, ◌≤◌, [], All, IfOk, IfErr, IfSome, Ok, option_map};
+ghost use Rattle.std.specs.Prelude.{◌≡◌, ◌≢◌, ◌≤◌, ℕ, List, [], All, IfOk, IfErr, IfSome, OnOk, Ok, option_map};
+ghost use Rattle.std.specs.Option.{option_map_or};
 ghost use Rattle.gimli_core.specs.Reading.{result_map};
 ghost use Rattle.gimli_core.specs.Values.{value_seen};
+ghost use Rattle.gimli_bytes.specs.Texts.{KeepsTexts};
+ghost use Rattle.gimli_build.specs.LineText.{line_text, made_text, made_table, IsWithin, HasNoZero, IsNotEmpty};
 ghost use Rattle.gimli_write.specs.convert.Texts.{IsRefusedBy, if_there, without_zero, source_text, source_path};
 
-use crate::convert_error::{ConvertError, ConvertResult};
+use crate::convert_error::{ConvertError, ConvertResult, from_write};
 use crate::text::{TextSections, text};
-use gimli_core::{AttributeValue, Reader, ReaderOffset};
+use gimli_build::LineString;
+use gimli_bytes::LineStringTable;
+use gimli_core::{AttributeValue, Encoding, Reader, ReaderOffset};
 use std::alloc::Global;
 use std::marker::Model;
 
@@ -80,4 +85,49 @@ pub(crate) fn source_path<R: Reader>(
         return Err(ConvertError::InvalidAttributeValue);
     }
     Ok(path)
+}
+
+/// A text of a program of this encoding. Requires bytes without a zero byte. Refused by `OutOfMemory` alone; then the line
+/// strings are as before.
+pub(crate) fn program_text(
+    text: &[u8],
+    encoding: Encoding,
+    line_strings: &mut LineStringTable,
+) -> ConvertResult<LineString>
+    requires { All (λ b. b ≢ 0) text.now }
+    ensures ok { IfOk result (λ made. line_text made ≡ made_text encoding.version line_strings.old text.now) }
+    ensures table { OnOk result (line_strings.new ≡ made_table encoding.version line_strings.old text.now) }
+    ensures within { IfOk result (λ made. (strings : List (List ℕ)) → IsWithin strings line_strings.new (line_text made)) }
+    ensures no_zero { IfOk result (λ made. HasNoZero (line_text made)) }
+    ensures not_empty { encoding.version ≤ 4 → text.now ≢ [] → IfOk result (λ made. IsNotEmpty (line_text made)) }
+    ensures stays { KeepsTexts line_strings.old line_strings.new }
+    ensures memory { IfErr result (λ e. e ≡ ConvertError.OutOfMemory) }
+{
+    match LineString::new(text, encoding, line_strings) {
+        Ok(made) => Ok(made),
+        Err(e) => Err(from_write(e)),
+    }
+}
+
+/// The same, where there are bytes.
+pub(crate) fn optional_program_text(
+    text: &Option<Vec<u8>>,
+    encoding: Encoding,
+    line_strings: &mut LineStringTable,
+) -> ConvertResult<Option<LineString>>
+    requires { IfSome text.now (λ text. All (λ b. b ≢ 0) text.items) }
+    ensures ok { IfOk result (λ made. option_map line_text made
+        ≡ option_map (made_text encoding.version line_strings.old) (option_map (λ text. text.items) text.now)) }
+    ensures table { OnOk result (line_strings.new ≡ option_map_or (made_table encoding.version line_strings.old)
+        (option_map (λ text. text.items) text.now) line_strings.old) }
+    ensures within { IfOk result (λ made. IfSome made (λ made. (strings : List (List ℕ)) →
+        IsWithin strings line_strings.new (line_text made))) }
+    ensures no_zero { IfOk result (λ made. IfSome made (λ made. HasNoZero (line_text made))) }
+    ensures stays { KeepsTexts line_strings.old line_strings.new }
+    ensures memory { IfErr result (λ e. e ≡ ConvertError.OutOfMemory) }
+{
+    match text {
+        Some(text) => Ok(Some(program_text(text.as_slice(), encoding, line_strings)?)),
+        None => Ok(None),
+    }
 }

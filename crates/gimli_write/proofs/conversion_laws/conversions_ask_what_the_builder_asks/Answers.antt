@@ -1,4 +1,4 @@
-use Rattle.gimli_write.proofs.FeedingLemmas.{can_build-tells}
+use Rattle.gimli_write.proofs.OutcomeLemmas.{can_build-tells}
 use Rattle.gimli_write.proofs.conversion_laws.conversions_ask_what_the_builder_asks.Goals as goal
 
 pub returns : goal.returns

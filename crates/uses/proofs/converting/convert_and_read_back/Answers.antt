@@ -4,7 +4,7 @@ use Rattle.gimli_core.specs.declared.common.Encoding.{Encoding}
 use Rattle.gimli_bytes.specs.declared.address.Address.{Address}
 use Rattle.gimli_bytes.specs.declared.address.Address.TheVariants.{Constant}
 use Rattle.gimli_build.specs.Texts.{OneByOne}
-use Rattle.gimli_write.specs.convert.ConversionState.{conversion_of}
+use Rattle.gimli_write.specs.convert.Conversion.{outcome_with}
 use Rattle.gimli_write.specs.convert.DoneConversions.{DoneConversion}
 use Rattle.gimli_write.specs.convert.Mapped.{CanBeFaithful, IsReadAs}
 use Rattle.gimli_write.specs.convert.Sources.{Source, source_of}
@@ -20,8 +20,8 @@ round_trip-requires g c =
       convert_address = itself;
       source = source;
       line_strings = c.args.line_strings.now;
-      outcome = conversion_of (c.in_ok-program.program, c.in_ok-program.files) c.convert_program.new.line_strings;
-      is = c.in_ok-program.ensures.ok itself (λ a r post. search rules);
+      outcome = outcome_with (c.in_ok-program.program, c.in_ok-program.files) c.convert_program.new.line_strings;
+      is = c.in_ok-program.ensures.outcome.converts itself (λ a r post. search rules);
     } in
     c.converted_programs_can_be_written.ensures done c.convert_program.new.strings
 
@@ -32,14 +32,14 @@ returns g c =
       convert_address = itself;
       source = source;
       line_strings = c.args.line_strings.now;
-      outcome = conversion_of (c.in_ok-program.program, c.in_ok-program.files) c.convert_program.new.line_strings;
-      is = c.in_ok-program.ensures.ok itself (λ a r post. search rules);
+      outcome = outcome_with (c.in_ok-program.program, c.in_ok-program.files) c.convert_program.new.line_strings;
+      is = c.in_ok-program.ensures.outcome.converts itself (λ a r post. search rules);
     } in
     let encoding : c.in_ok-program.program.encoding ≡ c.args.from_program.meaning.parameters.encoding = c.converted_programs_keep_their_encoding.ensures done in
     record {
       faithful = λ rows seen events.
-          let can : CanBeFaithful itself source = record { itself = λ a. refl; wide = omega arith; ends_seen = seen } in
-          let faith = c.in_ok-program.ensures.faithful itself (λ a r post. search rules) can in
+          let can : CanBeFaithful itself source = record { itself = λ a. refl; wide = omega arith; no_end_under_tombstone = seen } in
+          let faith = c.in_ok-program.ensures.outcome.faithful itself (λ a r post. search rules) can in
           subst (λ (e : Encoding). OneByOne (IsReadAs c.args.from_program.meaning.parameters.encoding.version e.version c.in_ok-program.files.items) rows c.in_ok-answer.answer.rows.items) encoding
           (faith.read_back rows c.in_ok-answer.answer.rows.items events (c.in_ok-answer.ensures.built faith.addresses));
     }

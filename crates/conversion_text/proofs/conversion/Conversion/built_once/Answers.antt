@@ -2,7 +2,7 @@
 use Rattle.std.proofs.Common.{ℕ, Option, Some, option_map, rules}
 use Rattle.gimli_bytes.specs.declared.address.Address.{Address}
 use Rattle.gimli_bytes.specs.declared.address.Address.TheVariants.{Constant}
-use Rattle.gimli_write.specs.convert.ConversionState.{conversion_of}
+use Rattle.gimli_write.specs.convert.Conversion.{outcome_with}
 use Rattle.gimli_write.specs.convert.DoneConversions.{DoneConversion}
 use Rattle.gimli_write.specs.convert.Preparation.{handed_of}
 use Rattle.conversion_text.proofs.conversion.Conversion.built_once.Goals as goal
@@ -20,7 +20,7 @@ returns c =
         given = handed_of self.target.encoding self.target.line_encoding (option_map (λ s. s.slice.now) self.name);
       };
       line_strings = c.args.tables.now.line_strings;
-      outcome = conversion_of c.in_ok-built.built c.convert_program.new.line_strings;
-      is = c.in_ok-built.ensures.ok same (λ a r post. search rules);
+      outcome = outcome_with c.in_ok-built.built c.convert_program.new.line_strings;
+      is = c.in_ok-built.ensures.outcome.converts same (λ a r post. search rules);
     } in
     (c.converted_programs_can_be_written.ensures done c.convert_program.new.strings).directories

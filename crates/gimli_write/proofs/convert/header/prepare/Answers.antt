@@ -1,37 +1,37 @@
 use Rattle.std.proofs.Common.{ap, ◌∙◌, sym}
 use Rattle.std.specs.Prelude.{option_map, unwrap_or}
 use Rattle.std.proofs.lemmas.Result.{err_from_is_err_and}
-use Rattle.gimli_write.specs.convert.Lists.{lists_with}
+use Rattle.gimli_write.specs.convert.SourceTables.{tables_with}
 use Rattle.gimli_write.specs.convert.Preparation.{handed_of}
 use Rattle.gimli_write.proofs.ConvertSteps.{kept_then}
 use Rattle.gimli_write.proofs.ConvertHeader.{refused_at_start, at_listed, refused_at_listed}
 use Rattle.gimli_write.proofs.convert.header.prepare.Goals as goal
 
-pub returns-in_err-lists-clause-err : goal.returns-in_err-lists-clause-err
-returns-in_err-lists-clause-err g c =
+pub returns-in_err-tables-clause-err : goal.returns-in_err-tables-clause-err
+returns-in_err-tables-clause-err g c =
     let s = c.args.sections.now in
     let h = c.args.header.now.meaning in
     let given = handed_of c.args.encoding c.args.line_encoding (option_map g.R.Reader.bytes c.args.from_comp_name) in
     let target = c.unwrap_or-encoding.ensures ∙ ap (λ own. unwrap_or c.args.encoding own) c.encoding.ensures.encoding in
     let p = err_from_is_err_and c.from_residual.result c.from_residual.ensures.1 in
     rw (p.1, p.2)
-    (refused_at_start s h given c.args.line_strings.now c.unwrap_or-encoding.result target c.in_err-lists.field-0.0 c.in_err-lists.ensures.err)
+    (refused_at_start s h given c.args.line_strings.now c.unwrap_or-encoding.result target c.in_err-tables.field-0.0 c.in_err-tables.ensures.err)
 
-pub returns-in_err-add_listed-clause-err : goal.returns-in_err-add_listed-clause-err
-returns-in_err-add_listed-clause-err g c =
+pub returns-in_err-add_directories_and_files-clause-err : goal.returns-in_err-add_directories_and_files-clause-err
+returns-in_err-add_directories_and_files-clause-err g c =
     let s = c.args.sections.now in
     let h = c.args.header.now.meaning in
     let given = handed_of c.args.encoding c.args.line_encoding (option_map g.R.Reader.bytes c.args.from_comp_name) in
     let target = c.unwrap_or-encoding.ensures ∙ ap (λ own. unwrap_or c.args.encoding own) c.encoding.ensures.encoding in
-    let p = err_from_is_err_and c.from_residual-in_err-add_listed.result c.from_residual-in_err-add_listed.ensures.1 in
+    let p = err_from_is_err_and c.from_residual-in_err-add_directories_and_files.result c.from_residual-in_err-add_directories_and_files.ensures.1 in
     rw (p.1, p.2)
     (refused_at_listed s h given c.args.line_strings.now c.unwrap_or-encoding.result target
-    (lists_with c.begun.new.line_strings c.in_ok-lists.lists) c.in_err-add_listed.field-0.0 c.in_ok-lists.ensures.ok c.in_err-add_listed.ensures.err)
+    (tables_with c.tables_at_start.new.line_strings c.in_ok-tables.tables) c.in_err-add_directories_and_files.field-0.0 c.in_ok-tables.ensures.ok c.in_err-add_directories_and_files.ensures.err)
 
-pub returns-in_err-add_listed-clause-stays : goal.returns-in_err-add_listed-clause-stays
-returns-in_err-add_listed-clause-stays g c =
-    kept_then c.args.line_strings.now c.begun.new.line_strings c.add_listed.new.line_strings
-    c.in_ok-lists.ensures.stays c.in_err-add_listed.ensures.stays
+pub returns-in_err-add_directories_and_files-clause-stays : goal.returns-in_err-add_directories_and_files-clause-stays
+returns-in_err-add_directories_and_files-clause-stays g c =
+    kept_then c.args.line_strings.now c.tables_at_start.new.line_strings c.add_directories_and_files.new.line_strings
+    c.in_ok-tables.ensures.stays c.in_err-add_directories_and_files.ensures.stays
 
 pub returns-clause-ok : goal.returns-clause-ok
 returns-clause-ok g c =
@@ -40,10 +40,10 @@ returns-clause-ok g c =
     let given = handed_of c.args.encoding c.args.line_encoding (option_map g.R.Reader.bytes c.args.from_comp_name) in
     let target = c.unwrap_or-encoding.ensures ∙ ap (λ own. unwrap_or c.args.encoding own) c.encoding.ensures.encoding in
     sym (at_listed s h given c.args.line_strings.now c.unwrap_or-encoding.result target
-    (lists_with c.begun.new.line_strings c.in_ok-lists.lists) c.in_ok-lists.ensures.ok)
-    ∙ c.in_ok-add_listed.ensures.ok
+    (tables_with c.tables_at_start.new.line_strings c.in_ok-tables.tables) c.in_ok-tables.ensures.ok)
+    ∙ c.in_ok-add_directories_and_files.ensures.ok
 
 pub returns-clause-stays : goal.returns-clause-stays
 returns-clause-stays g c =
-    kept_then c.args.line_strings.now c.begun.new.line_strings c.add_listed.new.line_strings
-    c.in_ok-lists.ensures.stays c.in_ok-add_listed.ensures.stays
+    kept_then c.args.line_strings.now c.tables_at_start.new.line_strings c.add_directories_and_files.new.line_strings
+    c.in_ok-tables.ensures.stays c.in_ok-add_directories_and_files.ensures.stays

@@ -1,10 +1,10 @@
 use Rattle.std.proofs.Common.{sym, ◌∙◌, inr}
 use Rattle.std.specs.Prelude.{None}
 use Rattle.std.proofs.lemmas.Result.{err_from_is_err_and}
-use Rattle.gimli_write.specs.convert.Feeding.{outcome_of}
-use Rattle.gimli_write.specs.convert.ConversionState.{still_to_read}
+use Rattle.gimli_write.specs.convert.Outcome.{outcome_of}
+use Rattle.gimli_write.specs.convert.Conversion.{still_to_read}
 use Rattle.gimli_write.proofs.ConvertSteps.{kept_then, refused_same}
-use Rattle.gimli_write.proofs.Feedings.{fed_next, fed_fewer, feed_refused, read_refused, left_open, converted_all}
+use Rattle.gimli_write.proofs.Outcomes.{fed_next, fed_fewer, feed_refused, read_refused, left_open, converted_all}
 use Rattle.gimli_write.proofs.Writable.{writable_then, writable_with_items}
 use Rattle.gimli_write.proofs.convert.conversion.Conversion.feed_all.Goals as goal
 
@@ -15,7 +15,7 @@ returns-in_err-row-clause-err g c =
     let e = c.in_err-row.field-0.0 in
     let p = err_from_is_err_and c.from_residual.result c.from_residual.ensures.1 in
     rw (p.1, p.2) (λ m says.
-    refused_same (outcome_of m (still_to_read old before) old.lists.program) (outcome_of m (still_to_read c.args.self.now c.args.line_strings.now) c.args.self.now.lists.program) e
+    refused_same (outcome_of m (still_to_read old before) old.tables.program) (outcome_of m (still_to_read c.args.self.now c.args.line_strings.now) c.args.self.now.tables.program) e
     (c.rows.invariant.same m says) (read_refused m old c.read_row.new.self before c.read_row.new.line_strings e c.in_err-row.ensures.err))
 
 pub returns-in_err-row-clause-stays : goal.returns-in_err-row-clause-stays
@@ -40,7 +40,7 @@ rows-preserved g c =
       writable =
           writable_then
           (writable_then c.rows.invariant.writable c.in_ok-row.ensures.writable)
-          (writable_with_items c.read_row.new.self.lists c.feed.new.self.lists c.read_row.new.line_strings c.in_ok-feed-in-Some.ensures.items);
+          (writable_with_items c.read_row.new.self.tables c.feed.new.self.tables c.read_row.new.line_strings c.in_ok-feed-in-Some.ensures.items);
     }
 
 pub returns-in_err-feed-in-Some-clause-err : goal.returns-in_err-feed-in-Some-clause-err
@@ -51,7 +51,7 @@ returns-in_err-feed-in-Some-clause-err g c =
     let e = c.in_err-feed-in-Some.field-0.0 in
     let p = err_from_is_err_and c.from_residual-in_err-feed-in-Some.result c.from_residual-in_err-feed-in-Some.ensures.1 in
     rw (p.1, p.2) (λ m says.
-    refused_same (outcome_of m (still_to_read old before) old.lists.program) (outcome_of m (still_to_read c.args.self.now c.args.line_strings.now) c.args.self.now.lists.program) e
+    refused_same (outcome_of m (still_to_read old before) old.tables.program) (outcome_of m (still_to_read c.args.self.now c.args.line_strings.now) c.args.self.now.tables.program) e
     (c.rows.invariant.same m says)
     (feed_refused m old c.read_row.new.self before c.read_row.new.line_strings c.in-Some.row hands c.in_ok-row.ensures.adds e (c.in_err-feed-in-Some.ensures.err m says)))
 

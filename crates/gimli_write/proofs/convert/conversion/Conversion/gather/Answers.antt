@@ -4,13 +4,13 @@ use Rattle.std.proofs.lemmas.Bool.{eqb-true}
 use Rattle.std.proofs.lemmas.List.{nil_from_length}
 use Rattle.std.proofs.lemmas.Result.{err_from_is_err_and}
 use Rattle.gimli_write.specs.declared.convert_error.ConvertError.{ConvertError}
-use Rattle.gimli_write.specs.declared.convert.offer.ConvertLineRow.TheVariants.{SetAddress, Row, EndSequence}
-use Rattle.gimli_write.specs.declared.convert.sequence.ConvertLineSequenceEnd.TheVariants.{Address}
-use Rattle.gimli_write.specs.convert.Offers.{Reading, offers}
+use Rattle.gimli_write.specs.declared.convert.rows.ConvertLineRow.TheVariants.{SetAddress, Row, EndSequence}
+use Rattle.gimli_write.specs.declared.convert.rows.ConvertLineSequenceEnd.TheVariants.{Address}
+use Rattle.gimli_write.specs.convert.Items.{Reading, offers}
 use Rattle.gimli_write.specs.convert.Sequences.{SequenceRead, sequence_with, sequence_from}
-use Rattle.gimli_write.specs.convert.ConversionState.{lists_of, still_to_read}
+use Rattle.gimli_write.specs.convert.Conversion.{tables_of, still_to_read}
 use Rattle.gimli_write.proofs.ConvertSteps.{kept_then, refused_same}
-use Rattle.gimli_write.proofs.Feedings.{one_fewer}
+use Rattle.gimli_write.proofs.Outcomes.{one_fewer}
 use Rattle.gimli_write.proofs.KeptFiles.{files_then}
 use Rattle.gimli_write.proofs.Writable.{writable_then}
 use Rattle.gimli_write.proofs.Gathers.{gathered_first, row_gathered, address_gathered, address_ends, given_back, nothing_gathered, rows_left, gather_refused, added_then}
@@ -34,7 +34,7 @@ rows-smaller-in-Continue-branch-4 g c =
     let found = rw c.in-Some-Row.is at c.in_ok-row.ensures.ok in
     let hands = rw c.in-Some-Row.field-0-is at found in
     one_fewer (still_to_read c.rows.self c.rows.line_strings) (still_to_read c.read_row.new.self c.read_row.new.line_strings) (Row c.in-Some-Row.row)
-    (lists_of c.read_row.new.self c.read_row.new.line_strings) hands
+    (tables_of c.read_row.new.self c.read_row.new.line_strings) hands
 
 pub rows-preserved-in-Continue-branch-4 : goal.rows-preserved-in-Continue-branch-4
 rows-preserved-in-Continue-branch-4 g c =
@@ -43,10 +43,10 @@ rows-preserved-in-Continue-branch-4 g c =
     record {
       same =
           row_gathered c.rows.start c.rows.rows.items c.push.new.self.items c.in-Some-Row.row (still_to_read c.rows.self c.rows.line_strings) (still_to_read c.read_row.new.self c.read_row.new.line_strings)
-          (lists_of c.read_row.new.self c.read_row.new.line_strings) hands c.in_ok-push-in-Some-Row.ensures.items
+          (tables_of c.read_row.new.self c.read_row.new.line_strings) hands c.in_ok-push-in-Some-Row.ensures.items
           ∙ c.rows.invariant.same;
-      adds = added_then c.args.self.now.lists.program c.rows.self.lists.program c.read_row.new.self.lists.program c.rows.invariant.adds c.in_ok-row.ensures.adds;
-      keeps = files_then c.args.self.now.lists c.rows.self.lists c.read_row.new.self.lists c.rows.invariant.keeps c.in_ok-row.ensures.keeps;
+      adds = added_then c.args.self.now.tables.program c.rows.self.tables.program c.read_row.new.self.tables.program c.rows.invariant.adds c.in_ok-row.ensures.adds;
+      keeps = files_then c.args.self.now.tables c.rows.self.tables c.read_row.new.self.tables c.rows.invariant.keeps c.in_ok-row.ensures.keeps;
       writable = writable_then c.rows.invariant.writable c.in_ok-row.ensures.writable;
       last = c.in_ok-row.ensures.last ∙ c.rows.invariant.last;
       stays = kept_then c.args.line_strings.now c.rows.line_strings c.read_row.new.line_strings c.rows.invariant.stays c.in_ok-row.ensures.stays;
@@ -61,7 +61,7 @@ rows-smaller g c =
     let found = rw c.in-Some-SetAddress.is at c.in_ok-row.ensures.ok in
     let hands = rw c.in-Some-SetAddress.field-0-is at found in
     one_fewer (still_to_read c.rows.self c.rows.line_strings) (still_to_read c.read_row.new.self c.read_row.new.line_strings) (SetAddress c.in-Some-SetAddress.address)
-    (lists_of c.read_row.new.self c.read_row.new.line_strings) hands
+    (tables_of c.read_row.new.self c.read_row.new.line_strings) hands
 
 pub rows-preserved : goal.rows-preserved
 rows-preserved g c =
@@ -71,10 +71,10 @@ rows-preserved g c =
     record {
       same =
           address_gathered c.rows.start c.rows.rows.items c.in-Some-SetAddress.address (still_to_read c.rows.self c.rows.line_strings) (still_to_read c.read_row.new.self c.read_row.new.line_strings)
-          (lists_of c.read_row.new.self c.read_row.new.line_strings) hands none
+          (tables_of c.read_row.new.self c.read_row.new.line_strings) hands none
           ∙ c.rows.invariant.same;
-      adds = added_then c.args.self.now.lists.program c.rows.self.lists.program c.read_row.new.self.lists.program c.rows.invariant.adds c.in_ok-row.ensures.adds;
-      keeps = files_then c.args.self.now.lists c.rows.self.lists c.read_row.new.self.lists c.rows.invariant.keeps c.in_ok-row.ensures.keeps;
+      adds = added_then c.args.self.now.tables.program c.rows.self.tables.program c.read_row.new.self.tables.program c.rows.invariant.adds c.in_ok-row.ensures.adds;
+      keeps = files_then c.args.self.now.tables c.rows.self.tables c.read_row.new.self.tables c.rows.invariant.keeps c.in_ok-row.ensures.keeps;
       writable = writable_then c.rows.invariant.writable c.in_ok-row.ensures.writable;
       last = c.in_ok-row.ensures.last ∙ c.rows.invariant.last;
       stays = kept_then c.args.line_strings.now c.rows.line_strings c.read_row.new.line_strings c.rows.invariant.stays c.in_ok-row.ensures.stays;
@@ -88,7 +88,7 @@ returns-in-Some-SetAddress-2-clause-ok g c =
     let some = ap (λ (n : ℕ). nat_eq n 0) (sym c.rows.rows.ok.0) ∙ sym c.is_empty.ensures ∙ c.if-is_empty.false in
     sym c.rows.invariant.same
     ∙ address_ends c.rows.start c.rows.rows.items a (still_to_read c.rows.self c.rows.line_strings) (still_to_read c.read_row.new.self c.read_row.new.line_strings)
-    (lists_of c.read_row.new.self c.read_row.new.line_strings) hands some
+    (tables_of c.read_row.new.self c.read_row.new.line_strings) hands some
     ∙ ap (λ (r : Reading). let answer : Result (Option SequenceRead × Reading) ConvertError = Ok (Some (sequence_with c.rows.start c.rows.rows.items (Address a)), r) in answer)
     (given_back c.read_row.new.self c.give_back.new.self c.read_row.new.line_strings a c.in_ok-row.ensures.well c.in_ok-row.ensures.given c.give_back.ensures)
 
@@ -102,7 +102,7 @@ returns-in-Some-EndSequence-clause-ok g c =
     let hands = rw c.in-Some-EndSequence.field-0-is at found in
     sym c.rows.invariant.same
     ∙ gathered_first c.rows.start c.rows.rows.items (still_to_read c.rows.self c.rows.line_strings)
-    (offers (EndSequence c.in-Some-EndSequence.length) (lists_of c.read_row.new.self c.read_row.new.line_strings) (still_to_read c.read_row.new.self c.read_row.new.line_strings)) hands
+    (offers (EndSequence c.in-Some-EndSequence.length) (tables_of c.read_row.new.self c.read_row.new.line_strings) (still_to_read c.read_row.new.self c.read_row.new.line_strings)) hands
 
 pub returns-in-Some-EndSequence-clause-stays : goal.returns-in-Some-EndSequence-clause-stays
 returns-in-Some-EndSequence-clause-stays g c =
@@ -114,7 +114,7 @@ returns-in-None-clause-ok g c =
     let none = nil_from_length c.rows.rows.items (sym c.rows.rows.ok.0 ∙ eqb-true c.rows.rows.len 0 (sym c.if-is_empty-2.ensures)) in
     sym c.rows.invariant.same
     ∙ nothing_gathered c.rows.start c.rows.rows.items (still_to_read c.rows.self c.rows.line_strings) (still_to_read c.read_row.new.self c.read_row.new.line_strings)
-    (lists_of c.read_row.new.self c.read_row.new.line_strings) end.0 end.1 none
+    (tables_of c.read_row.new.self c.read_row.new.line_strings) end.0 end.1 none
 
 pub returns-in-None-clause-stays : goal.returns-in-None-clause-stays
 returns-in-None-clause-stays g c =
@@ -125,7 +125,7 @@ returns-in-None-2-clause-err g c =
     let end = rw c.in-None.is at c.in_ok-row.ensures.ok in
     let some = ap (λ (n : ℕ). nat_eq n 0) (sym c.rows.rows.ok.0) ∙ sym c.if-is_empty-2.ensures in
     inr (sym c.rows.invariant.same
-    ∙ rows_left c.rows.start c.rows.rows.items (still_to_read c.rows.self c.rows.line_strings) (lists_of c.read_row.new.self c.read_row.new.line_strings) end.0 some)
+    ∙ rows_left c.rows.start c.rows.rows.items (still_to_read c.rows.self c.rows.line_strings) (tables_of c.read_row.new.self c.read_row.new.line_strings) end.0 some)
 
 pub returns-in-None-2-clause-stays : goal.returns-in-None-2-clause-stays
 returns-in-None-2-clause-stays g c =

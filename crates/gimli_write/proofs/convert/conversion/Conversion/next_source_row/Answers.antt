@@ -5,14 +5,14 @@ use Rattle.gimli_line.specs.header.File.{file_seen}
 use Rattle.gimli_line.specs.header.Header.{Header}
 use Rattle.gimli_build.specs.Built.{Built}
 use Rattle.gimli_write.specs.declared.convert_error.ConvertError.{ConvertError}
-use Rattle.gimli_write.specs.convert.Lists.{Converted, Lists, lists_with, file_added}
-use Rattle.gimli_write.specs.convert.LastLists.{unless_refused, lists_at_last}
-use Rattle.gimli_write.specs.convert.Offers.{defines, defines_first, after_definitions}
-use Rattle.gimli_write.specs.convert.ConversionState.{without_built, source_left}
-use Rattle.gimli_write.specs.convert.KeptLists.{source_last}
+use Rattle.gimli_write.specs.convert.SourceTables.{SourceTables, TablesAndTexts, tables_with, file_added}
+use Rattle.gimli_write.specs.convert.TablesAtEnd.{unless_refused, tables_at_end}
+use Rattle.gimli_write.specs.convert.Items.{defines, defines_first, after_definitions}
+use Rattle.gimli_write.specs.convert.Conversion.{without_built, source_left}
+use Rattle.gimli_write.specs.convert.KeptTables.{final_tables_of_source}
 use Rattle.gimli_write.proofs.SourceSteps.{none_left}
 use Rattle.gimli_write.proofs.ConvertSteps.{kept_then}
-use Rattle.gimli_write.proofs.LastLists.{none_last, file_stopped}
+use Rattle.gimli_write.proofs.TablesAtEnd.{none_last, file_stopped}
 use Rattle.gimli_write.proofs.KeptFiles.{files_then}
 use Rattle.gimli_write.proofs.Writable.{writable_then}
 use Rattle.gimli_write.proofs.Conversions.{conversion, file_taken, file_refusal}
@@ -21,19 +21,19 @@ use Rattle.gimli_write.proofs.convert.conversion.Conversion.next_source_row.Goal
 pub returns-in-Done-clause-ok : goal.returns-in-Done-clause-ok
 returns-in-Done-clause-ok g c =
     let a = c.steps.self-inside in
-    let lists = without_built (lists_with c.steps.line_strings a.lists) in
+    let tables = without_built (tables_with c.steps.line_strings a.tables) in
     let read = rw c.in-Done.is at c.in_ok-step.ensures.reading in
     let over = rw c.in-Done.is at c.in_ok-step.ensures.shorter in
-    (sym c.steps.invariant.left ∙ ap after_definitions (read a.sections lists), none_left a.sections lists c.step.new.self over)
+    (sym c.steps.invariant.left ∙ ap after_definitions (read a.sections tables), none_left a.sections tables c.step.new.self over)
 
 pub steps-preserved : goal.steps-preserved
 steps-preserved g c =
     let a = c.steps.self-inside in
     let f = file_seen g.R.Reader.bytes g.R.Offset.ReaderOffset.number c.in-Defines.file in
-    let before = lists_with c.steps.line_strings a.lists in
-    let after = lists_with c.add_file.new.line_strings c.add_file.new.self in
+    let before = tables_with c.steps.line_strings a.tables in
+    let after = tables_with c.add_file.new.line_strings c.add_file.new.self in
     let read = rw c.in-Defines.is at c.in_ok-step.ensures.reading in
-    let leaves = rw c.in-Defines.is at c.in_ok-step.ensures.lists in
+    let leaves = rw c.in-Defines.is at c.in_ok-step.ensures.tables in
     record {
       left =
           sym (ap after_definitions (read a.sections (without_built before) ∙ ap defines (file_taken a.sections c.step.new.self before f after c.in_ok-add_file-in-Defines.ensures.ok)))
@@ -47,11 +47,11 @@ steps-preserved g c =
       adds =
           c.in_ok-add_file-in-Defines.ensures.adds
           ∙ ap (λ (p : Built). let q : Built = record p { files = c.add_file.new.self.program.files } in q) c.steps.invariant.adds;
-      keeps = files_then c.args.self.now.lists a.lists c.add_file.new.self c.steps.invariant.keeps c.in_ok-add_file-in-Defines.ensures.keeps;
+      keeps = files_then c.args.self.now.tables a.tables c.add_file.new.self c.steps.invariant.keeps c.in_ok-add_file-in-Defines.ensures.keeps;
       writable = writable_then c.steps.invariant.writable c.in_ok-add_file-in-Defines.ensures.writable;
       last =
           sym (leaves a.sections before
-          ∙ ap (λ (there : Result Lists ConvertError). unless_refused before there (λ next. lists_at_last a.sections c.step.new.self next)) c.in_ok-add_file-in-Defines.ensures.ok)
+          ∙ ap (λ (there : Result TablesAndTexts ConvertError). unless_refused before there (λ next. tables_at_end a.sections c.step.new.self next)) c.in_ok-add_file-in-Defines.ensures.ok)
           ∙ c.steps.invariant.last;
       stays = kept_then c.args.line_strings.now c.steps.line_strings c.add_file.new.line_strings
           c.steps.invariant.stays c.in_ok-add_file-in-Defines.ensures.stays;
@@ -61,9 +61,9 @@ pub returns-in_err-add_file-in-Defines-clause-err : goal.returns-in_err-add_file
 returns-in_err-add_file-in-Defines-clause-err g c =
     let a = c.steps.self-inside in
     let f = file_seen g.R.Reader.bytes g.R.Offset.ReaderOffset.number c.in-Defines.file in
-    let before = lists_with c.steps.line_strings a.lists in
+    let before = tables_with c.steps.line_strings a.tables in
     let read = rw c.in-Defines.is at c.in_ok-step.ensures.reading in
-    let now = conversion a.sections a.source a.lists a.address a.held a.failed in
+    let now = conversion a.sections a.source a.tables a.address a.held a.failed in
     let p = err_from_is_err_and c.from_residual-in_err-add_file-in-Defines.result c.from_residual-in_err-add_file-in-Defines.ensures.1 in
     rw (p.1, p.2)
     (file_refusal a.sections c.step.new.self before f (source_left now c.steps.line_strings) (source_left c.args.self.now c.args.line_strings.now) c.in_err-add_file-in-Defines.field-0.0
@@ -77,29 +77,29 @@ returns-in_err-add_file-in-Defines-clause-stays g c =
 pub returns-in-Done-clause-last : goal.returns-in-Done-clause-last
 returns-in-Done-clause-last g c =
     let a = c.steps.self-inside in
-    let lists = lists_with c.steps.line_strings a.lists in
-    let leaves = rw c.in-Done.is at c.in_ok-step.ensures.lists in
+    let tables = tables_with c.steps.line_strings a.tables in
+    let leaves = rw c.in-Done.is at c.in_ok-step.ensures.tables in
     let over = rw c.in-Done.is at c.in_ok-step.ensures.shorter in
-    none_last a.sections lists c.step.new.self over ∙ sym (leaves a.sections lists) ∙ c.steps.invariant.last
+    none_last a.sections tables c.step.new.self over ∙ sym (leaves a.sections tables) ∙ c.steps.invariant.last
 
 pub returns-in-Done-clause-ended : goal.returns-in-Done-clause-ended
 returns-in-Done-clause-ended g c = λ none.
     let a = c.steps.self-inside in
-    let leaves = rw c.in-Done.is at c.in_ok-step.ensures.lists in
-    sym (leaves a.sections (lists_with c.steps.line_strings a.lists)) ∙ c.steps.invariant.last
+    let leaves = rw c.in-Done.is at c.in_ok-step.ensures.tables in
+    sym (leaves a.sections (tables_with c.steps.line_strings a.tables)) ∙ c.steps.invariant.last
 
 pub returns-in_err-add_file-in-Defines-clause-stopped : goal.returns-in_err-add_file-in-Defines-clause-stopped
 returns-in_err-add_file-in-Defines-clause-stopped g c =
     let a = c.steps.self-inside in
     let f = file_seen g.R.Reader.bytes g.R.Offset.ReaderOffset.number c.in-Defines.file in
-    let before = lists_with c.steps.line_strings a.lists in
-    let leaves = rw c.in-Defines.is at c.in_ok-step.ensures.lists in
+    let before = tables_with c.steps.line_strings a.tables in
+    let leaves = rw c.in-Defines.is at c.in_ok-step.ensures.tables in
     let p = err_from_is_err_and c.from_residual-in_err-add_file-in-Defines.result c.from_residual-in_err-add_file-in-Defines.ensures.1 in
     rw (p.1, p.2) (λ other.
-    file_stopped before (lists_with c.add_file.new.line_strings c.add_file.new.self) (source_last c.args.self.now c.args.line_strings.now) (file_added a.sections before f)
-    (λ next. lists_at_last a.sections c.step.new.self next) c.in_err-add_file-in-Defines.field-0.0 c.in_err-add_file-in-Defines.ensures.err other
-    (ap (λ (l : List (List ℕ)). lists_with l c.add_file.new.self) (c.in_err-add_file-in-Defines.ensures.texts other)
-    ∙ ap (λ (x : Converted). lists_with c.steps.line_strings x) (c.in_err-add_file-in-Defines.ensures.kept other))
+    file_stopped before (tables_with c.add_file.new.line_strings c.add_file.new.self) (final_tables_of_source c.args.self.now c.args.line_strings.now) (file_added a.sections before f)
+    (λ next. tables_at_end a.sections c.step.new.self next) c.in_err-add_file-in-Defines.field-0.0 c.in_err-add_file-in-Defines.ensures.err other
+    (ap (λ (l : List (List ℕ)). tables_with l c.add_file.new.self) (c.in_err-add_file-in-Defines.ensures.texts other)
+    ∙ ap (λ (x : SourceTables). tables_with c.steps.line_strings x) (c.in_err-add_file-in-Defines.ensures.kept other))
     (sym (leaves a.sections before) ∙ c.steps.invariant.last))
 
 pub returns-in_err-add_file-in-Defines-clause-writable : goal.returns-in_err-add_file-in-Defines-clause-writable

@@ -1,15 +1,15 @@
 use Rattle.std.proofs.Common.{◌≡◌, true, length}
 use Rattle.gimli_bytes.specs.Texts.{KeepsTexts}
-use Rattle.gimli_write.specs.convert.KeptLists.{KeepsFiles, StaysWritable, source_last}
-use Rattle.gimli_write.specs.convert.Offers.{defines_first, after_definitions}
-use Rattle.gimli_write.specs.convert.ConversionState.{version_of_source, source_left, AddsFiles}
+use Rattle.gimli_write.specs.convert.KeptTables.{KeepsFiles, StaysWritable, final_tables_of_source}
+use Rattle.gimli_write.specs.convert.Items.{defines_first, after_definitions}
+use Rattle.gimli_write.specs.convert.Conversion.{version_of_source, source_left, AddsFiles}
 use Rattle.gimli_write.proofs.Conversions.{conversion}
 use Rattle.gimli_write.proofs.convert.conversion.Conversion.next_source_row.Given as goal
 
 abbrev pub invariant-steps : goal.invariant-steps
 invariant-steps g l =
     let a = l.self-inside in
-    let now = conversion a.sections a.source a.lists a.address a.held a.failed in
+    let now = conversion a.sections a.source a.tables a.address a.held a.failed in
     record {
       left : after_definitions (source_left now l.line_strings) ≡ after_definitions (source_left l.fn.self l.fn.line_strings);
       first : defines_first (source_left now l.line_strings) ≡ true → defines_first (source_left l.fn.self l.fn.line_strings) ≡ true;
@@ -18,10 +18,10 @@ invariant-steps g l =
       address : a.address ≡ l.fn.self.address;
       held : a.held ≡ l.fn.self.held;
       failed : a.failed ≡ l.fn.self.failed;
-      adds : AddsFiles l.fn.self.lists.program a.lists.program;
-      keeps : KeepsFiles l.fn.self.lists a.lists;
-      writable : StaysWritable l.fn.self.lists l.fn.line_strings a.lists l.line_strings;
-      last : source_last now l.line_strings ≡ source_last l.fn.self l.fn.line_strings;
+      adds : AddsFiles l.fn.self.tables.program a.tables.program;
+      keeps : KeepsFiles l.fn.self.tables a.tables;
+      writable : StaysWritable l.fn.self.tables l.fn.line_strings a.tables l.line_strings;
+      last : final_tables_of_source now l.line_strings ≡ final_tables_of_source l.fn.self l.fn.line_strings;
       stays : KeepsTexts l.fn.line_strings l.line_strings;
     }
 

@@ -2,20 +2,20 @@ use Rattle.std.proofs.Common.{◌≡◌, refl, sym, subst}
 use Rattle.std.specs.Prelude.{option_map}
 use Rattle.std.proofs.lemmas.Result.{err_from_is_err_and}
 use Rattle.gimli_build.specs.Texts.{Sections}
-use Rattle.gimli_write.specs.convert.Lists.{Lists, lists_with}
+use Rattle.gimli_write.specs.convert.SourceTables.{TablesAndTexts, tables_with}
 use Rattle.gimli_write.specs.convert.Preparation.{handed_of, encoding_of}
-use Rattle.gimli_write.specs.convert.Offers.{Reads}
-use Rattle.gimli_write.specs.convert.SourceState.{start_of_source, reading_left}
-use Rattle.gimli_write.specs.convert.ConversionState.{without_built}
+use Rattle.gimli_write.specs.convert.Items.{ReadsItems}
+use Rattle.gimli_write.specs.convert.SourceRun.{start_of_source, reading_left}
+use Rattle.gimli_write.specs.convert.Conversion.{without_built}
 use Rattle.gimli_write.proofs.SourceReadings.{start_reads}
 use Rattle.gimli_write.proofs.Conversions.{prepared_plain}
-use Rattle.gimli_write.proofs.MappedLists.{prepared_ready, ready_written}
+use Rattle.gimli_write.proofs.MappedTables.{prepared_ready, ready_written}
 use Rattle.gimli_write.proofs.convert.program.ConvertLineHeader.new.Goals as goal
 
-pub returns-in_err-lists-clause-err : goal.returns-in_err-lists-clause-err
-returns-in_err-lists-clause-err g c =
+pub returns-in_err-tables-clause-err : goal.returns-in_err-tables-clause-err
+returns-in_err-tables-clause-err g c =
     let p = err_from_is_err_and c.from_residual.result c.from_residual.ensures.1 in
-    let refused = rw c.header.ensures at c.in_err-lists.ensures.err in
+    let refused = rw c.header.ensures at c.in_err-tables.ensures.err in
     rw (p.1, p.2) refused
 
 pub returns-clause-reads : goal.returns-clause-reads
@@ -23,13 +23,13 @@ returns-clause-reads g c =
     let sections : Sections = record { strings = g.R.Reader.bytes c.args.debug_str; line_strings = g.R.Reader.bytes c.args.debug_line_str } in
     let h = c.args.from_program.meaning in
     let notation = c.args.from_program.notation in
-    let lists = lists_with c.prepare.new.line_strings c.in_ok-lists.lists in
+    let tables = tables_with c.prepare.new.line_strings c.in_ok-tables.tables in
     let given = handed_of c.args.encoding c.args.line_encoding (option_map g.R.Reader.bytes c.args.from_comp_name) in
-    let is = rw c.header.ensures at c.in_ok-lists.ensures.ok in
-    let same : without_built lists ≡ lists = prepared_plain sections h given c.args.line_strings.now lists is in
+    let is = rw c.header.ensures at c.in_ok-tables.ensures.ok in
+    let same : without_built tables ≡ tables = prepared_plain sections h given c.args.line_strings.now tables is in
     rw c.start-conversion.ensures
-    (subst (λ (x : Lists). Reads notation sections h lists h.program (reading_left sections (start_of_source h (record { bytes = h.program; notation = notation })) x))
-    (sym same) (start_reads notation sections h lists h.program))
+    (subst (λ (x : TablesAndTexts). ReadsItems notation sections h tables h.program (reading_left sections (start_of_source h (record { bytes = h.program; notation = notation })) x))
+    (sym same) (start_reads notation sections h tables h.program))
 
 pub returns-clause-unread : goal.returns-clause-unread
 returns-clause-unread g c = rw c.start-conversion.ensures refl
@@ -38,9 +38,9 @@ pub returns-clause-writable : goal.returns-clause-writable
 returns-clause-writable g c =
     let sections : Sections = record { strings = g.R.Reader.bytes c.args.debug_str; line_strings = g.R.Reader.bytes c.args.debug_line_str } in
     let h = c.args.from_program.meaning in
-    let lists = lists_with c.prepare.new.line_strings c.in_ok-lists.lists in
+    let tables = tables_with c.prepare.new.line_strings c.in_ok-tables.tables in
     let given = handed_of c.args.encoding c.args.line_encoding (option_map g.R.Reader.bytes c.args.from_comp_name) in
-    let is = rw c.header.ensures at c.in_ok-lists.ensures.ok in
+    let is = rw c.header.ensures at c.in_ok-tables.ensures.ok in
     rw c.start-conversion.ensures (record {
-      can = λ strings. ready_written strings (encoding_of h given) lists (prepared_ready strings sections h given c.args.line_strings.now lists is);
+      can = λ strings. ready_written strings (encoding_of h given) tables (prepared_ready strings sections h given c.args.line_strings.now tables is);
     })

@@ -1,17 +1,14 @@
-use Rattle.std.proofs.Common.{◌≡◌, refl, ap, ◌∙◌, subst}
+use Rattle.std.proofs.Common.{◌≡◌, subst}
 use Rattle.std.specs.Prelude.{Some}
-use Rattle.gimli_core.specs.declared.common.Encoding.{Encoding}
 use Rattle.gimli_line.specs.declared.run.instruction.LineInstruction.TheVariants.{SetAddress}
-use Rattle.gimli_write.specs.convert.SourceState.{SourceState, state_after}
+use Rattle.gimli_write.specs.convert.SourceRun.{SourceRun, state_after}
 use Rattle.gimli_write.proofs.SourceSteps.{state, address_done, address_ready, address_header, address_state}
 use Rattle.gimli_write.proofs.convert.run.SourceRun.set_address.Goals as goal
 
 pub invariant_of-self : goal.invariant_of-self
 invariant_of-self g c =
     let h = c.self.inside.program.meaning in
-    let lent : c.header.result.now.meaning.parameters.encoding ≡ c.self.inside.program.meaning.parameters.encoding = rw c.header.ensures refl in
-    address_ready h.parameters c.args.address c.self.inside.row c.execute-never_refused.new.self c.is_tombstone-self-inside.result _ _ c.is_tombstone-self-inside.ensures c.address-before.ensures
-    (ap (λ (e : Encoding). e.address_size) (c.encoding-size.ensures.encoding ∙ lent)) c.self.invariant.1
+    address_ready h.parameters c.args.address c.self.inside.row c.execute-never_refused.new.self c.self.invariant
     (address_done h.parameters c.args.address c.self.inside.row c.execute-never_refused.new.self c.execute-never_refused.result
     c.execute-never_refused.ensures.step c.execute-never_refused.ensures.overflow c.execute-never_refused.ensures.memory)
 
@@ -21,7 +18,7 @@ returns g c =
     let h2 = c.execute-never_refused.new.program.meaning in
     let r2 = c.execute-never_refused.new.self in
     let u = c.self.inside.instructions in
-    subst (λ (s : SourceState). state h2 r2 c.args.address (Some c.args.address) u ≡ state_after (SetAddress c.args.address) s) c.self.view_is
+    subst (λ (s : SourceRun). state h2 r2 c.args.address (Some c.args.address) u ≡ state_after (SetAddress c.args.address) s) c.self.view_is
     (address_state c.args.address h h2 c.self.inside.row r2 c.self.inside.base c.self.inside.pending u
     (address_header c.args.address h h2 c.execute-never_refused.result c.execute-never_refused.ensures.files c.execute-never_refused.ensures.kept)
     (address_done h.parameters c.args.address c.self.inside.row r2 c.execute-never_refused.result

@@ -1,0 +1,67 @@
+-- The tests of a conversion tell the builder's conditions.
+use Rattle.std.proofs.Common.{◌≡◌, ℕ, ◌+◌, ◌-◌, ◌*◌, ◌/◌, ◌%◌, ◌^◌, ◌≤◌, Bool, true, false, not, ◌&&◌, ◌||◌, refl}
+use Rattle.std.specs.Prelude.{nat_eq, nat_lt, nat_le}
+use Rattle.std.specs.Bool.{Decides}
+use Rattle.std.proofs.lemmas.Bool.{and_from, and_parts, leb-true, ltb-true, eqb-true, le-leb, lt-ltb, eq-eqb}
+use Rattle.gimli_core.specs.declared.common.LineEncoding.{LineEncoding}
+use Rattle.gimli_build.specs.Advance.{CanFollow}
+use Rattle.gimli_build.specs.Conditions.{CanBuild}
+use Rattle.gimli_build.specs.declared.built.items.BuiltItem.{BuiltItem}
+use Rattle.gimli_build.specs.declared.built.items.BuiltItem.TheVariants.{SetAddress, Row, End}
+use Rattle.gimli_write.specs.convert.Outcome.{can_follow, can_build}
+
+-- ---- the tests
+
+-- at the same offset the operation isn't before the previous one
+later_test : (o p j i : ℕ) → (not (nat_eq o p) || nat_le j i) ≡ true → o ≡ p → j ≤ i
+later_test o p j i is same = leb-true j i (by (nat_eq o p) (eq-eqb o p same) is)
+  where
+    by : (b : Bool) → b ≡ true → (not b || nat_le j i) ≡ true → nat_le j i ≡ true
+    by true at so = so
+    by false at so = absurd cc
+
+later_tested : (o p j i : ℕ) → (o ≡ p → j ≤ i) → (not (nat_eq o p) || nat_le j i) ≡ true
+later_tested o p j i later = by (nat_eq o p) refl
+  where
+    by : (b : Bool) → nat_eq o p ≡ b → (not b || nat_le j i) ≡ true
+    by true is = le-leb j i (later (eqb-true o p is))
+    by false is = refl
+
+pub can_follow-tells : (e : LineEncoding) (place : ℕ × ℕ) (o i : ℕ) → Decides (can_follow e place o i) (CanFollow e place.0 place.1 o i)
+can_follow-tells e place o i =
+    let divides = nat_eq (o % e.minimum_instruction_length) 0 in
+    let within = nat_lt i e.maximum_operations_per_instruction in
+    let after = nat_le place.0 o in
+    let later = not (nat_eq o place.0) || nat_le place.1 i in
+    let fits = nat_lt ((o - place.0) / e.minimum_instruction_length * e.maximum_operations_per_instruction + i) (2 ^ 64) in (
+      λ is.
+          let d = and_parts (divides && within && after && later) fits is in
+          let c = and_parts (divides && within && after) later d.0 in
+          let b = and_parts (divides && within) after c.0 in
+          let a = and_parts divides within b.0 in
+          record {
+            place = record { divides = eqb-true (o % e.minimum_instruction_length) 0 a.0; within = ltb-true i e.maximum_operations_per_instruction a.1 };
+            after = leb-true place.0 o b.1;
+            later = later_test o place.0 place.1 i c.1;
+            fits = ltb-true ((o - place.0) / e.minimum_instruction_length * e.maximum_operations_per_instruction + i) (2 ^ 64) d.1;
+          },
+      λ can.
+          and_from (divides && within && after && later) fits
+          (and_from (divides && within && after) later
+          (and_from (divides && within) after
+          (and_from divides within (eq-eqb (o % e.minimum_instruction_length) 0 can.place.divides) (lt-ltb i e.maximum_operations_per_instruction can.place.within))
+          (le-leb place.0 o can.after))
+          (later_tested o place.0 place.1 i can.later))
+          (lt-ltb ((o - place.0) / e.minimum_instruction_length * e.maximum_operations_per_instruction + i) (2 ^ 64) can.fits),
+    )
+
+pub can_build-tells : (e : LineEncoding) (place : ℕ × ℕ) (item : BuiltItem) → Decides (can_build e place item) (CanBuild e place item)
+can_build-tells e place (SetAddress a) = (λ is. tt, λ can. refl)
+can_build-tells e place (Row r) =
+    let follow = can_follow-tells e place r.address_offset r.op_index in (
+      λ is.
+          let a = and_parts (can_follow e place r.address_offset r.op_index) (nat_lt r.line (2 ^ 63)) is in
+          (follow.0 a.0, ltb-true r.line (2 ^ 63) a.1),
+      λ can. and_from (can_follow e place r.address_offset r.op_index) (nat_lt r.line (2 ^ 63)) (follow.1 can.0) (lt-ltb r.line (2 ^ 63) can.1),
+    )
+can_build-tells e place (End offset op_index) = can_follow-tells e place offset op_index

@@ -1,0 +1,42 @@
+use Rattle.std.proofs.Common.{ℕ, List, ◌∙◌}
+use Rattle.std.specs.Prelude.{Result, Ok, option_map}
+use Rattle.std.proofs.lemmas.Result.{IfOk-weaker, IfErr-weaker}
+use Rattle.gimli_core.specs.declared.common.LineEncoding.{LineEncoding}
+use Rattle.gimli_write.specs.declared.convert_error.ConvertError.{ConvertError}
+use Rattle.gimli_write.specs.convert.Texts.{◌>>=◌}
+use Rattle.gimli_write.specs.convert.SourceTables.{TablesAndTexts}
+use Rattle.gimli_write.specs.convert.Preparation.{working_directory, SourceFile, source_file, line_encoding_of, first_texts, start_of_tables}
+use Rattle.gimli_write.proofs.ConvertSteps.{refused_first}
+use Rattle.gimli_write.proofs.ConvertHeader.{at_third, refused_at_third}
+use Rattle.gimli_write.proofs.convert.header.tables_at_start.Goals as goal
+
+pub returns-clause-ok : goal.returns-clause-ok
+returns-clause-ok g c =
+    let s = c.args.sections.now in
+    let h = c.args.header.now.meaning in
+    let encoding = c.args.encoding in
+    let first = working_directory encoding.version s h in
+    let second = source_file encoding.version s h (option_map g.R.Reader.bytes c.args.from_comp_name) in
+    let lines = line_encoding_of h.parameters.line_encoding c.args.line_encoding in
+    let next : List ℕ → SourceFile → Result TablesAndTexts ConvertError =
+    λ directory file. lines >>= λ (e : LineEncoding). Ok (start_of_tables encoding e h (first_texts encoding.version c.args.line_strings.now directory file)) in
+    IfOk-weaker c.tables_with_texts.result _ _
+    (λ tables is. at_third first second next c.in_ok-directory.directory.items c.in_ok-file.file c.in_ok-directory.ensures.ok c.in_ok-file.ensures.ok ∙ is)
+    (rw c.as_slice.ensures.value at c.tables_with_texts.ensures.ok)
+
+pub returns-clause-err : goal.returns-clause-err
+returns-clause-err g c =
+    let s = c.args.sections.now in
+    let h = c.args.header.now.meaning in
+    let encoding = c.args.encoding in
+    let directory = c.in_ok-directory.directory.items in
+    let file = c.in_ok-file.file in
+    let first = working_directory encoding.version s h in
+    let second = source_file encoding.version s h (option_map g.R.Reader.bytes c.args.from_comp_name) in
+    let lines = line_encoding_of h.parameters.line_encoding c.args.line_encoding in
+    let next : List ℕ → SourceFile → Result TablesAndTexts ConvertError =
+    λ directory file. lines >>= λ (e : LineEncoding). Ok (start_of_tables encoding e h (first_texts encoding.version c.args.line_strings.now directory file)) in
+    IfErr-weaker c.tables_with_texts.result _ _
+    (λ e refused. refused_at_third first second next directory file c.in_ok-directory.ensures.ok c.in_ok-file.ensures.ok e
+    (refused_first lines (λ (e : LineEncoding). Ok (start_of_tables encoding e h (first_texts encoding.version c.args.line_strings.now directory file))) e refused))
+    c.tables_with_texts.ensures.err

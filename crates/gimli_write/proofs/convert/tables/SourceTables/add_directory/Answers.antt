@@ -1,0 +1,20 @@
+use Rattle.gimli_core.specs.Values.{value_seen}
+use Rattle.gimli_build.specs.LineText.{line_text}
+use Rattle.gimli_write.specs.convert.SourceTables.{TablesAndTexts}
+use Rattle.gimli_write.proofs.ConvertSteps.{directory_is_added}
+use Rattle.gimli_write.proofs.convert.tables.SourceTables.add_directory.Goals as goal
+
+pub returns-in-Ok-clause-ok : goal.returns-in-Ok-clause-ok
+returns-in-Ok-clause-ok g c =
+    let v = value_seen g.R.Reader.bytes g.R.Offset.ReaderOffset.number c.args.directory in
+    let tables : TablesAndTexts = record {
+      program = c.self.inside.program;
+      directory_ids = c.self.inside.directories.items;
+      file_ids = c.self.inside.files.items;
+      line_strings = c.args.line_strings.now;
+    } in
+    let path = rw c.encoding-encoding.ensures.encoding at c.in_ok-path.ensures.ok in
+    let made = rw (c.encoding-encoding.ensures.encoding, c.as_slice.ensures.value) at c.in_ok-text.ensures.ok in
+    let after = rw (c.encoding-encoding.ensures.encoding, c.as_slice.ensures.value) at c.in_ok-text.ensures.table in
+    rw (← c.self.view_is, c.in-Ok.ensures.ok, c.in_ok-push-in-Ok.ensures.items, c.in-Ok.ensures.id)
+    (directory_is_added c.args.sections.now tables v c.in_ok-path.path.items (line_text c.in_ok-text.text) c.program_text.new.line_strings path made after)

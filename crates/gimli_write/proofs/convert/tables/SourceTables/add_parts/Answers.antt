@@ -1,0 +1,78 @@
+use Rattle.std.proofs.Common.{refl}
+use Rattle.std.specs.Prelude.{option_map}
+use Rattle.gimli_line.specs.header.File.{file_seen}
+use Rattle.gimli_build.specs.LineText.{line_text}
+use Rattle.gimli_write.specs.convert.SourceTables.{TablesAndTexts, FileParts}
+use Rattle.gimli_write.proofs.ConvertSteps.{parts_are_added, kept_then}
+use Rattle.gimli_write.proofs.KeptFiles.{keeps_more}
+use Rattle.gimli_write.proofs.Writable.{written_later, written_with_parts}
+use Rattle.gimli_write.proofs.convert.tables.SourceTables.add_parts.Goals as goal
+
+pub returns-in_err-push-in-Ok-clause-stays : goal.returns-in_err-push-in-Ok-clause-stays
+returns-in_err-push-in-Ok-clause-stays g c =
+    kept_then c.args.line_strings.now c.program_text.new.line_strings c.optional_program_text.new.line_strings c.in_ok-path.ensures.stays c.in_ok-source.ensures.stays
+
+pub returns-in_ok-push-in-Ok-clause-ok : goal.returns-in_ok-push-in-Ok-clause-ok
+returns-in_ok-push-in-Ok-clause-ok g c =
+    let f = file_seen g.R.Reader.bytes g.R.Offset.ReaderOffset.number c.args.file.now in
+    let tables : TablesAndTexts = record {
+      program = c.self.inside.program;
+      directory_ids = c.self.inside.directories.items;
+      file_ids = c.self.inside.files.items;
+      line_strings = c.args.line_strings.now;
+    } in
+    let parts : FileParts = record {
+      path = c.parts.inside.path.items;
+      directory = c.parts.inside.directory;
+      source = option_map (λ text. text.items) c.parts.inside.source;
+    } in
+    let made = rw (c.encoding-encoding.ensures.encoding, c.as_slice.ensures.value) at c.in_ok-path.ensures.ok in
+    let after = rw (c.encoding-encoding.ensures.encoding, c.as_slice.ensures.value) at c.in_ok-path.ensures.table in
+    let source_made = rw c.encoding-encoding.ensures.encoding at c.in_ok-source.ensures.ok in
+    let source_after = rw c.encoding-encoding.ensures.encoding at c.in_ok-source.ensures.table in
+    rw (← c.self.view_is, ← c.parts.view_is, c.in-Ok.ensures.ok, c.in_ok-push-in-Ok.ensures.items, c.in-Ok.ensures.id, c.timestamp.ensures, c.size.ensures, c.md5.ensures)
+    (parts_are_added tables f parts (line_text c.in_ok-path.path) (option_map line_text c.in_ok-source.source)
+    c.program_text.new.line_strings c.optional_program_text.new.line_strings made after source_made source_after)
+
+pub returns-in_ok-push-in-Ok-clause-keeps : goal.returns-in_ok-push-in-Ok-clause-keeps
+returns-in_ok-push-in-Ok-clause-keeps g c =
+    rw (← c.self.view_is) (record {
+      files = c.in-Ok.ensures.keeps;
+      numbers = rw c.in_ok-push-in-Ok.ensures.items (keeps_more c.self.inside.files.items c.in-Ok.id);
+      directories = refl;
+    })
+
+pub returns-in_err-path-clause-writable : goal.returns-in_err-path-clause-writable
+returns-in_err-path-clause-writable g c = record {
+  still = λ strings can.
+      written_later strings c.args.line_strings.now c.program_text.new.line_strings c.in_err-path.ensures.stays c.args.self.now.program can;
+}
+
+pub returns-in_err-source-clause-writable : goal.returns-in_err-source-clause-writable
+returns-in_err-source-clause-writable g c =
+    let kept = kept_then c.args.line_strings.now c.program_text.new.line_strings c.optional_program_text.new.line_strings c.in_ok-path.ensures.stays c.in_err-source.ensures.stays in
+    record { still = λ strings. written_later strings c.args.line_strings.now c.optional_program_text.new.line_strings kept c.args.self.now.program }
+
+pub returns-in-Err-clause-writable : goal.returns-in-Err-clause-writable
+returns-in-Err-clause-writable g c =
+    let kept = kept_then c.args.line_strings.now c.program_text.new.line_strings c.optional_program_text.new.line_strings c.in_ok-path.ensures.stays c.in_ok-source.ensures.stays in
+    record {
+      still = λ strings. rw (c.in-Err.ensures.err, ← c.self.view_is)
+          (written_later strings c.args.line_strings.now c.optional_program_text.new.line_strings kept c.self.inside.program);
+    }
+
+pub returns-in_err-push-in-Ok-clause-writable : goal.returns-in_err-push-in-Ok-clause-writable
+returns-in_err-push-in-Ok-clause-writable g c =
+    record {
+      still = λ strings. rw (c.in-Ok.ensures.ok, ← c.self.view_is)
+          (written_with_parts line_text c.self.inside.program strings c.args.line_strings.now c.program_text.new.line_strings c.optional_program_text.new.line_strings c.in_ok-path.path c.in_ok-source.source c.parts.inside.directory _ _ _
+          c.in_ok-path.ensures.stays c.in_ok-source.ensures.stays c.in_ok-path.ensures.within c.in_ok-source.ensures.within c.in_ok-source.ensures.no_zero);
+    }
+
+pub returns-in_ok-push-in-Ok-clause-writable : goal.returns-in_ok-push-in-Ok-clause-writable
+returns-in_ok-push-in-Ok-clause-writable g c =
+    record {
+      still = λ strings. rw (c.in-Ok.ensures.ok, ← c.self.view_is)
+          (written_with_parts line_text c.self.inside.program strings c.args.line_strings.now c.program_text.new.line_strings c.optional_program_text.new.line_strings c.in_ok-path.path c.in_ok-source.source c.parts.inside.directory _ _ _
+          c.in_ok-path.ensures.stays c.in_ok-source.ensures.stays c.in_ok-path.ensures.within c.in_ok-source.ensures.within c.in_ok-source.ensures.no_zero);
+    }

@@ -1,0 +1,98 @@
+-- What a run over a source has still to read.
+use Rattle.std.specs.Prelude.{◌≡◌, ◌<◌, ℕ, ◌-◌, not, ◌&&◌, if◌then◌else◌, List, [], ◌∷◌, length, Option, Some, None, unwrap_or, Result, Ok}
+use Rattle.gimli_core.specs.declared.error.Error.{Error}
+use Rattle.gimli_core.specs.declared.error.Error.TheVariants.{AddressOverflow}
+use Rattle.gimli_line.specs.header.Header.{Header}
+use Rattle.gimli_line.specs.header.File.{file_seen}
+use Rattle.gimli_line.specs.declared.run.row.LineRow.{LineRow}
+use Rattle.gimli_line.specs.run.Instruction.{Ins, is_end, makes_row}
+use Rattle.gimli_line.specs.run.InstructionReading.{decoded_at}
+use Rattle.gimli_line.specs.run.Machine.{initial, step_of, is_refused}
+use Rattle.gimli_line.specs.run.EventsWithFiles.{next_registers}
+use Rattle.gimli_line.specs.run.Unread.{Unread}
+use Rattle.gimli_build.specs.Texts.{Sections}
+use Rattle.gimli_write.specs.declared.convert_error.ConvertError.{ConvertError}
+use Rattle.gimli_write.specs.declared.convert_error.ConvertError.TheVariants.{Read}
+use Rattle.gimli_write.specs.declared.convert.run.SourceRow.{SourceRow}
+use Rattle.gimli_write.specs.declared.convert.run.SourceStep.{SourceStep}
+use Rattle.gimli_write.specs.declared.convert.run.SourceStep.TheVariants.{Done, More, Defines, Made}
+use Rattle.gimli_write.specs.convert.SourceTables.{TablesAndTexts, file_added}
+use Rattle.gimli_write.specs.convert.Items.{Reading, ends, stops, defines, address_operand, source_row_offered, end_reading, reading_with, tables_after_definition, with_definition}
+
+pub record SourceRun : Type 0 where
+  pub header : Header
+  -- the registers, ready for the next instruction
+  pub row : LineRow
+  -- the address that was last set in the sequence, else 0
+  pub base : ℕ
+  -- the address that was set after the last place that made a row
+  pub pending : Option ℕ
+  -- the instructions to come
+  pub unread : Unread
+
+-- the start of a program
+abbrev pub start_of_source : Header → Unread → SourceRun
+start_of_source h unread = record { header = h; row = initial h.parameters; base = 0; pending = None; unread = unread }
+
+-- ---- one instruction
+
+-- the row that an instruction makes
+abbrev pub row_made : SourceRun → Ins → SourceRow
+row_made s i =
+    let row = step_of s.header.parameters i s.row in
+    record { set_address = s.pending; address_offset = row.address - s.base; row = row }
+
+abbrev pub base_after : Ins → ℕ → ℕ
+base_after i base = if is_end i then 0 else unwrap_or (address_operand i) base
+
+abbrev pub pending_after : Ins → Option ℕ → Option ℕ
+pending_after i pending = if makes_row i then None else (elim (address_operand i) [ Some a ↦ Some a | None ↦ pending ])
+
+-- the state after an instruction, apart from what is unread
+abbrev pub state_after : Ins → SourceRun → SourceRun
+state_after i s = record s {
+  row = next_registers s.header.parameters i s.row;
+  base = base_after i s.base;
+  pending = pending_after i s.pending;
+}
+
+-- what an instruction gives, and what is read after it
+abbrev pub instruction_reading : SourceRun → TablesAndTexts → Ins → Reading → Reading
+instruction_reading s tables i rest =
+    if is_refused s.header.parameters i s.row then stops (Read AddressOverflow)
+    else (if makes_row i && not s.row.tombstone then source_row_offered s.header.parameters.encoding.version tables (row_made s i) rest else rest)
+
+-- ---- all that is unread
+
+-- what is read of these instructions and this end, with tables that may be refused
+abbrev pub reading_from : Sections → SourceRun → Result TablesAndTexts ConvertError → List Ins → Option Error → Reading
+reading_from sections s there [] end = reading_with there (end_reading end)
+reading_from sections s there (i ∷ list) end =
+    reading_with there (λ tables.
+    instruction_reading s tables i (with_definition i (reading_from sections (state_after i s) (tables_after_definition sections tables i) list end)))
+
+-- what is still to be read
+abbrev pub reading_upon : Sections → SourceRun → Result TablesAndTexts ConvertError → Reading
+reading_upon sections s there = let c = decoded_at s.unread.notation s.header s.unread.bytes in reading_from sections s there c.0 c.1
+
+abbrev pub reading_left : Sections → SourceRun → TablesAndTexts → Reading
+reading_left sections s tables = reading_upon sections s (Ok tables)
+
+-- ---- steps
+
+module _ {R Offset Endian : Type 0} (bytes : R → List ℕ) (number : Offset → ℕ) where
+  -- what is read from a step on, after which this state is
+  abbrev pub step_reading : Sections → TablesAndTexts → SourceStep R Endian Offset → SourceRun → Reading
+  step_reading sections tables Done s = ends tables
+  step_reading sections tables More s = reading_left sections s tables
+  step_reading sections tables (Defines f) s = defines (reading_upon sections s (file_added sections tables (file_seen bytes number f)))
+  step_reading sections tables (Made r) s = source_row_offered s.header.parameters.encoding.version tables r (reading_left sections s tables)
+
+-- the step of an instruction that defines no file
+abbrev pub step_made : {R Endian Offset : Type 0} → SourceRun → Ins → SourceStep R Endian Offset
+step_made s i = if makes_row i && not s.row.tombstone then Made (row_made s i) else More
+
+-- fewer bytes are unread after a step, and none after the end
+abbrev pub Shortens : {R Endian Offset : Type 0} → SourceStep R Endian Offset → SourceRun → SourceRun → Type 0
+Shortens Done old new = new.unread.bytes ≡ []
+Shortens step old new = length new.unread.bytes < length old.unread.bytes

@@ -1,0 +1,53 @@
+-- The tables that a source leaves: the files that it defines are added, up to its end or to what is refused.
+use Rattle.std.specs.Prelude.{ℕ, Bool, not, ◌&&◌, ◌||◌, if◌then◌else◌, List, [], ◌∷◌, Option, Some, None, Result, Ok, Err, is_err}
+use Rattle.gimli_line.specs.header.File.{file_seen}
+use Rattle.gimli_line.specs.run.Instruction.{Ins, makes_row}
+use Rattle.gimli_line.specs.run.InstructionReading.{decoded_at}
+use Rattle.gimli_line.specs.run.Machine.{is_refused}
+use Rattle.gimli_build.specs.Texts.{Sections}
+use Rattle.gimli_write.specs.declared.convert_error.ConvertError.{ConvertError}
+use Rattle.gimli_write.specs.declared.convert.run.SourceRow.{SourceRow}
+use Rattle.gimli_write.specs.declared.convert.run.SourceStep.{SourceStep}
+use Rattle.gimli_write.specs.declared.convert.run.SourceStep.TheVariants.{Done, More, Defines, Made}
+use Rattle.gimli_write.specs.convert.SourceTables.{TablesAndTexts, file_added}
+use Rattle.gimli_write.specs.convert.Items.{file_id, tables_after_definition}
+use Rattle.gimli_write.specs.convert.SourceRun.{SourceRun, row_made, state_after}
+
+-- no file has the number of a row; an end has no file
+abbrev pub lacks_file : ℕ → TablesAndTexts → SourceRow → Bool
+lacks_file version tables r = not r.row.end_sequence && is_err (file_id version tables r.row.file)
+
+-- an instruction is refused, or the row that it gives
+abbrev pub refuses : SourceRun → TablesAndTexts → Ins → Bool
+refuses s tables i =
+    is_refused s.header.parameters i s.row
+    || (makes_row i && not s.row.tombstone && lacks_file s.header.parameters.encoding.version tables (row_made s i))
+
+-- these tables where a step is refused, else what comes after it
+abbrev pub unless_refused : TablesAndTexts → Result TablesAndTexts ConvertError → (TablesAndTexts → TablesAndTexts) → TablesAndTexts
+unless_refused tables (Ok next) more = more next
+unless_refused tables (Err e) more = tables
+
+-- the tables after these instructions, or at the first that is refused
+abbrev pub tables_after : Sections → SourceRun → TablesAndTexts → List Ins → TablesAndTexts
+tables_after sections s tables [] = tables
+tables_after sections s tables (i ∷ list) =
+    if refuses s tables i then tables
+    else unless_refused tables (tables_after_definition sections tables i) (λ next. tables_after sections (state_after i s) next list)
+
+-- the tables after all that is unread, or at what is refused of it
+abbrev pub tables_at_end : Sections → SourceRun → TablesAndTexts → TablesAndTexts
+tables_at_end sections s tables = tables_after sections s tables (decoded_at s.unread.notation s.header s.unread.bytes).0
+
+-- the same where a row, if there is one, comes first
+abbrev pub tables_after_row : ℕ → TablesAndTexts → Option SourceRow → TablesAndTexts → TablesAndTexts
+tables_after_row version tables (Some r) rest = if lacks_file version tables r then tables else rest
+tables_after_row version tables None rest = rest
+
+module _ {R Offset Endian : Type 0} (bytes : R → List ℕ) (number : Offset → ℕ) where
+  -- the same from a step on, after which this state is
+  abbrev pub step_tables : Sections → TablesAndTexts → SourceStep R Endian Offset → SourceRun → TablesAndTexts
+  step_tables sections tables Done s = tables
+  step_tables sections tables More s = tables_at_end sections s tables
+  step_tables sections tables (Defines f) s = unless_refused tables (file_added sections tables (file_seen bytes number f)) (λ next. tables_at_end sections s next)
+  step_tables sections tables (Made r) s = tables_after_row s.header.parameters.encoding.version tables (Some r) (tables_at_end sections s tables)

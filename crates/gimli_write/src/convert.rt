@@ -1,0 +1,9 @@
+//! Line programs that are read and built again.
+
+pub(crate) mod conversion;
+pub(crate) mod header;
+pub(crate) mod program;
+pub(crate) mod rows;
+pub(crate) mod run;
+pub(crate) mod tables;
+pub(crate) mod texts;
