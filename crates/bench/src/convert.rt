@@ -1,10 +1,11 @@
-//! The cost of a conversion: `bench_convert FILE OFFSET TIMES` reads the unit at OFFSET of a section, in little-endian
-//! order and with addresses of eight bytes, converts it with its own encodings, each address mapped to itself, and writes
-//! it into an `EndianVec`; so many times. Texts stand in the unit itself, as up to version 4.
+//! The cost of a conversion: `convert FILE OFFSET TIMES` reads the unit at OFFSET of a section, converts it with its own
+//! encodings, each address mapped to itself, and writes it into an `EndianVec`; so many times. Texts stand in the unit
+//! itself, as up to version 4.
 //!
 //! Standard output has the length of each section that was written, and a sum of its bytes.
-#![tactic(auto)]
 
+use crate::sums::print_sum;
+use crate::words::{parse_count, parse_offset};
 use gimli_core::{DebugLineOffset, EndianSlice, LittleEndian, Reader};
 use gimli_line::{DebugLine, IncompleteLineProgram};
 use gimli_write::conversion_laws::converted_programs_can_be_written;
@@ -13,32 +14,15 @@ use gimli_write::{
 };
 use std::alloc::Global;
 use std::io::ErrorKind;
-use std::process::ExitCode;
-use std::{env, fs, io};
+use std::{fs, io};
 
-fn main(rt: HostRuntime) -> ExitCode {
-    match start(&rt) {
-        Ok(()) => ExitCode::from(0),
-        Err(_) => ExitCode::from(1),
-    }
-}
-
-/// Makes the passes that the words after the program's name tell, and prints what each wrote.
-fn start(rt: &HostRuntime) -> io::Result<()> {
-    let arguments: Vec<String> = env::args(rt)?.collect(rt.alloc())?;
-    let mut words = Vec::new(rt.alloc());
-    for word in arguments.iter().skip(1) {
-        words.push(word.as_str())?;
-    }
-    let [path, offset, times] = words.as_slice() else {
-        return Err(io::Error::from(ErrorKind::InvalidInput));
-    };
-    let (Ok(offset), Ok(times)) = (offset.parse::<usize>(), times.parse::<u64>()) else {
-        return Err(io::Error::from(ErrorKind::InvalidInput));
-    };
-    let section = fs::read(rt, *path)?;
+/// Converts the unit at an offset so many times, and prints what was written each time.
+pub fn run(rt: &HostRuntime, path: &str, offset: &str, times: &str) -> io::Result<()> {
+    let offset = parse_offset(offset)?;
+    let times = parse_count(times)?;
+    let section = fs::read(rt, path)?;
     for _ in 0..times {
-        pass(rt, &section, DebugLineOffset(offset))?;
+        pass(rt, &section, offset)?;
     }
     Ok(())
 }
@@ -46,7 +30,7 @@ fn start(rt: &HostRuntime) -> io::Result<()> {
 /// Converts the unit at an offset once, and prints what was written.
 fn pass(rt: &HostRuntime, section: &[u8], offset: DebugLineOffset) -> io::Result<()> {
     match converted_unit(rt.alloc(), section, offset) {
-        Ok(bytes) => print(rt, bytes.as_slice()),
+        Ok(bytes) => print_sum(rt, bytes.as_slice()),
         Err(_) => Err(io::Error::from(ErrorKind::InvalidData)),
     }
 }
@@ -92,18 +76,4 @@ fn converted<R: Reader>(
     )?;
     let gimli_write::DebugLine(bytes) = unit;
     Ok(bytes.into_vec())
-}
-
-/// Prints the length of a section and a sum of its bytes.
-fn print(rt: &HostRuntime, section: &[u8]) -> io::Result<()> {
-    println!(rt; "bytes {} sum {}", section.len(), byte_sum(section))
-}
-
-/// A sum in which each byte and its place count.
-fn byte_sum(bytes: &[u8]) -> u64 {
-    let mut sum: u64 = 0;
-    for byte in bytes {
-        sum = sum.rotate_left(1).wrapping_add(u64::from(*byte));
-    }
-    sum
 }

@@ -1,20 +1,20 @@
-//! Builds and writes line programs, to be counted and timed: `bench_write [SEQUENCES]`.
+//! The cost of building and writing: `write SEQUENCES` builds a program of so many sequences of 1,000 rows (version 4,
+//! 32-bit format), writes it into an `EndianVec`, and drops it; seven times.
 //!
-//! Each program has so many sequences of 1,000 rows (version 4, 32-bit format), is written into an `EndianVec`, and is
-//! let go; seven times. Standard output has the length of each section and a sum of its bytes, standard error the times.
-#![tactic(auto)]
+//! Standard output has the length of each section and a sum of its bytes, standard error the times.
 
 ghost use Rattle.std.specs.Prelude.{◌≡◌, [], OnOk, IfOk};
 ghost use Rattle.gimli_build.specs.Conditions.{CanWrite};
 
+use crate::sums::print_sum;
+use crate::words::parse_count;
 use gimli_build::{LineProgram, LineString};
 use gimli_bytes::{Address, DebugLine, EndianVec, LineStringTable, Result, StringTable};
 use gimli_core::{Encoding, Format, LineEncoding, LittleEndian};
 use std::alloc::Global;
+use std::io;
 use std::io::ErrorKind;
-use std::process::ExitCode;
 use std::time::Instant;
-use std::{env, io};
 
 /// How often a program is built and written.
 const TIMES: u64 = 7;
@@ -22,65 +22,36 @@ const TIMES: u64 = 7;
 /// How many rows a sequence has.
 const ROWS: u64 = 1000;
 
-fn main(rt: HostRuntime) -> ExitCode {
-    ExitCode::from(start(&rt).unwrap_or(1))
-}
-
-/// Measures so many sequences as the word after the program's name says, and answers the status of the program.
-fn start(rt: &HostRuntime) -> io::Result<u8> {
-    let arguments: Vec<String> = env::args(rt)?.collect(rt.alloc())?;
-    let sequences = match arguments.get(1) {
-        Some(word) => {
-            let number = word.parse::<u64>();
-            number.map_err(|_| io::Error::from(ErrorKind::InvalidInput))?
-        }
-        None => 1000,
-    };
+/// Measures so many sequences.
+pub fn run(rt: &HostRuntime, sequences: &str) -> io::Result<()> {
+    let sequences = parse_count(sequences)?;
     for _ in 0..TIMES {
-        let status = measure(rt, sequences)?;
-        if status != 0 {
-            return Ok(status);
-        }
+        measure(rt, sequences)?;
     }
-    Ok(0)
+    Ok(())
 }
 
-/// Builds and writes one program, and prints what it was. The status is 1 where memory ran out.
-fn measure(rt: &HostRuntime, sequences: u64) -> io::Result<u8> {
+/// Builds and writes one program, and prints what it was.
+fn measure(rt: &HostRuntime, sequences: u64) -> io::Result<()> {
     let begin = Instant::now(rt)?;
     let Ok(program) = build(rt.alloc(), sequences) else {
-        return Ok(1);
+        return Err(io::Error::from(ErrorKind::OutOfMemory));
     };
     let build_time = begin.elapsed(rt)?.as_nanos();
     measure_writing(rt, &program, build_time)
 }
 
-/// Writes a program that took so long to build, and prints what it was. The status is 1 where memory ran out.
-fn measure_writing(rt: &HostRuntime, program: &LineProgram, build_time: u128) -> io::Result<u8>
+/// Writes a program that took so long to build, and prints what it was.
+fn measure_writing(rt: &HostRuntime, program: &LineProgram, build_time: u128) -> io::Result<()>
     requires { CanWrite program.now [] [] }
 {
     let begin = Instant::now(rt)?;
     let Ok(section) = write(rt.alloc(), program) else {
-        return Ok(1);
+        return Err(io::Error::from(ErrorKind::OutOfMemory));
     };
     let write_time = begin.elapsed(rt)?.as_nanos();
-    print(rt, section.as_slice(), build_time, write_time)?;
-    Ok(0)
-}
-
-/// Prints the length of a section and a sum of its bytes, and the times.
-fn print(rt: &HostRuntime, section: &[u8], build_time: u128, write_time: u128) -> io::Result<()> {
     eprintln!(rt; "build_ns {build_time} write_ns {write_time}")?;
-    println!(rt; "bytes {} sum {}", section.len(), byte_sum(section))
-}
-
-/// A sum in which each byte and its place count.
-fn byte_sum(bytes: &[u8]) -> u64 {
-    let mut sum: u64 = 0;
-    for byte in bytes {
-        sum = sum.rotate_left(1).wrapping_add(u64::from(*byte));
-    }
-    sum
+    print_sum(rt, section.as_slice())
 }
 
 /// The section of a program.

@@ -1,46 +1,32 @@
-//! The cost of reading: `bench_read FILE TIMES` runs the rows of all units of a section, so many times, and
-//! `bench_read FILE TIMES sequences` splits all units into their sequences.
+//! The cost of reading: `read FILE TIMES` runs the rows of all units of a section, so many times, and
+//! `read FILE TIMES sequences` splits all units into their sequences.
 //!
 //! Standard output has the counts and a checksum, over every register or over the bounds of the sequences; standard
 //! error has the time of each pass.
-#![tactic(auto)]
 
+use crate::words::parse_count;
 use gimli_core::{DebugLineOffset, LittleEndian, Reader};
 use gimli_line::{ColumnType, DebugLine, IncompleteLineProgram, LineRow};
 use std::alloc::Global;
-use std::io::ErrorKind;
-use std::process::ExitCode;
 use std::time::Instant;
-use std::{env, fs, io};
+use std::{fs, io};
 
-fn main(rt: HostRuntime) -> ExitCode {
-    match start(&rt) {
-        Ok(()) => ExitCode::from(0),
-        Err(_) => ExitCode::from(1),
-    }
+/// What is counted in a unit.
+#[derive(Clone, Copy)]
+pub enum What {
+    Rows,
+    Sequences,
 }
 
-/// Makes the passes that the words after the program's name tell.
-fn start(rt: &HostRuntime) -> io::Result<()> {
-    let arguments: Vec<String> = env::args(rt)?.collect(rt.alloc())?;
-    let mut words = Vec::new(rt.alloc());
-    for word in arguments.iter().skip(1) {
-        words.push(word.as_str())?;
-    }
-    let (path, times, what) = match words.as_slice() {
-        [path, times] => (*path, *times, What::Rows),
-        [path, times, "sequences"] => (*path, *times, What::Sequences),
-        _ => return Err(io::Error::from(ErrorKind::InvalidInput)),
-    };
-    let Ok(times) = times.parse::<u64>() else {
-        return Err(io::Error::from(ErrorKind::InvalidInput));
-    };
+/// Makes so many passes over a section of a file.
+pub fn run(rt: &HostRuntime, path: &str, times: &str, what: What) -> io::Result<()> {
+    let times = parse_count(times)?;
     let section = fs::read(rt, path)?;
-    run(rt, &section, times, what)
+    make_passes(rt, &section, times, what)
 }
 
 /// Makes so many passes, and prints what each counted.
-fn run(rt: &HostRuntime, section: &[u8], times: u64, what: What) -> io::Result<()> {
+fn make_passes(rt: &HostRuntime, section: &[u8], times: u64, what: What) -> io::Result<()> {
     let name = match what {
         What::Rows => "rows",
         What::Sequences => "sequences",
@@ -56,13 +42,6 @@ fn run(rt: &HostRuntime, section: &[u8], times: u64, what: What) -> io::Result<(
         eprintln!(rt; "{nanos} ns")?;
     }
     Ok(())
-}
-
-/// What is counted in a unit.
-#[derive(Clone, Copy)]
-enum What {
-    Rows,
-    Sequences,
 }
 
 /// One pass over all units of these bytes.
