@@ -12,7 +12,7 @@ use elf_sections::{Elf, ElfError};
 use gimli_core::{EndianSlice, RunTimeEndian};
 use gimli_line::DebugLine;
 use gimli_lookup::StringSections;
-use unit_text::{AddressSize, Slice};
+use rows_units::{AddressSize, Slice};
 
 /// How the bytes of a file are read.
 #[derive(Clone, Copy, Debug, PartialEq, Eq)]

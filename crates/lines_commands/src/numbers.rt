@@ -3,7 +3,7 @@
 ghost use Rattle.std.specs.Prelude.{◌≡◌, ◌≤◌, ◌↔◌, ℕ, List, IfSome, MatchOption, Some, codes};
 ghost use Rattle.lines_commands.specs.Words.{HasPrefix, NamesNumber, NamesAddress, NamesOffset, NamesTarget};
 
-use unit_text::AddressSize;
+use rows_units::AddressSize;
 
 /// An address in hexadecimal digits of either case, with or without `0x`. None for another word,
 /// and for one that doesn't fit 64 bits.

@@ -12,8 +12,8 @@ use lines_commands::{
     Command, Form, Kind, Notation, Request, UnitChoice, parse_address, parse_offset, parse_size,
     parse_target,
 };
+use rows_units::{AddressSize, parse_order};
 use std::alloc::{AllocError, Global};
-use unit_text::{AddressSize, parse_order};
 
 /// What words ask for, of which the first is the program's name.
 pub fn parse<'w>(alloc: Global, words: &'w [&'w str]) -> Result<Request<'w>, Error> {

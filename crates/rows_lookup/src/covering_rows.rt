@@ -4,9 +4,9 @@ use crate::print::print_line;
 use crate::request::Request;
 use gimli_core::{EndianSlice, RunTimeEndian};
 use gimli_lookup::{SectionLookup, UnitLookup};
-use row_text::parse_number;
+use rows_units::{Refusal, RowLine};
+use rows_words::parse_number;
 use std::alloc::{AllocError, Global};
-use unit_text::{Refusal, RowLine};
 
 /// A reader over the bytes of a section.
 type Slice<'i> = EndianSlice<'i, RunTimeEndian>;

@@ -4,9 +4,9 @@ use crate::print::print_line;
 use gimli_core::{DebugLineOffset, EndianSlice, Error, RunTimeEndian};
 use gimli_line::{DebugLine, LineProgramHeader};
 use gimli_lookup::{PathError, Paths, StringSections};
-use row_text::Text;
+use rows_units::{Handed, Place, Refusal};
+use rows_words::Text;
 use std::alloc::{AllocError, Global};
-use unit_text::{Handed, Place, Refusal};
 
 /// A reader over the bytes of a section.
 type Slice<'i> = EndianSlice<'i, RunTimeEndian>;

@@ -3,8 +3,8 @@
 use crate::print::print_line;
 use gimli_core::{EndianSlice, RunTimeEndian};
 use gimli_line::{DebugLine, LineUnit};
+use rows_units::{Place, Refusal};
 use std::alloc::{AllocError, Global};
-use unit_text::{Place, Refusal};
 
 /// Prints the units of a section. The words are the order of bytes and the size of an address. The status is 2 for other
 /// words, else 0.

@@ -2,7 +2,7 @@
 
 use crate::rows::Row;
 use crate::run::run_row;
-use row_text::Attempts;
+use rows_words::Attempts;
 use std::alloc::Global;
 use std::io;
 use std::io::Write;

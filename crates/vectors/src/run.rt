@@ -5,9 +5,9 @@ use crate::files::split_words;
 use crate::lines::run_lines;
 use crate::output::print_line;
 use crate::rows::{Input, Row};
-use conversion_text::Sections;
-use line_commands::Command;
-use row_text::Attempts;
+use linetool_commands::Command;
+use rows_conversion::Sections;
+use rows_words::Attempts;
 use std::alloc::{AllocError, Global};
 
 /// What the command of a row prints: its output, its lines on standard error after `stderr`, and its status, where
@@ -36,10 +36,10 @@ fn run_script(
     out: &mut Vec<u8>,
 ) -> Result<u8, AllocError> {
     match words {
-        ["write", rest @ ..] => builder_scripts::write(alloc, rest, script, attempts, out),
-        ["read", rest @ ..] => call_scripts::read(alloc, rest, script, attempts, out),
-        ["bytes", rest @ ..] => call_scripts::bytes(alloc, rest, script, attempts, out),
-        ["pieces", rest @ ..] => call_scripts::pieces(alloc, rest, script, attempts, out),
+        ["write", rest @ ..] => rows_builder::write(alloc, rest, script, attempts, out),
+        ["read", rest @ ..] => rows_calls::read(alloc, rest, script, attempts, out),
+        ["bytes", rest @ ..] => rows_calls::bytes(alloc, rest, script, attempts, out),
+        ["pieces", rest @ ..] => rows_calls::pieces(alloc, rest, script, attempts, out),
         _ => Ok(2),
     }
 }
@@ -89,11 +89,11 @@ fn run_over(
     match words {
         ["convert", rest @ ..] => {
             let rest = without_parts(alloc, rest)?;
-            conversion_text::convert(alloc, &rest, sections, attempts, out)
+            rows_conversion::convert(alloc, &rest, sections, attempts, out)
         }
         ["convert_sequences", rest @ ..] => {
             let rest = without_parts(alloc, rest)?;
-            conversion_text::convert_sequences(alloc, &rest, sections, attempts, out)
+            rows_conversion::convert_sequences(alloc, &rest, sections, attempts, out)
         }
         ["places", rest @ ..] => rows_lookup::places(alloc, rest, section, out),
         ["addresses", rest @ ..] => {
@@ -119,9 +119,9 @@ fn run_over(
                 out,
             )
         }
-        ["header", rest @ ..] => unit_text::header(alloc, rest, section, attempts, out),
+        ["header", rest @ ..] => rows_units::header(alloc, rest, section, attempts, out),
         ["instructions", rest @ ..] => {
-            unit_text::instructions(alloc, rest, section, attempts, out)
+            rows_units::instructions(alloc, rest, section, attempts, out)
         }
         ["demo", ..] | [] => run_linetool(alloc, words, section, attempts, out),
         [command, rest @ ..] => {
@@ -157,12 +157,12 @@ fn run_linetool(
 ) -> Result<u8, AllocError> {
     let start = out.len();
     let mut err = Vec::new(alloc);
-    let mut status = line_commands::run(alloc, words, Some(section), out, &mut err);
+    let mut status = linetool_commands::run(alloc, words, Some(section), out, &mut err);
     if attempts == Attempts::Two {
         if err.as_slice() == b"refused: memory\n".as_slice() {
             out.truncate(start);
             err.clear();
-            status = line_commands::run(alloc, words, Some(section), out, &mut err);
+            status = linetool_commands::run(alloc, words, Some(section), out, &mut err);
         }
         if let Some(Command::Rows(place)) = Command::parse(words) {
             watch_rows(alloc, section, place, out)?;
