@@ -34,6 +34,7 @@
 
 mod again;
 mod check;
+mod comparison;
 mod files;
 mod lines;
 mod output;

@@ -1,21 +1,24 @@
-//! What the command of a row gives.
+//! What a command of a row gives.
 
 use crate::again::watch_rows;
 use crate::files::split_words;
 use crate::lines::run_lines;
 use crate::output::print_line;
-use crate::rows::{Input, Row};
-use linetool_commands::Command;
+use crate::rows::{Command, Input};
 use rows_conversion::Sections;
 use rows_words::Attempts;
 use std::alloc::{AllocError, Global};
 
-/// What the command of a row prints: its output, its lines on standard error after `stderr`, and its status, where
+/// What a command of a row prints: its output, its lines on standard error after `stderr`, and its status, where
 /// it isn't 0, after `status`.
-pub fn run_row(alloc: Global, row: &Row<'_>, attempts: Attempts) -> Result<Vec<u8>, AllocError> {
-    let words: Vec<&str> = row.words.split_whitespace().collect(alloc)?;
+pub fn run_command(
+    alloc: Global,
+    command: &Command<'_>,
+    attempts: Attempts,
+) -> Result<Vec<u8>, AllocError> {
+    let words: Vec<&str> = command.words.split_whitespace().collect(alloc)?;
     let mut out = Vec::new(alloc);
-    let status = match &row.input {
+    let status = match &command.input {
         Input::Script(script) => run_script(alloc, &words, script, attempts, &mut out)?,
         Input::Section(section, named) => {
             run_over_parts(alloc, &words, section, named, attempts, &mut out)?
@@ -164,7 +167,9 @@ fn run_linetool(
             err.clear();
             status = linetool_commands::run(alloc, words, Some(section), out, &mut err);
         }
-        if let Some(Command::Rows(place)) = Command::parse(words) {
+        if let Some(linetool_commands::Command::Rows(place)) = linetool_commands::Command::parse(
+            words,
+        ) {
             watch_rows(alloc, section, place, out)?;
         }
     }
@@ -176,10 +181,11 @@ fn run_linetool(
     Ok(status)
 }
 
-/// Prints what stands on standard error.
+/// Prints the lines that stand on standard error, to the last byte.
 pub(crate) fn print_errors(err: &[u8], out: &mut Vec<u8>) -> Result<(), AllocError> {
-    for line in str::from_utf8(err).unwrap_or("").lines() {
-        print_line(out, format_args!("stderr {line}"))?;
+    for line in err.split_inclusive(|byte| *byte == b'\n') {
+        out.extend_from_slice(b"stderr ")?;
+        out.extend_from_slice(line)?;
     }
     Ok(())
 }
