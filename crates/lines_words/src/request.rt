@@ -9,10 +9,9 @@ use crate::grammar::program;
 use clap::error::ErrorKind;
 use clap::{ArgMatches, Error};
 use lines_commands::{
-    Command, Form, Kind, Notation, Request, UnitChoice, parse_address, parse_offset, parse_size,
-    parse_target,
+    Command, Form, Kind, Notation, Request, UnitChoice, parse_address, parse_offset, parse_target,
 };
-use rows_units::{AddressSize, parse_order};
+use rows_words::{AddressSize, parse_order, parse_size};
 use std::alloc::{AllocError, Global};
 
 /// What words ask for, of which the first is the program's name.

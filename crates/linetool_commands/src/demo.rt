@@ -12,8 +12,8 @@ use gimli_write::{
     Address, ConvertError, DebugLine, EndianVec, Error, LineProgram, LineString, LineStringTable,
     PieceVec, RoundTrip, StringTable, Writer, round_trip,
 };
-use rows_units::{AddressSize, Place};
-use rows_words::print_bytes;
+use rows_units::Place;
+use rows_words::{AddressSize, print_bytes};
 use std::alloc::Global;
 use std::io::Write;
 

@@ -5,7 +5,8 @@ ghost use Rattle.std.specs.Prelude.{◌≡◌, ◌≢◌, Err, IfErr, IsNone};
 use crate::refusal::Refusal;
 use gimli_core::{DebugLineOffset, EndianSlice, Reader, RunTimeEndian};
 use gimli_line::{DebugLine, IncompleteLineProgram};
-use rows_units::{AddressSize, Place};
+use rows_units::Place;
+use rows_words::AddressSize;
 use std::alloc::Global;
 use std::io::Read;
 

@@ -1,12 +1,13 @@
 //! The words after the program's name, and what they ask for.
 
-ghost use Rattle.std.specs.Prelude.{◌≡◌, ◌<◌, ◌^◌, ◌↔◌, ℕ, IfSome, IsSome, Some, codes};
+ghost use Rattle.std.specs.Prelude.{◌≡◌, ◌<◌, ◌^◌, ℕ, IfSome, IsSome, Some};
 ghost use Rattle.std.specs.Str.Parse.{IsNumeral, digits_value};
 ghost use Rattle.std.specs.List.{list_any};
 ghost use Rattle.linetool_commands.specs.Words.{is_capital, NamesAddress, NamesPlace};
 
 use gimli_core::RunTimeEndian;
-use rows_units::{AddressSize, Place, parse_order};
+use rows_units::Place;
+use rows_words::{AddressSize, parse_digits, parse_order, parse_size};
 
 /// A command, with what its words say.
 #[derive(Clone, Copy, Debug, PartialEq, Eq)]
@@ -118,31 +119,13 @@ fn parse_place(order: &str, size: &str, offset: &str) -> Option<Place>
     })
 }
 
-/// How wide an address is.
-fn parse_size(word: &str) -> Option<AddressSize>
-    ensures one { (result ≡ Some AddressSize.One) ↔ (word.now ≡ codes "1") }
-    ensures two { (result ≡ Some AddressSize.Two) ↔ (word.now ≡ codes "2") }
-    ensures four { (result ≡ Some AddressSize.Four) ↔ (word.now ≡ codes "4") }
-    ensures eight { (result ≡ Some AddressSize.Eight) ↔ (word.now ≡ codes "8") }
-{
-    match word {
-        "1" => Some(AddressSize::One),
-        "2" => Some(AddressSize::Two),
-        "4" => Some(AddressSize::Four),
-        "8" => Some(AddressSize::Eight),
-        _ => None,
-    }
-}
-
 /// A number in decimal digits, where it fits.
 fn parse_offset(word: &str) -> Option<usize>
     ensures digits { IfSome result (λ n. IsNumeral 10 word.now × (n ≡ digits_value 10 word.now)) }
     ensures fits { IsNumeral 10 word.now → digits_value 10 word.now < 2 ^ 64 → IsSome result }
 {
-    if word.starts_with('+') {
-        return None;
-    }
-    word.parse::<usize>().ok()
+    let offset = parse_digits(word, 10)?;
+    Some(offset as usize)
 }
 
 /// An address in one to sixteen lower-case hexadecimal digits.
@@ -150,10 +133,10 @@ fn parse_address(word: &str) -> Option<u64>
     ensures named { IfSome result (NamesAddress word.now) }
     ensures only { (address : ℕ) → NamesAddress word.now address → result ≡ Some address }
 {
-    if word.starts_with('+') || word.len() > 16 || has_capital(word) {
+    if word.len() > 16 || has_capital(word) {
         return None;
     }
-    u64::from_str_radix(word, 16).ok()
+    parse_digits(word, 16)
 }
 
 /// Whether a word has a capital letter.

@@ -2,7 +2,7 @@
 
 use crate::calls::{Call, Details, Flags, Form, PieceSize, Registers, Start, Target, Text};
 use crate::fault::Fault;
-use gimli_core::{Encoding, Format, LineEncoding, RunTimeEndian};
+use gimli_core::{Encoding, Format, LineEncoding};
 use gimli_write::Address;
 use rows_words::{parse_bytes, parse_number, parse_signed, parse_text};
 use std::alloc::Global;
@@ -12,15 +12,6 @@ const LONGEST_ARRAY: u64 = 0x10_0000;
 
 /// The greatest number of a file.
 const LAST_FILE: u64 = 999;
-
-/// An order of bytes.
-pub(crate) fn parse_order(word: &str) -> Result<RunTimeEndian, Fault> {
-    match word {
-        "little" => Ok(RunTimeEndian::Little),
-        "big" => Ok(RunTimeEndian::Big),
-        _ => Err(Fault::Script),
-    }
-}
 
 /// What a program is written into.
 pub(crate) fn parse_target(words: &[&str]) -> Result<Target, Fault> {

@@ -2,7 +2,7 @@
 
 use crate::calls::{Call, Target};
 use crate::fault::Fault;
-use crate::parse::{parse_bytes_of, parse_call, parse_encoding, parse_order, parse_target};
+use crate::parse::{parse_bytes_of, parse_call, parse_encoding, parse_target};
 use gimli_core::{Encoding, RunTimeEndian};
 use std::alloc::{AllocError, Global};
 use std::mem;
@@ -62,7 +62,7 @@ impl Script {
     /// Takes the words of a line.
     fn take(&mut self, alloc: Global, number: u64, words: &[&str]) -> Result<(), Fault> {
         match words {
-            ["order", word] => self.order = parse_order(word)?,
+            ["order", word] => self.order = parse_order(word).ok_or(Fault::Script)?,
             ["writer", words @ ..] => self.target = parse_target(words)?,
             ["prefix", words @ ..] => self.prefix = parse_bytes_of(alloc, words)?,
             ["unit", version, format, size] => {

@@ -106,7 +106,7 @@ impl fmt::Display for Answer<'_> {
             Answer::Sixteen(bytes) => BytesAfter("bytes", bytes).fmt(f),
             Answer::Bytes(bytes) => BytesAfter("bytes", bytes).fmt(f),
             Answer::Part(part) => BytesAfter("bytes", part.slice()).fmt(f),
-            Answer::Refused(error) => Told("error", Refusal(*error)).fmt(f),
+            Answer::Refused(error) => Told("error", ReaderError(*error)).fmt(f),
         }
     }
 }
@@ -126,11 +126,11 @@ impl fmt::Display for Length {
     }
 }
 
-/// The refusal of a reader.
+/// The text of a reader's refusal.
 #[derive(Clone, Copy)]
-struct Refusal(Error);
+struct ReaderError(Error);
 
-impl fmt::Display for Refusal {
+impl fmt::Display for ReaderError {
     fn fmt<W: fmt::Write>(&self, f: &mut fmt::Formatter<W>) -> fmt::Result {
         match self.0 {
             Error::UnexpectedEof(ReaderOffsetId(left)) => write!(f, "UnexpectedEof({left})"),

@@ -3,7 +3,7 @@
 use crate::stop::Stop;
 use gimli_bytes::Address;
 use gimli_core::{DwEhPe, Format, RunTimeEndian, SectionId};
-use rows_words::{parse_bytes, parse_number, parse_signed, parse_text};
+use rows_words::{parse_bytes, parse_number, parse_order, parse_signed, parse_text};
 use std::alloc::{AllocError, Global};
 
 /// What stands in a line after the words that were taken. A word that is missing, or that isn't what it is taken for,
@@ -208,8 +208,7 @@ pub fn is_bytes(word: &str) -> bool {
 /// The order that the words of a command name.
 pub fn order_of(words: &[&str]) -> Option<RunTimeEndian> {
     match words {
-        ["little"] => Some(RunTimeEndian::Little),
-        ["big"] => Some(RunTimeEndian::Big),
+        [word] => parse_order(word),
         _ => None,
     }
 }

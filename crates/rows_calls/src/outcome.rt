@@ -6,7 +6,6 @@ use rows_words::BytesLine;
 use std::alloc::AllocError;
 use std::fmt;
 use std::fmt::{Debug, Display};
-use std::io::Write;
 
 /// What makes the calls of a script.
 pub trait Script {
@@ -72,10 +71,8 @@ fn run_line<S: Script>(
 
 /// Adds a line.
 pub fn print_line<D: Display + Drop>(out: &mut Vec<u8>, line: D) -> Result<(), Stop> {
-    match writeln!(out, "{line}") {
-        Ok(()) => Ok(()),
-        Err(_) => Err(Stop::Memory),
-    }
+    rows_words::print_line(out, line)?;
+    Ok(())
 }
 
 /// A word, and what stands after it.

@@ -14,7 +14,7 @@ use gimli_write::{
     LineStringTable, StringId, StringTable, convert_program,
 };
 use rows_builder::{Tables, print_program};
-use rows_units::{Refusal, Slice, Unit};
+use rows_units::{ErrorText, Slice, Unit};
 use rows_words::Attempts;
 use std::alloc::{AllocError, Global};
 use std::fmt::Write;
@@ -64,7 +64,7 @@ impl<'i> Conversion<'i> {
     {
         match self.unit.program(self.alloc, self.attempts) {
             Err(error) => {
-                let refusal = Refusal(error);
+                let refusal = ErrorText(error);
                 writeln!(text, "error {refusal}")?;
                 Ok(false)
             }

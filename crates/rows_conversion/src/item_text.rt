@@ -1,7 +1,7 @@
 //! What a conversion hands out, and why it is refused, as text.
 
 use gimli_write::{ConvertError, ConvertLineRow, FileId, LineRow};
-use rows_units::{Letters, Refusal};
+use rows_units::{ErrorText, Letters};
 use std::fmt;
 
 /// An item: an address, a row, or an end.
@@ -66,7 +66,7 @@ impl fmt::Display for Refused {
     fn fmt<W: fmt::Write>(&self, f: &mut fmt::Formatter<W>) -> fmt::Result {
         match self.0 {
             ConvertError::Read(error) => {
-                let refusal = Refusal(error);
+                let refusal = ErrorText(error);
                 write!(f, "refused Read {refusal}")
             }
             ConvertError::Write(error) => write!(f, "refused Write {error:?}"),

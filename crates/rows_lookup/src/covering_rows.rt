@@ -1,11 +1,10 @@
 //! The rows of a section that cover an address.
 
-use crate::print::print_line;
 use crate::request::Request;
 use gimli_core::{EndianSlice, RunTimeEndian};
 use gimli_lookup::{SectionLookup, UnitLookup};
-use rows_units::{Refusal, RowLine};
-use rows_words::parse_number;
+use rows_units::{ErrorText, RowLine};
+use rows_words::{parse_number, print_line};
 use std::alloc::{AllocError, Global};
 
 /// A reader over the bytes of a section.
@@ -45,7 +44,7 @@ pub fn places(
 /// Prints the line of a unit.
 fn print_unit(unit: &UnitLookup<Slice<'_>>, out: &mut Vec<u8>) -> Result<(), AllocError> {
     let offset = unit.offset().0;
-    let fault = unit.fault().map(Refusal);
+    let fault = unit.fault().map(ErrorText);
     match (unit.header(), fault) {
         (Some(header), None) => {
             let version = header.version();

@@ -1,11 +1,10 @@
 //! The whole paths of the files of a unit.
 
-use crate::print::print_line;
 use gimli_core::{DebugLineOffset, EndianSlice, Error, RunTimeEndian};
 use gimli_line::{DebugLine, LineProgramHeader};
 use gimli_lookup::{PathError, Paths, StringSections};
-use rows_units::{Handed, Place, Refusal};
-use rows_words::Text;
+use rows_units::{ErrorText, Handed, Place};
+use rows_words::{Text, print_line};
 use std::alloc::{AllocError, Global};
 
 /// A reader over the bytes of a section.
@@ -86,7 +85,7 @@ impl<'i> Unit<'i> {
             }
             Err(Error::OutOfMemory) => Err(AllocError),
             Err(e) => {
-                let refusal = Refusal(e);
+                let refusal = ErrorText(e);
                 print_line(out, format_args!("error {refusal}"))
             }
         }

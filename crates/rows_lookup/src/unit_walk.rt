@@ -1,9 +1,9 @@
 //! The units of a section, one after the other.
 
-use crate::print::print_line;
 use gimli_core::{EndianSlice, RunTimeEndian};
 use gimli_line::{DebugLine, LineUnit};
-use rows_units::{Place, Refusal};
+use rows_units::{ErrorText, Place};
+use rows_words::print_line;
 use std::alloc::{AllocError, Global};
 
 /// Prints the units of a section. The words are the order of bytes and the size of an address. The status is 2 for other
@@ -44,7 +44,7 @@ fn print_unit(
             print_line(out, format_args!("unit {offset} version {version}"))
         }
         Err(e) => {
-            let refusal = Refusal(*e);
+            let refusal = ErrorText(*e);
             print_line(out, format_args!("unit {offset} error {refusal}"))
         }
     }

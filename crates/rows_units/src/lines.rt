@@ -1,6 +1,6 @@
 //! Lines that are printed one after another.
 
-use crate::value_text::{Held, Refusal};
+use crate::value_text::{ErrorText, Held};
 use gimli_core::Error;
 use std::alloc::AllocError;
 use std::fmt;
@@ -39,7 +39,7 @@ impl<'o> Lines<'o> {
 
     /// Prints the line of a refusal.
     pub fn put_refusal(&mut self, error: Error) {
-        let refusal = Refusal(error);
+        let refusal = ErrorText(error);
         self.put(format_args!("error {refusal}"));
     }
 

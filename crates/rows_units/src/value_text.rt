@@ -113,11 +113,11 @@ impl fmt::Display for Source<'_> {
     }
 }
 
-/// A refusal: its variant, with what it holds where that is a version, a size or a form.
+/// The text of a refusal: its variant, with what it holds where that is a version, a size or a form.
 #[derive(Clone, Copy)]
-pub struct Refusal(pub Error);
+pub struct ErrorText(pub Error);
 
-impl fmt::Display for Refusal {
+impl fmt::Display for ErrorText {
     fn fmt<W: fmt::Write>(&self, f: &mut fmt::Formatter<W>) -> fmt::Result {
         match self.0 {
             Error::UnexpectedEof(_) => f.write_str("UnexpectedEof"),

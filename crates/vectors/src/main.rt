@@ -37,7 +37,6 @@ mod check;
 mod comparison;
 mod files;
 mod lines;
-mod output;
 mod parts;
 mod rows;
 mod run;

@@ -3,10 +3,9 @@
 use crate::again::watch_rows;
 use crate::files::split_words;
 use crate::lines::run_lines;
-use crate::output::print_line;
 use crate::rows::{Command, Input};
 use rows_conversion::Sections;
-use rows_words::Attempts;
+use rows_words::{Attempts, print_line};
 use std::alloc::{AllocError, Global};
 
 /// What a command of a row prints: its output, its lines on standard error after `stderr`, and its status, where

@@ -5,7 +5,7 @@ use std::fmt;
 
 /// Why the sections of a file can't be read.
 #[derive(Clone, Copy, Debug, PartialEq, Eq)]
-pub(crate) enum Refusal {
+pub(crate) enum InputError {
     /// The file isn't an ELF file that can be read.
     Elf(ElfError),
     /// A section is compressed.
@@ -16,28 +16,28 @@ pub(crate) enum Refusal {
     NoLines,
 }
 
-impl fmt::Display for Refusal {
+impl fmt::Display for InputError {
     fn fmt<W: fmt::Write>(&self, f: &mut fmt::Formatter<W>) -> fmt::Result {
         match self {
-            Refusal::Elf(ElfError::NotElf) => f.write_str(
+            InputError::Elf(ElfError::NotElf) => f.write_str(
                 "not an ELF file; for a raw section say --raw little or --raw big, and --address-size",
             ),
-            Refusal::Elf(error) => write!(f, "{error}"),
-            Refusal::Compressed => f.write_str(
+            InputError::Elf(error) => write!(f, "{error}"),
+            InputError::Compressed => f.write_str(
                 "a section is compressed; decompress it first: objcopy --decompress-debug-sections FILE",
             ),
-            Refusal::NotLinked => f.write_str(
+            InputError::NotLinked => f.write_str(
                 "an object file, whose addresses are not known before it is linked; link it first",
             ),
-            Refusal::NoLines => {
+            InputError::NoLines => {
                 f.write_str("there is no section .debug_line; compile and link with -g")
             }
         }
     }
 }
 
-impl From<ElfError> for Refusal {
-    fn from(error: ElfError) -> Refusal {
-        Refusal::Elf(error)
+impl From<ElfError> for InputError {
+    fn from(error: ElfError) -> InputError {
+        InputError::Elf(error)
     }
 }
