@@ -21,7 +21,7 @@
 //! ```text
 //! == demo unit                         a name that no other row of the file has
 //! -- DWARF 4, 6.2, by hand             where the expected output comes from
-//! > rows little 4 0                    the command, without a file
+//! > rows little 4 0                    the command, without a file; or several, a line each, over the same input
 //! unit(@header_13 00 05 02 3*00 01)    its input: a script, or bytes in hexadecimal
 //! <                                    the expected output, or `!!` for one that it must not give
 //! 0000000000001000 0 1 1 0 0 0 s
