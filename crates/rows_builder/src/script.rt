@@ -4,6 +4,7 @@ use crate::calls::{Call, Target};
 use crate::fault::Fault;
 use crate::parse::{parse_bytes_of, parse_call, parse_encoding, parse_target};
 use gimli_core::{Encoding, RunTimeEndian};
+use rows_words::parse_order;
 use std::alloc::{AllocError, Global};
 use std::mem;
 
