@@ -1,4 +1,4 @@
-//! Lookups, compared with a plain scan over the resumed rows of each sequence, for every address of a few hundred.
+//! The rows that one run keeps, and a lookup of many rows.
 
 use crate::check::{check, check_at, check_equal, check_equal_at};
 use crate::units::{DEMO_PROGRAM, HEADER, changed, cut_program, file_count, program, slice, unit};
@@ -8,57 +8,13 @@ use gimli_lookup::Lookup;
 use std::alloc::{AllocError, Global};
 use std::process::Abort;
 
-/// Two adjacent rows.
-type Pair = (LineRow, LineRow);
+// ---- the rows that one run keeps
 
-// ---- the plain scan
-
-/// The first two rows still to come between whose addresses `a` lies.
-fn pair_of_rows<R: Reader>(rows: ResumedLineRows<'_, R>, a: u64) -> Result<Option<Pair>> {
-    let mut rows = rows;
-    let mut before: Option<LineRow> = None;
-    for _ in 0..u64::MAX {
-        let Some((_, row)) = rows.next_row()? else {
-            return Ok(None);
-        };
-        let row = *row;
-        if let Some(first) = before
-            && first.address() <= a
-            && a < row.address()
-        {
-            return Ok(Some((first, row)));
-        }
-        before = Some(row);
-    }
-    Ok(None)
-}
-
-/// The first such rows of the first sequence that has them.
-fn plain_pair<R: Reader>(
-    program: &CompleteLineProgram<R>,
-    sequences: &[LineSequence<R>],
-    a: u64,
-) -> Result<Option<Pair>> {
-    for sequence in sequences {
-        let pair = pair_of_rows(program.resume_from(sequence), a)?;
-        if pair.is_some() {
-            return Ok(pair);
-        }
-    }
-    Ok(None)
-}
-
-// ---- lookups of small programs
-
-/// A program with addresses of four bytes, and how many probes it may take to find an address in it.
+/// A program with addresses of four bytes, and how many sequences it has.
 struct Case {
     name: &'static str,
     program: &'static [u8],
     sequences: usize,
-    /// One where a sequence has two rows.
-    least: u64,
-    /// For each sequence the binary digits of the number of its rows; the number itself where addresses go back.
-    most: u64,
 }
 
 const CASES: [Case; 13] = [
@@ -66,51 +22,37 @@ const CASES: [Case; 13] = [
         name: "the demo unit: three rows",
         program: DEMO_PROGRAM,
         sequences: 1,
-        least: 1,
-        most: 2,
     },
     Case {
         name: "no row",
         program: b"",
         sequences: 0,
-        least: 0,
-        most: 0,
     },
     Case {
         name: "rows without an end",
         program: b"\0\x05\x02\x10\0\0\0\x01\x02\x04\x01",
         sequences: 0,
-        least: 0,
-        most: 0,
     },
     Case {
         name: "an end alone",
         program: b"\0\x05\x02\x10\0\0\0\0\x01\x01",
         sequences: 1,
-        least: 0,
-        most: 1,
     },
     Case {
         name: "eleven rows that rise",
         program: b"\0\x05\x02\x10\0\0\0\x20\x2e\x3c\x4c\xf2\x20\x02\x14\x01\x20\x2e\x20\x02\x05\0\x01\x01",
         sequences: 1,
-        least: 1,
-        most: 4,
     },
     Case {
         name: "two and three rows at one address",
         program: b"\0\x05\x02\x10\0\0\0\x01\x03\x01\x01\x02\x04\x01\x03\x01\x01\x03\x01\x01\x02\x04\0\x01\x01",
         sequences: 1,
-        least: 1,
-        most: 3,
     },
     Case {
         name: "the second sequence below the first, and the third within it",
         program: b"\0\x05\x02\x80\0\0\0\x01\x02\x40\x01\0\x01\x01\0\x05\x02\x10\0\0\0\x01\x2e\0\x01\x01\
                   \0\x05\x02\x90\0\0\0\x01\x02\x08\x01\x02\x40\0\x01\x01",
         sequences: 3,
-        least: 1,
-        most: 6,
     },
     Case {
         name: "a sequence between two tombstones' rows, and one behind them",
@@ -118,150 +60,35 @@ const CASES: [Case; 13] = [
                   \0\x05\x02\xff\xff\xff\xff\x01\x02\x01\x01\x02\x02\0\x01\x01\
                   \0\x05\x02\x0b\0\0\0\x01\x02\x01\x01\x02\x02\0\x01\x01",
         sequences: 2,
-        least: 1,
-        most: 4,
     },
     Case {
         name: "a tombstone in a sequence, and its row at 0",
         program: b"\0\x05\x02\x01\0\0\0\x01\0\x05\x02\xff\xff\xff\xff\0\x01\x01\x01\0\x01\x01",
         sequences: 1,
-        least: 1,
-        most: 3,
     },
     Case {
         name: "four rows that go back once",
         program: b"\0\x05\x02\x05\0\0\0\x01\0\x05\x02\xff\xff\xff\xff\0\x01\x01\x01\x02\x03\x01\0\x01\x01",
         sequences: 1,
-        least: 1,
-        most: 4,
     },
     Case {
         name: "eight rows that go back once, with more than one pair round some addresses",
         program: b"\0\x05\x02\x50\0\0\0\x01\x20\x20\0\x05\x02\xff\xff\xff\xff\0\x01\x01\
                   \0\x05\x02\x05\0\0\0\x01\x2e\x2e\x02\x40\x01\x02\x30\0\x01\x01",
         sequences: 1,
-        least: 1,
-        most: 8,
     },
     Case {
         name: "a part hidden by an address that goes back",
         program: b"\0\x05\x02\x10\0\0\0\x01\0\x05\x02\x08\0\0\0\x03\x02\x01\x02\x09\0\x05\x02\x20\0\0\0\x01\x02\x05\0\x01\x01",
         sequences: 1,
-        least: 1,
-        most: 2,
     },
     Case {
         name: "rows that go back, then a sequence that rises, then rows without an end",
         program: b"\0\x05\x02\x40\0\0\0\x01\0\x05\x02\xff\xff\xff\xff\0\x01\x01\x01\x02\x03\x01\0\x01\x01\
                   \0\x05\x02\x30\0\0\0\x01\x20\x20\x20\x02\x7f\0\x01\x01\x01\x02\x7f\x01",
         sequences: 2,
-        least: 1,
-        most: 7,
     },
 ];
-
-/// Both calls answer what the plain scan does, with as many probes as a case allows.
-fn check_address<R: Reader>(
-    rt: &impl Abort,
-    lookup: &Lookup<R>,
-    plain: Option<Pair>,
-    a: u64,
-    case: &Case,
-) {
-    let name = case.name;
-    let (counted, probes) = lookup.find_counted(a);
-    assert!(rt; counted == plain, "{name}: {a}");
-    check_equal(rt, lookup.find(a), plain);
-    check(rt, case.least <= probes && probes <= case.most);
-}
-
-/// Addresses round the rows of the demo unit, and the greatest ones of four and of eight bytes.
-const FAR: [u64; 10] = [
-    0xfff,
-    0x1000,
-    0x1003,
-    0x1004,
-    0x1005,
-    0x1007,
-    0x1008,
-    0xffff_fffe,
-    0xffff_ffff,
-    u64::MAX,
-];
-
-/// The lookup of a unit.
-fn lookup_of<R: Reader>(alloc: Global, unit: R) -> Result<Lookup<R>> {
-    Lookup::new(program(alloc, unit, 4)?)
-}
-
-/// The lookup of a unit has the sequences and the files of its program, and answers as the plain scan does.
-fn check_case<R: Reader>(rt: &impl Abort, alloc: Global, unit: R, case: &Case) -> Result<()> {
-    let lookup = lookup_of(alloc, unit)?;
-    check_lookup(rt, alloc, unit, &lookup, case)
-}
-
-/// The same of its lookup.
-fn check_lookup<R: Reader>(
-    rt: &impl Abort,
-    alloc: Global,
-    unit: R,
-    lookup: &Lookup<R>,
-    case: &Case,
-) -> Result<()> {
-    let (program, sequences) = cut_program(alloc, unit)?;
-    check_equal(rt, sequences.len(), case.sequences);
-    check_parts(rt, lookup, &program, case);
-    check_addresses(rt, lookup, &program, &sequences, case)
-}
-
-/// The lookup has as many sequences as the case, and as many files as the program.
-fn check_parts<R: Reader>(
-    rt: &impl Abort,
-    lookup: &Lookup<R>,
-    program: &CompleteLineProgram<R>,
-    case: &Case,
-) {
-    check_equal(rt, lookup.sequences().len(), case.sequences);
-    check_equal(
-        rt,
-        file_count(lookup.header()),
-        file_count(program.header()),
-    );
-}
-
-/// For each address below 300, and those that are far, the lookup, and the plain scan over the sequences, answer the same for each address.
-fn check_addresses<R: Reader>(
-    rt: &impl Abort,
-    lookup: &Lookup<R>,
-    program: &CompleteLineProgram<R>,
-    sequences: &[LineSequence<R>],
-    case: &Case,
-) -> Result<()> {
-    for a in (0..300).chain(FAR) {
-        let plain = plain_pair(program, sequences, a)?;
-        check_address(rt, lookup, plain, a, case);
-    }
-    Ok(())
-}
-
-fn steps_of_each_address_of_small_programs(rt: &impl Abort, alloc: Global) -> Result<()> {
-    for case in &CASES {
-        let unit = unit(alloc, HEADER, case.program)?;
-        check_case(rt, alloc, slice(&unit), case)?;
-    }
-    Ok(())
-}
-
-#[test]
-fn each_address_of_small_programs(rt: HostRuntime) {
-    check_equal(
-        &rt,
-        steps_of_each_address_of_small_programs(&rt, rt.alloc()),
-        Ok(()),
-    );
-}
-
-// ---- the rows that one run keeps
 
 /// A resumed sequence gives these rows, and no more.
 fn check_rows<R: Reader>(rt: &impl Abort, resumed: ResumedLineRows<'_, R>, kept: &RowList) {
@@ -308,8 +135,8 @@ fn check_with_rows<R: Reader>(
 
 /// Both have as many sequences as the case, and the same number of files.
 fn check_kept_parts<R: Reader>(rt: &impl Abort, cut: &Cut<R>, kept: &CutWithRows<R>, case: &Case) {
-    check_equal(rt, kept.1.len(), case.sequences);
-    check_equal(rt, kept.2.len(), case.sequences);
+    check_equal_at(rt, kept.1.len(), case.sequences, case.name);
+    check_equal_at(rt, kept.2.len(), case.sequences, case.name);
     check_equal(rt, file_count(kept.0.header()), file_count(cut.0.header()));
 }
 
@@ -352,6 +179,9 @@ fn program_of_a_thousand_rows(alloc: Global) -> Result<Vec<u8>> {
     bytes_of_a_thousand_rows(alloc).map_err(|_| Error::OutOfMemory)
 }
 
+/// Two adjacent rows.
+type Pair = (LineRow, LineRow);
+
 /// The addresses of two rows.
 fn addresses(pair: Option<Pair>) -> Option<(u64, u64)> {
     pair.map(|(first, second)| (first.address(), second.address()))
@@ -385,7 +215,7 @@ fn check_one_of_a_thousand_rows<R: Reader>(rt: &impl Abort, lookup: &Lookup<R>, 
 
 /// The same at each address.
 fn check_a_thousand_rows<R: Reader>(rt: &impl Abort, alloc: Global, unit: R) -> Result<()> {
-    let lookup = lookup_of(alloc, unit)?;
+    let lookup = Lookup::new(program(alloc, unit, 4)?)?;
     for a in 0..1100 {
         check_one_of_a_thousand_rows(rt, &lookup, a);
     }

@@ -4,13 +4,12 @@ ghost use Rattle.std.specs.Prelude.{◌≡◌, ◌<◌, length, false, IfOk, OnO
 ghost use Rattle.gimli_write.specs.LineText.{line_text, HasNoZero, IsNotEmpty};
 
 use crate::check::{check, check_equal};
-use crate::equality::{check_alike, check_distinct};
 use gimli_core::{
     DW_FORM_line_strp, DW_FORM_string, DW_FORM_strp, DwForm, Encoding, Format, LineEncoding,
 };
 use gimli_write::{
-    Address, BuiltItem, DirectoryId, Error, FileId, FileInfo, Files, LineProgram,
-    LineRow as BuiltRow, LineString, LineStringTable, Result, StringId, StringTable,
+    Address, BuiltItem, DirectoryId, Error, FileId, FileInfo, Files, LineProgram, LineString,
+    LineStringTable, Result, StringId, StringTable,
 };
 use std::alloc::Global;
 use std::process::Abort;
@@ -699,119 +698,32 @@ fn bytes_of_texts(rt: HostRuntime) {
     check_equal(&rt, steps, Ok(()));
 }
 
-// ---- equal ids, rows and items
+// ---- the current row
 
-/// Rows, each two of which differ in one part.
-fn rows_of(row: BuiltRow, file: FileId) -> [BuiltRow; 12] {
-    [
-        row,
-        BuiltRow {
-            address_offset: 9,
-            ..row
-        },
-        BuiltRow { op_index: 9, ..row },
-        BuiltRow { file, ..row },
-        BuiltRow { line: 9, ..row },
-        BuiltRow { column: 9, ..row },
-        BuiltRow {
-            discriminator: 9,
-            ..row
-        },
-        BuiltRow {
-            is_statement: false,
-            ..row
-        },
-        BuiltRow {
-            basic_block: true,
-            ..row
-        },
-        BuiltRow {
-            prologue_end: true,
-            ..row
-        },
-        BuiltRow {
-            epilogue_begin: true,
-            ..row
-        },
-        BuiltRow { isa: 9, ..row },
-    ]
-}
-
-/// Items, each two of which differ in one part.
-fn items_of(row: BuiltRow, file: FileId) -> [BuiltItem; 7] {
-    let other = BuiltRow { file, ..row };
-    [
-        BuiltItem::SetAddress(Address::Constant(0)),
-        BuiltItem::SetAddress(Address::Constant(9)),
-        BuiltItem::Row(row),
-        BuiltItem::Row(other),
-        BuiltItem::End {
-            address_offset: 0,
-            op_index: 0,
-        },
-        BuiltItem::End {
-            address_offset: 9,
-            op_index: 0,
-        },
-        BuiltItem::End {
-            address_offset: 0,
-            op_index: 9,
-        },
-    ]
-}
-
-/// Equal ids hash alike.
-fn steps_of_equal_ids(rt: &impl Abort, alloc: Global, program: &mut LineProgram) -> Result<()>
-    requires { program.old.is_none ≡ false }
-{
-    let directory = put_directory(program, alloc, b'i')?;
-    let directories = [program.default_directory(), directory];
-    check_distinct(rt, "directory", &directories);
-    check_alike(rt, "directory", &directories, &directories);
-    let (first, second) = put_two_files(program, alloc)?;
-    check_distinct(rt, "file", &[first, second]);
-    check_alike(rt, "file", &[first, second], &[first, second]);
-    Ok(())
-}
-
-#[test]
-fn equal_ids(rt: HostRuntime) {
-    match program(rt.alloc()) {
-        Ok(mut program) => check_equal(
-            &rt,
-            steps_of_equal_ids(&rt, rt.alloc(), &mut program),
-            Ok(()),
-        ),
-        Err(error) => check_not_built(&rt, error),
-    }
-}
-
-/// The current row is a sequence's first, in the first file.
-fn steps_of_equal_rows_and_items(
+/// It is the first of a sequence, in the first file.
+fn steps_of_current_row_at_first(
     rt: &impl Abort,
     alloc: Global,
     program: &mut LineProgram,
 ) -> Result<()>
     requires { program.old.is_none ≡ false }
 {
-    let (first, second) = put_two_files(program, alloc)?;
+    let (first, _) = put_two_files(program, alloc)?;
     let row = *program.row();
     check_equal(rt, row.file, first);
     check(
         rt,
         row.is_statement && row.line == 1 && row.address_offset == 0,
     );
-    check_distinct(rt, "row", &rows_of(row, second));
-    check_distinct(rt, "item", &items_of(row, second));
     Ok(())
 }
 
 #[test]
-fn equal_rows_and_items(rt: HostRuntime) {
+fn current_row_at_first(rt: HostRuntime) {
     match program(rt.alloc()) {
         Ok(mut program) => check_equal(
             &rt,
-            steps_of_equal_rows_and_items(&rt, rt.alloc(), &mut program),
+            steps_of_current_row_at_first(&rt, rt.alloc(), &mut program),
             Ok(()),
         ),
         Err(error) => check_not_built(&rt, error),

@@ -1,12 +1,12 @@
-//! The demo unit's program, built, and its section; and a row.
+//! The demo unit's program, built, and its section.
 
 ghost use Rattle.std.specs.Prelude.{◌≡◌, ◌≤◌, [], OnOk, IfOk};
 ghost use Rattle.gimli_write.specs.Conditions.{CanWrite};
 
 use gimli_core::{DebugLineOffset, Encoding, Format, LineEncoding};
 use gimli_write::{
-    Address, DebugLine, Error, LineProgram, LineRow, LineString, LineStringTable, Result,
-    StringTable, Writer,
+    Address, DebugLine, Error, LineProgram, LineString, LineStringTable, Result, StringTable,
+    Writer,
 };
 use std::alloc::Global;
 
@@ -118,10 +118,4 @@ pub fn write<W: Writer>(
     let mut strings = StringTable::default(alloc);
     let mut line_strings = LineStringTable::default(alloc);
     program.write(section, program.encoding(), &mut line_strings, &mut strings)
-}
-
-/// A row as it is at the start of a sequence up to version 4.
-pub fn first_row(alloc: Global) -> LineRow {
-    let mut none = LineProgram::none(alloc);
-    *none.row()
 }

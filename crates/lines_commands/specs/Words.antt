@@ -1,16 +1,10 @@
 -- What words say: addresses, offsets, and lines of paths.
-use Rattle.std.specs.Prelude.{◌≡◌, ◌≢◌, ◌<◌, ◌^◌, ◌++◌, ◌⊎◌, ℕ, List, [], codes}
-use Rattle.std.specs.Str.Parse.{IsNumeral, digits_value}
+use Rattle.std.specs.Prelude.{◌≡◌, ◌≢◌, ◌++◌, ◌⊎◌, ℕ, List, [], codes}
+use Rattle.rows_words.specs.Digits.{NamesNumber}
 
 -- the word is 0x or 0X, and then these bytes
 abbrev pub HasPrefix : List ℕ → List ℕ → Type 0
 HasPrefix word digits = (word ≡ codes "0x" ++ digits) ⊎ (word ≡ codes "0X" ++ digits)
-
--- the digits are a number below 2^64 in this radix
-pub record NamesNumber (radix : ℕ) (digits : List ℕ) (number : ℕ) : Type 0 where
-  pub is_numeral : IsNumeral radix digits
-  pub number_named : number ≡ digits_value radix digits
-  pub number_fits : number < 2 ^ 64
 
 -- the word names an address: hexadecimal digits, with 0x before them or without it
 abbrev pub NamesAddress : List ℕ → ℕ → Type 0

@@ -9,10 +9,10 @@ use crate::report::{Verdict, out_of_memory};
 use gimli_core::Reader;
 use gimli_line::LineProgramHeader;
 use gimli_lookup::{Addresses, PathError, Paths, SectionLookup, StringSections};
+use rows_units::Slice;
 use std::alloc::Global;
 use std::io;
 use std::io::Write;
-use unit_text::Slice;
 
 /// A line of the files whose whole path ends with whole parts.
 #[derive(Clone, Copy)]

@@ -7,10 +7,10 @@ use crate::input::Input;
 use crate::overlaps::Sequence;
 use crate::walk::fault;
 use gimli_line::{IncompleteLineProgram, LineInstruction, LineProgramHeader, LineRow, LineUnit};
+use rows_units::Slice;
 use std::alloc::Global;
 use std::io;
 use std::io::Write;
-use unit_text::Slice;
 
 /// Prints what is found in a unit, and adds its sequences to others.
 pub(crate) fn check_unit<O: Write>(

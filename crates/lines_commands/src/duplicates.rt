@@ -6,10 +6,10 @@ use crate::paths_seen::{PathDigest, digest_of};
 use crate::report::out_of_memory;
 use gimli_line::LineProgramHeader;
 use gimli_lookup::{PathError, Paths, StringSections};
+use rows_units::Slice;
 use std::alloc::Global;
 use std::io;
 use std::io::Write;
-use unit_text::Slice;
 
 /// A file, by the digest of its whole path and its index in the header.
 #[derive(Clone, Copy, Debug, PartialEq, Eq, PartialOrd, Ord)]

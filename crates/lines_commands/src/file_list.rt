@@ -11,11 +11,11 @@ use crate::screen::Screen;
 use crate::walk::{fault, next_unit};
 use gimli_line::{FileEntry, IncompleteLineProgram, LineProgramHeader, LineUnit};
 use gimli_lookup::{PathError, Paths, StringSections};
-use row_text::Digits;
+use rows_units::Slice;
+use rows_words::Digits;
 use std::alloc::Global;
 use std::io::Write;
 use std::{fmt, io};
-use unit_text::Slice;
 
 /// Prints the directories and files of units. The fault of a unit is told, and the next unit
 /// follows.

@@ -5,14 +5,15 @@ ghost use Rattle.elf_sections.specs.File.{section_at};
 ghost use Rattle.elf_sections.specs.Elf.{file_of};
 ghost use Rattle.lines_commands.specs.Lines.{HasLines};
 
-use crate::refusal::Refusal;
+use crate::input_error::InputError;
 use crate::report::FilePlace;
 use crate::screen::Screen;
 use elf_sections::{Elf, ElfError};
 use gimli_core::{EndianSlice, RunTimeEndian};
 use gimli_line::DebugLine;
 use gimli_lookup::StringSections;
-use unit_text::{AddressSize, Slice};
+use rows_units::Slice;
+use rows_words::AddressSize;
 
 /// How the bytes of a file are read.
 #[derive(Clone, Copy, Debug, PartialEq, Eq)]
@@ -63,13 +64,13 @@ pub(crate) struct Input<'i> {
 }
 
 impl<'i> Input<'i> {
-    /// The sections of files. Refused as `Refusal` says.
+    /// The sections of files. Refused as `InputError` says.
     pub(crate) fn new(
         file: FilePlace<'i>,
         screen: Screen,
         kind: Kind,
         files: Files<'i>,
-    ) -> Result<Input<'i>, Refusal>
+    ) -> Result<Input<'i>, InputError>
         ensures elf { kind ≡ Kind.Elf → OnOk result (HasLines files.entry.file.now) }
     {
         match kind {
@@ -124,12 +125,12 @@ struct Program<'i> {
 impl<'i> Program<'i> {
     /// The sections of an ELF file. A section of texts that is named apart from it takes the place
     /// of its own.
-    fn of_elf(files: Files<'i>) -> Result<Program<'i>, Refusal>
+    fn of_elf(files: Files<'i>) -> Result<Program<'i>, InputError>
         ensures { OnOk result (HasLines files.entry.file.now) }
     {
         let elf = Elf::parse(files.file)?;
         if elf.is_relocatable() {
-            return Err(Refusal::NotLinked);
+            return Err(InputError::NotLinked);
         }
         let sections = Files {
             file: line_section(&elf)?,
@@ -161,30 +162,30 @@ fn notation_of(elf: &Elf<'_>) -> Notation {
 }
 
 /// The section `.debug_line` of an ELF file.
-fn line_section<'i>(elf: &Elf<'i>) -> Result<&'i [u8], Refusal>
+fn line_section<'i>(elf: &Elf<'i>) -> Result<&'i [u8], InputError>
     ensures { IfOk result (λ section. section_at (file_of elf.now) (codes ".debug_line") ≡ Ok (Some section.now)) }
 {
     match elf.section(b".debug_line") {
         Ok(Some(section)) => Ok(section),
         Ok(None) if matches!(elf.section(b".zdebug_line"), Ok(Some(_))) => {
-            Err(Refusal::Compressed)
+            Err(InputError::Compressed)
         }
-        Ok(None) => Err(Refusal::NoLines),
-        Err(ElfError::Compressed) => Err(Refusal::Compressed),
-        Err(e) => Err(Refusal::Elf(e)),
+        Ok(None) => Err(InputError::NoLines),
+        Err(ElfError::Compressed) => Err(InputError::Compressed),
+        Err(e) => Err(InputError::Elf(e)),
     }
 }
 
 /// The section of a name in an ELF file; other bytes where it has none, or where these are not
 /// empty.
-fn section_or<'i>(elf: &Elf<'i>, name: &[u8], other: &'i [u8]) -> Result<&'i [u8], Refusal> {
+fn section_or<'i>(elf: &Elf<'i>, name: &[u8], other: &'i [u8]) -> Result<&'i [u8], InputError> {
     if !other.is_empty() {
         return Ok(other);
     }
     match elf.section(name) {
         Ok(Some(section)) => Ok(section),
         Ok(None) => Ok(other),
-        Err(ElfError::Compressed) => Err(Refusal::Compressed),
-        Err(e) => Err(Refusal::Elf(e)),
+        Err(ElfError::Compressed) => Err(InputError::Compressed),
+        Err(e) => Err(InputError::Elf(e)),
     }
 }

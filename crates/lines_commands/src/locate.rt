@@ -12,10 +12,10 @@ use crate::report::{UnitPlace, Verdict, out_of_memory};
 use crate::request::Form;
 use gimli_line::{ColumnType, LineRow};
 use gimli_lookup::{CoveringRows, PathError, Paths, SectionLookup};
+use rows_units::Slice;
 use std::alloc::Global;
 use std::io::{BufRead, Write};
 use std::{fmt, io};
-use unit_text::Slice;
 
 /// The units of a section and their rows, for many addresses.
 #[derive(Drop)]

@@ -1,9 +1,9 @@
-//! Addresses, offsets, sizes and lines in words.
+//! Addresses, offsets and lines in words.
 
-ghost use Rattle.std.specs.Prelude.{◌≡◌, ◌≤◌, ◌↔◌, ℕ, List, IfSome, MatchOption, Some, codes};
-ghost use Rattle.lines_commands.specs.Words.{HasPrefix, NamesNumber, NamesAddress, NamesOffset, NamesTarget};
+ghost use Rattle.std.specs.Prelude.{◌≡◌, ℕ, List, IfSome, MatchOption, Some};
+ghost use Rattle.lines_commands.specs.Words.{HasPrefix, NamesAddress, NamesOffset, NamesTarget};
 
-use unit_text::AddressSize;
+use rows_words::parse_digits;
 
 /// An address in hexadecimal digits of either case, with or without `0x`. None for another word,
 /// and for one that doesn't fit 64 bits.
@@ -44,22 +44,6 @@ pub fn parse_target(word: &str) -> Option<(&str, u64)>
     Some((path, line))
 }
 
-/// The size of an address: 1, 2, 4 or 8 bytes.
-pub fn parse_size(word: &str) -> Option<AddressSize>
-    ensures one { (result ≡ Some AddressSize.One) ↔ (word.now ≡ codes "1") }
-    ensures two { (result ≡ Some AddressSize.Two) ↔ (word.now ≡ codes "2") }
-    ensures four { (result ≡ Some AddressSize.Four) ↔ (word.now ≡ codes "4") }
-    ensures eight { (result ≡ Some AddressSize.Eight) ↔ (word.now ≡ codes "8") }
-{
-    match word {
-        "1" => Some(AddressSize::One),
-        "2" => Some(AddressSize::Two),
-        "4" => Some(AddressSize::Four),
-        "8" => Some(AddressSize::Eight),
-        _ => None,
-    }
-}
-
 /// What stands after `0x` or `0X`.
 fn without_prefix(word: &str) -> Option<&str>
     ensures cases { MatchOption result ((digits : List ℕ) → HasPrefix word.now digits → ⊥)
@@ -70,17 +54,4 @@ fn without_prefix(word: &str) -> Option<&str>
         Some(digits) => Some(digits),
         None => rest.strip_prefix('X'),
     }
-}
-
-/// A number in digits alone.
-fn parse_digits(digits: &str, radix: u32) -> Option<u64>
-    requires low { 2 ≤ radix }
-    requires high { radix ≤ 36 }
-    ensures named { IfSome result (NamesNumber radix digits.now) }
-    ensures only { (number : ℕ) → NamesNumber radix digits.now number → result ≡ Some number }
-{
-    if digits.starts_with('+') {
-        return None;
-    }
-    u64::from_str_radix(digits, radix).ok()
 }

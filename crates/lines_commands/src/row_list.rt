@@ -13,10 +13,10 @@ use crate::screen::Screen;
 use crate::walk::{fault, next_unit};
 use gimli_line::{IncompleteLineProgram, LineProgramHeader, LineRow, LineUnit};
 use gimli_lookup::{PathError, Paths, StringSections};
+use rows_units::Slice;
 use std::alloc::Global;
 use std::io::Write;
 use std::{fmt, io};
-use unit_text::Slice;
 
 /// Prints the rows of units. The fault of a unit is told, and the next unit follows.
 pub(crate) fn print_rows<O: Write, E: Write>(

@@ -7,10 +7,10 @@ use crate::row_count::RowCount;
 use crate::walk::{fault, next_unit};
 use gimli_core::{Error, Format};
 use gimli_line::{IncompleteLineProgram, LineProgramHeader, LineUnit};
+use rows_units::Slice;
 use std::alloc::Global;
 use std::io::Write;
 use std::{fmt, io};
-use unit_text::Slice;
 
 /// Prints a line for each unit, under headings. The fault of a unit is told, and the next unit
 /// follows.

@@ -4,9 +4,9 @@ use crate::input::Input;
 use crate::report::{UnitPlace, out_of_memory};
 use gimli_core::Error;
 use gimli_line::{LineUnit, LineUnits};
+use rows_units::Slice;
 use std::alloc::Global;
 use std::io;
-use unit_text::Slice;
 
 impl<'i> Input<'i> {
     /// The units of the section.

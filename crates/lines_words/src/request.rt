@@ -9,11 +9,10 @@ use crate::grammar::program;
 use clap::error::ErrorKind;
 use clap::{ArgMatches, Error};
 use lines_commands::{
-    Command, Form, Kind, Notation, Request, UnitChoice, parse_address, parse_offset, parse_size,
-    parse_target,
+    Command, Form, Kind, Notation, Request, UnitChoice, parse_address, parse_offset, parse_target,
 };
+use rows_words::{AddressSize, parse_order, parse_size};
 use std::alloc::{AllocError, Global};
-use unit_text::{AddressSize, parse_order};
 
 /// What words ask for, of which the first is the program's name.
 pub fn parse<'w>(alloc: Global, words: &'w [&'w str]) -> Result<Request<'w>, Error> {

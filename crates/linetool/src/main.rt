@@ -4,7 +4,7 @@
 #[cfg(test)]
 mod tests;
 
-use line_commands::Refusal;
+use linetool_commands::Refusal;
 use std::env::{Env, FillError};
 use std::fs::File;
 use std::io::BufWriter;
@@ -31,7 +31,7 @@ fn start(rt: &HostRuntime) -> io::Result<u8> {
     }
     let file = open_file(rt, &words);
     let mut out = BufWriter::new(rt.alloc(), rt.stdout())?;
-    Ok(line_commands::run(rt.alloc(), &words, file, &mut out, &mut rt.stderr()))
+    Ok(linetool_commands::run(rt.alloc(), &words, file, &mut out, &mut rt.stderr()))
 }
 
 /// The words after the program's name. One that isn't UTF-8 is taken for an empty word, which is no command, no number

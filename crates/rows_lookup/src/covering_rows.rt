@@ -1,12 +1,11 @@
 //! The rows of a section that cover an address.
 
-use crate::print::print_line;
 use crate::request::Request;
 use gimli_core::{EndianSlice, RunTimeEndian};
 use gimli_lookup::{SectionLookup, UnitLookup};
-use row_text::parse_number;
+use rows_units::{ErrorText, RowLine};
+use rows_words::{parse_number, print_line};
 use std::alloc::{AllocError, Global};
-use unit_text::{Refusal, RowLine};
 
 /// A reader over the bytes of a section.
 type Slice<'i> = EndianSlice<'i, RunTimeEndian>;
@@ -45,7 +44,7 @@ pub fn places(
 /// Prints the line of a unit.
 fn print_unit(unit: &UnitLookup<Slice<'_>>, out: &mut Vec<u8>) -> Result<(), AllocError> {
     let offset = unit.offset().0;
-    let fault = unit.fault().map(Refusal);
+    let fault = unit.fault().map(ErrorText);
     match (unit.header(), fault) {
         (Some(header), None) => {
             let version = header.version();

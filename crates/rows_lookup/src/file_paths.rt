@@ -1,12 +1,11 @@
 //! The whole paths of the files of a unit.
 
-use crate::print::print_line;
 use gimli_core::{DebugLineOffset, EndianSlice, Error, RunTimeEndian};
 use gimli_line::{DebugLine, LineProgramHeader};
 use gimli_lookup::{PathError, Paths, StringSections};
-use row_text::Text;
+use rows_units::{ErrorText, Handed, Place};
+use rows_words::{Text, print_line};
 use std::alloc::{AllocError, Global};
-use unit_text::{Handed, Place, Refusal};
 
 /// A reader over the bytes of a section.
 type Slice<'i> = EndianSlice<'i, RunTimeEndian>;
@@ -86,7 +85,7 @@ impl<'i> Unit<'i> {
             }
             Err(Error::OutOfMemory) => Err(AllocError),
             Err(e) => {
-                let refusal = Refusal(e);
+                let refusal = ErrorText(e);
                 print_line(out, format_args!("error {refusal}"))
             }
         }

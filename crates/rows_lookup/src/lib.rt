@@ -35,7 +35,6 @@
 mod covering_rows;
 mod file_paths;
 mod line_addresses;
-mod print;
 mod request;
 mod unit_walk;
 

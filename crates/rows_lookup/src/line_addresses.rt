@@ -1,10 +1,9 @@
 //! The addresses at which the code of a line begins.
 
-use crate::print::print_line;
 use crate::request::Request;
 use gimli_core::EndianSlice;
 use gimli_lookup::StringSections;
-use row_text::{parse_number, parse_text};
+use rows_words::{parse_number, parse_text, print_line};
 use std::alloc::{AllocError, Global};
 
 /// Prints the addresses at which the code of a line begins, or of the next line that has any. The words are the order of

@@ -3,9 +3,9 @@
 use gimli_core::{EndianSlice, RunTimeEndian};
 use gimli_line::DebugLine;
 use gimli_lookup::SectionLookup;
-use row_text::parse_number;
+use rows_units::Place;
+use rows_words::parse_number;
 use std::alloc::{AllocError, Global};
-use unit_text::Place;
 
 /// How a section is read, and from which address on there is code.
 #[derive(Clone, Copy)]

@@ -1,10 +1,10 @@
 //! The units of a section, one after the other.
 
-use crate::print::print_line;
 use gimli_core::{EndianSlice, RunTimeEndian};
 use gimli_line::{DebugLine, LineUnit};
+use rows_units::{ErrorText, Place};
+use rows_words::print_line;
 use std::alloc::{AllocError, Global};
-use unit_text::{Place, Refusal};
 
 /// Prints the units of a section. The words are the order of bytes and the size of an address. The status is 2 for other
 /// words, else 0.
@@ -44,7 +44,7 @@ fn print_unit(
             print_line(out, format_args!("unit {offset} version {version}"))
         }
         Err(e) => {
-            let refusal = Refusal(*e);
+            let refusal = ErrorText(*e);
             print_line(out, format_args!("unit {offset} error {refusal}"))
         }
     }

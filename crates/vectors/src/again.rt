@@ -1,10 +1,10 @@
 //! What must stand where memory is refused to the rows of a unit.
 
-use crate::output::print_line;
 use gimli_core::{DebugLineOffset, EndianSlice, Error, Reader, RunTimeEndian};
 use gimli_line::{DebugLine, IncompleteLineProgram, LineProgram, LineRows};
+use rows_units::Place;
+use rows_words::print_line;
 use std::alloc::{AllocError, Global};
-use unit_text::Place;
 
 /// The rows of a unit, where memory is refused them: the files must be as before, and each later call must say that
 /// there is no more row. Prints `state` and the count of calls where this doesn't hold.

@@ -1,8 +1,9 @@
 //! Rows that are run and compared with what is expected of them.
 
-use crate::rows::Row;
-use crate::run::run_row;
-use row_text::Attempts;
+use crate::comparison::is_expected;
+use crate::rows::{Command, Row};
+use crate::run::run_command;
+use rows_words::Attempts;
 use std::alloc::Global;
 use std::io;
 use std::io::Write;
@@ -26,47 +27,57 @@ pub fn check_rows<O: Write>(
         not: 0,
     };
     for row in rows {
-        let got = run_row(alloc, row, attempts)?;
-        if is_as_stated(row, &got) {
+        if check_row(alloc, row, attempts, out)? {
             tally.as_stated = tally.as_stated.saturating_add(1);
         } else {
             tally.not = tally.not.saturating_add(1);
-            print_row(row, &got, out)?;
         }
     }
     Ok(tally)
 }
 
-/// Whether the output is the expected one, or another where it must differ.
-fn is_as_stated(row: &Row<'_>, got: &[u8]) -> bool {
-    match str::from_utf8(got) {
-        Ok(got) => has_same_lines(&row.expected, got) != row.must_differ,
-        Err(_) => false,
-    }
-}
-
-/// Whether two texts have the same lines, where blank lines at the end of what is expected don't count.
-fn has_same_lines(expected: &str, got: &str) -> bool {
-    let mut lines = got.lines();
-    for expected in expected.lines() {
-        match lines.next() {
-            Some(line) if line == expected => {}
-            None if expected.trim().is_empty() => {}
-            _ => return false,
+/// Runs the commands of a row, and prints each whose output isn't the expected one. Whether there is none.
+fn check_row<O: Write>(
+    alloc: Global,
+    row: &Row<'_>,
+    attempts: Attempts,
+    out: &mut O,
+) -> io::Result<bool> {
+    let mut is_as_stated = true;
+    for command in &row.commands {
+        let got = run_command(alloc, command, attempts)?;
+        if !gives_what_is_stated(row, &got) {
+            is_as_stated = false;
+            print_command(row, command, &got, out)?;
         }
     }
-    lines.next().is_none()
+    Ok(is_as_stated)
 }
 
-/// Prints a row whose output isn't the expected one.
-fn print_row<O: Write>(row: &Row<'_>, got: &[u8], out: &mut O) -> io::Result<()> {
+/// Whether the output is the expected one, or another where it must differ.
+fn gives_what_is_stated(row: &Row<'_>, got: &[u8]) -> bool {
+    is_expected(row.expected.as_bytes(), got) != row.must_differ
+}
+
+/// Prints a command of a row whose output isn't the expected one. Its words stand there where the row has others.
+fn print_command<O: Write>(
+    row: &Row<'_>,
+    command: &Command<'_>,
+    got: &[u8],
+    out: &mut O,
+) -> io::Result<()> {
     let name = row.name;
+    writeln!(out, "== {name}")?;
+    if row.commands.len() > 1 {
+        let words = command.words;
+        writeln!(out, "> {words}")?;
+    }
     let rule = if row.must_differ {
         "must differ from"
     } else {
         "expected"
     };
     let expected = row.expected.as_str().trim_end_matches('\n');
-    writeln!(out, "== {name}\n{rule}\n{expected}\ngot")?;
+    writeln!(out, "{rule}\n{expected}\ngot")?;
     out.write_all(got)
 }

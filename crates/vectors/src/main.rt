@@ -21,7 +21,7 @@
 //! ```text
 //! == demo unit                         a name that no other row of the file has
 //! -- DWARF 4, 6.2, by hand             where the expected output comes from
-//! > rows little 4 0                    the command, without a file
+//! > rows little 4 0                    the command, without a file; or several, a line each, over the same input
 //! unit(@header_13 00 05 02 3*00 01)    its input: a script, or bytes in hexadecimal
 //! <                                    the expected output, or `!!` for one that it must not give
 //! 0000000000001000 0 1 1 0 0 0 s
@@ -34,17 +34,17 @@
 
 mod again;
 mod check;
+mod comparison;
 mod files;
 mod lines;
-mod output;
 mod parts;
 mod rows;
 mod run;
 
 use check::check_rows;
 use files::{SectionFiles, split_words};
-use row_text::Attempts;
 use rows::{Fault, parse_rows};
+use rows_words::Attempts;
 use std::io::{BufWriter, ErrorKind, Write};
 use std::process::ExitCode;
 use std::{env, fmt, fs, io};
@@ -108,21 +108,21 @@ fn print_unit(rt: &HostRuntime, command: &str, file: &str, words: &[&str]) -> io
     let status = match command {
         "header" => {
             let section = fs::read(rt, file)?;
-            unit_text::header(alloc, words, &section, Attempts::One, &mut out)?
+            rows_units::header(alloc, words, &section, Attempts::One, &mut out)?
         }
         "instructions" => {
             let section = fs::read(rt, file)?;
-            unit_text::instructions(alloc, words, &section, Attempts::One, &mut out)?
+            rows_units::instructions(alloc, words, &section, Attempts::One, &mut out)?
         }
         "convert" => {
             let (words, texts) = split_words(words);
             let files = SectionFiles::read(rt, file, texts)?;
-            conversion_text::convert(alloc, words, files.sections(), Attempts::One, &mut out)?
+            rows_conversion::convert(alloc, words, files.sections(), Attempts::One, &mut out)?
         }
         "convert_sequences" => {
             let (words, texts) = split_words(words);
             let files = SectionFiles::read(rt, file, texts)?;
-            conversion_text::convert_sequences(
+            rows_conversion::convert_sequences(
                 alloc,
                 words,
                 files.sections(),
@@ -169,7 +169,7 @@ fn check_files(rt: &HostRuntime, files: &[&str], attempts: Attempts) -> io::Resu
 fn print_scripts(rt: &HostRuntime) -> io::Result<u8> {
     let script = io::read_to_string(rt.alloc(), rt.stdin())?;
     let mut out = Vec::new(rt.alloc());
-    let status = builder_scripts::write(rt.alloc(), &[], script.as_str(), Attempts::One, &mut out)?;
+    let status = rows_builder::write(rt.alloc(), &[], script.as_str(), Attempts::One, &mut out)?;
     print_all(rt, &out, status)
 }
 

@@ -1,6 +1,6 @@
 //! Bytes in hexadecimal, which may name parts that were defined before, and have unit lengths put before them.
 
-use row_text::push_bytes;
+use rows_words::push_bytes;
 use std::alloc::{AllocError, Global};
 use std::mem;
 

@@ -4,17 +4,24 @@ use crate::files::WORDS;
 use crate::parts::{Order, Parts};
 use std::alloc::{AllocError, Global};
 
-/// A row: a command with its input, and the output that is expected of it.
+/// A row: commands over one input, and the output that is expected of each of them.
 #[derive(Drop)]
 pub struct Row<'t> {
     pub name: &'t str,
-    /// The command and its other words.
-    pub words: &'t str,
-    pub input: Input,
+    /// The commands, of which there is one at least.
+    pub commands: Vec<Command<'t>>,
     /// The lines of the output.
     pub expected: String,
     /// Whether the output must be another one than this.
     pub must_differ: bool,
+}
+
+/// A command, with what it is given.
+#[derive(Drop)]
+pub struct Command<'t> {
+    /// The command and its other words.
+    pub words: &'t str,
+    pub input: Input,
 }
 
 /// What a command is given.
@@ -66,22 +73,58 @@ pub fn parse_rows<'t>(alloc: Global, text: &'t str) -> Result<Vec<Row<'t>>, Faul
 #[derive(Drop)]
 struct Draft<'t> {
     name: &'t str,
-    words: Option<&'t str>,
+    /// The words of each command.
+    words: Vec<&'t str>,
     /// The lines of the input.
     text: String,
-    input: Option<Input>,
+    /// The commands, once the input has ended.
+    commands: Vec<Command<'t>>,
     expected: String,
     must_differ: bool,
 }
 
+impl<'t> Draft<'t> {
+    /// A row of this name, without a command.
+    fn new(alloc: Global, name: &'t str) -> Draft<'t> {
+        Draft {
+            name,
+            words: Vec::new(alloc),
+            text: String::new(alloc),
+            commands: Vec::new(alloc),
+            expected: String::new(alloc),
+            must_differ: false,
+        }
+    }
+
+    /// Takes a line after a command: a further command, as long as no input stands there, or a line of the input.
+    fn take_input(&mut self, line: &'t str) -> Result<(), AllocError> {
+        match line.strip_prefix("> ") {
+            Some(words) if self.text.is_empty() => self.words.push(words.trim())?,
+            _ => push_line(&mut self.text, line)?,
+        }
+        Ok(())
+    }
+
+    /// Ends the input, and makes of it what each command is given. False where it says no such thing.
+    fn end_input(&mut self, alloc: Global, parts: &Parts<'_>) -> Result<bool, AllocError> {
+        for words in &self.words {
+            match input_of(alloc, parts, words, self.text.as_str())? {
+                Some(input) => self.commands.push(Command { words, input })?,
+                None => return Ok(false),
+            }
+        }
+        Ok(true)
+    }
+}
+
 /// What the next line of a file is a part of.
 #[derive(Clone, Copy)]
-enum Place<'t> {
+enum Place {
     /// What stands before a command: parts, and where rows come from.
     Head,
-    /// The input of the command with these words.
-    Input(&'t str),
-    /// The output of a command.
+    /// The commands after the first one, and their input.
+    Input,
+    /// The output of each command.
     Output,
 }
 
@@ -105,7 +148,7 @@ impl<'t> RowsReader<'t> {
         }
         match self.place() {
             Place::Head => self.take_head(line.trim()),
-            Place::Input(words) => self.take_input(words, line),
+            Place::Input => self.take_input(line),
             Place::Output => self.take_output(line),
         }
     }
@@ -113,20 +156,17 @@ impl<'t> RowsReader<'t> {
     /// Takes a line that defines a part. False in an output, whose lines are all that a command gives.
     fn take_part(&mut self, part: &'t str) -> Result<bool, AllocError> {
         match self.place() {
-            Place::Head | Place::Input(_) => self.parts.define(self.alloc, part),
+            Place::Head | Place::Input => self.parts.define(self.alloc, part),
             Place::Output => Ok(false),
         }
     }
 
     /// What the next line is a part of.
-    fn place(&self) -> Place<'t> {
-        let Some(draft) = &self.draft else {
-            return Place::Head;
-        };
-        match (draft.words, &draft.input) {
-            (None, _) => Place::Head,
-            (Some(words), None) => Place::Input(words),
-            (Some(_), Some(_)) => Place::Output,
+    fn place(&self) -> Place {
+        match &self.draft {
+            Some(draft) if !draft.commands.is_empty() => Place::Output,
+            Some(draft) if !draft.words.is_empty() => Place::Input,
+            _ => Place::Head,
         }
     }
 
@@ -135,14 +175,7 @@ impl<'t> RowsReader<'t> {
         if name.is_empty() || self.rows.iter().any(|row| row.name == name) {
             return false;
         }
-        self.draft = Some(Draft {
-            name,
-            words: None,
-            text: String::new(self.alloc),
-            input: None,
-            expected: String::new(self.alloc),
-            must_differ: false,
-        });
+        self.draft = Some(Draft::new(self.alloc, name));
         true
     }
 
@@ -150,7 +183,7 @@ impl<'t> RowsReader<'t> {
     fn take_head(&mut self, line: &'t str) -> Result<bool, AllocError> {
         match (line.strip_prefix('>'), &mut self.draft) {
             (Some(words), Some(draft)) => {
-                draft.words = Some(words.trim());
+                draft.words.push(words.trim())?;
                 Ok(self.parts.are_ended())
             }
             _ if line.is_empty() || line.starts_with("--") => Ok(true),
@@ -158,45 +191,30 @@ impl<'t> RowsReader<'t> {
         }
     }
 
-    /// Takes a line of the input, or the one that ends it.
-    fn take_input(&mut self, words: &str, line: &str) -> Result<bool, AllocError> {
+    /// Takes a further command, a line of the input, or the one that ends it.
+    fn take_input(&mut self, line: &'t str) -> Result<bool, AllocError> {
+        let Some(draft) = &mut self.draft else {
+            return Ok(false);
+        };
         match line.trim_end() {
-            "<" => self.end_input(words, false),
-            "!!" => self.end_input(words, true),
-            line => match &mut self.draft {
-                Some(draft) => push_line(&mut draft.text, line),
-                None => Ok(false),
-            },
+            "<" => draft.end_input(self.alloc, &self.parts),
+            "!!" => {
+                draft.must_differ = true;
+                draft.end_input(self.alloc, &self.parts)
+            }
+            line => {
+                draft.take_input(line)?;
+                Ok(true)
+            }
         }
     }
 
     /// Takes a line of the output.
     fn take_output(&mut self, line: &str) -> Result<bool, AllocError> {
-        match &mut self.draft {
-            Some(draft) => push_line(&mut draft.expected, line),
-            None => Ok(false),
-        }
-    }
-
-    /// Ends the input: a script for the commands that take one, else bytes. False where it is none.
-    fn end_input(&mut self, words: &str, must_differ: bool) -> Result<bool, AllocError> {
         let Some(draft) = &mut self.draft else {
             return Ok(false);
         };
-        let text = String::new(self.alloc);
-        let input = if takes_script(words) {
-            Input::Script(std::mem::replace(&mut draft.text, text))
-        } else {
-            let order = order_of(words);
-            let section = self.parts.expand(self.alloc, &draft.text, order)?;
-            let named = named_parts(self.alloc, &self.parts, words, order)?;
-            match (section, named) {
-                (Some(section), Some(named)) => Input::Section(section, named),
-                _ => return Ok(false),
-            }
-        };
-        draft.input = Some(input);
-        draft.must_differ = must_differ;
+        push_line(&mut draft.expected, line)?;
         Ok(true)
     }
 
@@ -205,17 +223,35 @@ impl<'t> RowsReader<'t> {
         let Some(draft) = self.draft.take() else {
             return Ok(true);
         };
-        let (Some(words), Some(input)) = (draft.words, draft.input) else {
+        if draft.commands.is_empty() {
             return Ok(false);
-        };
+        }
         self.rows.push(Row {
             name: draft.name,
-            words,
-            input,
+            commands: draft.commands,
             expected: draft.expected,
             must_differ: draft.must_differ,
         })?;
         Ok(true)
+    }
+}
+
+/// What a command with these words is given: the text as a script, or the bytes that it says. None where it says none.
+fn input_of(
+    alloc: Global,
+    parts: &Parts<'_>,
+    words: &str,
+    text: &str,
+) -> Result<Option<Input>, AllocError> {
+    if takes_script(words) {
+        return Ok(Some(Input::Script(String::from_str(alloc, text)?)));
+    }
+    let order = order_of(words);
+    let section = parts.expand(alloc, text, order)?;
+    let named = named_parts(alloc, parts, words, order)?;
+    match (section, named) {
+        (Some(section), Some(named)) => Ok(Some(Input::Section(section, named))),
+        _ => Ok(None),
     }
 }
 
@@ -243,10 +279,9 @@ fn named_parts(
 }
 
 /// Adds a line to a text.
-fn push_line(text: &mut String, line: &str) -> Result<bool, AllocError> {
+fn push_line(text: &mut String, line: &str) -> Result<(), AllocError> {
     text.push_str(line)?;
-    text.push('\n')?;
-    Ok(true)
+    text.push('\n')
 }
 
 /// How many words of a command with texts stand before the parts that hold them, itself among these. None where the

@@ -1,21 +1,23 @@
-//! What the command of a row gives.
+//! What a command of a row gives.
 
 use crate::again::watch_rows;
 use crate::files::split_words;
 use crate::lines::run_lines;
-use crate::output::print_line;
-use crate::rows::{Input, Row};
-use conversion_text::Sections;
-use line_commands::Command;
-use row_text::Attempts;
+use crate::rows::{Command, Input};
+use rows_conversion::Sections;
+use rows_words::{Attempts, print_line};
 use std::alloc::{AllocError, Global};
 
-/// What the command of a row prints: its output, its lines on standard error after `stderr`, and its status, where
+/// What a command of a row prints: its output, its lines on standard error after `stderr`, and its status, where
 /// it isn't 0, after `status`.
-pub fn run_row(alloc: Global, row: &Row<'_>, attempts: Attempts) -> Result<Vec<u8>, AllocError> {
-    let words: Vec<&str> = row.words.split_whitespace().collect(alloc)?;
+pub fn run_command(
+    alloc: Global,
+    command: &Command<'_>,
+    attempts: Attempts,
+) -> Result<Vec<u8>, AllocError> {
+    let words: Vec<&str> = command.words.split_whitespace().collect(alloc)?;
     let mut out = Vec::new(alloc);
-    let status = match &row.input {
+    let status = match &command.input {
         Input::Script(script) => run_script(alloc, &words, script, attempts, &mut out)?,
         Input::Section(section, named) => {
             run_over_parts(alloc, &words, section, named, attempts, &mut out)?
@@ -36,10 +38,10 @@ fn run_script(
     out: &mut Vec<u8>,
 ) -> Result<u8, AllocError> {
     match words {
-        ["write", rest @ ..] => builder_scripts::write(alloc, rest, script, attempts, out),
-        ["read", rest @ ..] => call_scripts::read(alloc, rest, script, attempts, out),
-        ["bytes", rest @ ..] => call_scripts::bytes(alloc, rest, script, attempts, out),
-        ["pieces", rest @ ..] => call_scripts::pieces(alloc, rest, script, attempts, out),
+        ["write", rest @ ..] => rows_builder::write(alloc, rest, script, attempts, out),
+        ["read", rest @ ..] => rows_calls::read(alloc, rest, script, attempts, out),
+        ["bytes", rest @ ..] => rows_calls::bytes(alloc, rest, script, attempts, out),
+        ["pieces", rest @ ..] => rows_calls::pieces(alloc, rest, script, attempts, out),
         _ => Ok(2),
     }
 }
@@ -89,11 +91,11 @@ fn run_over(
     match words {
         ["convert", rest @ ..] => {
             let rest = without_parts(alloc, rest)?;
-            conversion_text::convert(alloc, &rest, sections, attempts, out)
+            rows_conversion::convert(alloc, &rest, sections, attempts, out)
         }
         ["convert_sequences", rest @ ..] => {
             let rest = without_parts(alloc, rest)?;
-            conversion_text::convert_sequences(alloc, &rest, sections, attempts, out)
+            rows_conversion::convert_sequences(alloc, &rest, sections, attempts, out)
         }
         ["places", rest @ ..] => rows_lookup::places(alloc, rest, section, out),
         ["addresses", rest @ ..] => {
@@ -119,9 +121,9 @@ fn run_over(
                 out,
             )
         }
-        ["header", rest @ ..] => unit_text::header(alloc, rest, section, attempts, out),
+        ["header", rest @ ..] => rows_units::header(alloc, rest, section, attempts, out),
         ["instructions", rest @ ..] => {
-            unit_text::instructions(alloc, rest, section, attempts, out)
+            rows_units::instructions(alloc, rest, section, attempts, out)
         }
         ["demo", ..] | [] => run_linetool(alloc, words, section, attempts, out),
         [command, rest @ ..] => {
@@ -157,14 +159,16 @@ fn run_linetool(
 ) -> Result<u8, AllocError> {
     let start = out.len();
     let mut err = Vec::new(alloc);
-    let mut status = line_commands::run(alloc, words, Some(section), out, &mut err);
+    let mut status = linetool_commands::run(alloc, words, Some(section), out, &mut err);
     if attempts == Attempts::Two {
         if err.as_slice() == b"refused: memory\n".as_slice() {
             out.truncate(start);
             err.clear();
-            status = line_commands::run(alloc, words, Some(section), out, &mut err);
+            status = linetool_commands::run(alloc, words, Some(section), out, &mut err);
         }
-        if let Some(Command::Rows(place)) = Command::parse(words) {
+        if let Some(linetool_commands::Command::Rows(place)) = linetool_commands::Command::parse(
+            words,
+        ) {
             watch_rows(alloc, section, place, out)?;
         }
     }
@@ -176,10 +180,11 @@ fn run_linetool(
     Ok(status)
 }
 
-/// Prints what stands on standard error.
+/// Prints the lines that stand on standard error, to the last byte.
 pub(crate) fn print_errors(err: &[u8], out: &mut Vec<u8>) -> Result<(), AllocError> {
-    for line in str::from_utf8(err).unwrap_or("").lines() {
-        print_line(out, format_args!("stderr {line}"))?;
+    for line in err.split_inclusive(|byte| *byte == b'\n') {
+        out.extend_from_slice(b"stderr ")?;
+        out.extend_from_slice(line)?;
     }
     Ok(())
 }

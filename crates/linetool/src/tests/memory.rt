@@ -1,6 +1,6 @@
 //! A reader that fails in the middle, and a writer with little room. Neither takes memory.
 
-use line_commands::run;
+use linetool_commands::run;
 use std::alloc::Global;
 use std::io;
 use std::io::{ErrorKind, Read, Write};

@@ -1,0 +1,6 @@
+use Rattle.std.proofs.Common.{[]}
+use Rattle.gimli_build.specs.Conditions.{CanWrite}
+use Rattle.bench.proofs.write.put_sequence.Given as goal
+
+abbrev pub invariant-loop : goal.invariant-loop
+invariant-loop l = CanWrite l.program [] []

@@ -1,0 +1,79 @@
+//! The cost of a conversion: `convert FILE OFFSET TIMES` reads the unit at OFFSET of a section, converts it with its own
+//! encodings, each address mapped to itself, and writes it into an `EndianVec`; so many times. Texts stand in the unit
+//! itself, as up to version 4.
+//!
+//! Standard output has the length of each section that was written, and a sum of its bytes.
+
+use crate::sums::print_sum;
+use crate::words::{parse_count, parse_offset};
+use gimli_core::{DebugLineOffset, EndianSlice, LittleEndian, Reader};
+use gimli_line::{DebugLine, IncompleteLineProgram};
+use gimli_write::conversion_laws::converted_programs_can_be_written;
+use gimli_write::{
+    Address, ConvertResult, EndianVec, LineStringTable, StringTable, convert_program,
+};
+use std::alloc::Global;
+use std::io::ErrorKind;
+use std::{fs, io};
+
+/// Converts the unit at an offset so many times, and prints what was written each time.
+pub fn run(rt: &HostRuntime, path: &str, offset: &str, times: &str) -> io::Result<()> {
+    let offset = parse_offset(offset)?;
+    let times = parse_count(times)?;
+    let section = fs::read(rt, path)?;
+    for _ in 0..times {
+        pass(rt, &section, offset)?;
+    }
+    Ok(())
+}
+
+/// Converts the unit at an offset once, and prints what was written.
+fn pass(rt: &HostRuntime, section: &[u8], offset: DebugLineOffset) -> io::Result<()> {
+    match converted_unit(rt.alloc(), section, offset) {
+        Ok(bytes) => print_sum(rt, bytes.as_slice()),
+        Err(_) => Err(io::Error::from(ErrorKind::InvalidData)),
+    }
+}
+
+/// The unit at an offset, as it is written after its conversion.
+fn converted_unit(
+    alloc: Global,
+    section: &[u8],
+    offset: DebugLineOffset,
+) -> ConvertResult<Vec<u8>> {
+    let section = DebugLine::new(section, LittleEndian);
+    let program = section.program(alloc, offset, 8, None, None)?;
+    converted(alloc, program, EndianSlice::new(b"", LittleEndian))
+}
+
+/// A program, as it is written after its conversion. `no_texts` is a reader of no bytes, which stands for both sections of
+/// texts.
+fn converted<R: Reader>(
+    alloc: Global,
+    from_program: IncompleteLineProgram<R>,
+    no_texts: R,
+) -> ConvertResult<Vec<u8>> {
+    converted_programs_can_be_written();
+    let mut strings = StringTable::default(alloc);
+    let mut line_strings = LineStringTable::default(alloc);
+    let (program, _files) = convert_program(
+        no_texts,
+        no_texts,
+        from_program,
+        None,
+        None,
+        None,
+        &mut line_strings,
+        &mut strings,
+        |address| Some(Address::Constant(address)),
+    )?;
+    let mut unit = gimli_write::DebugLine::from(EndianVec::new(alloc, LittleEndian));
+    program.write(
+        &mut unit,
+        program.encoding(),
+        &mut line_strings,
+        &mut strings,
+    )?;
+    let gimli_write::DebugLine(bytes) = unit;
+    Ok(bytes.into_vec())
+}

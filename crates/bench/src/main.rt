@@ -1,0 +1,66 @@
+//! The program `bench`: does some work so many times, for its instructions to be counted.
+//!
+//! | Words | Does |
+//! |---|---|
+//! | `read FILE TIMES [sequences]` | runs the rows of all units of a section, or cuts these units into their sequences |
+//! | `write SEQUENCES` | builds a program of so many sequences and writes it, seven times |
+//! | `convert FILE OFFSET TIMES` | reads a unit, converts it and writes it |
+//! | `lookup FILE OFFSET WORK TIMES` | does one work of a lookup on a unit, or on a section |
+//! | `stored` | each of these four once, on the files of the stored run |
+//!
+//! Sections are in little-endian order, with addresses of eight bytes. Standard output has what was counted and a sum over
+//! it, so that no work is left out. The instructions of a work are those of more times less those of fewer: the rest drops
+//! out.
+#![tactic(auto)]
+
+mod convert;
+mod lookup;
+mod read;
+mod sums;
+mod words;
+mod write;
+
+use read::What;
+use std::io::ErrorKind;
+use std::process::ExitCode;
+use std::{env, io};
+
+fn main(rt: HostRuntime) -> ExitCode {
+    match start(&rt) {
+        Ok(()) => ExitCode::from(0),
+        Err(_) => ExitCode::from(1),
+    }
+}
+
+/// Does the work that the words after the program's name tell.
+fn start(rt: &HostRuntime) -> io::Result<()> {
+    let arguments: Vec<String> = env::args(rt)?.collect(rt.alloc())?;
+    let mut words = Vec::new(rt.alloc());
+    for word in arguments.iter().skip(1) {
+        words.push(word.as_str())?;
+    }
+    match words.as_slice() {
+        ["stored"] => perform_stored(rt),
+        words => perform(rt, words),
+    }
+}
+
+/// Does each kind of work, on the files of the stored run.
+fn perform_stored(rt: &HostRuntime) -> io::Result<()> {
+    perform(rt, &["read", "two_units.section", "2"])?;
+    perform(rt, &["write", "2"])?;
+    perform(rt, &["convert", "unit.section", "0", "2"])?;
+    perform(rt, &["lookup", "demo.section", "0", "find", "1"])
+}
+
+/// Does the work that words tell.
+fn perform(rt: &HostRuntime, words: &[&str]) -> io::Result<()> {
+    match words {
+        ["read", path, times] => read::run(rt, path, times, What::Rows),
+        ["read", path, times, "sequences"] => read::run(rt, path, times, What::Sequences),
+        ["write", sequences] => write::run(rt, sequences),
+        ["convert", path, offset, times] => convert::run(rt, path, offset, times),
+        ["lookup", path, offset, work, times] => lookup::run(rt, path, offset, work, times),
+        _ => Err(io::Error::from(ErrorKind::InvalidInput)),
+    }
+}

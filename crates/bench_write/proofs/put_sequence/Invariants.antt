@@ -1,6 +1,0 @@
-use Rattle.std.proofs.Common.{[]}
-use Rattle.gimli_build.specs.Conditions.{CanWrite}
-use Rattle.bench_write.proofs.put_sequence.Given as goal
-
-abbrev pub invariant-loop : goal.invariant-loop
-invariant-loop l = CanWrite l.program [] []

@@ -1,9 +1,0 @@
-use Rattle.builder_scripts.proofs.WithinLemmas.{strings_kept-longer, line_strings_kept-longer}
-use Rattle.builder_scripts.proofs.unit.read_program.Goals as goal
-
-pub returns-clause-strings : goal.returns-clause-strings
-returns-clause-strings c = strings_kept-longer c.args.program.now c.args.tables.now.strings c.round_trip.new.strings c.round_trip.ensures.strings_kept
-
-pub returns-clause-line_strings : goal.returns-clause-line_strings
-returns-clause-line_strings c =
-    line_strings_kept-longer c.args.program.now c.args.tables.now.line_strings c.round_trip.new.line_strings c.round_trip.ensures.line_strings_kept

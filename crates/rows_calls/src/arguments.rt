@@ -1,0 +1,214 @@
+//! The words of a line.
+
+use crate::stop::Stop;
+use gimli_bytes::Address;
+use gimli_core::{DwEhPe, Format, RunTimeEndian, SectionId};
+use rows_words::{parse_bytes, parse_number, parse_order, parse_signed, parse_text};
+use std::alloc::{AllocError, Global};
+
+/// What stands in a line after the words that were taken. A word that is missing, or that isn't what it is taken for,
+/// makes the line bad, and something stands in its place: so a call is made, but its line ends the script.
+#[derive(Clone, Copy)]
+pub struct Arguments<'a> {
+    rest: &'a str,
+    is_bad: bool,
+}
+
+impl<'a> Arguments<'a> {
+    /// The words of a line, without its comment.
+    pub fn of_line(line: &'a str) -> Arguments<'a> {
+        let words = match line.split_once('#') {
+            Some((words, _)) => words,
+            None => line,
+        };
+        Arguments {
+            rest: words.trim(),
+            is_bad: false,
+        }
+    }
+
+    /// Whether no word is left.
+    pub fn is_empty(&self) -> bool {
+        self.rest.is_empty()
+    }
+
+    /// Whether a word was missing, or wasn't what it was taken for.
+    pub fn is_bad(&self) -> bool {
+        self.is_bad
+    }
+
+    /// Whether the words are bytes, or a `-` for none.
+    pub fn are_bytes(&self) -> bool {
+        let mut words = *self;
+        !words.is_empty() && is_bytes(words.word())
+    }
+
+    /// Refused where the line is bad, or a word is left.
+    pub fn finish(&self) -> Result<(), Stop> {
+        if self.is_bad || !self.rest.is_empty() {
+            Err(Stop::Bad)
+        } else {
+            Ok(())
+        }
+    }
+
+    /// What a word says; where it doesn't, the line is bad.
+    fn said<T: Copy>(&mut self, said: Option<T>, instead: T) -> T {
+        match said {
+            Some(said) => said,
+            None => {
+                self.is_bad = true;
+                instead
+            }
+        }
+    }
+
+    /// All words that are left.
+    pub fn all(&mut self) -> &'a str {
+        let all = self.rest;
+        self.rest = "";
+        all
+    }
+
+    /// A word.
+    pub fn word(&mut self) -> &'a str {
+        if self.rest.is_empty() {
+            self.is_bad = true;
+        }
+        match self.rest.split_once(char::is_whitespace) {
+            Some((word, rest)) => {
+                self.rest = rest.trim_start();
+                word
+            }
+            None => self.all(),
+        }
+    }
+
+    /// An unsigned number of 64 bits.
+    pub fn u64(&mut self) -> u64 {
+        let number = parse_number(self.word());
+        self.said(number, 0)
+    }
+
+    /// A signed number of 64 bits.
+    pub fn i64(&mut self) -> i64 {
+        let number = parse_signed(self.word());
+        self.said(number, 0)
+    }
+
+    /// A number of 8 bits.
+    pub fn u8(&mut self) -> u8 {
+        let number = u8::try_from(self.u64());
+        self.said(number.ok(), 0)
+    }
+
+    /// A number of 16 bits.
+    pub fn u16(&mut self) -> u16 {
+        let number = u16::try_from(self.u64());
+        self.said(number.ok(), 0)
+    }
+
+    /// A number of 32 bits.
+    pub fn u32(&mut self) -> u32 {
+        let number = u32::try_from(self.u64());
+        self.said(number.ok(), 0)
+    }
+
+    /// A number of 128 bits.
+    pub fn u128(&mut self) -> u128 {
+        let number = parse_wide(self.word());
+        self.said(number, 0)
+    }
+
+    /// A number of bytes.
+    pub fn usize(&mut self) -> usize {
+        let number = usize::try_from(self.u64());
+        self.said(number.ok(), 0)
+    }
+
+    /// A format, by its number of bits.
+    pub fn format(&mut self) -> Format {
+        let format = match self.word() {
+            "32" => Some(Format::Dwarf32),
+            "64" => Some(Format::Dwarf64),
+            _ => None,
+        };
+        self.said(format, Format::Dwarf32)
+    }
+
+    /// An address, or `symbol`.
+    pub fn address(&mut self) -> Address {
+        let address = match self.word() {
+            "symbol" => Some(Address::Symbol {
+                symbol: 0,
+                addend: 0,
+            }),
+            word => parse_number(word).map(Address::Constant),
+        };
+        self.said(address, Address::Constant(0))
+    }
+
+    /// A section, by its name.
+    pub fn section(&mut self) -> SectionId {
+        let section = match self.word() {
+            "debug_info" => Some(SectionId::DebugInfo),
+            "debug_line" => Some(SectionId::DebugLine),
+            "debug_str" => Some(SectionId::DebugStr),
+            "debug_line_str" => Some(SectionId::DebugLineStr),
+            _ => None,
+        };
+        self.said(section, SectionId::DebugInfo)
+    }
+
+    /// A pointer encoding.
+    pub fn encoding(&mut self) -> DwEhPe {
+        DwEhPe(self.u8())
+    }
+
+    /// A text.
+    pub fn text(&mut self, alloc: Global) -> Result<Vec<u8>, AllocError> {
+        let text = parse_text(alloc, self.word())?;
+        Ok(self.vector(alloc, text))
+    }
+
+    /// All that is left, as bytes; a `-` is none.
+    pub fn bytes(&mut self, alloc: Global) -> Result<Vec<u8>, AllocError> {
+        let all = self.all();
+        let bytes = parse_bytes(alloc, if all == "-" { "" } else { all })?;
+        Ok(self.vector(alloc, bytes))
+    }
+
+    /// The bytes that words say; where they don't, the line is bad.
+    fn vector(&mut self, alloc: Global, said: Option<Vec<u8>>) -> Vec<u8> {
+        match said {
+            Some(bytes) => bytes,
+            None => {
+                self.is_bad = true;
+                Vec::new(alloc)
+            }
+        }
+    }
+}
+
+/// A number of 128 bits, as the shorter ones are read.
+fn parse_wide(word: &str) -> Option<u128> {
+    match word.strip_prefix("0x") {
+        Some(digits) if digits.starts_with('+') => None,
+        Some(digits) => u128::from_str_radix(digits, 16).ok(),
+        None if word.starts_with('+') => None,
+        None => word.parse::<u128>().ok(),
+    }
+}
+
+/// Whether a word is bytes, which a `*` repeats, or a `-` for none. No call has such a name.
+pub fn is_bytes(word: &str) -> bool {
+    word == "-" || word.contains('*') || word.bytes().all(|b| b.is_ascii_hexdigit())
+}
+
+/// The order that the words of a command name.
+pub fn order_of(words: &[&str]) -> Option<RunTimeEndian> {
+    match words {
+        [word] => parse_order(word),
+        _ => None,
+    }
+}

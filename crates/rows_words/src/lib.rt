@@ -1,0 +1,26 @@
+//! The words of rows and scripts: numbers, texts and bytes, orders of bytes and sizes of addresses, as they are read and as
+//! they are printed.
+#![tactic(auto)]
+
+mod bytes;
+mod digits;
+mod lines;
+mod numbers;
+mod order_and_size;
+mod print;
+
+pub use bytes::{parse_bytes, parse_text, push_bytes};
+pub use digits::parse_digits;
+pub use lines::print_line;
+pub use numbers::{parse_number, parse_signed};
+pub use order_and_size::{AddressSize, parse_order, parse_size};
+pub use print::{BytesLine, Digits, Text, print_bytes};
+
+/// Whether a library call that answers `OutOfMemory` is made once more.
+#[derive(Clone, Copy, Debug, PartialEq, Eq)]
+pub enum Attempts {
+    /// Each call is made once.
+    One,
+    /// A call that answers `OutOfMemory` is made again.
+    Two,
+}
