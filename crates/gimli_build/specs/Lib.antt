@@ -16,7 +16,7 @@ pub mod SameRow
 pub mod FormatWord
 pub mod Joined
 pub mod Writes
-pub mod Gains
+pub mod WrittenTables
 pub mod Items
 pub mod Conditions
 pub mod Runs

@@ -1,15 +1,14 @@
 //! The unit of a line program as it is written.
 
 ghost use Rattle.std.specs.Prelude.{◌≡◌, ◌<◌, ◌≤◌, ◌^◌, ◌⊎◌, length, IsTrue, IfOk, IfErr, OnOk, Err, None};
-ghost use Rattle.gimli_bytes.specs.Written.{Begins};
+ghost use Rattle.gimli_bytes.specs.Written.{Begins, Appends, AppendsThat};
 ghost use Rattle.gimli_build.specs.LineText.{line_text};
 ghost use Rattle.gimli_build.specs.Conditions.{CanWrite, IsBuilt};
-ghost use Rattle.gimli_build.specs.Version5Tables.{strings_after, line_strings_after};
 ghost use Rattle.gimli_build.specs.EmptySource.{StandsForNone};
 ghost use Rattle.gimli_build.specs.Unit.{version_bytes, opening_bytes, inside_bytes, whole_bytes, is_incompatible, unit_bytes};
 ghost use Rattle.gimli_build.specs.Cause.{first_cause, IsWriteRefusal};
 ghost use Rattle.gimli_build.specs.ReadsBack.{ReadsBackAs};
-ghost use Rattle.gimli_build.specs.Gains.{Gains, GainedIs};
+ghost use Rattle.gimli_build.specs.WrittenTables.{HaveEmptySource, KeepTables};
 ghost use Rattle.gimli_build.specs.Writes.{Writes};
 
 mod header;
@@ -51,28 +50,22 @@ impl LineProgram {
         ensures keeps { Begins (W.contents w.old.0) (W.contents w.new.0) }
         ensures ordered { W.big w.new.0 ≡ W.big w.old.0 }
         ensures offset { IfOk result (λ offset. offset.0 ≡ length (W.contents w.old.0)) }
-        ensures unit { IsTrue W.keeps_bytes → OnOk result (Gains W.Writer w.old.0 w.new.0
-            (unit_bytes (W.big w.old.0) encoding self.now strings.old line_strings.old)) }
-        ensures reads_back { IsTrue W.keeps_bytes → OnOk result (GainedIs W.Writer w.old.0 w.new.0
-            (ReadsBackAs (W.big w.old.0) self.now strings.new line_strings.new)) }
+        ensures unit { IsTrue W.keeps_bytes → OnOk result (Appends
+            (unit_bytes (W.big w.old.0) encoding self.now strings.old line_strings.old)
+            (W.contents w.old.0) (W.contents w.new.0)) }
+        ensures reads_back { IsTrue W.keeps_bytes → OnOk result (AppendsThat
+            (ReadsBackAs (W.big w.old.0) self.now strings.new line_strings.new)
+            (W.contents w.old.0) (W.contents w.new.0)) }
         ensures no_cause { IsTrue W.keeps_bytes → OnOk result
             (first_cause (W.big w.old.0) encoding self.now strings.old line_strings.old ≡ None) }
         ensures err { IsTrue W.keeps_bytes → IsTrue W.fails_for_memory_alone → IfErr result
             (IsWriteRefusal (W.big w.old.0) encoding self.now strings.old line_strings.old) }
         ensures incompatible { IsTrue (is_incompatible encoding self.now.encoding) →
             (result ≡ Err Error.IncompatibleLineProgramEncoding) × (w.new ≡ w.old) }
-        ensures incompatible_tables { IsTrue (is_incompatible encoding self.now.encoding) →
-            (strings.new ≡ strings.old) × (line_strings.new ≡ line_strings.old) }
-        ensures strings { OnOk result (strings.new ≡ strings_after self.now strings.old) }
-        ensures line_strings { OnOk result
-            (line_strings.new ≡ line_strings_after self.now line_strings.old) }
-        ensures strings_kept { (strings.new ≡ strings.old)
-            ⊎ (strings.new ≡ strings_after self.now strings.old) }
-        ensures line_strings_kept { (line_strings.new ≡ line_strings.old)
-            ⊎ (line_strings.new ≡ line_strings_after self.now line_strings.old) }
-        ensures old_strings { self.now.encoding.version ≤ 4 → strings.new ≡ strings.old }
-        ensures old_line_strings { self.now.encoding.version ≤ 4 →
-            line_strings.new ≡ line_strings.old }
+        ensures tables { OnOk result (HaveEmptySource self.now
+            strings.old line_strings.old strings.new line_strings.new) }
+        ensures tables_kept { KeepTables self.now encoding
+            strings.old line_strings.old strings.new line_strings.new }
     {
         if is_incompatible(encoding, self.encoding()) {
             return Err(Error::IncompatibleLineProgramEncoding);

@@ -13,6 +13,10 @@ abbrev pub Appends : Result (List ℕ) Error → List ℕ → List ℕ → Type 
 Appends (Ok bytes) old new = new ≡ old ++ bytes
 Appends (Err e) old new = ⊥
 
+-- what an append leaves whose bytes are known by what is true of them alone
+abbrev pub AppendsThat : (List ℕ → Type 0) → List ℕ → List ℕ → Type 0
+AppendsThat Is old new = (bytes : List ℕ) × (new ≡ old ++ bytes) × Is bytes
+
 -- what an append may refuse for: memory, where the bytes are known, else the refusal that is wanted
 abbrev pub Refuses : Result (List ℕ) Error → Error → Type 0
 Refuses (Ok bytes) e = e ≡ OutOfMemory

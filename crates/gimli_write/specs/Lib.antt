@@ -11,7 +11,7 @@ pub use Rattle.gimli_build.specs.Conditions
 pub use Rattle.gimli_build.specs.Encode
 pub use Rattle.gimli_build.specs.FileNumber
 pub use Rattle.gimli_build.specs.FirstTables
-pub use Rattle.gimli_build.specs.Gains
+pub use Rattle.gimli_build.specs.WrittenTables
 pub use Rattle.gimli_build.specs.InstructionBytes
 pub use Rattle.gimli_build.specs.Items
 pub use Rattle.gimli_build.specs.LentRow

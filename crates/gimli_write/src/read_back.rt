@@ -11,7 +11,7 @@ ghost use Rattle.gimli_build.specs.LineText.{IsWithin, bytes_in};
 ghost use Rattle.gimli_build.specs.Conditions.{CanWrite};
 ghost use Rattle.gimli_build.specs.Unit.{is_incompatible, unit_bytes};
 ghost use Rattle.gimli_bytes.specs.Texts.{byte_count};
-ghost use Rattle.gimli_build.specs.Version5Tables.{strings_after, line_strings_after};
+ghost use Rattle.gimli_build.specs.WrittenTables.{HaveEmptySource, KeepTables};
 ghost use Rattle.gimli_build.specs.Cause.{first_cause};
 ghost use Rattle.gimli_build.specs.Texts.{Sections, IsText, IsOptionalText, OneByOne};
 ghost use Rattle.gimli_write.specs.TextReading.{HasText, HasOptionalText, HasFileTexts};
@@ -394,13 +394,10 @@ pub fn round_trip<E: Endianity>(
         (first_cause (E.big w.old.0.endian) encoding program.now strings.old line_strings.old)) }
     ensures refusal { IfErr result (IsRoundTripRefusal (E.big w.old.0.endian) encoding program.now
         strings.old line_strings.old w.old.0.bytes w.new.0.bytes) }
-    ensures strings { OnOk result (strings.new ≡ strings_after program.now strings.old) }
-    ensures line_strings { OnOk result
-        (line_strings.new ≡ line_strings_after program.now line_strings.old) }
-    ensures strings_kept { (strings.new ≡ strings.old)
-        ⊎ (strings.new ≡ strings_after program.now strings.old) }
-    ensures line_strings_kept { (line_strings.new ≡ line_strings.old)
-        ⊎ (line_strings.new ≡ line_strings_after program.now line_strings.old) }
+    ensures tables { OnOk result (HaveEmptySource program.now
+        strings.old line_strings.old strings.new line_strings.new) }
+    ensures tables_kept { KeepTables program.now encoding
+        strings.old line_strings.old strings.new line_strings.new }
 {
     match program.write(w, encoding, line_strings, strings) {
         Ok(offset) => read_unit(program, &w.0, offset, line_strings, strings),

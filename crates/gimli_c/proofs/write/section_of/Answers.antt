@@ -10,5 +10,5 @@ returns-clause-reads_back c =
     let empty = c.from-section.ensures ∙ c.new.ensures in
     read_back (is_big c.from-section.result.0.endian) c.args.big p c.write.new.strings c.write.new.line_strings c.from-section.result.0.bytes c.write.new.w.0.bytes
     (ap (λ s. is_big s.endian) empty ∙ c.order.ensures) (ap (λ s. s.bytes) empty) c.requires.source
-    (c.in_ok-write.ensures.strings ∙ ap (strings_after p) c.default-strings.ensures)
-    (c.in_ok-write.ensures.line_strings ∙ ap (line_strings_after p) c.default-line_strings.ensures) (c.in_ok-write.ensures.reads_back refl)
+    (c.in_ok-write.ensures.tables.strings ∙ ap (strings_after p) c.default-strings.ensures)
+    (c.in_ok-write.ensures.tables.line_strings ∙ ap (line_strings_after p) c.default-line_strings.ensures) (c.in_ok-write.ensures.reads_back refl)

@@ -15,8 +15,8 @@ returns-in-Ok-clause-refusal g c =
     let strings = strings_after program c.args.strings.now in
     let line_strings = line_strings_after program c.args.line_strings.now in
     let later = drop c.in-Ok.offset.0 c.write.new.w.0.bytes in
-    let read = subst (λ (texts : List (List ℕ)). IfErr c.read_unit.result (RefusesUnit (slice_notation other) (unit_entry_of program texts line_strings) later)) c.in-Ok.ensures.strings
-    (subst (λ (texts : List (List ℕ)). IfErr c.read_unit.result (RefusesUnit (slice_notation other) (unit_entry_of program c.write.new.strings texts) later)) c.in-Ok.ensures.line_strings c.read_unit.ensures.err) in
+    let read = subst (λ (texts : List (List ℕ)). IfErr c.read_unit.result (RefusesUnit (slice_notation other) (unit_entry_of program texts line_strings) later)) c.in-Ok.ensures.tables.strings
+    (subst (λ (texts : List (List ℕ)). IfErr c.read_unit.result (RefusesUnit (slice_notation other) (unit_entry_of program c.write.new.strings texts) later)) c.in-Ok.ensures.tables.line_strings c.read_unit.ensures.err) in
     unit_not_answered big other (to_write big c.args.encoding program c.args.strings.now c.args.line_strings.now) (unit_entry_of program strings line_strings)
     c.args.w.now.0.bytes c.write.new.w.0.bytes c.in-Ok.offset.0 c.read_unit.result c.in-Ok.ensures.ordered (c.in-Ok.ensures.no_cause refl) (c.in-Ok.ensures.unit refl) c.in-Ok.ensures.offset read
 
@@ -40,4 +40,4 @@ returns-in-Err-clause-never_read g c held =
 pub read_unit-requires-clause-within : goal.read_unit-requires-clause-within
 read_unit-requires-clause-within g c =
     let can = can-write-after c.args.program.now c.args.strings.now c.args.line_strings.now c.requires in
-    rw (c.in-Ok.ensures.strings, c.in-Ok.ensures.line_strings) can.directories
+    rw (c.in-Ok.ensures.tables.strings, c.in-Ok.ensures.tables.line_strings) can.directories
