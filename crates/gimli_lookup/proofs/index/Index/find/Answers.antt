@@ -127,10 +127,10 @@ returns-clause-found c =
     let sequences = c.args.sequences.now in
     let said = c.in-Some.ensures.value ∙ ap (step_at c.args.a) c.as_slice.ensures.value in
     let rows = c.index-sequences-sequence.result in
-    let index = c.in-Some.sequence in
-    first_of_covering c.args.a sequences index rows c.in-Some-find_by_halves.row c.in-Some-find_by_halves.next
-    (covering_within index sequences c.requires c.args.a index said) c.index-sequences-sequence.is
-    (none_covers_before index sequences c.requires c.args.a index said) c.in_default-find_unordered.ensures.found c.in-Some-find_by_halves.ensures.pair
+    let sequence = c.in-Some.sequence in
+    first_of_covering c.args.a sequences sequence rows c.in-Some-find_by_halves.row c.in-Some-find_by_halves.next
+    (covering_within index sequences c.requires c.args.a sequence said) c.index-sequences-sequence.is
+    (none_covers_before index sequences c.requires c.args.a sequence said) c.in_default-find_unordered.ensures.found c.in-Some-find_by_halves.ensures.pair
 
 pub returns-clause-at_most : goal.returns-clause-at_most
 returns-clause-at_most c =
