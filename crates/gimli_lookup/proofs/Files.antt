@@ -77,8 +77,8 @@ wanted old new appends w =
     let h = old.fixed in
     let spelled = rw (w.passed.notation, w.passed.fixed) at w.spelled in
     let after = (decoded_at n h w.rest).0 in
-    let here = decoded_some n h w.index.unread.bytes w.definition w.front w.rest w.parts spelled in
-    let whole = decodes_on n h old.unread.bytes w.passed.list w.passed.front w.index.unread.bytes w.passed.parts w.passed.spelled in
+    let here = decoded_some n h w.point.unread.bytes w.definition w.front w.rest w.parts spelled in
+    let whole = decodes_on n h old.unread.bytes w.passed.list w.passed.front w.point.unread.bytes w.passed.parts w.passed.spelled in
     let list : (decoded_at n h old.unread.bytes).0 ≡ w.passed.list ++ w.definition ∷ after =
     ap (λ (c : List Ins × Option Error). c.0) whole ∙ ap (λ (c : List Ins × Option Error). w.passed.list ++ c.0) here in
     rw (appends, list) (all_grow old.files w.passed.list w.definition after w.defines)

@@ -23,27 +23,27 @@ module _ (index : Index) (sequences : List (List LineRow)) (is : IsIndexOf index
   pub none_covers : None ≡ step_at a index.steps.items → NoneCovers a (length sequences) sequences
   none_covers e = λ k d lt. said None e k d lt
 
-  module _ (index : ℕ) (e : Some index ≡ step_at a index.steps.items) where
-    first : IsFirstCovering a 0 sequences index
-    first = said (Some index) e
+  module _ (sequence : ℕ) (e : Some sequence ≡ step_at a index.steps.items) where
+    first : IsFirstCovering a 0 sequences sequence
+    first = said (Some sequence) e
 
-    same : index - 0 ≡ index
+    same : sequence - 0 ≡ sequence
     same = omega arith
 
-    pub covering_within : index < length sequences
+    pub covering_within : sequence < length sequences
     covering_within = omega (arith, first.within)
 
-    pub covering_is : (d : List LineRow) → covers a (slice_index_or sequences index d) ≡ true
+    pub covering_is : (d : List LineRow) → covers a (slice_index_or sequences sequence d) ≡ true
     covering_is d = ap (λ (k : ℕ). covers a (slice_index_or sequences k d)) (sym same) ∙ first.is d
 
-    pub none_covers_before : NoneCovers a index sequences
+    pub none_covers_before : NoneCovers a sequence sequences
     none_covers_before k d lt = first.none_earlier k d (omega (arith, same))
 
-    pub probes_of_covering : (d : List LineRow) → covering_probes a sequences ≡ binary_digits (length (slice_index_or sequences index d))
+    pub probes_of_covering : (d : List LineRow) → covering_probes a sequences ≡ binary_digits (length (slice_index_or sequences sequence d))
     probes_of_covering d = first.probes d ∙ ap (λ (k : ℕ). binary_digits (length (slice_index_or sequences k d))) same
 
     pub covering_steps : 0 < length index.steps.items
-    covering_steps = some_steps a index.steps.items index (sym e)
+    covering_steps = some_steps a index.steps.items sequence (sym e)
 
   pub step_probes : binary_digits (length index.steps.items) ≤ binary_digits (2 * length sequences)
   step_probes = digits_grow (length index.steps.items) (2 * length sequences) is.steps.few
