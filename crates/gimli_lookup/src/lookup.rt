@@ -28,11 +28,14 @@ fn keep_each(alloc: Global, rows: Vec<RowList>) -> Result<Vec<KeptRows>>
     ensures ok { IfOk result (λ kept. kept.items ≡ rows.items) }
     ensures err { IfErr result (λ e. e ≡ Error.OutOfMemory) }
 {
-    let mut kept = Vec::new(alloc);
+    let Ok(mut kept) = Vec::with_capacity(alloc, rows.len()) else {
+        return Err(Error::OutOfMemory);
+    };
     for of_sequence in rows {
-        if kept.push(KeptRows::new(of_sequence)).is_err() {
+        if kept.reserve(1).is_err() {
             return Err(Error::OutOfMemory);
         }
+        kept.push_reserved(KeptRows::new(of_sequence));
     }
     Ok(kept)
 }

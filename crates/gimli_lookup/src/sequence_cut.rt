@@ -67,9 +67,10 @@ impl SequenceCut {
             return Ok(());
         }
         let rows = self.unended.take()?;
-        if self.sequences.push(KeptRows::new(rows)).is_err() {
+        if self.sequences.reserve(1).is_err() {
             return Err(Error::OutOfMemory);
         }
+        self.sequences.push_reserved(KeptRows::new(rows));
         Ok(())
     }
 

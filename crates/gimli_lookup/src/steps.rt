@@ -21,9 +21,10 @@ fn push_step(steps: &mut Vec<Step>, step: Step) -> Result<()>
     ensures ok { IfOk result (λ _. steps.new.items ≡ steps.old.items ++ step ∷ []) }
     ensures err { IfErr result (λ e. e ≡ Error.OutOfMemory) }
 {
-    if steps.push(step).is_err() {
+    if steps.reserve(1).is_err() {
         return Err(Error::OutOfMemory);
     }
+    steps.push_reserved(step);
     Ok(())
 }
 

@@ -23,10 +23,11 @@ pub(crate) fn push<T: Drop>(list: &mut Vec<T>, item: T) -> Result<()>
     ensures err { IfErr result (λ e. e ≡ Error.OutOfMemory) }
     ensures kept { OnErr result (list.new.items ≡ list.old.items) }
 {
-    match list.push(item) {
-        Ok(()) => Ok(()),
-        Err(_) => Err(Error::OutOfMemory),
+    if list.reserve(1).is_err() {
+        return Err(Error::OutOfMemory);
     }
+    list.push_reserved(item);
+    Ok(())
 }
 
 // ---- formats
