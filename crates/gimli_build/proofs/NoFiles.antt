@@ -159,8 +159,8 @@ goes-none a b events none p =
 
 no_memory : (a b : RunState) → DefinesNoFile a → WantsMemory a b → ⊥
 no_memory a b none wants =
-    let position = goes-none a wants.position [] none wants.passed in
-    let rest = rest_decoded wants.position.unread.notation wants.position.fixed wants.position.unread.bytes wants.front wants.rest position.list (wants.definition ∷ []) position.decoding wants.parts
+    let position = goes-none a wants.point [] none wants.passed in
+    let rest = rest_decoded wants.point.unread.notation wants.point.fixed wants.point.unread.bytes wants.front wants.rest position.list (wants.definition ∷ []) position.decoding wants.parts
     (wants.front, [], sym (append-nil wants.front), wants.spelled, refl) in
     let all : All NoFile (wants.definition ∷ rest.0) = rw rest.1 at position.none in
     true≢false (sym wants.defines ∙ All-head NoFile wants.definition rest.0 all)
