@@ -159,15 +159,10 @@ impl RowList {
         ensures err { IfErr result (λ e. e ≡ Error.OutOfMemory) }
         ensures kept { OnErr result (self.new ≡ self.old) }
     {
-        if !is_narrow(row) {
-            return self.push_wide(row);
+        if is_narrow(row) {
+            return push(&mut self.rows, StoredRow::Narrow(NarrowRow::new(row)));
         }
-        if self.rows.reserve(1).is_err() {
-            return Err(Error::OutOfMemory);
-        }
-        self.rows
-            .push_reserved(StoredRow::Narrow(NarrowRow::new(row)));
-        Ok(())
+        self.push_wide(row)
     }
 
     /// Appends a row in memory of its own. Fails only with `OutOfMemory`; the list is then as it was.
