@@ -53,7 +53,7 @@ pub record KeepsKind (p : Built) (c : Outcome) : Type 0 where
   pub encoding : c.program.encoding ≡ p.encoding
   pub line_encoding : c.program.line_encoding ≡ p.line_encoding
 
-pub record Outcome (sections : Sections) (first : TablesAndTexts) (past : List Ins) (p : Built) (c : Outcome) : Type 0 where
+pub record EndsAs (sections : Sections) (first : TablesAndTexts) (past : List Ins) (p : Built) (c : Outcome) : Type 0 where
   pub finished : Finished sections first past c
   pub kind : KeepsKind p c
 
@@ -113,30 +113,30 @@ module _ (convert_address : ℕ → Option Address) (c : Outcome) where
       by false false so = record { next = p; is = so; is_none = refl; encoding = refl; line_encoding = refl }
 
   nothing_goes : (sections : Sections) (first : TablesAndTexts) (past : List Ins) (end : Option Error) (there : Result TablesAndTexts ConvertError) (p : Built) → tables_at sections first past ≡ there
-      → outcome_of convert_address (reading_with there (end_reading end)) p ≡ Ok c → Outcome sections first past p c
+      → outcome_of convert_address (reading_with there (end_reading end)) p ≡ Ok c → EndsAs sections first past p c
   nothing_goes sections first past end (Err e) p at is = absurd cc
   nothing_goes sections first past (Some e) (Ok tables) p at is = absurd cc
   nothing_goes sections first past None (Ok tables) p at is = by p.in_sequence is
     where
-      by : (b : Bool) → (if b then Err MissingLineEndSequence else Ok (record { program = with_tables tables p; file_ids = tables.file_ids; line_strings = tables.line_strings })) ≡ Ok c → Outcome sections first past p c
+      by : (b : Bool) → (if b then Err MissingLineEndSequence else Ok (record { program = with_tables tables p; file_ids = tables.file_ids; line_strings = tables.line_strings })) ≡ Ok c → EndsAs sections first past p c
       by true so = absurd cc
       by false so =
           let done : Outcome = record { program = with_tables tables p; file_ids = tables.file_ids; line_strings = tables.line_strings } in
           let same : done ≡ c = cc in
-          subst (λ (c : Outcome). Outcome sections first past p c) same (record {
+          subst (λ (c : Outcome). EndsAs sections first past p c) same (record {
             finished = record { tables = tables; there = at; directories = refl; files = refl; file_ids = refl; line_strings = refl };
             kind = record { is_none = refl; encoding = refl; line_encoding = refl };
           })
 
   pub outcome : (sections : Sections) (parameters : Parameters) (first : TablesAndTexts) (past list : List Ins) (end : Option Error) (p : Built)
-      → outcome_of convert_address (reading_after sections parameters first past list end) p ≡ Ok c → Outcome sections first (past_at_end past list) p c
+      → outcome_of convert_address (reading_after sections parameters first past list end) p ≡ Ok c → EndsAs sections first (past_at_end past list) p c
   outcome sections parameters first past [] end p is = nothing_goes sections first past end (tables_at sections first past) p refl is
   outcome sections parameters first past (i ∷ list) end p is = by (λ p so. outcome sections parameters first (i ∷ past) list end p so) (tables_at sections first past) is
     where
-      by : ((p : Built) → outcome_of convert_address (reading_after sections parameters first (i ∷ past) list end) p ≡ Ok c → Outcome sections first (past_at_end (i ∷ past) list) p c)
+      by : ((p : Built) → outcome_of convert_address (reading_after sections parameters first (i ∷ past) list end) p ≡ Ok c → EndsAs sections first (past_at_end (i ∷ past) list) p c)
           → (there : Result TablesAndTexts ConvertError)
           → outcome_of convert_address (reading_with there (λ tables. reading_at parameters tables past i (with_definition i (reading_after sections parameters first (i ∷ past) list end)))) p ≡ Ok c
-          → Outcome sections first (past_at_end (i ∷ past) list) p c
+          → EndsAs sections first (past_at_end (i ∷ past) list) p c
       by rest (Err e) so = absurd cc
       by rest (Ok tables) so =
           let others = reading_after sections parameters first (i ∷ past) list end in
@@ -160,7 +160,7 @@ module _ (notation : Notation) (sections : Sections) (h : Header) (given : Hande
     (convert_address : ℕ → Option Address) (c : Outcome)
     (ready : tables_of_header sections h given line_strings ≡ Ok first) (reads : ReadsItems notation sections h first bytes reading)
     (is : outcome_of convert_address reading first.program ≡ Ok c) where
-  pub comes : Outcome sections first (past_at_end [] reads.list) first.program c
+  pub comes : EndsAs sections first (past_at_end [] reads.list) first.program c
   comes = outcome convert_address c sections h.parameters first [] reads.list reads.end first.program (ap (λ (r : Reading). outcome_of convert_address r first.program) (sym reads.given) ∙ is)
 
   pub encoding_kept : c.program.encoding ≡ encoding_of h given

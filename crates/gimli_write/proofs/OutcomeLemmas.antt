@@ -40,7 +40,7 @@ can_follow-tells e place o i =
           let b = and_parts (divides && within) after c.0 in
           let a = and_parts divides within b.0 in
           record {
-            place = record { divides = eqb-true (o % e.minimum_instruction_length) 0 a.0; within = ltb-true i e.maximum_operations_per_instruction a.1 };
+            position = record { divides = eqb-true (o % e.minimum_instruction_length) 0 a.0; within = ltb-true i e.maximum_operations_per_instruction a.1 };
             after = leb-true place.0 o b.1;
             later = later_test o place.0 place.1 i c.1;
             fits = ltb-true ((o - place.0) / e.minimum_instruction_length * e.maximum_operations_per_instruction + i) (2 ^ 64) d.1;
@@ -49,7 +49,7 @@ can_follow-tells e place o i =
           and_from (divides && within && after && later) fits
           (and_from (divides && within && after) later
           (and_from (divides && within) after
-          (and_from divides within (eq-eqb (o % e.minimum_instruction_length) 0 can.place.divides) (lt-ltb i e.maximum_operations_per_instruction can.place.within))
+          (and_from divides within (eq-eqb (o % e.minimum_instruction_length) 0 can.position.divides) (lt-ltb i e.maximum_operations_per_instruction can.position.within))
           (le-leb place.0 o can.after))
           (later_tested o place.0 place.1 i can.later))
           (lt-ltb ((o - place.0) / e.minimum_instruction_length * e.maximum_operations_per_instruction + i) (2 ^ 64) can.fits),

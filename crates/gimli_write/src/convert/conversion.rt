@@ -325,6 +325,13 @@ impl<R: Reader> Conversion<R> {
         }
     }
 
+    /// Whether a sequence has begun in the program that is built.
+    fn in_sequence(&self) -> bool
+        ensures { result ≡ self.now.tables.program.in_sequence }
+    {
+        self.tables.in_sequence()
+    }
+
     /// Reads and builds all that is still to be read, as `convert_all` does.
     fn feed_all<F: Fn(u64) -> Option<Address>>(
         &mut self,
@@ -345,9 +352,7 @@ impl<R: Reader> Conversion<R> {
         'rows: loop {
             match self.read_row(line_strings)? {
                 Some(row) => self.feed(row, convert_address)?,
-                None if self.tables.in_sequence() => return Err(
-                    ConvertError::MissingLineEndSequence,
-                ),
+                None if self.in_sequence() => return Err(ConvertError::MissingLineEndSequence),
                 None => return Ok(()),
             }
         }

@@ -8,8 +8,8 @@ use denote.Enum.Declared.{values_one}
 use Rattle.gimli_line.proofs.Equality.{both, whole}
 use Rattle.gimli_line.proofs.Variants.{or, end, one}
 use Rattle.gimli_build.proofs.Equality.{row-Decides}
-use Rattle.gimli_write.specs.contracts.convert.sequence.ConvertLineSequenceEnd.{as_values, enum}
-use Rattle.gimli_write.specs.contracts.convert.sequence.ConvertLineSequenceEndPartialEq.TheImpl.{ghosts as the_ends}
+use Rattle.gimli_write.specs.contracts.convert.rows.ConvertLineSequenceEnd.{as_values, enum}
+use Rattle.gimli_write.specs.contracts.convert.rows.ConvertLineSequenceEndPartialEq.TheImpl.{ghosts as the_ends}
 use Rattle.gimli_write.specs.declared.convert.rows.ConvertLineSequenceEnd.{ConvertLineSequenceEnd}
 use Rattle.gimli_write.specs.convert.Sequences.{SequenceRead, sequence_with}
 use Rattle.gimli_write.proofs.conversion_laws.equal_rows_and_sequences.Goals as goal

@@ -5,5 +5,5 @@ use Rattle.gimli_write.proofs.convert.program.ConvertLineProgram+R+Conversion+R.
 
 pub returns-clause-writable : goal.returns-clause-writable
 returns-clause-writable g c =
-    let old = c.args.self.now in
-    writable_built c.begin_sequence.result old.conversion.tables c.begin_sequence.new.self old.line_strings.now (after_begin c.args.address old.conversion.tables.program) refl c.begin_sequence.ensures.ok c.begin_sequence.ensures.kept
+    rw (← c.self.view_is)
+    (writable_built c.begin_sequence.result c.self.inside.tables c.begin_sequence.new.self c.args.self.now.line_strings.now (after_begin c.args.address c.self.inside.tables.program) refl c.begin_sequence.ensures.ok c.begin_sequence.ensures.kept)

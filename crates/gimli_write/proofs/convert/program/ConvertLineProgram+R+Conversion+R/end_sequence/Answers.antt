@@ -5,5 +5,5 @@ use Rattle.gimli_write.proofs.convert.program.ConvertLineProgram+R+Conversion+R.
 
 pub returns-clause-writable : goal.returns-clause-writable
 returns-clause-writable g c =
-    let old = c.args.self.now in
-    writable_built c.end_sequence.result old.conversion.tables c.end_sequence.new.self old.line_strings.now (after_end c.args.address_offset old.conversion.tables.program) refl c.end_sequence.ensures.ok c.end_sequence.ensures.kept
+    rw (← c.self.view_is)
+    (writable_built c.end_sequence.result c.self.inside.tables c.end_sequence.new.self c.args.self.now.line_strings.now (after_end c.args.address_offset c.self.inside.tables.program) refl c.end_sequence.ensures.ok c.end_sequence.ensures.kept)

@@ -5,5 +5,5 @@ use Rattle.gimli_write.proofs.convert.program.ConvertLineProgram+R+Conversion+R.
 
 pub returns-clause-writable : goal.returns-clause-writable
 returns-clause-writable g c =
-    let old = c.args.self.now in
-    writable_built c.generate_row.result old.conversion.tables c.generate_row.new.self old.line_strings.now (after_row c.args.row old.conversion.tables.program) refl c.generate_row.ensures.ok c.generate_row.ensures.kept
+    rw (← c.self.view_is)
+    (writable_built c.generate_row.result c.self.inside.tables c.generate_row.new.self c.args.self.now.line_strings.now (after_row c.args.row c.self.inside.tables.program) refl c.generate_row.ensures.ok c.generate_row.ensures.kept)

@@ -5,5 +5,5 @@ use Rattle.gimli_write.proofs.convert.program.ConvertLineProgram+R+Conversion+R.
 
 pub returns-clause-writable : goal.returns-clause-writable
 returns-clause-writable g c =
-    let old = c.args.self.now in
-    writable_built c.set_address.result old.conversion.tables c.set_address.new.self old.line_strings.now (after_address c.args.address old.conversion.tables.program) refl c.set_address.ensures.ok c.set_address.ensures.kept
+    rw (← c.self.view_is)
+    (writable_built c.set_address.result c.self.inside.tables c.set_address.new.self c.args.self.now.line_strings.now (after_address c.args.address c.self.inside.tables.program) refl c.set_address.ensures.ok c.set_address.ensures.kept)
