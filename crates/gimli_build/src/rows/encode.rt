@@ -116,7 +116,6 @@ pub(crate) fn write_end<W: Writer>(w: &mut W, count: u64) -> Result<()>
 }
 
 /// Appends what stands for the row alone.
-#[inline(always)]
 fn write_marks<W: Writer>(w: &mut W, row: &LineRow) -> Result<()>
     ensures writes { Writes W.Writer w.old w.new result (Ok (instructions_bytes (marks row.now))) }
     ensures fit { OnOk result (row.now.discriminator < 2 ^ 64) }
@@ -128,7 +127,6 @@ fn write_marks<W: Writer>(w: &mut W, row: &LineRow) -> Result<()>
 }
 
 /// Whether anything stands for the row alone. The flags are compared as one number, since few rows have any.
-#[inline(always)]
 fn has_marks(row: &LineRow) -> bool
     ensures { result ≡ false → marks row.now ≡ [] }
 {
@@ -153,7 +151,6 @@ fn write_marks_apart<W: Writer>(w: &mut W, row: &LineRow) -> Result<()>
 }
 
 /// Appends what lasts from row to row, where it differs.
-#[inline(always)]
 fn write_changes<W: Writer>(
     w: &mut W,
     version: u16,
@@ -182,7 +179,6 @@ fn write_changes<W: Writer>(
 }
 
 /// Appends what advances the line and the operations, and makes the row.
-#[inline(always)]
 fn write_advances<W: Writer>(
     w: &mut W,
     line_encoding: &LineEncoding,
@@ -203,7 +199,6 @@ fn write_advances<W: Writer>(
 
 /// The opcode that makes the row after a line advance: some where no special opcode has the line advance, one byte
 /// holds it, and one opcode advances the operations.
-#[inline(always)]
 fn opcode_after_short_line(line_encoding: &LineEncoding, advance: i64, count: u64) -> Option<u8>
     requires can { CanEncode line_encoding.now }
     ensures advance { IsSome result → IsTrue (holds_seven_bits advance) }
@@ -221,7 +216,6 @@ fn opcode_after_short_line(line_encoding: &LineEncoding, advance: i64, count: u6
 
 /// Appends the line advance where no special opcode has it, and returns the special opcode that is due
 /// for the line.
-#[inline(always)]
 fn write_line_advance<W: Writer>(
     w: &mut W,
     line_encoding: &LineEncoding,
@@ -249,7 +243,6 @@ fn has_special(line_encoding: &LineEncoding, advance: i64) -> bool
 
 /// Appends what advances by `count` operations and makes the row, where the special opcode `opcode` is
 /// due for the line.
-#[inline(always)]
 fn write_operation_advance<W: Writer>(
     w: &mut W,
     line_encoding: &LineEncoding,
@@ -287,7 +280,6 @@ fn special_opcode(opcode: u8, count: u64, range: u64) -> Option<u8>
 }
 
 /// The opcode that makes a row where this special opcode is due: that of copy where it advances nothing.
-#[inline(always)]
 fn maker_opcode(line_encoding: &LineEncoding, opcode: u8) -> u8
     requires { CanEncode line_encoding.now }
     ensures { instruction_bytes (row_maker line_encoding.now opcode) ≡ result ∷ [] }
@@ -300,7 +292,6 @@ fn maker_opcode(line_encoding: &LineEncoding, opcode: u8) -> u8
 }
 
 /// How many operations an offset and an op_index are after those of `origin`.
-#[inline(always)]
 fn operation_advance(
     line_encoding: &LineEncoding,
     origin: &LineRow,

@@ -124,7 +124,6 @@ fn write_signed<W: Writer>(w: &mut W, opcode: DwLns, operand: i64) -> Result<()>
 }
 
 /// Appends a line advance that one byte holds, and an instruction that is one opcode, in one call.
-#[inline(always)]
 pub(crate) fn write_short_line<W: Writer>(w: &mut W, advance: i64, opcode: u8) -> Result<()>
     requires { IsTrue (holds_seven_bits advance) }
     ensures { Writes W.Writer w.old w.new result
