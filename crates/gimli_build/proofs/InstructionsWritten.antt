@@ -1,5 +1,5 @@
 -- Calls that append the bytes of instructions.
-use Rattle.std.proofs.Common.{◌≡◌, ◌++◌, List, [], ◌∷◌, ℕ, Ok, Err, refl, append_assoc}
+use Rattle.std.proofs.Common.{◌≡◌, ◌++◌, List, [], ◌∷◌, ℕ, Ok, Err, refl}
 use Rattle.std.specs.Prelude.{Result}
 use Rattle.gimli_core.specs.Reading.{result_map}
 use Rattle.gimli_bytes.specs.declared.error.Error.{Error}
@@ -14,11 +14,6 @@ use Rattle.gimli_build.proofs.Joins.{bytes_append}
 pub four_parts : {W E X : Type 0} {writer : Ghosts W E} {old new : W} {r : Result X Error} (f g h k : List Ins)
     → Writes writer old new r (Ok (instructions_bytes f ++ instructions_bytes g ++ instructions_bytes h ++ instructions_bytes k)) → Writes writer old new r (Ok (instructions_bytes (f ++ g ++ h ++ k)))
 four_parts f g h k so = rw (bytes_append (f ++ g ++ h) k, bytes_append (f ++ g) h, bytes_append f g) so
-
--- four parts, the last two at once
-pub three_parts : {W E X : Type 0} {writer : Ghosts W E} {old new : W} {r : Result X Error} (f g h k : List Ins)
-    → Writes writer old new r (Ok (instructions_bytes f ++ instructions_bytes g ++ instructions_bytes (h ++ k))) → Writes writer old new r (Ok (instructions_bytes (f ++ g ++ h ++ k)))
-three_parts f g h k so = rw (append_assoc (f ++ g) h k, bytes_append (f ++ g) (h ++ k), bytes_append f g) so
 
 -- the parts of a set address
 pub address_parts : (operand : List ℕ) (r : Result (List ℕ) Error) → result_append (Ok (0 ∷ [])) (result_append (Ok operand) (result_append (Ok (0x02 ∷ [])) r)) ≡ result_map (λ address. 0 ∷ operand ++ 0x02 ∷ address) r

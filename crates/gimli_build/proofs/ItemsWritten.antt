@@ -2,12 +2,11 @@
 use Rattle.std.proofs.Common.{◌≡◌, ℕ, ◌+◌, ◌<◌, ◌^◌, Bool, List, [], ◌∷◌, ◌++◌, Ok, Err, refl, sym, ap, ◌∙◌, append_assoc, lit<, length, get_or, add-one, take}
 use Rattle.std.proofs.lemmas.List.{append-nil}
 use Rattle.std.proofs.Math.Seq.{take-suc}
-use Rattle.std.specs.Prelude.{Result, IsTrue}
+use Rattle.std.specs.Prelude.{Result}
 use Rattle.gimli_core.specs.declared.common.Encoding.{Encoding}
 use Rattle.gimli_core.specs.declared.common.LineEncoding.{LineEncoding}
-use Rattle.gimli_bytes.specs.Written.{Begins, Appends}
+use Rattle.gimli_bytes.specs.Written.{Appends}
 use Rattle.gimli_bytes.specs.declared.error.Error.{Error}
-use Rattle.gimli_bytes.specs.declared.writer.Writer.{Ghosts}
 use Rattle.gimli_build.specs.declared.built.row.LineRow.{LineRow}
 use Rattle.gimli_build.specs.declared.built.items.BuiltItem.{BuiltItem}
 use Rattle.gimli_build.specs.declared.built.items.BuiltItem.TheVariants.{SetAddress, Row, End}
@@ -68,14 +67,6 @@ pub way_on : (version : ℕ) (e : LineEncoding) (can : CanEncode e) (previous : 
 way_on version e can previous (SetAddress a) left way = record { position = start_position e can; line = way.line; built = way.built.1 }
 way_on version e can previous (Row r) left way = record { position = way.built.0.0.position; line = way.built.0.1; built = way.built.1 }
 way_on version e can previous (End o i) left way = record { position = start_position e can; line = lit< tt; built = way.built.1 }
-
--- an item was written, and this row comes next
-pub record Step {W E : Type 0} (writer : Ghosts W E) (encoding : Encoding) (e : LineEncoding) (previous next : LineRow) (item : BuiltItem) (old new : W) : Type 0 where
-  pub keeps : Begins (writer.contents old) (writer.contents new)
-  pub ordered : writer.big new ≡ writer.big old
-  pub fit : FitsItem encoding.version item
-  pub put : IsTrue writer.keeps_bytes → Appends (item_bytes (writer.big old) encoding e previous item) (writer.contents old) (writer.contents new)
-  pub moved : next ≡ next_previous encoding.version e.default_is_stmt previous item
 
 pub taken_next : {A : Type 0} (xs : List A) (i : ℕ) (x : A) → i < length xs → x ≡ get_or xs i x → take (i + 1) xs ≡ take i xs ++ x ∷ []
 taken_next xs i x lt is = rw add-one (take-suc xs i x lt ∙ ap (λ y. take i xs ++ y ∷ []) (sym is))

@@ -61,7 +61,7 @@ impl<E: Endianity> EndianVec<E> {
         std::mem::replace(&mut self.vec, Vec::new(alloc))
     }
 
-    /// Appends bytes. It stands apart, so that what appends three bytes or fewer stays small.
+    /// Appends bytes. It stands apart, so that what appends one byte or two stays small.
     #[inline(never)]
     fn append(&mut self, bytes: &[u8]) -> Result<()>
         ensures ok { OnOk result
@@ -134,13 +134,6 @@ impl<E: Endianity> Writer for EndianVec<E> {
                 self.vec.reserve(2)?;
                 self.vec.push_reserved(*first);
                 self.vec.push_reserved(*second);
-                Ok(())
-            }
-            [first, second, third] => {
-                self.vec.reserve(3)?;
-                self.vec.push_reserved(*first);
-                self.vec.push_reserved(*second);
-                self.vec.push_reserved(*third);
                 Ok(())
             }
             _ => self.append(bytes),

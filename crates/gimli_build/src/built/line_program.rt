@@ -525,7 +525,7 @@ fn can_follow(
 
 /// Whether each byte can begin an instruction, and each instruction is one operation. The two numbers are compared as
 /// one.
-pub(crate) fn is_plain(line_encoding: LineEncoding) -> bool
+fn is_plain(line_encoding: LineEncoding) -> bool
     ensures { IsTrue result ↔ (line_encoding.minimum_instruction_length ≡ 1)
         × (line_encoding.maximum_operations_per_instruction ≡ 1) }
 {

@@ -1,36 +1,31 @@
 //! Rows and ends as instructions. Each instruction is written at once; none is kept.
 
-ghost use Rattle.std.specs.Prelude.{◌≡◌, ℕ, Bool, false, not, nat_eq, nat_le, if◌then◌else◌, [], ◌∷◌, ◌++◌, ◌+◌, ◌*◌, ◌<◌, ◌≤◌, ◌^◌, Some, None, IfSome, IsSome, IsTrue, IfOk, OnOk, Ok, pos, ◌-ℤ◌, unsigned_abs};
-ghost use Rattle.gimli_build.specs.Conditions.{AreBuilt};
-ghost use Rattle.gimli_bytes.specs.Number.{has_seven_bits as holds_seven_bits};
-ghost use Rattle.gimli_build.specs.Items.{items_bytes, AreFit};
+ghost use Rattle.std.specs.Prelude.{◌≡◌, ℕ, Bool, not, nat_eq, nat_le, if◌then◌else◌, [], ◌∷◌, ◌++◌, ◌+◌, ◌*◌, ◌<◌, ◌≤◌, ◌^◌, Some, None, IfOk, OnOk, Ok, pos, ◌-ℤ◌, unsigned_abs};
+ghost use Rattle.gimli_build.specs.Conditions.{CanBuild, AreBuilt};
+ghost use Rattle.gimli_build.specs.Items.{next_previous, item_bytes, items_bytes, FitsItem, AreFit};
+ghost use Rattle.gimli_build.specs.Built.{position_after};
 ghost use Rattle.gimli_build.specs.Rows.{initial_row, at_position};
 ghost use Rattle.gimli_build.specs.Advance.{CanEncode, IsPosition, CanFollow, operations};
 ghost use Rattle.gimli_build.specs.Due.{when};
 ghost use Rattle.gimli_build.specs.Encode.{marks, changes, is_special_advance, line_opcode, line_part, row_maker, operation_part, row_instructions};
-ghost use Rattle.gimli_build.specs.InstructionBytes.{instruction_bytes, instructions_bytes, FitsInstructions};
+ghost use Rattle.gimli_build.specs.InstructionBytes.{instructions_bytes, FitsInstructions};
 ghost use Rattle.gimli_build.specs.FileNumber.{file_number};
 ghost use Rattle.gimli_build.specs.ReadAs.{read_as};
 ghost use Rattle.gimli_build.specs.Writes.{Writes};
-ghost use Rattle.gimli_line.specs.declared.run.instruction.LineInstruction.TheVariants.{AdvancePc, AdvanceLine, EndSequence};
+ghost use Rattle.gimli_line.specs.declared.run.instruction.LineInstruction.TheVariants.{AdvancePc, EndSequence};
 
 use crate::built::items::BuiltItem;
-use crate::built::line_program::{instruction_count, is_plain};
+use crate::built::line_program::instruction_count;
 use crate::built::row::LineRow;
-use crate::bytes::write_byte;
-use crate::rows::instruction::{
-    LineInstruction, has_seven_bits, write_if, write_instruction, write_set_address,
-    write_short_line,
-};
+use crate::rows::instruction::{LineInstruction, write_if, write_instruction, write_set_address};
 use gimli_bytes::{Result, Writer};
-use gimli_core::{Encoding, LineEncoding, constants};
+use gimli_core::{Encoding, LineEncoding};
 
 /// The first special opcode: as many standard opcodes as DWARF names stand below it.
 pub(crate) const OPCODE_BASE: u8 = 13;
 
 /// Appends the instructions of a program's items, each at once. A refusal is that of the first set address that
-/// has one, or the writer's. It stands apart, so that the loop has the registers to itself. `previous` is the row that the
-/// next item follows, but for its offset and op_index, which are those of `origin`: no row is copied.
+/// has one, or the writer's. It stands apart, so that the loop has the registers to itself.
 #[inline(never)]
 pub(crate) fn write_items<W: Writer>(
     w: &mut W,
@@ -46,62 +41,91 @@ pub(crate) fn write_items<W: Writer>(
     ensures fit { OnOk result (AreFit encoding.version items.now) }
 {
     let initial = LineRow::initial(encoding, line_encoding);
-    let first = &initial;
-    let mut previous = first;
-    let mut origin = first;
+    let mut previous = &initial;
+    let mut position = (0, 0);
     for item in items {
-        match item {
-            BuiltItem::Row(row) => {
-                write_row(w, encoding, line_encoding, origin, previous, row)?;
-                previous = row;
-                origin = row;
-            }
-            BuiltItem::SetAddress(address) => {
-                write_set_address(w, address, encoding.address_size)?;
-                origin = first;
-            }
-            BuiltItem::End {
-                address_offset,
-                op_index,
-            } => {
-                let count = operation_advance(&line_encoding, origin, *address_offset, *op_index);
-                write_end(w, count)?;
-                previous = first;
-                origin = first;
-            }
-        }
+        let next = next_row(&initial, previous, item);
+        let next_position = item.position();
+        write_item(w, encoding, line_encoding, position, previous, item)?;
+        previous = next;
+        position = next_position;
     }
     Ok(())
 }
 
-/// Appends the instructions of a row that follows `previous`, whose offset and op_index are those of `origin`. At the
-/// start of a sequence, and after a set address in one, both are 0.
+/// The row that the next item follows, but for its place: what was built isn't copied.
+#[inline(always)]
+fn next_row<'a>(initial: &'a LineRow, previous: &'a LineRow, item: &'a BuiltItem) -> &'a LineRow
+    ensures { (version : ℕ) (is_stmt : Bool) (position : ℕ × ℕ) → initial.now ≡ initial_row version is_stmt →
+        at_position (position_after item.now) result.now
+        ≡ next_previous version is_stmt (at_position position previous.now) item.now }
+{
+    match item {
+        BuiltItem::SetAddress(_) => previous,
+        BuiltItem::Row(row) => row,
+        BuiltItem::End { .. } => initial,
+    }
+}
+
+/// Appends the instructions of one item that follows `previous`, whose offset and op_index are `position`.
+#[inline(always)]
+fn write_item<W: Writer>(
+    w: &mut W,
+    encoding: Encoding,
+    line_encoding: LineEncoding,
+    position: (u64, u64),
+    previous: &LineRow,
+    item: &BuiltItem,
+) -> Result<()>
+    requires can { CanEncode line_encoding }
+    requires stands { IsPosition line_encoding position.0 position.1 }
+    requires previous_line { previous.now.line < 2 ^ 63 }
+    requires built { CanBuild line_encoding position item.now }
+    ensures writes { Writes W.Writer w.old w.new result
+        (item_bytes (W.big w.old) encoding line_encoding (at_position position previous.now) item.now) }
+    ensures fit { OnOk result (FitsItem encoding.version item.now) }
+{
+    match item {
+        BuiltItem::Row(row) => write_row(w, encoding, line_encoding, position, previous, row),
+        BuiltItem::SetAddress(address) => write_set_address(w, address, encoding.address_size),
+        BuiltItem::End {
+            address_offset,
+            op_index,
+        } => {
+            let count = operation_advance(&line_encoding, position, *address_offset, *op_index);
+            write_end(w, count)
+        }
+    }
+}
+
+/// Appends the instructions of a row that follows `previous`, whose offset and op_index are `position`. At the start
+/// of a sequence, and after a set address in one, both are 0.
 #[inline(always)]
 pub(crate) fn write_row<W: Writer>(
     w: &mut W,
     encoding: Encoding,
     line_encoding: LineEncoding,
-    origin: &LineRow,
+    position: (u64, u64),
     previous: &LineRow,
     row: &LineRow,
 ) -> Result<()>
     requires can { CanEncode line_encoding }
-    requires stands { IsPosition line_encoding origin.now.address_offset origin.now.op_index }
-    requires follows { CanFollow line_encoding origin.now.address_offset origin.now.op_index
+    requires stands { IsPosition line_encoding position.0 position.1 }
+    requires follows { CanFollow line_encoding position.0 position.1
         row.now.address_offset row.now.op_index }
     requires previous_line { previous.now.line < 2 ^ 63 }
     requires line { row.now.line < 2 ^ 63 }
     ensures writes { Writes W.Writer w.old w.new result
         (Ok (instructions_bytes
-        (row_instructions encoding.version line_encoding
-        (at_position (origin.now.address_offset, origin.now.op_index) previous.now) row.now))) }
+        (row_instructions encoding.version line_encoding (at_position position previous.now) row.now))) }
     ensures fit { OnOk result (FitsInstructions encoding.version row.now) }
 {
     write_marks(w, row)?;
     write_changes(w, encoding.version, previous, row)?;
-    let advance = line_advance(previous.line, row.line);
-    let count = operation_advance(&line_encoding, origin, row.address_offset, row.op_index);
-    write_advances(w, &line_encoding, advance, count)
+    let opcode = write_line_advance(w, &line_encoding, line_advance(previous.line, row.line))?;
+    let count = operation_advance(&line_encoding, position, row.address_offset, row.op_index);
+    write_operation_advance(w, &line_encoding, opcode, count)?;
+    Ok(())
 }
 
 /// Appends the instructions of an end that is `count` operations after the row before. Ends are few, so it stands apart
@@ -116,31 +140,7 @@ pub(crate) fn write_end<W: Writer>(w: &mut W, count: u64) -> Result<()>
 }
 
 /// Appends what stands for the row alone.
-#[inline(always)]
 fn write_marks<W: Writer>(w: &mut W, row: &LineRow) -> Result<()>
-    ensures writes { Writes W.Writer w.old w.new result (Ok (instructions_bytes (marks row.now))) }
-    ensures fit { OnOk result (row.now.discriminator < 2 ^ 64) }
-{
-    if has_marks(row) {
-        return write_marks_apart(w, row);
-    }
-    Ok(())
-}
-
-/// Whether anything stands for the row alone. The flags are compared as one number, since few rows have any.
-#[inline(always)]
-fn has_marks(row: &LineRow) -> bool
-    ensures { result ≡ false → marks row.now ≡ [] }
-{
-    let flags = u32::from(row.basic_block)
-        + u32::from(row.prologue_end) * 0x100
-        + u32::from(row.epilogue_begin) * 0x1_0000;
-    row.discriminator != 0 || flags != 0
-}
-
-/// Appends what stands for the row alone. It stands apart, since few rows have any of it.
-#[inline(never)]
-fn write_marks_apart<W: Writer>(w: &mut W, row: &LineRow) -> Result<()>
     ensures writes { Writes W.Writer w.old w.new result (Ok (instructions_bytes (marks row.now))) }
     ensures fit { OnOk result (row.now.discriminator < 2 ^ 64) }
 {
@@ -153,7 +153,6 @@ fn write_marks_apart<W: Writer>(w: &mut W, row: &LineRow) -> Result<()>
 }
 
 /// Appends what lasts from row to row, where it differs.
-#[inline(always)]
 fn write_changes<W: Writer>(
     w: &mut W,
     version: u16,
@@ -181,47 +180,8 @@ fn write_changes<W: Writer>(
     Ok(())
 }
 
-/// Appends what advances the line and the operations, and makes the row.
-#[inline(always)]
-fn write_advances<W: Writer>(
-    w: &mut W,
-    line_encoding: &LineEncoding,
-    advance: i64,
-    count: u64,
-) -> Result<()>
-    requires can { CanEncode line_encoding.now }
-    ensures { Writes W.Writer w.old w.new result (Ok (instructions_bytes
-        (line_part line_encoding.now advance
-        ++ operation_part line_encoding.now (line_opcode line_encoding.now advance) count))) }
-{
-    if let Some(opcode) = opcode_after_short_line(line_encoding, advance, count) {
-        return write_short_line(w, advance, opcode);
-    }
-    let opcode = write_line_advance(w, line_encoding, advance)?;
-    write_operation_advance(w, line_encoding, opcode, count)
-}
-
-/// The opcode that makes the row after a line advance: some where no special opcode has the line advance, one byte
-/// holds it, and one opcode advances the operations.
-#[inline(always)]
-fn opcode_after_short_line(line_encoding: &LineEncoding, advance: i64, count: u64) -> Option<u8>
-    requires can { CanEncode line_encoding.now }
-    ensures advance { IsSome result → IsTrue (holds_seven_bits advance) }
-    ensures bytes { IfSome result (λ opcode. instructions_bytes (line_part line_encoding.now advance
-        ++ operation_part line_encoding.now (line_opcode line_encoding.now advance) count)
-        ≡ instruction_bytes (AdvanceLine advance) ++ opcode ∷ []) }
-{
-    if has_special(line_encoding, advance) || !has_seven_bits(advance) {
-        return None;
-    }
-    let still = OPCODE_BASE + line_encoding.line_base.unsigned_abs();
-    let special = special_opcode(still, count, u64::from(line_encoding.line_range))?;
-    Some(maker_opcode(line_encoding, special))
-}
-
-/// Appends the line advance where no special opcode has it, and returns the special opcode that is due
+/// Appends the line advance where no special opcode has it, and answers the special opcode that is due
 /// for the line.
-#[inline(always)]
 fn write_line_advance<W: Writer>(
     w: &mut W,
     line_encoding: &LineEncoding,
@@ -249,7 +209,6 @@ fn has_special(line_encoding: &LineEncoding, advance: i64) -> bool
 
 /// Appends what advances by `count` operations and makes the row, where the special opcode `opcode` is
 /// due for the line.
-#[inline(always)]
 fn write_operation_advance<W: Writer>(
     w: &mut W,
     line_encoding: &LineEncoding,
@@ -262,15 +221,16 @@ fn write_operation_advance<W: Writer>(
 {
     let range = u64::from(line_encoding.line_range);
     if let Some(special) = special_opcode(opcode, count, range) {
-        return write_byte(w, maker_opcode(line_encoding, special));
+        return write_instruction(w, maker(line_encoding, special));
     }
     let rest = count.saturating_sub(u64::from(u8::MAX - OPCODE_BASE) / range);
     if let Some(shorter) = special_opcode(opcode, rest, range) {
         write_instruction(w, LineInstruction::ConstAddPc)?;
-        return write_byte(w, maker_opcode(line_encoding, shorter));
+        return write_instruction(w, maker(line_encoding, shorter));
     }
     write_instruction(w, LineInstruction::AdvancePc(count))?;
-    write_byte(w, maker_opcode(line_encoding, opcode))
+    write_instruction(w, maker(line_encoding, opcode))?;
+    Ok(())
 }
 
 /// The special opcode that advances by `count` operations more than `opcode` does; none where no byte has it. More than
@@ -286,40 +246,33 @@ fn special_opcode(opcode: u8, count: u64, range: u64) -> Option<u8>
     u8::try_from(u64::from(opcode) + count * range).ok()
 }
 
-/// The opcode that makes a row where this special opcode is due: that of copy where it advances nothing.
-#[inline(always)]
-fn maker_opcode(line_encoding: &LineEncoding, opcode: u8) -> u8
+/// What makes a row by this special opcode: copy where the opcode advances nothing.
+fn maker(line_encoding: &LineEncoding, opcode: u8) -> LineInstruction
     requires { CanEncode line_encoding.now }
-    ensures { instruction_bytes (row_maker line_encoding.now opcode) ≡ result ∷ [] }
+    ensures { read_as result ≡ row_maker line_encoding.now opcode }
 {
     if opcode == OPCODE_BASE + line_encoding.line_base.unsigned_abs() {
-        constants::DW_LNS_copy.0
+        LineInstruction::Copy
     } else {
-        opcode
+        LineInstruction::Special(opcode)
     }
 }
 
-/// How many operations an offset and an op_index are after those of `origin`.
-#[inline(always)]
+/// How many operations an offset and an op_index are after the place of the row before.
 fn operation_advance(
     line_encoding: &LineEncoding,
-    origin: &LineRow,
+    position: (u64, u64),
     address_offset: u64,
     op_index: u64,
 ) -> u64
     requires can { CanEncode line_encoding.now }
-    requires stands { IsPosition line_encoding.now origin.now.address_offset origin.now.op_index }
-    requires follows { CanFollow line_encoding.now origin.now.address_offset origin.now.op_index
-        address_offset op_index }
-    ensures { result ≡ operations line_encoding.now origin.now.address_offset origin.now.op_index
-        address_offset op_index }
+    requires stands { IsPosition line_encoding.now position.0 position.1 }
+    requires follows { CanFollow line_encoding.now position.0 position.1 address_offset op_index }
+    ensures { result ≡ operations line_encoding.now position.0 position.1 address_offset op_index }
 {
-    let bytes = address_offset - origin.address_offset;
-    if is_plain(*line_encoding) {
-        return bytes;
-    }
     let operations = u64::from(line_encoding.maximum_operations_per_instruction);
-    instruction_count(*line_encoding, bytes) * operations + op_index - origin.op_index
+    let instructions = instruction_count(*line_encoding, address_offset - position.0);
+    instructions * operations + op_index - position.1
 }
 
 /// How far a line is after another one.

@@ -1,12 +1,12 @@
 //! Instructions, one at a time.
 
-ghost use Rattle.std.specs.Prelude.{◌≡◌, ◌+◌, [], ◌∷◌, ◌++◌, Ok, IsTrue};
+ghost use Rattle.std.specs.Prelude.{◌≡◌, ◌+◌, ◌∷◌, Ok};
 ghost use Rattle.gimli_bytes.specs.Number.{uleb, sleb, low_bits as low_bits_of, has_seven_bits as holds_seven_bits};
 ghost use Rattle.gimli_build.specs.InstructionBytes.{instruction_bytes, instructions_bytes, set_address_bytes};
 ghost use Rattle.gimli_build.specs.Due.{when};
 ghost use Rattle.gimli_build.specs.ReadAs.{read_as};
 ghost use Rattle.gimli_build.specs.Writes.{Writes};
-ghost use Rattle.gimli_line.specs.declared.run.instruction.LineInstruction.TheVariants.{AdvanceLine, SetDiscriminator};
+ghost use Rattle.gimli_line.specs.declared.run.instruction.LineInstruction.TheVariants.{SetDiscriminator};
 
 use crate::bytes::write_byte;
 use gimli_bytes::{Address, Leb128, Result, Writer};
@@ -123,16 +123,6 @@ fn write_signed<W: Writer>(w: &mut W, opcode: DwLns, operand: i64) -> Result<()>
     w.write_sleb128(operand)
 }
 
-/// Appends a line advance that one byte holds, and an instruction that is one opcode, in one call.
-#[inline(always)]
-pub(crate) fn write_short_line<W: Writer>(w: &mut W, advance: i64, opcode: u8) -> Result<()>
-    requires { IsTrue (holds_seven_bits advance) }
-    ensures { Writes W.Writer w.old w.new result
-        (Ok (instruction_bytes (AdvanceLine advance) ++ opcode ∷ [])) }
-{
-    w.write(&[constants::DW_LNS_advance_line.0, low_bits(advance), opcode])
-}
-
 /// The lowest seven bits.
 fn low_bits(operand: i64) -> u8
     ensures { result ≡ low_bits_of operand }
@@ -141,7 +131,7 @@ fn low_bits(operand: i64) -> u8
 }
 
 /// Whether seven bits hold the number, with its sign.
-pub(crate) fn has_seven_bits(operand: i64) -> bool
+fn has_seven_bits(operand: i64) -> bool
     ensures { result ≡ holds_seven_bits operand }
 {
     -64 <= operand && operand < 64

@@ -10,7 +10,7 @@ invariant-loop-item g l =
     let contents = g.W.Writer.contents in
     let big = g.W.Writer.big l.fn.w in
     let first = initial_row l.encoding.version l.line_encoding.default_is_stmt in
-    let previous = at_position (l.origin.address_offset, l.origin.op_index) l.previous in
+    let previous = at_position l.position l.previous in
     record {
       keeps : Begins (contents l.fn.w) (contents l.w);
       ordered : g.W.Writer.big l.w ≡ big;

@@ -16,7 +16,7 @@ returns g c =
     let over : nat_le (s + n * e.line_range) 255 ≡ false = past (nat_le (s + n * e.line_range) 255) (s + n * e.line_range) (rw (c.special_opcode.ensures, c.from-range.ensures) at c.in_default.is) in
     let m = n - constant_advance e in
     let rest : nat_le (s + m * e.line_range) 255 ≡ false = past (nat_le (s + m * e.line_range) 255) (s + m * e.line_range) (rw c.from-range.ensures at (rw (c.special_opcode-2.ensures, c.saturating_sub-rest.ensures, c.from.ensures) at c.in_default-special_opcode.is)) in
-    let last = rw (← c.maker_opcode-2.ensures) at c.write_byte-2.ensures in
+    let last = rw c.maker-2.ensures at c.in_ok-write_instruction-3.ensures in
     rw (by_advance e s n over rest, append-nil (instruction_bytes (row_maker e s))) (joins c.in_ok-write_instruction-2.ensures last)
 
 pub returns-in_err-write_instruction : goal.returns-in_err-write_instruction
@@ -28,3 +28,8 @@ pub returns-in_err-write_instruction-2 : goal.returns-in_err-write_instruction-2
 returns-in_err-write_instruction-2 g c =
     let p = err_from_is_err_and c.from_residual-in_err-write_instruction-2.result c.from_residual-in_err-write_instruction-2.ensures.1 in
     rw (p.1, p.2) (refused_alike (instructions_bytes (operation_part c.args.line_encoding.now c.args.opcode c.args.count)) c.in_err-write_instruction-2.ensures)
+
+pub returns-in_err-write_instruction-3 : goal.returns-in_err-write_instruction-3
+returns-in_err-write_instruction-3 g c =
+    let p = err_from_is_err_and c.from_residual-in_err-write_instruction-3.result c.from_residual-in_err-write_instruction-3.ensures.1 in
+    rw (p.1, p.2) (unwritten (instructions_bytes (operation_part c.args.line_encoding.now c.args.opcode c.args.count)) c.in_ok-write_instruction-2.ensures c.in_err-write_instruction-3.ensures)

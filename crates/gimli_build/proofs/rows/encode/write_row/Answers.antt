@@ -5,26 +5,40 @@ use Rattle.gimli_build.specs.Advance.{operations}
 use Rattle.gimli_build.specs.Encode.{marks, changes, line_part, line_opcode, operation_part, row_instructions}
 use Rattle.gimli_build.specs.Rows.{at_position}
 use Rattle.gimli_build.specs.InstructionBytes.{instructions_bytes}
-use Rattle.gimli_build.proofs.InstructionsWritten.{three_parts}
+use Rattle.gimli_build.proofs.InstructionsWritten.{four_parts}
 use Rattle.gimli_build.proofs.Writes.{joins, unwritten}
 use Rattle.gimli_build.proofs.rows.encode.write_row.Goals as goal
 
 pub returns-in_err-write_changes-clause-writes : goal.returns-in_err-write_changes-clause-writes
 returns-in_err-write_changes-clause-writes g c =
-    let bytes = instructions_bytes (row_instructions c.args.encoding.version c.args.line_encoding (at_position (c.args.origin.now.address_offset, c.args.origin.now.op_index) c.args.previous.now) c.args.row.now) in
+    let bytes = instructions_bytes (row_instructions c.args.encoding.version c.args.line_encoding (at_position c.args.position c.args.previous.now) c.args.row.now) in
     let p = err_from_is_err_and c.from_residual-in_err-write_changes.result c.from_residual-in_err-write_changes.ensures.1 in
     rw (p.1, p.2) (unwritten bytes c.in_ok-write_marks.ensures.writes c.in_err-write_changes.ensures.writes)
+
+pub returns-in_err-opcode-clause-writes : goal.returns-in_err-opcode-clause-writes
+returns-in_err-opcode-clause-writes g c =
+    let bytes = instructions_bytes (row_instructions c.args.encoding.version c.args.line_encoding (at_position c.args.position c.args.previous.now) c.args.row.now) in
+    let p = err_from_is_err_and c.from_residual-in_err-opcode.result c.from_residual-in_err-opcode.ensures.1 in
+    rw (p.1, p.2) (unwritten bytes (joins c.in_ok-write_marks.ensures.writes c.in_ok-write_changes.ensures.writes) c.in_err-opcode.ensures.writes)
+
+pub returns-in_err-write_operation_advance-clause-writes : goal.returns-in_err-write_operation_advance-clause-writes
+returns-in_err-write_operation_advance-clause-writes g c =
+    let bytes = instructions_bytes (row_instructions c.args.encoding.version c.args.line_encoding (at_position c.args.position c.args.previous.now) c.args.row.now) in
+    let p = err_from_is_err_and c.from_residual-in_err-write_operation_advance.result c.from_residual-in_err-write_operation_advance.ensures.1 in
+    rw (p.1, p.2) (unwritten bytes (joins c.in_ok-write_marks.ensures.writes (joins c.in_ok-write_changes.ensures.writes c.in_ok-opcode.ensures.writes)) c.in_err-write_operation_advance.ensures)
 
 pub returns-clause-writes : goal.returns-clause-writes
 returns-clause-writes g c =
     let e = c.args.line_encoding in
     let version = c.args.encoding.version in
     let row = c.args.row.now in
-    let previous = at_position (c.args.origin.now.address_offset, c.args.origin.now.op_index) c.args.previous.now in
+    let previous = at_position c.args.position c.args.previous.now in
     let d = pos row.line -ℤ pos previous.line in
     let n = operations e previous.address_offset previous.op_index row.address_offset row.op_index in
-    let fits : to_z w64 (of_z w64 c.line_advance-advance.result) ≡ c.line_advance-advance.result = omega (arith, ints) in
-    let back : to_z w64 (of_z w64 c.line_advance-advance.result) ≡ d = fits ∙ c.line_advance-advance.ensures in
-    let third = rw (back, c.operation_advance-count.ensures) at c.write_advances.ensures in
-    three_parts (marks row) (changes version previous row) (line_part e d) (operation_part e (line_opcode e d) n)
-    (joins (joins c.in_ok-write_marks.ensures.writes c.in_ok-write_changes.ensures.writes) third)
+    let fits : to_z w64 (of_z w64 c.line_advance.result) ≡ c.line_advance.result = omega (arith, ints) in
+    let back : to_z w64 (of_z w64 c.line_advance.result) ≡ d = fits ∙ c.line_advance.ensures in
+    let third = rw back at c.in_ok-opcode.ensures.writes in
+    let o = rw back at c.in_ok-opcode.ensures.opcode in
+    let fourth = rw (o, c.operation_advance-count.ensures) at c.in_ok-write_operation_advance.ensures in
+    four_parts (marks row) (changes version previous row) (line_part e d) (operation_part e (line_opcode e d) n)
+    (joins (joins (joins c.in_ok-write_marks.ensures.writes c.in_ok-write_changes.ensures.writes) third) fourth)

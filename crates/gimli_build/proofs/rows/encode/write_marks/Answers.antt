@@ -6,7 +6,7 @@ use Rattle.gimli_build.specs.Encode.{marks}
 use Rattle.gimli_build.specs.InstructionBytes.{instructions_bytes}
 use Rattle.gimli_build.proofs.InstructionsWritten.{four_parts}
 use Rattle.gimli_build.proofs.Writes.{joins, unwritten}
-use Rattle.gimli_build.proofs.rows.encode.write_marks_apart.Goals as goal
+use Rattle.gimli_build.proofs.rows.encode.write_marks.Goals as goal
 
 pub returns-in_err-write_if-2-clause-writes : goal.returns-in_err-write_if-2-clause-writes
 returns-in_err-write_if-2-clause-writes g c =
