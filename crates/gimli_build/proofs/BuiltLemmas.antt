@@ -8,9 +8,12 @@ use Rattle.gimli_core.specs.declared.common.Encoding.{Encoding}
 use Rattle.gimli_core.specs.declared.common.LineEncoding.{LineEncoding}
 use Rattle.gimli_build.specs.LineText.{LineText, line_text_eq, IsNotEmpty}
 use Rattle.gimli_build.specs.Tables.{Details, File, FileKey, has_file, with_directory, with_file, with_details, keys_of}
+use Rattle.gimli_build.specs.Advance.{CanEncode, IsPosition}
 use Rattle.gimli_build.specs.Built.{position_after, previous_position}
 use Rattle.gimli_build.specs.Conditions.{CanBuild, AreBuilt, IsProgram}
 use Rattle.gimli_build.specs.declared.built.items.BuiltItem.{BuiltItem}
+use Rattle.gimli_build.specs.declared.built.items.BuiltItem.TheVariants.{SetAddress, Row, End}
+use Rattle.gimli_build.proofs.ItemRuns.{start_position}
 use Rattle.gimli_build.proofs.TableLemmas.{keys-with_file, keys-with_details}
 
 -- ---- items
@@ -36,6 +39,19 @@ push_reached : (e : LineEncoding) (position : ℕ × ℕ) (items : List BuiltIte
 unfolding reached
 push_reached e position [] item so can = (can, tt)
 push_reached e position (first ∷ items) item so can = (so.0, push_reached e (position_after first) items item so.1 can)
+
+stands_at : (e : LineEncoding) (position : ℕ × ℕ) (items : List BuiltItem) → CanEncode e → IsPosition e position.0 position.1 → AreBuilt e position items
+    → IsPosition e (reached position items).0 (reached position items).1
+unfolding reached
+stands_at e position [] can so built = so
+stands_at e position (SetAddress a ∷ items) can so built = stands_at e (0, 0) items can (start_position e can) built.1
+stands_at e position (Row r ∷ items) can so built = stands_at e (r.address_offset, r.op_index) items can built.0.0.position built.1
+stands_at e position (End o i ∷ items) can so built = stands_at e (0, 0) items can (start_position e can) built.1
+
+-- the previous row stands at a position
+pub previous_stands : (e : LineEncoding) (items : List BuiltItem) → CanEncode e → AreBuilt e (0, 0) items → IsPosition e (previous_position items).0 (previous_position items).1
+previous_stands e items can built =
+    subst (λ (position : ℕ × ℕ). IsPosition e position.0 position.1) (reached_last items) (stands_at e (0, 0) items can (start_position e can) built)
 
 -- an item is built after others
 pub item_pushed : {is_none : Bool} {encoding : Encoding} {e : LineEncoding} {directories : List LineText} {keys : List FileKey} (items : List BuiltItem) (item : BuiltItem)

@@ -15,10 +15,10 @@ built_of a = record {
   file_has_size = a.file_has_size;
   file_has_md5 = a.file_has_md5;
   file_has_source = a.file_has_source;
-  items = a.items.items;
+  items = a.items;
   row = a.row;
   in_sequence = a.in_sequence;
 }
 
 abbrev pub IsKept : Inside → Type 0
-IsKept a = IsProgram a.none a.encoding a.line_encoding a.tables.directories (keys_of a.tables.files) a.items.items
+IsKept a = IsProgram a.none a.encoding a.line_encoding a.tables.directories (keys_of a.tables.files) a.items

@@ -2,10 +2,10 @@
 
 ghost use Rattle.std.specs.Prelude.{◌≡◌, ◌≢◌, ℕ, ◌+◌, ◌/◌, ◌%◌, ◌<◌, ◌≤◌, ◌^◌, Bool, true, false, nat_eq, List, [], ◌∷◌, ◌++◌, length, option_map, slice_get, IfOk, IfErr, OnOk, OnErr, IfSome, Some, None, IsTrue, ◌↔◌};
 ghost use Rattle.gimli_core.specs.Numbers.{is_address_size};
-ghost use Rattle.gimli_build.specs.Advance.{CanEncode, CanFollow};
+ghost use Rattle.gimli_build.specs.Advance.{CanEncode, IsPosition, CanFollow};
 
 use crate::built::files::{DirectoryId, FileId, FileInfo, FileTable, Files};
-use crate::built::items::{BuiltItem, BuiltItems};
+use crate::built::items::{BuiltItem, BuiltItems, ItemList};
 use crate::built::line_string::LineString;
 use crate::built::row::LineRow;
 use gimli_bytes::{Address, Error, Result};
@@ -31,7 +31,7 @@ pub struct LineProgram {
     pub file_has_md5: bool,
     /// Whether the sources of files are written, from version 5 on.
     pub file_has_source: bool,
-    items: Vec<BuiltItem>,
+    items: ItemList,
     row: LineRow,
     in_sequence: bool,
 }
@@ -102,7 +102,7 @@ impl LineProgram {
             file_has_size: false,
             file_has_md5: false,
             file_has_source: false,
-            items: Vec::new(alloc),
+            items: ItemList::new(alloc),
             row: LineRow::initial(encoding, line_encoding),
             in_sequence: false,
         })
@@ -126,7 +126,7 @@ impl LineProgram {
             file_has_size: false,
             file_has_md5: false,
             file_has_source: false,
-            items: Vec::new(alloc),
+            items: ItemList::new(alloc),
             row: LineRow::initial(encoding, LineEncoding::default()),
             in_sequence: false,
         }
@@ -301,7 +301,6 @@ impl LineProgram {
 
 impl LineProgram {
     ghost use Rattle.std.specs.Borrow.{sem};
-    ghost use Rattle.gimli_build.specs.Built.{previous_position};
     ghost use Rattle.gimli_build.specs.Calls.{after_begin, after_address, after_row, after_end};
     ghost use Rattle.gimli_build.specs.Conditions.{CanGenerateRow, CanEndSequence, AreBuilt, IsProgram};
     ghost use Rattle.gimli_build.specs.Tables.{keys_of, AreTables};
@@ -350,23 +349,13 @@ impl LineProgram {
         &mut self.row
     }
 
-    /// The offset and op_index that the next row or end is compared with.
-    fn previous_position(&self) -> (u64, u64)
-        ensures { result ≡ previous_position self.now.items }
-    {
-        match self.items.last() {
-            Some(item) => item.position(),
-            None => (0, 0),
-        }
-    }
-
     /// Whether the current row can be generated: its offset is a whole number of shortest instructions and
     /// its op_index one of their operations, it isn't before the previous row, the operations between them
     /// fit 64 bits, and its line fits 63.
     pub fn can_generate_row(&self) -> bool
         ensures { IsTrue result ↔ CanGenerateRow self.now }
     {
-        let (offset, op_index) = self.previous_position();
+        let (offset, op_index) = self.items.position();
         let row = self.row;
         can_follow(
             self.line_encoding,
@@ -388,8 +377,7 @@ impl LineProgram {
         ensures err { OnErr result (self.new ≡ self.old) }
         ensures memory { IfErr result (λ e. e ≡ Error.OutOfMemory) }
     {
-        self.items.reserve(1)?;
-        self.items.push_reserved(BuiltItem::Row(self.row));
+        self.items.push(BuiltItem::Row(self.row))?;
         self.row.clear();
         self.in_sequence = true;
         Ok(())
@@ -400,7 +388,7 @@ impl LineProgram {
     pub fn can_end_sequence(&self, address_offset: u64) -> bool
         ensures { IsTrue result ↔ CanEndSequence self.now address_offset }
     {
-        let (offset, op_index) = self.previous_position();
+        let (offset, op_index) = self.items.position();
         can_follow(
             self.line_encoding,
             offset,
@@ -515,13 +503,13 @@ fn can_follow(
     offset: u64,
     op_index: u64,
 ) -> bool
-    requires { CanEncode line_encoding }
+    requires can { CanEncode line_encoding }
+    requires stands { IsPosition line_encoding previous_offset previous_op_index }
     ensures { IsTrue result
         ↔ CanFollow line_encoding previous_offset previous_op_index offset op_index }
 {
     if is_plain(line_encoding) {
-        return op_index == 0
-            && (previous_offset < offset || (previous_offset == offset && previous_op_index == 0));
+        return op_index == 0 && previous_offset <= offset;
     }
     let operations = u64::from(line_encoding.maximum_operations_per_instruction);
     if !is_whole(line_encoding, offset) || op_index >= operations || offset < previous_offset {
@@ -535,13 +523,15 @@ fn can_follow(
             <= (u64::MAX - op_index) / operations
 }
 
-/// Whether each byte can begin an instruction, and each instruction is one operation.
+/// Whether each byte can begin an instruction, and each instruction is one operation. The two numbers are compared as
+/// one.
 fn is_plain(line_encoding: LineEncoding) -> bool
     ensures { IsTrue result ↔ (line_encoding.minimum_instruction_length ≡ 1)
         × (line_encoding.maximum_operations_per_instruction ≡ 1) }
 {
-    line_encoding.minimum_instruction_length == 1
-        && line_encoding.maximum_operations_per_instruction == 1
+    let length = u16::from(line_encoding.minimum_instruction_length);
+    let operations = u16::from(line_encoding.maximum_operations_per_instruction);
+    length + operations * 0x100 == 0x101
 }
 
 /// Whether an offset is a whole number of shortest instructions.

@@ -8,4 +8,4 @@ use Rattle.gimli_build.proofs.built.line_program.LineProgram.generate_row.Goals 
 pub invariant_of-self-2 : goal.invariant_of-self-2
 invariant_of-self-2 c =
     let can = subst (λ (p : Built). CanGenerateRow p) (sym c.self.view_is) c.requires.can in
-    rw (c.push_reserved.ensures.items, c.reserve.ensures.items) (item_pushed c.self.inside.items.items (Row c.self.inside.row) c.self.invariant can)
+    rw c.in_ok-push.ensures.ok (item_pushed c.self.inside.items (Row c.self.inside.row) c.self.invariant can)

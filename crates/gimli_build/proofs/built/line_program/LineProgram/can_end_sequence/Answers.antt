@@ -1,0 +1,6 @@
+use Rattle.gimli_build.proofs.BuiltLemmas.{previous_stands}
+use Rattle.gimli_build.proofs.built.line_program.LineProgram.can_end_sequence.Goals as goal
+
+pub can_follow-requires-clause-stands : goal.can_follow-requires-clause-stands
+can_follow-requires-clause-stands c =
+    rw c.position-offset.ensures (previous_stands c.self.inside.line_encoding c.self.inside.items c.self.invariant.lines c.self.invariant.items_built)
