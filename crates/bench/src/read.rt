@@ -121,7 +121,7 @@ impl Total {
     }
 }
 
-/// Counts in the unit at an offset, and answers its length without the length field.
+/// Counts in the unit at an offset, and returns its length without the length field.
 fn unit<R: Reader<Offset = usize>>(
     alloc: Global,
     section: &DebugLine<R>,

@@ -84,7 +84,7 @@ fn build(alloc: Global, sequences: u64) -> Result<LineProgram>
     Ok(program)
 }
 
-/// Builds a sequence, and answers the seed of the next one.
+/// Builds a sequence, and returns the seed of the next one.
 fn put_sequence(program: &mut LineProgram, i: u64, seed: u64) -> Result<u64>
     requires can { CanWrite program.old [] [] }
     ensures can { OnOk result (CanWrite program.new [] []) }

@@ -178,7 +178,7 @@ fn special_opcodes_by_themselves(rt: HostRuntime) {
 
 // ---- executed
 
-/// Executes the instructions of a program on a row, up to eight, and answers what the last one answered.
+/// Executes the instructions of a program on a row, up to eight, and returns what the last one answered.
 fn execute_all<R: Reader>(
     row: &mut LineRow,
     instructions: &mut LineInstructions<R>,

@@ -102,10 +102,10 @@ fn check_rows<R: Reader>(rt: &impl Abort, resumed: ResumedLineRows<'_, R>, kept:
     check(rt, matches!(resumed.next_row(), Ok(None)));
 }
 
-/// What `sequences` answers: a program and its sequences.
+/// What `sequences` returns: a program and its sequences.
 type Cut<R> = (CompleteLineProgram<R>, Vec<LineSequence<R>>);
 
-/// What `sequences_with_rows` answers: the same, and the rows of each sequence.
+/// What `sequences_with_rows` returns: the same, and the rows of each sequence.
 type CutWithRows<R> = (CompleteLineProgram<R>, Vec<LineSequence<R>>, Vec<RowList>);
 
 /// The program of a unit, its sequences and their rows.
@@ -113,13 +113,13 @@ fn cut_with_rows<R: Reader>(alloc: Global, unit: R) -> Result<CutWithRows<R>> {
     program(alloc, unit, 4)?.sequences_with_rows()
 }
 
-/// `sequences_with_rows` answers what `sequences` does, and the rows that each sequence gives when it is resumed.
+/// `sequences_with_rows` returns what `sequences` does, and the rows that each sequence gives when it is resumed.
 fn check_kept<R: Reader>(rt: &impl Abort, alloc: Global, unit: R, case: &Case) -> Result<()> {
     let cut = cut_program(alloc, unit)?;
     check_with_rows(rt, alloc, unit, &cut, case)
 }
 
-/// The same of what `sequences` answers.
+/// The same of what `sequences` returns.
 fn check_with_rows<R: Reader>(
     rt: &impl Abort,
     alloc: Global,

@@ -182,7 +182,7 @@ fn unit_of_many(
     changed(alloc, &unit, &[(0, length[0]), (1, length[1])])
 }
 
-/// What `sequences_with_rows` answers of its sequences.
+/// What `sequences_with_rows` returns of its sequences.
 type Kept<R> = (Vec<LineSequence<R>>, Vec<RowList>);
 
 /// The sequences of a unit, and their rows.

@@ -10,7 +10,7 @@ use gimli_line::{
 use std::alloc::Global;
 use std::process::Abort;
 
-/// What `next_row` answers.
+/// What `next_row` returns.
 #[derive(Clone, Copy, Debug, PartialEq, Eq)]
 pub enum Event {
     /// A row, by its address, op_index and line.

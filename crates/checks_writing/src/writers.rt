@@ -387,7 +387,7 @@ fn tired_after(alloc: Global, calls: usize) -> Result<Tired<LittleEndian>> {
     Ok(Tired { section, calls })
 }
 
-/// What `write` answers after so many calls: whether it is written whole. A refusal is the writer's own, and the
+/// What `write` returns after so many calls: whether it is written whole. A refusal is the writer's own, and the
 /// old bytes stand as a beginning.
 fn check_tired(rt: &impl Abort, alloc: Global, program: &LineProgram, calls: usize) -> Result<bool>
     requires { CanWrite program.now [] [] }

@@ -1,4 +1,4 @@
--- A program after a call of the builder that is answered by Ok.
+-- A program after a call of the builder that returns Ok.
 use Rattle.std.specs.Prelude.{ℕ, true, false, [], ◌∷◌, ◌++◌, Option, option_map}
 use Rattle.std.specs.Option.{option_to_list}
 use Rattle.gimli_core.specs.declared.common.Encoding.{Encoding}

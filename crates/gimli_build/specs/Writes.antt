@@ -6,7 +6,7 @@ use Rattle.gimli_bytes.specs.declared.writer.Writer.{Ghosts}
 use Rattle.gimli_build.specs.Joined.{RefusesFor}
 
 -- the old bytes stay a beginning, and the order stays; a writer that keeps its bytes has exactly the wanted ones after
--- the old, where the call answers Ok; and one that fails for memory alone refuses for memory, or for what is wanted
+-- the old, where the call returns Ok; and one that fails for memory alone refuses for memory, or for what is wanted
 pub record Writes {W E X : Type 0} (writer : Ghosts W E) (old new : W) (result : Result X Error) (wanted : Result (List ℕ) Error) : Type 0 where
   pub keeps : Begins (writer.contents old) (writer.contents new)
   pub ordered : writer.big new ≡ writer.big old

@@ -22,7 +22,7 @@ use gimli_core::{DebugLineOffset, Encoding};
 use header::write_header;
 
 impl LineProgram {
-    /// Appends the program's unit, in the program's own version and format, and answers its offset:
+    /// Appends the program's unit, in the program's own version and format, and returns its offset:
     /// the length of the section before. Requires a program that isn't a placeholder, texts that
     /// are in these tables, and sources without a zero byte. From version 5 on the empty text
     /// stands for the source of a file that has none, where sources are written; the table of their

@@ -8,7 +8,7 @@ use Rattle.gimli_bytes.specs.declared.error.Error.TheVariants.{OutOfMemory, Offs
 abbrev pub Begins : List ℕ → List ℕ → Type 0
 Begins old new = take (length old) new ≡ old
 
--- what an append that answered Ok leaves: the wanted bytes after the old ones
+-- what an append that returned Ok leaves: the wanted bytes after the old ones
 abbrev pub Appends : Result (List ℕ) Error → List ℕ → List ℕ → Type 0
 Appends (Ok bytes) old new = new ≡ old ++ bytes
 Appends (Err e) old new = ⊥
@@ -40,7 +40,8 @@ abbrev pub patch : Result (List ℕ) Error → List ℕ → ℕ → Result (List
 patch (Ok bytes) old at = overwrite_of old at bytes
 patch (Err e) old at = Err e
 
--- what a call over bytes that are there leaves where it answered Ok: the wanted bytes, from the place on, over the old ones
+-- what a call over bytes that are there leaves where it returned Ok: the wanted bytes, from the place on, over the old
+-- ones
 abbrev pub Overwrites : ℕ → Result (List ℕ) Error → List ℕ → List ℕ → Type 0
 Overwrites at wanted old new = patch wanted old at ≡ Ok new
 

@@ -90,5 +90,5 @@ impl From<AllocError> for Error {
     }
 }
 
-/// What a call of writing answers.
+/// What a call of writing returns.
 pub type Result<T> = std::result::Result<T, Error>;

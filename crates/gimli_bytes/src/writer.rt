@@ -483,7 +483,7 @@ pub trait Writer {
         self.write(Leb128::signed(val).bytes())
     }
 
-    /// Appends an initial length of 0, and answers where its word stands, for
+    /// Appends an initial length of 0, and returns where its word stands, for
     /// `write_initial_length_at`. Refused as `write` is, which it may call twice.
     fn write_initial_length(&mut self, format: Format) -> Result<InitialLengthOffset>
         ensures keeps { Begins (contents self.old) (contents self.new) }

@@ -1,4 +1,4 @@
--- What a look-up in a unit's program answers.
+-- What a look-up in a unit's program returns.
 use Rattle.std.specs.Prelude.{◌≡◌, ◌⊎◌, ℕ, List, All}
 use Rattle.gimli_core.specs.declared.error.Error.{Error}
 use Rattle.gimli_line.specs.declared.run.row.LineRow.{LineRow}

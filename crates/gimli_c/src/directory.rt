@@ -12,7 +12,7 @@ use std::alloc::Global;
 
 /// Reads the directory of an index, as files have it: up to version 4 from 1 on, in version 5 from 0 on. Its bytes go into
 /// `bytes`, as far as they stand in the section itself, and there is room. `NOT_FOUND` where there is no such directory, as
-/// there is none of index 0 up to version 4. Where another number than 0 is answered, nothing is written. For
+/// there is none of index 0 up to version 4. Where another number than 0 is returned, nothing is written. For
 /// `address_size` and the order see `gimli_line_unit`.
 #[unsafe(no_mangle)]
 pub extern "C" fn gimli_line_directory(

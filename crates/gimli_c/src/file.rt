@@ -75,7 +75,7 @@ pub const HAS_SOURCE: u64 = 8;
 /// Reads the file of an index, as rows have it: up to version 4 from 1 on, in version 5 from 0 on. Where the unit's table has no
 /// such file, the program is run to its end, past its faults, for the files that it defines. The bytes of the path and of the directory go into `path` and
 /// `directory`, as far as they stand in the section itself, and there is room. `NOT_FOUND` where there is no such file.
-/// Where another number than 0 is answered, nothing is written. For `address_size` and the order see `gimli_line_unit`.
+/// Where another number than 0 is returned, nothing is written. For `address_size` and the order see `gimli_line_unit`.
 #[unsafe(no_mangle)]
 pub extern "C" fn gimli_line_file(
     alloc: Global,

@@ -42,8 +42,8 @@ pub(crate) fn add_rows(
     Ok(())
 }
 
-/// Adds a row or an end, and answers the address of the sequence that the next row belongs to. Requires a program that can
-/// be written.
+/// Adds a row or an end, and returns the address of the sequence that the next row belongs to. Requires a program that
+/// can be written.
 fn add_row(
     program: &mut LineProgram,
     ids: &[FileId],

@@ -1,4 +1,4 @@
-//! A law of the numbers that calls answer.
+//! A law of the numbers that calls return.
 
 ghost use Rattle.gimli_c.specs.Numbers.{AreNumbered};
 

@@ -1,4 +1,4 @@
-//! The numbers that calls answer.
+//! The numbers that calls return.
 
 ghost use Rattle.std.specs.Prelude.{◌≡◌};
 ghost use Rattle.gimli_c.specs.Status.{error_status};

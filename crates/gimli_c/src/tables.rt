@@ -117,7 +117,7 @@ fn name_at(names: &[GimliName], index: u64) -> Option<GimliName>
     names.get(index).copied()
 }
 
-/// Adds directories in order, and answers the ids of all by their indices. Requires a program that can be written, and
+/// Adds directories in order, and returns the ids of all by their indices. Requires a program that can be written, and
 /// leaves one.
 pub(crate) fn add_directories(
     alloc: Global,
@@ -170,7 +170,7 @@ fn first_ids(alloc: Global, program: &LineProgram) -> Result<Vec<DirectoryId>, u
     Ok(ids)
 }
 
-/// Adds files in order, and answers their ids. The directories are those of these ids. Requires a program that can be
+/// Adds files in order, and returns their ids. The directories are those of these ids. Requires a program that can be
 /// written and has these directories, and leaves one.
 pub(crate) fn add_files(
     alloc: Global,
@@ -200,7 +200,7 @@ pub(crate) fn add_files(
     Ok(file_ids)
 }
 
-/// Adds a file, and answers its id. Requires what `add_files` does.
+/// Adds a file, and returns its id. Requires what `add_files` does.
 fn add_file(
     alloc: Global,
     program: &mut LineProgram,

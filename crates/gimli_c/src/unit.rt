@@ -41,7 +41,7 @@ pub struct GimliUnit {
 
 /// Reads the unit at an offset, and runs its program. `big` says that the most significant byte of a number comes first.
 /// `address_size` is that of the compilation unit, which counts up to version 4; it has to be 1, 2, 4 or 8. Where another
-/// number than 0 is answered, `unit` stays as it was.
+/// number than 0 is returned, `unit` stays as it was.
 #[unsafe(no_mangle)]
 pub extern "C" fn gimli_line_unit(
     alloc: Global,

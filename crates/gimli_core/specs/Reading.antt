@@ -7,7 +7,7 @@ use Rattle.gimli_core.specs.declared.common.Format.TheVariants.{Dwarf32, Dwarf64
 use Rattle.gimli_core.specs.declared.error.Error.{Error}
 use Rattle.gimli_core.specs.declared.error.Error.TheVariants.{UnexpectedEof, BadUnsignedLeb128, BadSignedLeb128, UnknownReservedLength, UnsupportedAddressSize, UnsupportedOffset, AddressOverflow}
 
--- what a call answers, and the bytes that it leaves
+-- what a call returns, and the bytes that it leaves
 abbrev pub Read : Type 0 → Type 0
 Read A = Result A Error × List ℕ
 

@@ -1,4 +1,4 @@
-//! Laws of what a lookup answers, of strings and of paths.
+//! Laws of what a lookup returns, of strings and of paths.
 
 ghost use Rattle.std.specs.Prelude.{◌≡◌, ◌≤◌, ◌↔◌, ℕ, List, length, Ok, Err, IsTrue};
 ghost use Rattle.gimli_core.specs.Equality.{ClonesGiveSame, GivesSame, IsExact};
@@ -64,8 +64,8 @@ pub fn clones_of_errors_are_same()
 pub fn clones_of_sections_are_same<R: Clone>()
     ensures { GivesSame R.is_clone R.is_infallible → ClonesGiveSame ⟦<StringSections<R> as Clone>⟧ }
 {}
-/// A program has one list of the rows of its sequences. So `find_in_run` answers what `Lookup::find` does, over a lookup
-/// of the same program.
+/// A program has one list of the rows of its sequences. So `find_in_run` returns what `Lookup::find` does, over a
+/// lookup of the same program.
 pub fn one_answer()
     ensures sequences { (notation : Notation) (h : Header) (rows other : List (List LineRow)) →
         AreRowsOfSequences notation h rows → AreRowsOfSequences notation h other → rows ≡ other }

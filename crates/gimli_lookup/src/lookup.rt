@@ -129,7 +129,7 @@ impl<R: Reader> Lookup<R> {
         self.find_indexed_counted(a).0
     }
 
-    /// What `find` answers, and the number of probes that it takes: of stored addresses that are looked at. A sequence
+    /// What `find` returns, and the number of probes that it takes: of stored addresses that are looked at. A sequence
     /// whose addresses never go down is found by halves, however many there are and however they overlap, and then its
     /// rows by halves; the others are searched row by row.
     pub fn find_indexed_counted(&self, a: u64) -> (Option<(LineRow, LineRow)>, u64)
@@ -146,7 +146,7 @@ impl<R: Reader> Lookup<R> {
         }
     }
 
-    /// What `find` answers, found by going over the sequences one after the other, and the number of probes that this
+    /// What `find` returns, found by going over the sequences one after the other, and the number of probes that this
     /// takes: of times that the address of a row is read. In a sequence whose addresses never go down the rows are
     /// searched by halves, in any other one by one.
     pub fn find_counted(&self, a: u64) -> (Option<(LineRow, LineRow)>, u64)

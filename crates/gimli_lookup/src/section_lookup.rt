@@ -162,7 +162,7 @@ impl<R: Reader> SectionLookup<R> {
         self.find_counted(a).0
     }
 
-    /// What `find` answers, and the number of probes that it takes: of stored addresses that are looked at. Of the
+    /// What `find` returns, and the number of probes that it takes: of stored addresses that are looked at. Of the
     /// sequences whose addresses never go down, the one that covers the address is found by halves, however many there
     /// are, and then its rows by halves; the others are searched row by row.
     pub fn find_counted(&self, a: u64) -> (Option<CoveringRows>, u64)

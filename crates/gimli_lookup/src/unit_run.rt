@@ -32,7 +32,7 @@ fn as_fault(e: Error) -> Result<Option<Error>>
     }
 }
 
-/// Takes in the rows to come up to the first fault, which is the answer. Fails only with `OutOfMemory`.
+/// Takes in the rows to come up to the first fault, which it returns. Fails only with `OutOfMemory`.
 fn take_rows<R: Reader>(
     run: &mut OneShotLineRows<R>,
     cut: &mut SequenceCut,

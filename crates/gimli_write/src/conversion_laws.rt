@@ -49,9 +49,9 @@ pub fn conversions_are_faithful()
         → HasConstantAddresses d.outcome.program }
 {}
 
-/// So the rows that are read back of it say what the rows of the source say, one by one: an end has its address, and any
-/// other row all its registers, with the number that its file has now. These are the rows that `round_trip` answers, and
-/// those of a unit that `LineProgram::write` wrote, however it is read well.
+/// So the rows that are read back of it say what the rows of the source say, one by one: an end has its address, and
+/// any other row all its registers, with the number that its file has now. These are the rows that `round_trip`
+/// returns, and those of a unit that `LineProgram::write` wrote, however it is read well.
 pub fn converted_rows_are_read_back()
     ensures answered { (d : DoneConversion) (rows back : List ReadRow) → IsToBeFaithful d
         → SourceGives d rows → AreBuiltRows d.outcome.program back → AreReadAs d rows back }
@@ -59,8 +59,8 @@ pub fn converted_rows_are_read_back()
         → SourceGives d rows → (unit : UnitReadBack d.outcome.program) → GivesBack d rows unit }
 {}
 
-/// And the files that it answers have the paths of those of the source: each file number of the source has an id, which is
-/// the index of its file.
+/// And the files that it returns have the paths of those of the source: each file number of the source has an id,
+/// which is the index of its file.
 pub fn converted_files_are_read_back()
     ensures { (d : DoneConversion) (strings : List (List ℕ)) (files : List File)
         → SourceFilesAre d files → AreFilesReadBack d strings files }

@@ -120,5 +120,5 @@ pub(crate) fn from_write(error: Error) -> ConvertError
     }
 }
 
-/// What a call of conversion answers.
+/// What a call of conversion returns.
 pub type ConvertResult<T> = std::result::Result<T, ConvertError>;

@@ -353,7 +353,7 @@ fn read_unit<E: Endianity>(
     )
 }
 
-/// Writes a program's unit, as `LineProgram::write` does, and reads it again: from the offset that was answered, in
+/// Writes a program's unit, as `LineProgram::write` does, and reads it again: from the offset that was returned, in
 /// the same order, with the program's address size and its working directory, and beside the tables, each written to
 /// an empty section. Requires what `write` asks.
 ///

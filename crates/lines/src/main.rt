@@ -20,7 +20,7 @@ fn main(rt: HostRuntime) -> ExitCode {
     ExitCode::from(status)
 }
 
-/// Tells an error, and answers the status of the program. Where standard output was closed, nothing
+/// Tells an error, and returns the status of the program. Where standard output was closed, nothing
 /// is told.
 fn tell(rt: &HostRuntime, error: &io::Error) -> u8 {
     if error.kind() != ErrorKind::BrokenPipe {
@@ -30,7 +30,7 @@ fn tell(rt: &HostRuntime, error: &io::Error) -> u8 {
     REFUSED
 }
 
-/// Runs on the words of the program, and answers its status.
+/// Runs on the words of the program, and returns its status.
 fn start(rt: &HostRuntime) -> io::Result<u8> {
     let alloc = rt.alloc();
     let arguments: Vec<String> = env::args(rt)?.collect(alloc)?;
@@ -47,7 +47,7 @@ fn start(rt: &HostRuntime) -> io::Result<u8> {
     }
 }
 
-/// Reads the files that a request names, does what it asks for, and answers the status of the
+/// Reads the files that a request names, does what it asks for, and returns the status of the
 /// program.
 fn run(rt: &HostRuntime, request: &Request<'_>) -> io::Result<u8> {
     let file = read(rt, request.file)?;

@@ -18,7 +18,7 @@ use std::alloc::Global;
 use std::io;
 use std::io::{BufRead, Write};
 
-/// Does what a request asks for, and answers the status of the program: 0, or 1 where something was
+/// Does what a request asks for, and returns the status of the program: 0, or 1 where something was
 /// refused, and told on standard error, or found by a check. Fails where memory is missing, where
 /// standard input can't be read, and where standard output takes no more; what was printed before
 /// stands.

@@ -22,7 +22,7 @@ fn main(rt: HostRuntime) -> ExitCode {
     ExitCode::from(status)
 }
 
-/// Runs on the words after the program's name, and answers the status of the program.
+/// Runs on the words after the program's name, and returns the status of the program.
 fn start(rt: &HostRuntime) -> io::Result<u8> {
     let arguments = arguments(rt)?;
     let mut words = Vec::new(rt.alloc());

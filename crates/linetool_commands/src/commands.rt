@@ -17,7 +17,7 @@ use rows_units::{Place, SequenceLine};
 use std::alloc::Global;
 use std::io::{Read, Write};
 
-/// Does what the words after the program's name ask for, and answers the status of the program. `file` is the
+/// Does what the words after the program's name ask for, and returns the status of the program. `file` is the
 /// opened file that the second word names, where there is one.
 pub fn run<F: Read + Drop, O: Write, E: Write>(
     alloc: Global,

@@ -60,7 +60,7 @@ impl Refusal {
         }
     }
 
-    /// Says on standard error why the command ends, and answers the status of the program. Nothing is said where
+    /// Says on standard error why the command ends, and returns the status of the program. Nothing is said where
     /// standard output takes no more.
     pub fn report<E: Write>(self, err: &mut E) -> u8
         ensures usage { self ≡ Refusal.Usage → result ≡ 2 }

@@ -41,7 +41,7 @@ impl End {
     }
 }
 
-/// Builds the programs of a text's scripts and writes them; appends what is printed, and answers the status: 1 where
+/// Builds the programs of a text's scripts and writes them; appends what is printed, and returns the status: 1 where
 /// a program is refused or a condition isn't met, 2 where a script can't be read or there are words. Refused where
 /// memory is missing that no call of a script asks for.
 pub fn write(

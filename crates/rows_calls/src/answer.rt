@@ -7,7 +7,7 @@ use std::fmt;
 /// A reader of a script.
 pub type Slice<'a> = EndianSlice<'a, RunTimeEndian>;
 
-/// What a call answers.
+/// What a call returns.
 #[derive(Clone, Copy)]
 pub enum Answer<'a> {
     /// A word.
@@ -31,7 +31,7 @@ pub enum Answer<'a> {
 }
 
 impl<'a> Answer<'a> {
-    /// What a call answers that may refuse.
+    /// What a call returns that may refuse.
     pub fn of(answer: Result<Answer<'a>>) -> Answer<'a> {
         match answer {
             Ok(answer) => answer,

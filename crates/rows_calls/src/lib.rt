@@ -4,7 +4,7 @@
 //! says nothing. Numbers are decimal or hexadecimal after `0x`, formats are `32` and `64`, a pointer encoding is its
 //! number, a section is `debug_info`, `debug_line`, `debug_str` or `debug_line_str`. A line that is no call is a bad script:
 //! then nothing is printed, and the status is 2. A call whose conditions aren't met isn't made: in place of its answer
-//! stands a line `condition N`, N the number of the line, and the status is 1. Else it is 0, whatever the calls answer.
+//! stands a line `condition N`, N the number of the line, and the status is 1. Else it is 0, whatever the calls return.
 //!
 //! | Line of `read` | Does | Prints |
 //! |---|---|---|

@@ -5,7 +5,7 @@ use crate::arguments::Arguments;
 use crate::stop::Stop;
 use gimli_core::{Endianity, RunTimeEndian};
 
-/// What a call answers that reads bytes, where they are enough.
+/// What a call returns that reads bytes, where they are enough.
 pub fn read(order: RunTimeEndian, name: &str, bytes: &[u8]) -> Result<Answer<'static>, Stop> {
     match name {
         "is_big_endian" => Ok(of_bool(order.is_big_endian())),

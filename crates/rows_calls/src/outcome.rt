@@ -19,7 +19,7 @@ pub trait Script {
     ) -> Result<(), Stop>;
 }
 
-/// Makes the calls of a script, and answers its status. Of a bad script nothing is printed.
+/// Makes the calls of a script, and returns its status. Of a bad script nothing is printed.
 pub fn run<S: Script>(script: &mut S, input: &str, out: &mut Vec<u8>) -> Result<u8, AllocError> {
     let before = out.len();
     match run_lines(script, input, out) {
@@ -32,7 +32,7 @@ pub fn run<S: Script>(script: &mut S, input: &str, out: &mut Vec<u8>) -> Result<
     }
 }
 
-/// Makes the calls of a script as far as they are calls, and answers its status.
+/// Makes the calls of a script as far as they are calls, and returns its status.
 fn run_lines<S: Script>(script: &mut S, input: &str, out: &mut Vec<u8>) -> Result<u8, Stop> {
     let mut status = 0;
     let mut number = 0u64;

@@ -8,7 +8,7 @@ use crate::arguments::Arguments;
 use crate::stop::Stop;
 use gimli_core::{Endianity, Reader};
 
-/// What a call answers over a reader. `base` is the reader that it was at first.
+/// What a call returns over a reader. `base` is the reader that it was at first.
 pub fn answer<'a>(
     reader: &mut Slice<'a>,
     base: Slice<'a>,
@@ -37,7 +37,7 @@ fn offset_from(reader: Slice<'_>, base: Slice<'_>) -> Result<Answer<'static>, St
     }
 }
 
-/// What a call answers that looks at bytes, or lets bytes go.
+/// What a call returns that looks at bytes, or lets bytes go.
 fn value(
     reader: &mut Slice<'_>,
     name: &str,
@@ -59,7 +59,7 @@ fn value(
     Ok(Answer::of(answer))
 }
 
-/// What a call answers that takes a number of a fixed size.
+/// What a call returns that takes a number of a fixed size.
 fn fixed(
     reader: &mut Slice<'_>,
     name: &str,
@@ -95,7 +95,7 @@ fn address(reader: &mut Slice<'_>, size: u8) -> Result<Answer<'static>, Stop> {
     }
 }
 
-/// What a call answers that takes something else.
+/// What a call returns that takes something else.
 fn other(
     reader: &mut Slice<'_>,
     name: &str,

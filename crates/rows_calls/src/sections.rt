@@ -165,7 +165,7 @@ impl<W: Section> Sections<W> {
         }
     }
 
-    /// Prints what a call answers that writes, and what it changed.
+    /// Prints what a call returns that writes, and what it changed.
     fn print_written(&mut self, answer: writers::Answer, out: &mut Vec<u8>) -> Result<(), Stop> {
         let now = self.section.joined(self.alloc)?;
         let written = Written {
@@ -227,7 +227,7 @@ impl<W: Section> Script for Sections<W> {
     }
 }
 
-/// What a call answers that writes, and the bytes of before and after it.
+/// What a call returns that writes, and the bytes of before and after it.
 #[derive(Clone, Copy)]
 struct Written<'a> {
     answer: writers::Answer,
@@ -246,7 +246,7 @@ impl fmt::Display for Written<'_> {
     }
 }
 
-/// What a call answers that writes.
+/// What a call returns that writes.
 #[derive(Clone, Copy)]
 struct Done(writers::Answer);
 

@@ -147,7 +147,7 @@ impl Tables {
         Ok(Answer::Number("offset", offset))
     }
 
-    /// Appends a table to a section, and answers the section.
+    /// Appends a table to a section, and returns the section.
     pub fn write<W: Writer>(&self, kind: Kind, w: W) -> (W, Result<()>) {
         match kind {
             Kind::Strings => {

@@ -5,10 +5,10 @@ use crate::stop::Stop;
 use gimli_bytes::{InitialLengthOffset, Result, Writer};
 use std::alloc::Global;
 
-/// What a call answers: a place, or nothing but that it is done.
+/// What a call returns: a place, or nothing but that it is done.
 pub type Answer = Result<Option<usize>>;
 
-/// What a call answers over a writer.
+/// What a call returns over a writer.
 pub fn answer<W: Writer>(
     alloc: Global,
     w: &mut W,
@@ -47,7 +47,7 @@ fn write_bytes<W: Writer>(w: &mut W, offset: Option<usize>, bytes: &[u8]) -> Res
     }
 }
 
-/// What a call answers that appends a number.
+/// What a call returns that appends a number.
 fn number<W: Writer>(w: &mut W, name: &str, words: &mut Arguments<'_>) -> Option<Result<()>> {
     match name {
         "write_u8" => Some(w.write_u8(words.u8())),
@@ -63,7 +63,7 @@ fn number<W: Writer>(w: &mut W, name: &str, words: &mut Arguments<'_>) -> Option
     }
 }
 
-/// What a call answers that appends an address, an offset, a reference or a pointer.
+/// What a call returns that appends an address, an offset, a reference or a pointer.
 fn other<W: Writer>(w: &mut W, name: &str, words: &mut Arguments<'_>) -> Option<Result<()>> {
     match name {
         "write_address" => Some(w.write_address(words.address(), words.u8())),
@@ -81,7 +81,7 @@ fn other<W: Writer>(w: &mut W, name: &str, words: &mut Arguments<'_>) -> Option<
     }
 }
 
-/// What a call answers that writes a number over the bytes from an offset on.
+/// What a call returns that writes a number over the bytes from an offset on.
 fn number_at<W: Writer>(
     w: &mut W,
     offset: usize,

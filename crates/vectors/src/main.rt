@@ -63,7 +63,7 @@ fn main(rt: HostRuntime) -> ExitCode {
     ExitCode::from(status)
 }
 
-/// Tells an error, and answers the status of the program: 3 where memory is refused.
+/// Tells an error, and returns the status of the program: 3 where memory is refused.
 fn tell_error(rt: &HostRuntime, error: &io::Error) -> u8 {
     match error.kind() {
         ErrorKind::OutOfMemory => tell(rt, "memory is refused", 3),
@@ -75,14 +75,14 @@ fn tell_error(rt: &HostRuntime, error: &io::Error) -> u8 {
     }
 }
 
-/// Tells something on standard error, and answers a status.
+/// Tells something on standard error, and returns a status.
 fn tell(rt: &HostRuntime, text: impl fmt::Display + Drop, status: u8) -> u8 {
     // Where standard error takes nothing, the status still tells.
     let _ = writeln!(rt.stderr(), "vectors: {text}");
     status
 }
 
-/// Runs on the words after the program's name, and answers the status of the program.
+/// Runs on the words after the program's name, and returns the status of the program.
 fn start(rt: &HostRuntime) -> io::Result<u8> {
     let arguments: Vec<String> = env::args(rt)?.collect(rt.alloc())?;
     let mut words = Vec::with_capacity(rt.alloc(), arguments.len())?;
@@ -135,7 +135,7 @@ fn print_unit(rt: &HostRuntime, command: &str, file: &str, words: &[&str]) -> io
     print_all(rt, &out, status)
 }
 
-/// Runs the rows of files, prints how many of each are as stated, and answers the status of the program.
+/// Runs the rows of files, prints how many of each are as stated, and returns the status of the program.
 fn check_files(rt: &HostRuntime, files: &[&str], attempts: Attempts) -> io::Result<u8> {
     let mut out = BufWriter::new(rt.alloc(), rt.stdout())?;
     let mut status = 0;
@@ -173,7 +173,7 @@ fn print_scripts(rt: &HostRuntime) -> io::Result<u8> {
     print_all(rt, &out, status)
 }
 
-/// Prints what a command gave, and answers its status.
+/// Prints what a command gave, and returns its status.
 fn print_all(rt: &HostRuntime, text: &[u8], status: u8) -> io::Result<u8> {
     rt.stdout().write_all(text)?;
     match status {

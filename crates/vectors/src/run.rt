@@ -29,7 +29,7 @@ pub fn run_command(
     Ok(out)
 }
 
-/// Runs a command on a script, and answers its status.
+/// Runs a command on a script, and returns its status.
 fn run_script(
     alloc: Global,
     words: &[&str],
@@ -46,7 +46,7 @@ fn run_script(
     }
 }
 
-/// Runs a command over a section and the parts that its words name, and answers its status.
+/// Runs a command over a section and the parts that its words name, and returns its status.
 fn run_over_parts<'r>(
     alloc: Global,
     words: &[&str],
@@ -79,7 +79,7 @@ fn sections_of<'r>(lines: &'r [u8], named: &'r [Vec<u8>]) -> Option<Sections<'r>
     })
 }
 
-/// Runs a command over sections, and answers its status.
+/// Runs a command over sections, and returns its status.
 fn run_over(
     alloc: Global,
     words: &[&str],

@@ -27,7 +27,7 @@ impl Tally {
     }
 }
 
-/// Does the work that the word names so many times, and answers what the last time counted.
+/// Does the work that the word names so many times, and returns what the last time counted.
 pub fn do_work<R: Reader>(
     alloc: Global,
     section: &DebugLine<R>,

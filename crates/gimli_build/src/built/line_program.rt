@@ -65,7 +65,7 @@ impl LineProgram {
 
     /// A program without a row. The working directory is directory 0. From version 5 on the source
     /// file is file 0, in the directory that is handed for it, else in the working directory; up to
-    /// version 4 it is not used. Requires encodings that `accepts` answers with true, and texts
+    /// version 4 it is not used. Requires encodings that `accepts` returns true for, and texts
     /// without a zero byte. Fails only with `OutOfMemory`.
     pub fn new(
         alloc: Global,

@@ -180,7 +180,7 @@ fn write_changes<W: Writer>(
     Ok(())
 }
 
-/// Appends the line advance where no special opcode has it, and answers the special opcode that is due
+/// Appends the line advance where no special opcode has it, and returns the special opcode that is due
 /// for the line.
 fn write_line_advance<W: Writer>(
     w: &mut W,

@@ -6,7 +6,7 @@ use crate::index::handle::GimliLineIndex;
 use crate::status::OK;
 use std::alloc::Global;
 
-/// Closes a handle: all memory of its index is given back. A closed one stays closed. The answer is 0.
+/// Closes a handle: all memory of its index is given back. A closed one stays closed. Returns 0.
 #[unsafe(no_mangle)]
 pub extern "C" fn gimli_line_index_close(alloc: Global, index: &mut GimliLineIndex) -> u32
     ensures ok { result ≡ OK }

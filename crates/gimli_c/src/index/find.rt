@@ -56,7 +56,7 @@ fn place_in(index: &SectionIndex, address: u64) -> Option<GimliPlace>
 /// Looks an address up in all units. `place` is the row that it belongs to, the address up to which that holds, and its unit:
 /// the first two adjacent rows of one sequence of which the first has an address at most the one that is looked up, and the
 /// second one above it, in the order of the units and of their sequences. `NOT_FOUND` where there are none, and `CLOSED` where
-/// the handle is. Where another number than 0 is answered, `place` stays as it was. Takes no memory.
+/// the handle is. Where another number than 0 is returned, `place` stays as it was. Takes no memory.
 #[unsafe(no_mangle)]
 pub extern "C" fn gimli_line_index_find(
     alloc: Global,

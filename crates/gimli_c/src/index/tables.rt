@@ -47,7 +47,7 @@ fn file_in(
 
 /// Reads the file of an index of a unit, as `gimli_line_file` does, by the index's copy of the section. `NOT_FOUND` where there is
 /// no such unit, or the unit has no such file, and `CLOSED` where the handle is; the number of the refusal where the unit can't be
-/// read. Where another number than 0 is answered, nothing is written.
+/// read. Where another number than 0 is returned, nothing is written.
 #[unsafe(no_mangle)]
 pub extern "C" fn gimli_line_index_file(
     alloc: Global,

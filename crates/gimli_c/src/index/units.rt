@@ -148,11 +148,11 @@ fn addresses_in(index: &SectionIndex, unit: u64, file: u64, line: u64) -> Result
     }
 }
 
-/// Tells the addresses for a breakpoint at a line of a file of one unit: of each run of rows of that line that stand side by
-/// side in a sequence, that of the first with `IS_STMT`. Where the line has none, those of the next line that has; `found_line`
-/// is that line. The addresses go into `addresses`, as far as there is room; `count` is how many there are. `NOT_FOUND` where
-/// there is no such unit, or no line from it on has any; `CLOSED` where the handle is. Where another number than 0 is answered,
-/// nothing is written.
+/// Tells the addresses for a breakpoint at a line of a file of one unit: of each run of rows of that line that stand
+/// side by side in a sequence, that of the first with `IS_STMT`. Where the line has none, those of the next line that
+/// has; `found_line` is that line. The addresses go into `addresses`, as far as there is room; `count` is how many
+/// there are. `NOT_FOUND` where there is no such unit, or no line from it on has any; `CLOSED` where the handle is.
+/// Where another number than 0 is returned, nothing is written.
 #[unsafe(no_mangle)]
 pub extern "C" fn gimli_line_index_addresses(
     alloc: Global,

@@ -42,7 +42,8 @@ impl UnitRows {
         }
     }
 
-    /// Goes on by the rows that a place has room for, and answers how many these are, and the number that is told with them.
+    /// Goes on by the rows that a place has room for, and returns how many these are, and the number that is told with
+    /// them.
     fn advance(&mut self, room: usize) -> (usize, u32)
         ensures rows { self.new ≡ after_rows result.0 self.old }
         ensures count { result.0 ≡ min (length (rows_left self.old)) room }

@@ -18,7 +18,7 @@ use gimli_core::{Error, Reader};
 use gimli_line::{OneShotLineRows, RowList};
 use std::alloc::Global;
 
-/// Appends the rows of a run up to its first fault, which is the answer. Refused by `OutOfMemory` alone.
+/// Appends the rows of a run up to its first fault, which it returns. Refused by `OutOfMemory` alone.
 fn keep_rows<R: Reader>(
     run: &mut OneShotLineRows<R>,
     rows: &mut RowList,
@@ -86,7 +86,8 @@ fn rows_at(
 
 /// Runs the program of the unit at an offset, and puts its rows behind the handle; what stood there is given back. Then
 /// `gimli_line_rows_next` gives them from the first on. The rows are the handle's own: the section may go. A fault of the program
-/// is no refusal: it comes after the rows before it. Where another number than 0 is answered, the handle has what it had. For
+/// is no refusal: it comes after the rows before it. Where another number than 0 is returned, the handle has what it
+/// had. For
 /// `address_size` and the order see `gimli_line_unit`.
 #[unsafe(no_mangle)]
 pub extern "C" fn gimli_line_rows_open(
@@ -126,7 +127,7 @@ fn rows_in(alloc: Global, index: &SectionIndex, unit: u64) -> Result<Box<UnitRow
 
 /// Does what `gimli_line_rows_open` does for a unit of an index, by its copy of the section: all rows of the unit come, those of
 /// sequences that the index leaves out too. `NOT_FOUND` where there is no such unit, and `CLOSED` where the handle of the index is.
-/// Where another number than 0 is answered, the handle of the reader has what it had.
+/// Where another number than 0 is returned, the handle of the reader has what it had.
 #[unsafe(no_mangle)]
 pub extern "C" fn gimli_line_index_rows_open(
     alloc: Global,

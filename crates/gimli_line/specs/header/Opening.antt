@@ -1,4 +1,4 @@
--- The fields in front of the header length, as a call answers them.
+-- The fields in front of the header length, as a call returns them.
 use Rattle.std.specs.Prelude.{ℕ, List}
 use Rattle.gimli_line.specs.header.HeaderGrammar.{Opening}
 use Rattle.gimli_line.specs.declared.header.parse.Opening.{Opening as OpeningOf}

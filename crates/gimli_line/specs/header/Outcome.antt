@@ -1,4 +1,4 @@
--- What a call answers of what is read.
+-- What a call returns of what is read.
 use Rattle.std.specs.Prelude.{◌≡◌, ◌≢◌, ℕ, List, map, Result, Ok, Err}
 use Rattle.std.specs.declared.vec.Vec.{Vec}
 use Rattle.std.specs.declared.alloc.Global.{Global}
@@ -6,7 +6,7 @@ use Rattle.gimli_core.specs.Reading.{Read, ◌>>=◌}
 use Rattle.gimli_core.specs.declared.error.Error.{Error}
 use Rattle.gimli_core.specs.declared.error.Error.TheVariants.{OutOfMemory}
 
--- what a call answered, its value seen by view, and the bytes that it left are what reading gives, unless memory
+-- what a call returned, its value seen by view, and the bytes that it left are what reading gives, unless memory
 -- was missing
 abbrev pub IsOutcome : {X Y : Type 0} → (X → Y) → Result X Error → List ℕ → Read Y → Type 0
 IsOutcome view (Ok x) left read = read ≡ (Ok (view x), left)

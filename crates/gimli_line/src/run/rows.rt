@@ -143,7 +143,7 @@ impl<R: Reader, P: LineProgram<R>> LineRows<R, P> {
 
     /// The next row that isn't under a tombstone, with the header as it is there; None where the program has no more,
     /// and the header has all files then. Refused as an instruction is, or by `OutOfMemory` where it defines a file:
-    /// the answer is None after such a refusal, as it is after the end. Refused by `AddressOverflow` too, and then
+    /// it returns None after such a refusal, as it is after the end. Refused by `AddressOverflow` too, and then
     /// goes on after it. A program whose files are complete isn't refused for memory.
     pub fn next_row(&mut self) -> Result<Option<(&LineProgramHeader<R>, &LineRow)>>
         ensures* after { sem 𝓛 (Rests ⟦<LineRows<R, P> as Lent>⟧.lent self.entry

@@ -185,7 +185,7 @@ impl<R: Reader> IncompleteLineProgram<R> {
         Ok((CompleteLineProgram { header }, split.into_sequences()))
     }
 
-    /// What `sequences` answers, and the rows of each of these sequences in a list of its own. They come from the same
+    /// What `sequences` returns, and the rows of each of these sequences in a list of its own. They come from the same
     /// run, so that no sequence has to be run again for them. Refused as `sequences` is.
     pub fn sequences_with_rows(
         self,

@@ -144,7 +144,7 @@ GivesNext old old_strings row new new_strings =
 
 -- ---- with a map of addresses that is handed in
 
--- whatever the map may answer for an address is what this function gives for it
+-- whatever the map may return for an address is what this function gives for it
 abbrev pub AnswersAs : (ℕ → Option Address → Type 0) → (ℕ → Option Address) → Type 0
 AnswersAs map convert_address = (a : ℕ) (r : Option Address) → map a r → r ≡ convert_address a
 

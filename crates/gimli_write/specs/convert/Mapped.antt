@@ -200,7 +200,7 @@ pub record ConvertsWell (map : ℕ → Option Address → Type 0) (s : Source) (
   pub converts : ConvertsTo map s old answer line_strings
   pub faithful : IsFaithfulIfItCan map s strings answer line_strings
 
--- what a call answers that converts a source by such a map: the old line strings are those before it
+-- what a call returns that converts a source by such a map: the old line strings are those before it
 abbrev pub IsAnswerOf : (ℕ → Option Address → Type 0) → Source → List (List ℕ) → Result (Built × Vec ℕ Global) ConvertError → List (List ℕ) → List (List ℕ) → Type 0
 IsAnswerOf map s old result strings line_strings =
     MatchResult result (λ answer. ConvertsWell map s old answer strings line_strings) (IsConvertRefusal map s old)
