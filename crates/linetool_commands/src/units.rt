@@ -1,14 +1,15 @@
 //! The units of a section, one after the other.
 
-ghost use Rattle.std.specs.Prelude.{◌≢◌, ◌<◌, IfErr, IfOk, IfSome, length};
+ghost use Rattle.std.specs.Prelude.{◌≡◌, ◌≢◌, ◌<◌, ◌≤◌, ◌++◌, IfErr, IfOk, IfSome, codes, length};
+ghost use Rattle.std.specs.Fmt.{decimal};
 
-use crate::print::{finished, print_line};
+use crate::print::{finished, write_line};
 use crate::refusal::Refusal;
 use crate::words::Numbers;
 use gimli_core::{Reader, ReaderOffset};
 use gimli_line::{DebugLine, LineProgram, LineRows, LineUnit, LineUnits};
+use rows_words::ShortLine;
 use std::alloc::Global;
-use std::fmt;
 use std::io::Write;
 
 /// The line of a unit: its offset in the section, its version, and how many rows it gives, ends among them.
@@ -19,12 +20,29 @@ struct UnitLine {
     rows: u64,
 }
 
-impl fmt::Display for UnitLine {
-    fn fmt<W: fmt::Write>(&self, f: &mut fmt::Formatter<W>) -> fmt::Result {
-        let offset = self.offset;
-        let version = self.version;
-        let rows = self.rows;
-        write!(f, "unit {offset} version {version} rows {rows}")
+impl UnitLine {
+    /// Prepends the line. Requires room for it.
+    #[inline(always)]
+    fn prepend_to(self, line: &mut ShortLine)
+        requires { length line.old ≤ 80 }
+        ensures { line.new ≡ codes "unit " ++ decimal self.offset ++ codes " version "
+            ++ decimal self.version ++ codes " rows " ++ decimal self.rows ++ line.old }
+    {
+        line.prepend_number(self.rows);
+        line.prepend(b" rows ");
+        line.prepend_number(u64::from(self.version));
+        line.prepend(b" version ");
+        line.prepend_number(self.offset);
+        line.prepend(b"unit ");
+    }
+
+    /// Prints the line, in one piece.
+    fn print<O: Write>(self, out: &mut O) -> Result<(), Refusal>
+        ensures refusal { IfErr result (λ r. r ≡ Refusal.Output) }
+    {
+        let mut line = ShortLine::new();
+        self.prepend_to(&mut line);
+        write_line(line.bytes(), out)
     }
 }
 
@@ -50,7 +68,7 @@ fn print_each<R: Reader, O: Write>(units: LineUnits<R>, out: &mut O) -> Result<(
 {
     let mut units = units;
     'units: while let Some(unit) = next_unit(&mut units)? {
-        print_line(unit_line(unit)?, out)?;
+        unit_line(unit)?.print(out)?;
     }
     Ok(())
 }
