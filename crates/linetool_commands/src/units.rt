@@ -1,6 +1,6 @@
 //! The units of a section, one after the other.
 
-ghost use Rattle.std.specs.Prelude.{◌≡◌, ◌≢◌, ◌<◌, ◌≤◌, ◌++◌, IfErr, IfOk, IfSome, codes, length};
+ghost use Rattle.std.specs.Prelude.{◌≡◌, ◌≢◌, ◌≤◌, ◌++◌, IfErr, codes, length};
 ghost use Rattle.std.specs.Fmt.{decimal};
 
 use crate::print::{finished, write_line};
@@ -67,21 +67,13 @@ fn print_each<R: Reader, O: Write>(units: LineUnits<R>, out: &mut O) -> Result<(
     ensures refusal { IfErr result (λ r. r ≢ Refusal.Usage) }
 {
     let mut units = units;
-    'units: while let Some(unit) = next_unit(&mut units)? {
-        unit_line(unit)?.print(out)?;
+    'units: loop {
+        match units.next() {
+            Ok(Some(unit)) => unit_line(unit)?.print(out)?,
+            Ok(None) => return Ok(()),
+            Err(e) => return Err(Refusal::of_unit(e, Refusal::Header)),
+        }
     }
-    Ok(())
-}
-
-/// The next unit.
-fn next_unit<R: Reader>(units: &mut LineUnits<R>) -> Result<Option<LineUnit<R>>, Refusal>
-    ensures refusal { IfErr result (λ r. r ≢ Refusal.Usage) }
-    ensures fewer { IfOk result (λ next. IfSome next
-        (λ unit. length units.new.offsets < length units.old.offsets)) }
-{
-    units
-        .next()
-        .map_err(|e| Refusal::of_unit(e, Refusal::Header))
 }
 
 /// The line of a unit that can be read, and whose rows can.
@@ -89,9 +81,10 @@ fn unit_line<R: Reader>(unit: LineUnit<R>) -> Result<UnitLine, Refusal>
     ensures refusal { IfErr result (λ r. r ≢ Refusal.Usage) }
 {
     let offset = unit.offset;
-    let program = unit
-        .program
-        .map_err(|e| Refusal::of_unit(e, Refusal::Header))?;
+    let program = match unit.program {
+        Ok(program) => program,
+        Err(e) => return Err(Refusal::of_unit(e, Refusal::Header)),
+    };
     let version = program.header().version();
     let rows = count_rows(program.rows())?;
     Ok(UnitLine {
