@@ -57,6 +57,16 @@ pub(crate) fn print_line<T: fmt::Display + Drop, O: Write>(
     }
 }
 
+/// Writes the bytes of a line.
+pub(crate) fn write_line<O: Write>(bytes: &[u8], out: &mut O) -> Result<(), Refusal>
+    ensures refusal { IfErr result (λ r. r ≡ Refusal.Output) }
+{
+    match out.write_all(bytes) {
+        Ok(()) => Ok(()),
+        Err(_) => Err(Refusal::Output),
+    }
+}
+
 /// What became of a command whose output is complete.
 pub(crate) fn finished<O: Write>(outcome: Result<(), Refusal>, out: &mut O) -> Result<(), Refusal>
     requires { IfErr outcome (λ r. r ≢ Refusal.Usage) }

@@ -1,14 +1,15 @@
 //! The units of a section, one after the other.
 
-ghost use Rattle.std.specs.Prelude.{◌≢◌, ◌<◌, IfErr, IfOk, IfSome, length};
+ghost use Rattle.std.specs.Prelude.{◌≡◌, ◌≢◌, ◌≤◌, ◌++◌, IfErr, codes, length};
+ghost use Rattle.std.specs.Fmt.{decimal};
 
-use crate::print::{finished, print_line};
+use crate::print::{finished, write_line};
 use crate::refusal::Refusal;
 use crate::words::Numbers;
 use gimli_core::{Reader, ReaderOffset};
 use gimli_line::{DebugLine, LineProgram, LineRows, LineUnit, LineUnits};
+use rows_words::ShortLine;
 use std::alloc::Global;
-use std::fmt;
 use std::io::Write;
 
 /// The line of a unit: its offset in the section, its version, and how many rows it gives, ends among them.
@@ -19,12 +20,29 @@ struct UnitLine {
     rows: u64,
 }
 
-impl fmt::Display for UnitLine {
-    fn fmt<W: fmt::Write>(&self, f: &mut fmt::Formatter<W>) -> fmt::Result {
-        let offset = self.offset;
-        let version = self.version;
-        let rows = self.rows;
-        write!(f, "unit {offset} version {version} rows {rows}")
+impl UnitLine {
+    /// Prepends the line. Requires room for it.
+    #[inline(always)]
+    fn prepend_to(self, line: &mut ShortLine)
+        requires { length line.old ≤ 80 }
+        ensures { line.new ≡ codes "unit " ++ decimal self.offset ++ codes " version "
+            ++ decimal self.version ++ codes " rows " ++ decimal self.rows ++ line.old }
+    {
+        line.prepend_number(self.rows);
+        line.prepend(b" rows ");
+        line.prepend_number(u64::from(self.version));
+        line.prepend(b" version ");
+        line.prepend_number(self.offset);
+        line.prepend(b"unit ");
+    }
+
+    /// Prints the line, in one piece.
+    fn print<O: Write>(self, out: &mut O) -> Result<(), Refusal>
+        ensures refusal { IfErr result (λ r. r ≡ Refusal.Output) }
+    {
+        let mut line = ShortLine::new();
+        self.prepend_to(&mut line);
+        write_line(line.bytes(), out)
     }
 }
 
@@ -49,21 +67,13 @@ fn print_each<R: Reader, O: Write>(units: LineUnits<R>, out: &mut O) -> Result<(
     ensures refusal { IfErr result (λ r. r ≢ Refusal.Usage) }
 {
     let mut units = units;
-    'units: while let Some(unit) = next_unit(&mut units)? {
-        print_line(unit_line(unit)?, out)?;
+    'units: loop {
+        match units.next() {
+            Ok(Some(unit)) => unit_line(unit)?.print(out)?,
+            Ok(None) => return Ok(()),
+            Err(e) => return Err(Refusal::of_unit(e, Refusal::Header)),
+        }
     }
-    Ok(())
-}
-
-/// The next unit.
-fn next_unit<R: Reader>(units: &mut LineUnits<R>) -> Result<Option<LineUnit<R>>, Refusal>
-    ensures refusal { IfErr result (λ r. r ≢ Refusal.Usage) }
-    ensures fewer { IfOk result (λ next. IfSome next
-        (λ unit. length units.new.offsets < length units.old.offsets)) }
-{
-    units
-        .next()
-        .map_err(|e| Refusal::of_unit(e, Refusal::Header))
 }
 
 /// The line of a unit that can be read, and whose rows can.
@@ -71,9 +81,10 @@ fn unit_line<R: Reader>(unit: LineUnit<R>) -> Result<UnitLine, Refusal>
     ensures refusal { IfErr result (λ r. r ≢ Refusal.Usage) }
 {
     let offset = unit.offset;
-    let program = unit
-        .program
-        .map_err(|e| Refusal::of_unit(e, Refusal::Header))?;
+    let program = match unit.program {
+        Ok(program) => program,
+        Err(e) => return Err(Refusal::of_unit(e, Refusal::Header)),
+    };
     let version = program.header().version();
     let rows = count_rows(program.rows())?;
     Ok(UnitLine {

@@ -8,6 +8,7 @@ mod lines;
 mod numbers;
 mod order_and_size;
 mod print;
+mod short_line;
 
 pub use bytes::{parse_bytes, parse_text, push_bytes};
 pub use digits::parse_digits;
@@ -15,6 +16,7 @@ pub use lines::print_line;
 pub use numbers::{parse_number, parse_signed};
 pub use order_and_size::{AddressSize, parse_order, parse_size};
 pub use print::{BytesLine, Digits, Text, print_bytes};
+pub use short_line::ShortLine;
 
 /// Whether a library call that answers `OutOfMemory` is made once more.
 #[derive(Clone, Copy, Debug, PartialEq, Eq)]
