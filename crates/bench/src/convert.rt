@@ -4,9 +4,10 @@
 //!
 //! Standard output has the length of each section that was written, and a sum of its bytes.
 
+use crate::order::ConvertOrder;
 use crate::sums::print_sum;
 use crate::words::{parse_count, parse_offset};
-use gimli_core::{DebugLineOffset, EndianSlice, LittleEndian, Reader};
+use gimli_core::{DebugLineOffset, EndianSlice, Reader};
 use gimli_line::{DebugLine, IncompleteLineProgram};
 use gimli_write::conversion_laws::converted_programs_can_be_written;
 use gimli_write::{
@@ -41,9 +42,9 @@ fn converted_unit(
     section: &[u8],
     offset: DebugLineOffset,
 ) -> ConvertResult<Vec<u8>> {
-    let section = DebugLine::new(section, LittleEndian);
+    let section = DebugLine::new(section, ConvertOrder);
     let program = section.program(alloc, offset, 8, None, None)?;
-    converted(alloc, program, EndianSlice::new(b"", LittleEndian))
+    converted(alloc, program, EndianSlice::new(b"", ConvertOrder))
 }
 
 /// A program, as it is written after its conversion. `no_texts` is a reader of no bytes, which stands for both sections of
@@ -67,7 +68,7 @@ fn converted<R: Reader>(
         &mut strings,
         |address| Some(Address::Constant(address)),
     )?;
-    let mut unit = gimli_write::DebugLine::from(EndianVec::new(alloc, LittleEndian));
+    let mut unit = gimli_write::DebugLine::from(EndianVec::new(alloc, ConvertOrder));
     program.write(
         &mut unit,
         program.encoding(),

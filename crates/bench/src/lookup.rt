@@ -14,8 +14,9 @@
 
 mod work;
 
+use crate::order::LookupOrder;
 use crate::words::{parse_count, parse_offset};
-use gimli_core::{DebugLineOffset, LittleEndian};
+use gimli_core::DebugLineOffset;
 use gimli_line::DebugLine;
 use std::alloc::Global;
 use std::io::ErrorKind;
@@ -42,7 +43,7 @@ fn measure(
     work: &str,
     times: u64,
 ) -> io::Result<Tally> {
-    let section = DebugLine::new(section, LittleEndian);
+    let section = DebugLine::new(section, LookupOrder);
     match do_work(alloc, &section, offset, work, times) {
         Ok(tally) => Ok(tally),
         Err(_) => Err(io::Error::from(ErrorKind::InvalidData)),

@@ -15,6 +15,7 @@
 
 mod convert;
 mod lookup;
+mod order;
 mod read;
 mod sums;
 mod words;
