@@ -370,7 +370,7 @@ impl LineRow {
         self.reset(header);
     }
 
-    /// Sets the address and op_index to 0, and is no tombstone from here on, so that addresses count from a set
+    /// Sets the address and op_index to 0, and the row is under no tombstone then, so that addresses count from a set
     /// address. Nothing else changes.
     pub fn rebase(&mut self)
         ensures { self.new ≡ rebase_of self.old }
