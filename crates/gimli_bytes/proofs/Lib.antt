@@ -7,4 +7,3 @@ pub mod PieceLemmas
 pub mod WrittenAs
 pub mod InitialLengths
 pub mod TablesWritten
-pub mod Variants

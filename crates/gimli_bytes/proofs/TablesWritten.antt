@@ -6,7 +6,7 @@ use Rattle.std.proofs.lemmas.Grind.{common_steps}
 use Rattle.std.proofs.lemmas.List.{take-take, length-take, take_all}
 use Rattle.gimli_core.specs.Numbers.{number_bytes}
 use Rattle.gimli_bytes.specs.Texts.{table_bytes}
-use Rattle.gimli_bytes.specs.TextsInside.{texts_of}
+use Rattle.gimli_bytes.specs.inside.TextFields.{texts_of}
 use Rattle.gimli_bytes.specs.Written.{Begins}
 
 pub begins_then : (a b c : List ℕ) → Begins a b → Begins b c → Begins a c
