@@ -4,6 +4,7 @@
 //! Standard output has the length of each section and a sum of its bytes, standard error the times.
 
 ghost use Rattle.std.specs.Prelude.{◌≡◌, [], OnOk, IfOk};
+ghost use Rattle.gimli_bytes.specs.Texts.{no_texts};
 ghost use Rattle.gimli_build.specs.Conditions.{CanWrite};
 
 use crate::sums::print_sum;
@@ -43,7 +44,7 @@ fn measure(rt: &HostRuntime, sequences: u64) -> io::Result<()> {
 
 /// Writes a program that took so long to build, and prints what it was.
 fn measure_writing(rt: &HostRuntime, program: &LineProgram, build_time: u128) -> io::Result<()>
-    requires { CanWrite program.now [] [] }
+    requires { CanWrite program.now no_texts }
 {
     let begin = Instant::now(rt)?;
     let Ok(section) = write(rt.alloc(), program) else {
@@ -56,7 +57,7 @@ fn measure_writing(rt: &HostRuntime, program: &LineProgram, build_time: u128) ->
 
 /// The section of a program.
 fn write(alloc: Global, program: &LineProgram) -> Result<Vec<u8>>
-    requires { CanWrite program.now [] [] }
+    requires { CanWrite program.now no_texts }
 {
     let mut strings = StringTable::default(alloc);
     let mut line_strings = LineStringTable::default(alloc);
@@ -73,7 +74,7 @@ fn write(alloc: Global, program: &LineProgram) -> Result<Vec<u8>>
 
 /// A program of so many sequences.
 fn build(alloc: Global, sequences: u64) -> Result<LineProgram>
-    ensures { IfOk result (λ program. CanWrite program [] []) }
+    ensures { IfOk result (λ program. CanWrite program no_texts) }
 {
     let mut program = empty_program(alloc)?;
     put_file(&mut program, alloc)?;
@@ -86,8 +87,8 @@ fn build(alloc: Global, sequences: u64) -> Result<LineProgram>
 
 /// Builds a sequence, and returns the seed of the next one.
 fn put_sequence(program: &mut LineProgram, i: u64, seed: u64) -> Result<u64>
-    requires can { CanWrite program.old [] [] }
-    ensures can { OnOk result (CanWrite program.new [] []) }
+    requires can { CanWrite program.old no_texts }
+    ensures can { OnOk result (CanWrite program.new no_texts) }
 {
     let mut seed = seed;
     program.set_address(Address::Constant(i.wrapping_mul(0x10000)))?;
@@ -106,8 +107,8 @@ fn put_sequence(program: &mut LineProgram, i: u64, seed: u64) -> Result<u64>
 
 /// Builds a row, if it can be built.
 fn put_row(program: &mut LineProgram, seed: u64) -> Result<()>
-    requires can { CanWrite program.old [] [] }
-    ensures can { OnOk result (CanWrite program.new [] []) }
+    requires can { CanWrite program.old no_texts }
+    ensures can { OnOk result (CanWrite program.new no_texts) }
 {
     move_on(program, seed);
     if program.can_generate_row() {
@@ -118,8 +119,8 @@ fn put_row(program: &mut LineProgram, seed: u64) -> Result<()>
 
 /// Moves the current row on by what the bits of the seed say.
 fn move_on(program: &mut LineProgram, seed: u64)
-    requires can { CanWrite program.old [] [] }
-    ensures can { CanWrite program.new [] [] }
+    requires can { CanWrite program.old no_texts }
+    ensures can { CanWrite program.new no_texts }
 {
     let row = program.row();
     row.address_offset = row.address_offset.wrapping_add((seed >> 33) & 15);
@@ -132,7 +133,7 @@ fn move_on(program: &mut LineProgram, seed: u64)
 
 /// A program without a file.
 fn empty_program(alloc: Global) -> Result<LineProgram>
-    ensures can { IfOk result (λ program. CanWrite program [] []) }
+    ensures can { IfOk result (λ program. CanWrite program no_texts) }
     ensures files { IfOk result (λ program. program.files ≡ []) }
 {
     let encoding = Encoding {
@@ -155,9 +156,9 @@ fn empty_program(alloc: Global) -> Result<LineProgram>
 
 /// Puts in the file that rows start with.
 fn put_file(program: &mut LineProgram, alloc: Global) -> Result<()>
-    requires can { CanWrite program.old [] [] }
+    requires can { CanWrite program.old no_texts }
     requires files { program.old.files ≡ [] }
-    ensures can { OnOk result (CanWrite program.new [] []) }
+    ensures can { OnOk result (CanWrite program.new no_texts) }
 {
     let name = LineString::String(b"a.c".to_vec(alloc)?);
     let directory = program.default_directory();

@@ -1,6 +1,7 @@
 //! The demo unit's program, built, and its section.
 
 ghost use Rattle.std.specs.Prelude.{◌≡◌, ◌≤◌, [], OnOk, IfOk};
+ghost use Rattle.gimli_write.specs.StringTables.{no_texts};
 ghost use Rattle.gimli_write.specs.Conditions.{CanWrite};
 
 use gimli_core::{DebugLineOffset, Encoding, Format, LineEncoding};
@@ -17,7 +18,7 @@ pub const DEMO_UNIT: &[u8] =
 
 /// A program of this version without rows, whose working directory is `/w` and whose source file is `a.c`.
 pub fn begun(alloc: Global, version: u16) -> Result<LineProgram>
-    ensures can { IfOk result (λ program. CanWrite program [] []) }
+    ensures can { IfOk result (λ program. CanWrite program no_texts) }
     ensures files { version ≤ 4 → IfOk result (λ program. program.files ≡ []) }
 {
     let encoding = Encoding {
@@ -36,9 +37,9 @@ pub fn begun(alloc: Global, version: u16) -> Result<LineProgram>
 
 /// Adds the file `a.c` to a program that has none.
 fn put_file(program: &mut LineProgram, alloc: Global) -> Result<()>
-    requires can { CanWrite program.old [] [] }
+    requires can { CanWrite program.old no_texts }
     requires files { program.old.files ≡ [] }
-    ensures { OnOk result (CanWrite program.new [] []) }
+    ensures { OnOk result (CanWrite program.new no_texts) }
 {
     let name = LineString::String(b"a.c".to_vec(alloc)?);
     let directory = program.default_directory();
@@ -47,8 +48,8 @@ fn put_file(program: &mut LineProgram, alloc: Global) -> Result<()>
 }
 
 fn set_row(program: &mut LineProgram, offset: u64, line: u64)
-    requires { CanWrite program.old [] [] }
-    ensures { CanWrite program.new [] [] }
+    requires { CanWrite program.old no_texts }
+    ensures { CanWrite program.new no_texts }
 {
     let row = program.row();
     row.address_offset = offset;
@@ -56,8 +57,8 @@ fn set_row(program: &mut LineProgram, offset: u64, line: u64)
 }
 
 fn put_row(program: &mut LineProgram, offset: u64, line: u64) -> Result<()>
-    requires { CanWrite program.old [] [] }
-    ensures { OnOk result (CanWrite program.new [] []) }
+    requires { CanWrite program.old no_texts }
+    ensures { OnOk result (CanWrite program.new no_texts) }
 {
     set_row(program, offset, line);
     if !program.can_generate_row() {
@@ -68,8 +69,8 @@ fn put_row(program: &mut LineProgram, offset: u64, line: u64) -> Result<()>
 }
 
 fn put_end(program: &mut LineProgram, offset: u64) -> Result<()>
-    requires { CanWrite program.old [] [] }
-    ensures { OnOk result (CanWrite program.new [] []) }
+    requires { CanWrite program.old no_texts }
+    ensures { OnOk result (CanWrite program.new no_texts) }
 {
     if !program.can_end_sequence(offset) {
         return Err(Error::InvalidRange);
@@ -80,7 +81,7 @@ fn put_end(program: &mut LineProgram, offset: u64) -> Result<()>
 
 /// The program of the demo unit, with this address.
 pub fn demo_at(alloc: Global, address: Address) -> Result<LineProgram>
-    ensures { IfOk result (λ program. CanWrite program [] []) }
+    ensures { IfOk result (λ program. CanWrite program no_texts) }
 {
     let mut program = begun(alloc, 4)?;
     put_demo(&mut program, alloc, address)?;
@@ -89,9 +90,9 @@ pub fn demo_at(alloc: Global, address: Address) -> Result<LineProgram>
 
 /// Adds the file, and the rows from this address on, to a program that has none.
 fn put_demo(program: &mut LineProgram, alloc: Global, address: Address) -> Result<()>
-    requires can { CanWrite program.old [] [] }
+    requires can { CanWrite program.old no_texts }
     requires files { program.old.files ≡ [] }
-    ensures { OnOk result (CanWrite program.new [] []) }
+    ensures { OnOk result (CanWrite program.new no_texts) }
 {
     put_file(program, alloc)?;
     program.set_address(address)?;
@@ -102,7 +103,7 @@ fn put_demo(program: &mut LineProgram, alloc: Global, address: Address) -> Resul
 
 /// The program of the demo unit.
 pub fn demo(alloc: Global) -> Result<LineProgram>
-    ensures { IfOk result (λ program. CanWrite program [] []) }
+    ensures { IfOk result (λ program. CanWrite program no_texts) }
 {
     demo_at(alloc, Address::Constant(0x1000))
 }
@@ -113,7 +114,7 @@ pub fn write<W: Writer>(
     program: &LineProgram,
     section: &mut DebugLine<W>,
 ) -> Result<DebugLineOffset>
-    requires { CanWrite program.now [] [] }
+    requires { CanWrite program.now no_texts }
 {
     let mut strings = StringTable::default(alloc);
     let mut line_strings = LineStringTable::default(alloc);

@@ -2,6 +2,7 @@
 //! what stands after a refusal.
 
 ghost use Rattle.std.specs.Prelude.{◌≡◌, IfOk, OnOk};
+ghost use Rattle.gimli_write.specs.StringTables.{texts_in};
 ghost use Rattle.gimli_write.specs.Conditions.{CanWrite};
 ghost use Rattle.gimli_write.specs.convert.KeptTables.{IsWritable};
 
@@ -186,7 +187,7 @@ fn build_all<R: Reader>(
 /// The program that a conversion of a source with one file has built.
 fn finished<R: Reader>(rt: &impl Abort, conversion: ConvertLineProgram<'_, '_, R>) -> LineProgram
     requires { IsWritable conversion.conversion.tables.program conversion.line_strings.now }
-    ensures { CanWrite result conversion.exit.1.0.now conversion.exit.0.now }
+    ensures { CanWrite result (texts_in conversion.exit.1.0.now conversion.exit.0.now) }
 {
     let (built, files) = conversion.program();
     check_equal(rt, files.len(), 2);
@@ -200,7 +201,7 @@ fn built_by_hand<R: Reader>(
     line_strings: &mut LineStringTable,
     strings: &mut StringTable,
 ) -> ConvertResult<LineProgram>
-    ensures { IfOk result (λ built. CanWrite built strings.new line_strings.new) }
+    ensures { IfOk result (λ built. CanWrite built (texts_in strings.new line_strings.new)) }
 {
     let mut conversion = conversion_of(program, line_strings, strings)?;
     build_all(rt, &mut conversion)?;
@@ -221,7 +222,7 @@ fn check_unit(
     strings: &mut StringTable,
     unit: &[u8],
 )
-    requires { CanWrite program.now strings.old line_strings.old }
+    requires { CanWrite program.now (texts_in strings.old line_strings.old) }
 {
     let mut section = gimli_write::DebugLine::from(EndianVec::new(alloc, LittleEndian));
     let encoding = program.encoding();
@@ -289,7 +290,7 @@ fn converted<R: Reader>(
     conversion: ConvertLineProgram<'_, '_, R>,
 ) -> ConvertResult<LineProgram>
     requires { IsWritable conversion.conversion.tables.program conversion.line_strings.now }
-    ensures { IfOk result (λ built. CanWrite built conversion.exit.1.0.now conversion.exit.0.now) }
+    ensures { IfOk result (λ built. CanWrite built (texts_in conversion.exit.1.0.now conversion.exit.0.now)) }
 {
     let (built, files) = conversion.convert(|address| Some(Address::Constant(address)))?;
     check_equal(rt, files.len(), 2);
@@ -303,7 +304,7 @@ fn converted_whole<R: Reader>(
     line_strings: &mut LineStringTable,
     strings: &mut StringTable,
 ) -> ConvertResult<LineProgram>
-    ensures { IfOk result (λ built. CanWrite built strings.new line_strings.new) }
+    ensures { IfOk result (λ built. CanWrite built (texts_in strings.new line_strings.new)) }
 {
     let conversion = conversion_of(program, line_strings, strings)?;
     converted(rt, conversion)
@@ -316,7 +317,7 @@ fn converted_after_a_row<R: Reader>(
     line_strings: &mut LineStringTable,
     strings: &mut StringTable,
 ) -> ConvertResult<LineProgram>
-    ensures { IfOk result (λ built. CanWrite built strings.new line_strings.new) }
+    ensures { IfOk result (λ built. CanWrite built (texts_in strings.new line_strings.new)) }
 {
     let mut conversion = conversion_of(program, line_strings, strings)?;
     build_first(rt, &mut conversion)?;

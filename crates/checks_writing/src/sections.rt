@@ -1,6 +1,7 @@
 //! Sections and vectors: their bytes and their copies, and what stands of them where a unit is refused.
 
 ghost use Rattle.std.specs.Prelude.{[]};
+ghost use Rattle.gimli_write.specs.StringTables.{no_texts};
 ghost use Rattle.gimli_write.specs.Conditions.{CanWrite};
 
 use crate::built::{DEMO_UNIT, begun, demo, demo_at, write};
@@ -143,7 +144,7 @@ fn check_incompatible(
     program: &LineProgram,
     encoding: Encoding,
 ) -> Result<()>
-    requires { CanWrite program.now [] [] }
+    requires { CanWrite program.now no_texts }
 {
     let mut strings = StringTable::default(alloc);
     let mut line_strings = LineStringTable::default(alloc);
@@ -156,7 +157,7 @@ fn check_incompatible(
 
 /// A unit stands after the old bytes, at the offset that is answered.
 fn check_written(rt: &impl Abort, alloc: Global, program: &LineProgram) -> Result<()>
-    requires { CanWrite program.now [] [] }
+    requires { CanWrite program.now no_texts }
 {
     let mut section = section_of_three(alloc)?;
     let answer = write(alloc, program, &mut section);
@@ -224,7 +225,7 @@ fn round_trip_alone(
     program: &LineProgram,
     section: &mut DebugLine<EndianVec<LittleEndian>>,
 ) -> ConvertResult<RoundTrip>
-    requires { CanWrite program.now [] [] }
+    requires { CanWrite program.now no_texts }
 {
     let mut strings = StringTable::default(alloc);
     let mut line_strings = LineStringTable::default(alloc);
@@ -234,7 +235,7 @@ fn round_trip_alone(
 
 /// A round trip after three bytes.
 fn check_round_trip(rt: &impl Abort, alloc: Global, program: &LineProgram) -> ConvertResult<()>
-    requires { CanWrite program.now [] [] }
+    requires { CanWrite program.now no_texts }
 {
     let mut section = section_of_three(alloc)?;
     let answer = round_trip_alone(alloc, program, &mut section)?;

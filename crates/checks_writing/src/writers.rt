@@ -1,6 +1,7 @@
 //! Writers of one's own: one in an array, one that doesn't keep its bytes, and one that doesn't fail for memory alone.
 
 ghost use Rattle.std.specs.Prelude.{◌≡◌, ◌+◌, ◌≤◌, [], ◌++◌, length, take, drop, true, false, IsTrue, IfOk};
+ghost use Rattle.gimli_write.specs.StringTables.{texts_in, no_texts};
 ghost use Rattle.gimli_write.specs.Conditions.{CanWrite};
 ghost use Rattle.gimli_write.specs.LineText.{line_text, HasNoZero, IsWithin};
 
@@ -95,7 +96,7 @@ fn overwrite(section: &mut [u8], offset: usize, bytes: &[u8])
 /// The demo unit after the first `len` bytes of an array: the last place where it fits, and others where it
 /// doesn't. What stood there before stands.
 fn check_array(rt: &impl Abort, alloc: Global, program: &LineProgram, len: usize)
-    requires program { CanWrite program.now [] [] }
+    requires program { CanWrite program.now no_texts }
     requires len { len ≤ 64 }
 {
     let mut section = DebugLine::from(array_section(len));
@@ -248,7 +249,7 @@ fn addresses_by_their_own_call(rt: HostRuntime) {
 
 /// Whether a text is in one of these tables, or in the program.
 fn is_within(strings: &StringTable, line_strings: &LineStringTable, text: &LineString) -> bool
-    ensures { IsTrue result → IsWithin strings.now line_strings.now (line_text text.now) }
+    ensures { IsTrue result → IsWithin (texts_in strings.now line_strings.now) (line_text text.now) }
 {
     match text {
         LineString::String(_) => true,
@@ -273,7 +274,7 @@ fn referring(
 ) -> Result<LineProgram>
     requires working_dir { HasNoZero (line_text working_dir) }
     requires source_file { HasNoZero (line_text source_file) }
-    ensures { IfOk result (λ program. CanWrite program strings.now line_strings.now) }
+    ensures { IfOk result (λ program. CanWrite program (texts_in strings.now line_strings.now)) }
 {
     let lines = LineEncoding::default();
     if !LineProgram::accepts(ENCODING, lines)
@@ -307,7 +308,7 @@ fn noted(
     strings: &mut StringTable,
     line_strings: &mut LineStringTable,
 ) -> Result<Vec<u8>>
-    requires { CanWrite program.now strings.old line_strings.old }
+    requires { CanWrite program.now (texts_in strings.old line_strings.old) }
 {
     let mut section = new_noting(alloc);
     program.write(&mut section, program.encoding(), line_strings, strings)?;
@@ -390,7 +391,7 @@ fn tired_after(alloc: Global, calls: usize) -> Result<Tired<LittleEndian>> {
 /// What `write` returns after so many calls: whether it is written whole. A refusal is the writer's own, and the
 /// old bytes stand as a beginning.
 fn check_tired(rt: &impl Abort, alloc: Global, program: &LineProgram, calls: usize) -> Result<bool>
-    requires { CanWrite program.now [] [] }
+    requires { CanWrite program.now no_texts }
 {
     let mut section = DebugLine::from(tired_after(alloc, calls)?);
     let answer = write(alloc, program, &mut section);
@@ -408,7 +409,7 @@ fn check_tired(rt: &impl Abort, alloc: Global, program: &LineProgram, calls: usi
 
 /// A program is the demo unit in a fresh section.
 fn check_fresh(rt: &impl Abort, alloc: Global, program: &LineProgram) -> Result<()>
-    requires { CanWrite program.now [] [] }
+    requires { CanWrite program.now no_texts }
 {
     let mut section = DebugLine::from(EndianVec::new(alloc, LittleEndian));
     let answer = write(alloc, program, &mut section);
@@ -419,7 +420,7 @@ fn check_fresh(rt: &impl Abort, alloc: Global, program: &LineProgram) -> Result<
 
 /// Each call of the writer is refused in turn, until none is: how many are.
 fn count_refused(rt: &impl Abort, alloc: Global, program: &LineProgram) -> Result<usize>
-    requires { CanWrite program.now [] [] }
+    requires { CanWrite program.now no_texts }
 {
     let mut refused = 0;
     for calls in 0..100usize {

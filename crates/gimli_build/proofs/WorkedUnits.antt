@@ -7,11 +7,12 @@ use Rattle.gimli_core.specs.declared.common.Format.TheVariants.{Dwarf32, Dwarf64
 use Rattle.gimli_bytes.specs.Number.{uleb}
 use Rattle.gimli_bytes.specs.declared.address.Address.TheVariants.{Constant, Symbol}
 use Rattle.gimli_bytes.specs.declared.error.Error.TheVariants.{IncompatibleLineProgramEncoding, UnsupportedVersion, NeedVersion, LineStringFormMismatch, ValueTooLarge, InvalidAddress}
+use Rattle.gimli_bytes.specs.Texts.{texts_in, no_texts}
 use Rattle.gimli_build.specs.LineText.{LineText, Inline, InLineStrings}
 use Rattle.gimli_build.specs.Tables.{File, no_details}
 use Rattle.gimli_build.specs.Built.{Built, empty_built}
 use Rattle.gimli_build.specs.Rows.{initial_row}
-use Rattle.gimli_build.specs.Version5Tables.{line_strings_after}
+use Rattle.gimli_build.specs.Version5Tables.{texts_after}
 use Rattle.gimli_build.specs.Unit.{base_byte, unit_bytes}
 use Rattle.gimli_build.specs.Cause.{first_cause}
 use Rattle.gimli_build.specs.declared.built.items.BuiltItem.{BuiltItem}
@@ -54,7 +55,7 @@ bare_program version operations items = built (encoding version Dwarf32 4) (line
 
 -- ---- bytes
 
-demo_unit : unit_bytes false (encoding 4 Dwarf32 4) demo [] []
+demo_unit : unit_bytes false (encoding 4 Dwarf32 4) demo no_texts
     ≡ Ok (0x2f ∷ 0x00 ∷ 0x00 ∷ 0x00 ∷ 0x04 ∷ 0x00 ∷ 0x1b ∷ 0x00 ∷ 0x00 ∷ 0x00 ∷ 0x01 ∷ 0x01 ∷ 0x01 ∷ 0xfb ∷ 0x0e ∷ 0x0d
     ∷ 0x00 ∷ 0x01 ∷ 0x01 ∷ 0x01 ∷ 0x01 ∷ 0x00 ∷ 0x00 ∷ 0x00 ∷ 0x01 ∷ 0x00 ∷ 0x00 ∷ 0x01 ∷ 0x00 ∷ 0x61 ∷ 0x2e ∷ 0x63
     ∷ 0x00 ∷ 0x00 ∷ 0x00 ∷ 0x00 ∷ 0x00 ∷ 0x00 ∷ 0x05 ∷ 0x02 ∷ 0x00 ∷ 0x10 ∷ 0x00 ∷ 0x00 ∷ 0x01 ∷ 0x4c ∷ 0x02 ∷ 0x04
@@ -62,7 +63,7 @@ demo_unit : unit_bytes false (encoding 4 Dwarf32 4) demo [] []
 unfolding uleb base_byte
 demo_unit = refl
 
-big_endian_dwarf64 : unit_bytes true (encoding 2 Dwarf64 8) (built (encoding 2 Dwarf64 8) usual [] []) [] []
+big_endian_dwarf64 : unit_bytes true (encoding 2 Dwarf64 8) (built (encoding 2 Dwarf64 8) usual [] []) no_texts
     ≡ Ok (0xff ∷ 0xff ∷ 0xff ∷ 0xff ∷ 0x00 ∷ 0x00 ∷ 0x00 ∷ 0x00 ∷ 0x00 ∷ 0x00 ∷ 0x00 ∷ 0x1d ∷ 0x00 ∷ 0x02
     ∷ 0x00 ∷ 0x00 ∷ 0x00 ∷ 0x00 ∷ 0x00 ∷ 0x00 ∷ 0x00 ∷ 0x13 ∷ 0x01 ∷ 0x01 ∷ 0xfb ∷ 0x0e ∷ 0x0d
     ∷ 0x00 ∷ 0x01 ∷ 0x01 ∷ 0x01 ∷ 0x01 ∷ 0x00 ∷ 0x00 ∷ 0x00 ∷ 0x01 ∷ 0x00 ∷ 0x00 ∷ 0x01 ∷ 0x00 ∷ 0x00 ∷ [])
@@ -81,14 +82,14 @@ built_5 directories files has_source items = record (empty_built false encoding_
 abbrev in_program : Built
 in_program = built_5 (Inline (0x2f ∷ 0x77 ∷ []) ∷ []) (a_c ∷ []) false []
 
-version_5_unit : unit_bytes false encoding_5 in_program [] []
+version_5_unit : unit_bytes false encoding_5 in_program no_texts
     ≡ Ok (0x2c ∷ 0x00 ∷ 0x00 ∷ 0x00 ∷ 0x05 ∷ 0x00 ∷ 0x08 ∷ 0x00 ∷ 0x24 ∷ 0x00 ∷ 0x00 ∷ 0x00 ∷ 0x01 ∷ 0x01 ∷ 0x01 ∷ 0xfb ∷ 0x0e ∷ 0x0d
     ∷ 0x00 ∷ 0x01 ∷ 0x01 ∷ 0x01 ∷ 0x01 ∷ 0x00 ∷ 0x00 ∷ 0x00 ∷ 0x01 ∷ 0x00 ∷ 0x00 ∷ 0x01 ∷ 0x01 ∷ 0x01 ∷ 0x08 ∷ 0x01 ∷ 0x2f ∷ 0x77 ∷ 0x00
     ∷ 0x02 ∷ 0x01 ∷ 0x08 ∷ 0x02 ∷ 0x0f ∷ 0x01 ∷ 0x61 ∷ 0x2e ∷ 0x63 ∷ 0x00 ∷ 0x00 ∷ [])
 unfolding uleb base_byte
 version_5_unit = refl
 
-version_5_with_source : unit_bytes false encoding_5 (record in_program { file_has_source = true }) [] []
+version_5_with_source : unit_bytes false encoding_5 (record in_program { file_has_source = true }) no_texts
     ≡ Ok (0x30 ∷ 0x00 ∷ 0x00 ∷ 0x00 ∷ 0x05 ∷ 0x00 ∷ 0x08 ∷ 0x00 ∷ 0x28 ∷ 0x00 ∷ 0x00 ∷ 0x00 ∷ 0x01 ∷ 0x01 ∷ 0x01 ∷ 0xfb ∷ 0x0e ∷ 0x0d
     ∷ 0x00 ∷ 0x01 ∷ 0x01 ∷ 0x01 ∷ 0x01 ∷ 0x00 ∷ 0x00 ∷ 0x00 ∷ 0x01 ∷ 0x00 ∷ 0x00 ∷ 0x01 ∷ 0x01 ∷ 0x01 ∷ 0x08 ∷ 0x01 ∷ 0x2f ∷ 0x77 ∷ 0x00
     ∷ 0x03 ∷ 0x01 ∷ 0x08 ∷ 0x02 ∷ 0x0f ∷ 0x81 ∷ 0x40 ∷ 0x08 ∷ 0x01 ∷ 0x61 ∷ 0x2e ∷ 0x63 ∷ 0x00 ∷ 0x00 ∷ 0x00 ∷ [])
@@ -105,7 +106,7 @@ a = 0x61 ∷ 0x2e ∷ 0x63 ∷ []
 abbrev by_reference : Built
 by_reference = built_5 (InLineStrings 0 ∷ []) (((InLineStrings 1, 0), no_details) ∷ []) false []
 
-version_5_by_reference : unit_bytes false encoding_5 by_reference [] (w ∷ a ∷ [])
+version_5_by_reference : unit_bytes false encoding_5 by_reference (texts_in [] (w ∷ a ∷ []))
     ≡ Ok (0x2d ∷ 0x00 ∷ 0x00 ∷ 0x00 ∷ 0x05 ∷ 0x00 ∷ 0x08 ∷ 0x00 ∷ 0x25 ∷ 0x00 ∷ 0x00 ∷ 0x00 ∷ 0x01 ∷ 0x01 ∷ 0x01 ∷ 0xfb ∷ 0x0e ∷ 0x0d
     ∷ 0x00 ∷ 0x01 ∷ 0x01 ∷ 0x01 ∷ 0x01 ∷ 0x00 ∷ 0x00 ∷ 0x00 ∷ 0x01 ∷ 0x00 ∷ 0x00 ∷ 0x01 ∷ 0x01 ∷ 0x01 ∷ 0x1f ∷ 0x01 ∷ 0x00 ∷ 0x00 ∷ 0x00 ∷ 0x00
     ∷ 0x02 ∷ 0x01 ∷ 0x1f ∷ 0x02 ∷ 0x0f ∷ 0x01 ∷ 0x03 ∷ 0x00 ∷ 0x00 ∷ 0x00 ∷ 0x00 ∷ [])
@@ -122,11 +123,11 @@ missing_source items =
 abbrev four_texts : List (List ℕ)
 four_texts = w ∷ a ∷ (0x78 ∷ []) ∷ (0x62 ∷ 0x2e ∷ 0x63 ∷ []) ∷ []
 
-empty_text_is_added : line_strings_after (missing_source []) four_texts ≡ four_texts ++ [] ∷ []
+empty_text_is_added : texts_after (missing_source []) (texts_in [] four_texts) ≡ texts_in [] (four_texts ++ [] ∷ [])
 empty_text_is_added = refl
 
 -- the last source is the empty text, at offset 13
-missing_source_by_reference : unit_bytes false encoding_5 (missing_source []) [] four_texts
+missing_source_by_reference : unit_bytes false encoding_5 (missing_source []) (texts_in [] four_texts)
     ≡ Ok (0x3d ∷ 0x00 ∷ 0x00 ∷ 0x00 ∷ 0x05 ∷ 0x00 ∷ 0x08 ∷ 0x00 ∷ 0x35 ∷ 0x00 ∷ 0x00 ∷ 0x00 ∷ 0x01 ∷ 0x01 ∷ 0x01 ∷ 0xfb ∷ 0x0e ∷ 0x0d
     ∷ 0x00 ∷ 0x01 ∷ 0x01 ∷ 0x01 ∷ 0x01 ∷ 0x00 ∷ 0x00 ∷ 0x00 ∷ 0x01 ∷ 0x00 ∷ 0x00 ∷ 0x01 ∷ 0x01 ∷ 0x01 ∷ 0x1f ∷ 0x01 ∷ 0x00 ∷ 0x00 ∷ 0x00 ∷ 0x00
     ∷ 0x03 ∷ 0x01 ∷ 0x1f ∷ 0x02 ∷ 0x0f ∷ 0x81 ∷ 0x40 ∷ 0x1f ∷ 0x02 ∷ 0x03 ∷ 0x00 ∷ 0x00 ∷ 0x00 ∷ 0x00 ∷ 0x07 ∷ 0x00 ∷ 0x00 ∷ 0x00
@@ -139,42 +140,42 @@ missing_source_by_reference = refl
 abbrev unit_4 : Encoding
 unit_4 = encoding 4 Dwarf32 4
 
-nothing_bars_demo : first_cause false unit_4 demo [] [] ≡ None
+nothing_bars_demo : first_cause false unit_4 demo no_texts ≡ None
 unfolding uleb base_byte
 nothing_bars_demo = refl
 
-other_address_size : first_cause false (encoding 4 Dwarf32 8) demo [] [] ≡ Some IncompatibleLineProgramEncoding
+other_address_size : first_cause false (encoding 4 Dwarf32 8) demo no_texts ≡ Some IncompatibleLineProgramEncoding
 unfolding uleb base_byte
 other_address_size = refl
 
-version_1 : first_cause false unit_4 (bare_program 1 2 (SetAddress (Symbol 0 (pos 0)) ∷ [])) [] [] ≡ Some (UnsupportedVersion 1)
+version_1 : first_cause false unit_4 (bare_program 1 2 (SetAddress (Symbol 0 (pos 0)) ∷ [])) no_texts ≡ Some (UnsupportedVersion 1)
 unfolding uleb base_byte
 version_1 = refl
 
-two_operations : first_cause false unit_4 (bare_program 3 2 (SetAddress (Symbol 0 (pos 0)) ∷ [])) [] [] ≡ Some (NeedVersion 4)
+two_operations : first_cause false unit_4 (bare_program 3 2 (SetAddress (Symbol 0 (pos 0)) ∷ [])) no_texts ≡ Some (NeedVersion 4)
 unfolding uleb base_byte
 two_operations = refl
 
-file_by_reference : first_cause false unit_4 (built unit_4 usual (((InLineStrings 0, 0), no_details) ∷ []) (SetAddress (Symbol 0 (pos 0)) ∷ [])) [] [] ≡ Some LineStringFormMismatch
+file_by_reference : first_cause false unit_4 (built unit_4 usual (((InLineStrings 0, 0), no_details) ∷ []) (SetAddress (Symbol 0 (pos 0)) ∷ [])) no_texts ≡ Some LineStringFormMismatch
 unfolding uleb base_byte
 file_by_reference = refl
 
-symbol_first : first_cause false unit_4 (bare_program 4 1 (SetAddress (Symbol 0 (pos 0)) ∷ SetAddress (Constant (2 ^ 32)) ∷ [])) [] [] ≡ Some InvalidAddress
+symbol_first : first_cause false unit_4 (bare_program 4 1 (SetAddress (Symbol 0 (pos 0)) ∷ SetAddress (Constant (2 ^ 32)) ∷ [])) no_texts ≡ Some InvalidAddress
 unfolding uleb base_byte
 symbol_first = refl
 
-wide_address_first : first_cause false unit_4 (bare_program 4 1 (SetAddress (Constant (2 ^ 32)) ∷ SetAddress (Symbol 0 (pos 0)) ∷ [])) [] [] ≡ Some ValueTooLarge
+wide_address_first : first_cause false unit_4 (bare_program 4 1 (SetAddress (Constant (2 ^ 32)) ∷ SetAddress (Symbol 0 (pos 0)) ∷ [])) no_texts ≡ Some ValueTooLarge
 unfolding uleb base_byte
 wide_address_first = refl
 
-mismatched_directories : first_cause false encoding_5 (built_5 (Inline w ∷ InLineStrings 0 ∷ []) (a_c ∷ []) false []) [] (w ∷ []) ≡ Some LineStringFormMismatch
+mismatched_directories : first_cause false encoding_5 (built_5 (Inline w ∷ InLineStrings 0 ∷ []) (a_c ∷ []) false []) (texts_in [] (w ∷ [])) ≡ Some LineStringFormMismatch
 unfolding uleb base_byte
 mismatched_directories = refl
 
-version_6 : first_cause false encoding_5 (record in_program { encoding = encoding 6 Dwarf32 8 }) [] [] ≡ Some (UnsupportedVersion 6)
+version_6 : first_cause false encoding_5 (record in_program { encoding = encoding 6 Dwarf32 8 }) no_texts ≡ Some (UnsupportedVersion 6)
 unfolding uleb base_byte
 version_6 = refl
 
-version_5_in_version_4 : first_cause false (encoding 4 Dwarf32 8) in_program [] [] ≡ Some IncompatibleLineProgramEncoding
+version_5_in_version_4 : first_cause false (encoding 4 Dwarf32 8) in_program no_texts ≡ Some IncompatibleLineProgramEncoding
 unfolding uleb base_byte
 version_5_in_version_4 = refl

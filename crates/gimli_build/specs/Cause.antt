@@ -8,11 +8,11 @@ use Rattle.gimli_bytes.specs.Number.{uleb}
 use Rattle.gimli_bytes.specs.declared.address.Address.TheVariants.{Constant, Symbol}
 use Rattle.gimli_bytes.specs.declared.error.Error.{Error}
 use Rattle.gimli_bytes.specs.declared.error.Error.TheVariants.{OutOfMemory, IncompatibleLineProgramEncoding, UnsupportedVersion, NeedVersion, LineStringFormMismatch, ValueTooLarge, InvalidAddress, InitialLengthOverflow}
-use Rattle.gimli_bytes.specs.Texts.{offset_of}
+use Rattle.gimli_bytes.specs.Texts.{offset_of, StringTables}
 use Rattle.gimli_build.specs.LineText.{LineText, Inline, InStrings, InLineStrings}
 use Rattle.gimli_build.specs.Tables.{File}
 use Rattle.gimli_build.specs.Built.{Built}
-use Rattle.gimli_build.specs.Version5Tables.{text_form, first_form, path_texts, sources, empty_text, strings_after, line_strings_after, directory_formats, file_formats, formats_bytes, detail_bytes}
+use Rattle.gimli_build.specs.Version5Tables.{text_form, first_form, path_texts, sources, empty_text, texts_after, directory_formats, file_formats, formats_bytes, detail_bytes}
 use Rattle.gimli_build.specs.Unit.{is_incompatible, opcode_bytes, program_bytes}
 use Rattle.gimli_build.specs.declared.built.items.BuiltItem.{BuiltItem}
 use Rattle.gimli_build.specs.declared.built.items.BuiltItem.TheVariants.{SetAddress}
@@ -35,29 +35,29 @@ word_cause Dwarf32 n = cause_if (nat_le (2 ^ 32) n) ValueTooLarge
 word_cause Dwarf64 n = None
 
 -- the offset of a text in the section of its table
-abbrev pub offset_cause : Format → List (List ℕ) → List (List ℕ) → LineText → Option Error
-offset_cause format strings line_strings (Inline text) = None
-offset_cause format strings line_strings (InStrings i) = word_cause format (offset_of strings i)
-offset_cause format strings line_strings (InLineStrings i) = word_cause format (offset_of line_strings i)
+abbrev pub offset_cause : Format → StringTables → LineText → Option Error
+offset_cause format texts (Inline text) = None
+offset_cause format texts (InStrings i) = word_cause format (offset_of texts.strings i)
+offset_cause format texts (InLineStrings i) = word_cause format (offset_of texts.line_strings i)
 
 -- a text that hasn't the form of its table, or whose offset is too large
-abbrev pub text_cause : Format → List (List ℕ) → List (List ℕ) → ℕ × LineText → Option Error
-text_cause format strings line_strings t =
-    first_of (cause_if (not (nat_eq (text_form t.1) t.0)) LineStringFormMismatch ∷ offset_cause format strings line_strings t.1 ∷ [])
+abbrev pub text_cause : Format → StringTables → ℕ × LineText → Option Error
+text_cause format texts t =
+    first_of (cause_if (not (nat_eq (text_form t.1) t.0)) LineStringFormMismatch ∷ offset_cause format texts t.1 ∷ [])
 
 -- the texts of a file in version 5: its path, and its source or the empty text
-abbrev pub file_texts : Built → List (List ℕ) → List (List ℕ) → File → List (ℕ × LineText)
-file_texts p strings line_strings f =
+abbrev pub file_texts : Built → StringTables → File → List (ℕ × LineText)
+file_texts p texts f =
     let form = first_form (sources p.files) in
     (first_form (path_texts p.files), f.0.0)
-    ∷ (if p.file_has_source then (form, unwrap_or f.1.source (empty_text form strings line_strings)) ∷ [] else [])
+    ∷ (if p.file_has_source then (form, unwrap_or f.1.source (empty_text form texts)) ∷ [] else [])
 
 -- the texts that are emitted, in order, each with the form of its table's texts; up to version 4 that is the form
 -- string, and the working directory isn't emitted
-abbrev pub emitted_texts : Built → List (List ℕ) → List (List ℕ) → List (ℕ × LineText)
-emitted_texts p strings line_strings =
+abbrev pub emitted_texts : Built → StringTables → List (ℕ × LineText)
+emitted_texts p texts =
     if nat_le p.encoding.version 4 then map (λ t. (0x08, t)) (drop 1 p.directories ++ path_texts p.files)
-    else map (λ t. (first_form p.directories, t)) p.directories ++ flat_map (file_texts p strings line_strings) p.files
+    else map (λ t. (first_form p.directories, t)) p.directories ++ flat_map (file_texts p texts) p.files
 
 -- a symbol as address, or a constant that is wider than an address
 abbrev pub item_cause : ℕ → BuiltItem → Option Error
@@ -77,22 +77,22 @@ abbrev pub file_size : Format → File → ℕ
 file_size format f = text_size format f.0.0 + length (uleb f.0.1) + length (uleb f.1.timestamp) + length (uleb f.1.size)
 
 -- a file of version 5
-abbrev pub entry_size : Built → List (List ℕ) → List (List ℕ) → File → ℕ
-entry_size p strings line_strings f =
-    sum_by (λ t. text_size p.encoding.format t.1) (file_texts p strings line_strings f) + length (detail_bytes p f)
+abbrev pub entry_size : Built → StringTables → File → ℕ
+entry_size p texts f =
+    sum_by (λ t. text_size p.encoding.format t.1) (file_texts p texts f) + length (detail_bytes p f)
 
 -- the tables: up to version 4 each is closed by a zero byte; in version 5 formats and a number stand before each
-abbrev pub tables_size : Built → List (List ℕ) → List (List ℕ) → ℕ
-tables_size p strings line_strings =
+abbrev pub tables_size : Built → StringTables → ℕ
+tables_size p texts =
     if nat_le p.encoding.version 4
     then (sum_by (text_size p.encoding.format) (drop 1 p.directories) + 1) + (sum_by (file_size p.encoding.format) p.files + 1)
     else (length (formats_bytes (directory_formats p)) + length (uleb (length p.directories)) + sum_by (text_size p.encoding.format) p.directories)
-    + (length (formats_bytes (file_formats p)) + length (uleb (length p.files)) + sum_by (entry_size p strings line_strings) p.files)
+    + (length (formats_bytes (file_formats p)) + length (uleb (length p.files)) + sum_by (entry_size p texts) p.files)
 
 -- how many bytes the header length counts: the numbers of the line encoding, the opcode base and twelve operand counts,
 -- and the tables
-abbrev pub header_length : Built → List (List ℕ) → List (List ℕ) → ℕ
-header_length p strings line_strings = (if nat_le 4 p.encoding.version then 5 else 4) + length opcode_bytes + tables_size p strings line_strings
+abbrev pub header_length : Built → StringTables → ℕ
+header_length p texts = (if nat_le 4 p.encoding.version then 5 else 4) + length opcode_bytes + tables_size p texts
 
 -- how many bytes are there, where nothing is refused
 abbrev pub size_of : Result (List ℕ) Error → ℕ
@@ -101,9 +101,9 @@ size_of (Err e) = 0
 
 -- how many bytes the unit length counts: the version and what stands with it, the header length and what it counts, and
 -- the instructions
-abbrev pub unit_length : Bool → Built → List (List ℕ) → List (List ℕ) → ℕ
-unit_length big p strings line_strings =
-    (if nat_le p.encoding.version 4 then 2 else 4) + word_size p.encoding.format + header_length p strings line_strings + size_of (program_bytes big p)
+abbrev pub unit_length : Bool → Built → StringTables → ℕ
+unit_length big p texts =
+    (if nat_le p.encoding.version 4 then 2 else 4) + word_size p.encoding.format + header_length p texts + size_of (program_bytes big p)
 
 -- the greatest words of the 32-bit format are reserved
 abbrev pub unit_length_cause : Format → ℕ → Option Error
@@ -113,20 +113,19 @@ unit_length_cause Dwarf64 n = None
 -- ---- the first cause
 
 -- why a program can't be written for a unit of this encoding, with these tables
-abbrev pub first_cause : Bool → Encoding → Built → List (List ℕ) → List (List ℕ) → Option Error
-first_cause big unit p handed_strings handed_line_strings =
-    let strings = strings_after p handed_strings in
-    let line_strings = line_strings_after p handed_line_strings in
+abbrev pub first_cause : Bool → Encoding → Built → StringTables → Option Error
+first_cause big unit p handed =
+    let texts = texts_after p handed in
     first_of (
     cause_if (is_incompatible unit p.encoding) IncompatibleLineProgramEncoding
     ∷ cause_if (not (nat_le 2 p.encoding.version && nat_le p.encoding.version 5)) (UnsupportedVersion p.encoding.version)
     ∷ cause_if (nat_lt p.encoding.version 4 && not (nat_eq p.line_encoding.maximum_operations_per_instruction 1)) (NeedVersion 4)
-    ∷ first_of (map (text_cause p.encoding.format strings line_strings) (emitted_texts p strings line_strings))
-    ∷ word_cause p.encoding.format (header_length p strings line_strings)
+    ∷ first_of (map (text_cause p.encoding.format texts) (emitted_texts p texts))
+    ∷ word_cause p.encoding.format (header_length p texts)
     ∷ first_of (map (item_cause p.encoding.address_size) p.items)
-    ∷ unit_length_cause p.encoding.format (unit_length big p strings line_strings)
+    ∷ unit_length_cause p.encoding.format (unit_length big p texts)
     ∷ [])
 
 -- such a write is refused by this error: memory is missing, or it is the first cause
-abbrev pub IsWriteRefusal : Bool → Encoding → Built → List (List ℕ) → List (List ℕ) → Error → Type 0
-IsWriteRefusal big unit p strings line_strings e = (e ≡ OutOfMemory) ⊎ (first_cause big unit p strings line_strings ≡ Some e)
+abbrev pub IsWriteRefusal : Bool → Encoding → Built → StringTables → Error → Type 0
+IsWriteRefusal big unit p texts e = (e ≡ OutOfMemory) ⊎ (first_cause big unit p texts ≡ Some e)

@@ -3,6 +3,7 @@ use Rattle.std.specs.Prelude.{◌≡◌, ℕ, ◌<◌, ◌≤◌, ◌^◌, Bool,
 use Rattle.gimli_core.specs.Numbers.{is_address_size}
 use Rattle.gimli_core.specs.declared.common.Encoding.{Encoding}
 use Rattle.gimli_core.specs.declared.common.LineEncoding.{LineEncoding}
+use Rattle.gimli_bytes.specs.Texts.{StringTables}
 use Rattle.gimli_build.specs.LineText.{LineText, IsWithin, HasNoZero, IsNotEmpty}
 use Rattle.gimli_build.specs.Tables.{FileKey}
 use Rattle.gimli_build.specs.Advance.{CanEncode, CanFollow}
@@ -49,9 +50,9 @@ pub record IsProgram (is_none : Bool) (encoding : Encoding) (e : LineEncoding) (
 
 -- a program can be written with these tables: each text that it names is there; and a source that is written has no
 -- zero byte, which would end it
-pub record CanWrite (p : Built) (strings line_strings : List (List ℕ)) : Type 0 where
+pub record CanWrite (p : Built) (texts : StringTables) : Type 0 where
   pub program : p.is_none ≡ false
-  pub directories : All (IsWithin strings line_strings) p.directories
-  pub paths : All (λ f. IsWithin strings line_strings f.0.0) p.files
-  pub sources : All (λ f. IfSome f.1.source (IsWithin strings line_strings)) p.files
+  pub directories : All (IsWithin texts) p.directories
+  pub paths : All (λ f. IsWithin texts f.0.0) p.files
+  pub sources : All (λ f. IfSome f.1.source (IsWithin texts)) p.files
   pub sources_end : 5 ≤ p.encoding.version → p.file_has_source ≡ true → All (λ f. IfSome f.1.source HasNoZero) p.files

@@ -1,6 +1,6 @@
 -- Texts of a line program, without where they lie in memory.
 use Rattle.std.specs.Prelude.{◌≢◌, ℕ, ◌<◌, Bool, false, List, [], length, slice_get, unwrap_or, bytes_eq, nat_eq, nat_le, if◌then◌else◌, All}
-use Rattle.gimli_bytes.specs.Texts.{with_text, index_of_text}
+use Rattle.gimli_bytes.specs.Texts.{with_text, index_of_text, StringTables}
 use Rattle.gimli_build.specs.declared.built.line_string.LineString.{LineString}
 use Rattle.gimli_build.specs.declared.built.line_string.LineString.TheVariants.{String, StringRef, LineStringRef}
 
@@ -24,16 +24,16 @@ line_text_eq s t = false
 -- ---- bytes
 
 -- the index of a text is below the count of its table
-abbrev pub IsWithin : List (List ℕ) → List (List ℕ) → LineText → Type 0
-IsWithin strings line_strings (Inline bytes) = Unit {0}
-IsWithin strings line_strings (InStrings i) = i < length strings
-IsWithin strings line_strings (InLineStrings i) = i < length line_strings
+abbrev pub IsWithin : StringTables → LineText → Type 0
+IsWithin texts (Inline bytes) = Unit {0}
+IsWithin texts (InStrings i) = i < length texts.strings
+IsWithin texts (InLineStrings i) = i < length texts.line_strings
 
 -- the bytes of a text, with these tables
-abbrev pub bytes_in : List (List ℕ) → List (List ℕ) → LineText → List ℕ
-bytes_in strings line_strings (Inline bytes) = bytes
-bytes_in strings line_strings (InStrings i) = unwrap_or (slice_get strings i) []
-bytes_in strings line_strings (InLineStrings i) = unwrap_or (slice_get line_strings i) []
+abbrev pub bytes_in : StringTables → LineText → List ℕ
+bytes_in texts (Inline bytes) = bytes
+bytes_in texts (InStrings i) = unwrap_or (slice_get texts.strings i) []
+bytes_in texts (InLineStrings i) = unwrap_or (slice_get texts.line_strings i) []
 
 -- bytes as a text of a program of this version, and the line strings with it
 abbrev pub made_text : ℕ → List (List ℕ) → List ℕ → LineText

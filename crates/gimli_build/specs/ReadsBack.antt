@@ -13,7 +13,7 @@ use Rattle.gimli_line.specs.header.File.{File as ReadFile}
 use Rattle.gimli_line.specs.run.InstructionGrammar.{Decodes}
 use Rattle.gimli_line.specs.run.Events.{Events, row}
 use Rattle.gimli_line.specs.declared.run.row.LineRow.{LineRow as ReadRow}
-use Rattle.gimli_bytes.specs.Texts.{table_bytes, offset_of}
+use Rattle.gimli_bytes.specs.Texts.{table_bytes, offset_of, StringTables}
 use Rattle.gimli_build.specs.LineText.{LineText, Inline, InStrings, InLineStrings, bytes_in}
 use Rattle.gimli_build.specs.Tables.{File}
 use Rattle.gimli_build.specs.Texts.{Sections, IsText, IsOptionalText, OneByOne}
@@ -50,17 +50,17 @@ pub record AreFormats (p : Built) (h : Header) : Type 0 where
   pub files : h.file_formats ≡ map table_format (file_formats p)
 
 -- a read directory stands for a built one
-abbrev pub IsDirectory : Sections → List (List ℕ) → List (List ℕ) → Value → LineText → Type 0
-IsDirectory sections strings line_strings read built = IsText sections read (bytes_in strings line_strings built)
+abbrev pub IsDirectory : Sections → StringTables → Value → LineText → Type 0
+IsDirectory sections texts read built = IsText sections read (bytes_in texts built)
 
 -- a read file stands for a built one, with what was stored of it
-pub record IsFile (sections : Sections) (p : Built) (strings line_strings : List (List ℕ)) (read : ReadFile) (built : File) : Type 0 where
-  pub path : IsText sections read.path_name (bytes_in strings line_strings built.0.0)
+pub record IsFile (sections : Sections) (p : Built) (texts : StringTables) (read : ReadFile) (built : File) : Type 0 where
+  pub path : IsText sections read.path_name (bytes_in texts built.0.0)
   pub directory : read.directory_index ≡ built.0.1
-  pub timestamp : read.timestamp ≡ (stored_details p strings line_strings built.1).timestamp
-  pub size : read.size ≡ (stored_details p strings line_strings built.1).size
-  pub md5 : read.md5 ≡ (stored_details p strings line_strings built.1).md5
-  pub source : IsOptionalText sections read.source (stored_details p strings line_strings built.1).source
+  pub timestamp : read.timestamp ≡ (stored_details p texts built.1).timestamp
+  pub size : read.size ≡ (stored_details p texts built.1).size
+  pub md5 : read.md5 ≡ (stored_details p texts built.1).md5
+  pub source : IsOptionalText sections read.source (stored_details p texts built.1).source
 
 -- the program of a header is the instructions of a built program, and nothing else
 abbrev pub DecodesAs : Notation → Header → Built → Type 0
@@ -69,41 +69,41 @@ DecodesAs notation h p = Decodes notation h h.program (program_instructions p) N
 -- the bytes are a unit, and what is read of it is what was built: the encodings, the directories and the files with
 -- these tables and these sections, and the instructions of each item, up to the end of the program. Where addresses hold
 -- the items, and none is a tombstone, its events are the built rows and ends
-pub record ReadsBack (notation : Notation) (unit_entry : UnitEntry) (sections : Sections) (p : Built) (strings line_strings : List (List ℕ)) (unit : List ℕ) : Type 0 where
+pub record ReadsBack (notation : Notation) (unit_entry : UnitEntry) (sections : Sections) (p : Built) (texts : StringTables) (unit : List ℕ) : Type 0 where
   pub header : Header
   pub is_unit : IsUnit notation unit_entry unit header
   pub parameters : header.parameters ≡ built_rules p.encoding p.line_encoding
   pub counts : header.operand_counts ≡ operand_counts
   pub formats : nat_le p.encoding.version 4 ≡ false → AreFormats p header
-  pub directories : OneByOne (IsDirectory sections strings line_strings) (directories_from_zero header) p.directories
-  pub files : OneByOne (IsFile sections p strings line_strings) header.files p.files
+  pub directories : OneByOne (IsDirectory sections texts) (directories_from_zero header) p.directories
+  pub files : OneByOne (IsFile sections p texts) header.files p.files
   pub decoding : DecodesAs notation header p
   pub rows : AddressesFit p.encoding.address_size 0 (0, 0) p.items
       → (rows : List ReadRow) × Events notation header header.program (map row rows) × RowsMatch p.encoding.version [] p.items rows
 
 -- an offset of a reader is below this limit, and holds the offset that stands for a text
-abbrev pub IsOffsetHeld : ℕ → List (List ℕ) → List (List ℕ) → LineText → Type 0
-IsOffsetHeld limit strings line_strings (Inline text) = Unit {0}
-IsOffsetHeld limit strings line_strings (InStrings i) = offset_of strings i < limit
-IsOffsetHeld limit strings line_strings (InLineStrings i) = offset_of line_strings i < limit
+abbrev pub IsOffsetHeld : ℕ → StringTables → LineText → Type 0
+IsOffsetHeld limit texts (Inline text) = Unit {0}
+IsOffsetHeld limit texts (InStrings i) = offset_of texts.strings i < limit
+IsOffsetHeld limit texts (InLineStrings i) = offset_of texts.line_strings i < limit
 
 -- how such a unit has to be read: in the order in which it was written, with its address size, up to version 4 with the
 -- working directory, and beside the sections of its tables; by a reader whose offsets hold the numbers of the unit
-pub record IsReadWell (notation : Notation) (unit_entry : UnitEntry) (sections : Sections) (big : Bool) (p : Built) (strings line_strings : List (List ℕ)) (unit : List ℕ) : Type 0 where
+pub record IsReadWell (notation : Notation) (unit_entry : UnitEntry) (sections : Sections) (big : Bool) (p : Built) (texts : StringTables) (unit : List ℕ) : Type 0 where
   pub order : notation.big ≡ big
   pub address_size : unit_entry.address_size ≡ p.encoding.address_size
-  pub directory : p.encoding.version ≤ 4 → unit_entry.directory ≡ option_map (bytes_in strings line_strings) (slice_get p.directories 0)
-  pub strings_are : sections.strings ≡ table_bytes strings
-  pub line_strings_are : sections.line_strings ≡ table_bytes line_strings
+  pub directory : p.encoding.version ≤ 4 → unit_entry.directory ≡ option_map (bytes_in texts) (slice_get p.directories 0)
+  pub strings_are : sections.strings ≡ table_bytes texts.strings
+  pub line_strings_are : sections.line_strings ≡ table_bytes texts.line_strings
   -- an extended instruction has at most 11 bytes after its length
   pub instructions_held : 11 < notation.limit
   -- any offset holds a word of the 32-bit format; in the 64-bit format the unit length counts all but the first 12 bytes
   pub length_held : p.encoding.format ≡ Dwarf64 → length unit - 12 < notation.limit
   -- and from version 5 on, a text may be an offset
   pub texts_held : 5 ≤ p.encoding.version → p.encoding.format ≡ Dwarf64
-      → All (λ t. IsOffsetHeld notation.limit strings line_strings t.1) (emitted_texts p strings line_strings)
+      → All (λ t. IsOffsetHeld notation.limit texts t.1) (emitted_texts p texts)
 
 -- whoever reads these bytes well reads the program back
-abbrev pub ReadsBackAs : Bool → Built → List (List ℕ) → List (List ℕ) → List ℕ → Type 0
-ReadsBackAs big p strings line_strings unit = (notation : Notation) (unit_entry : UnitEntry) (sections : Sections)
-    → IsReadWell notation unit_entry sections big p strings line_strings unit → ReadsBack notation unit_entry sections p strings line_strings unit
+abbrev pub ReadsBackAs : Bool → Built → StringTables → List ℕ → Type 0
+ReadsBackAs big p texts unit = (notation : Notation) (unit_entry : UnitEntry) (sections : Sections)
+    → IsReadWell notation unit_entry sections big p texts unit → ReadsBack notation unit_entry sections p texts unit

@@ -9,10 +9,11 @@ use Rattle.gimli_core.specs.declared.common.Format.TheVariants.{Dwarf32, Dwarf64
 use Rattle.gimli_bytes.specs.Number.{length_word}
 use Rattle.gimli_bytes.specs.declared.error.Error.{Error}
 use Rattle.gimli_bytes.specs.declared.error.Error.TheVariants.{IncompatibleLineProgramEncoding, UnsupportedVersion, NeedVersion}
+use Rattle.gimli_bytes.specs.Texts.{StringTables}
 use Rattle.gimli_build.specs.FormatWord.{format_word}
 use Rattle.gimli_build.specs.Joined.{result_append, after_length}
 use Rattle.gimli_build.specs.Version4Tables.{directories_bytes, files_bytes}
-use Rattle.gimli_build.specs.Version5Tables.{strings_after, line_strings_after, directory_table_bytes, file_table_bytes}
+use Rattle.gimli_build.specs.Version5Tables.{texts_after, directory_table_bytes, file_table_bytes}
 use Rattle.gimli_build.specs.Rows.{initial_row}
 use Rattle.gimli_build.specs.Encode.{built_opcode_base}
 use Rattle.gimli_build.specs.Items.{items_bytes}
@@ -57,21 +58,21 @@ opcode_bytes = built_opcode_base ∷ operand_counts
 -- ---- the unit
 
 -- the directories and the files
-abbrev pub tables_bytes : Bool → Built → List (List ℕ) → List (List ℕ) → Result (List ℕ) Error
-tables_bytes big p strings line_strings =
+abbrev pub tables_bytes : Bool → Built → StringTables → Result (List ℕ) Error
+tables_bytes big p texts =
     if nat_le p.encoding.version 4 then result_append (directories_bytes p.directories) (files_bytes p.files)
-    else result_append (directory_table_bytes big p.encoding.format strings line_strings p) (file_table_bytes big p.encoding.format strings line_strings p)
+    else result_append (directory_table_bytes big p.encoding.format texts p) (file_table_bytes big p.encoding.format texts p)
 
 -- what the header length counts
-abbrev pub fields_bytes : Bool → Built → List (List ℕ) → List (List ℕ) → Result (List ℕ) Error
-fields_bytes big p strings line_strings =
+abbrev pub fields_bytes : Bool → Built → StringTables → Result (List ℕ) Error
+fields_bytes big p texts =
     result_append (line_encoding_bytes p.encoding.version p.line_encoding)
     (result_append (Ok opcode_bytes)
-    (tables_bytes big p strings line_strings))
+    (tables_bytes big p texts))
 
 -- the header length, and what it counts
-abbrev pub header_bytes : Bool → Built → List (List ℕ) → List (List ℕ) → Result (List ℕ) Error
-header_bytes big p strings line_strings = after_length (λ n. format_word big p.encoding.format n) (fields_bytes big p strings line_strings)
+abbrev pub header_bytes : Bool → Built → StringTables → Result (List ℕ) Error
+header_bytes big p texts = after_length (λ n. format_word big p.encoding.format n) (fields_bytes big p texts)
 
 -- the instructions
 abbrev pub program_bytes : Bool → Built → Result (List ℕ) Error
@@ -79,9 +80,9 @@ program_bytes big p =
     items_bytes big p.encoding p.line_encoding (initial_row p.encoding.version p.line_encoding.default_is_stmt) p.items
 
 -- what the unit length counts
-abbrev pub inside_bytes : Bool → Built → List (List ℕ) → List (List ℕ) → Result (List ℕ) Error
-inside_bytes big p strings line_strings =
-    result_append (opening_bytes big p.encoding) (result_append (header_bytes big p strings line_strings) (program_bytes big p))
+abbrev pub inside_bytes : Bool → Built → StringTables → Result (List ℕ) Error
+inside_bytes big p texts =
+    result_append (opening_bytes big p.encoding) (result_append (header_bytes big p texts) (program_bytes big p))
 
 -- what tells the format, in front of the word of a length
 abbrev pub escape_bytes : Bool → Format → List ℕ
@@ -89,9 +90,9 @@ escape_bytes big Dwarf32 = []
 escape_bytes big Dwarf64 = number_bytes big 4 0xffff_ffff
 
 -- the unit length, and what it counts
-abbrev pub whole_bytes : Bool → Built → List (List ℕ) → List (List ℕ) → Result (List ℕ) Error
-whole_bytes big p strings line_strings =
-    after_length (λ n. result_append (Ok (escape_bytes big p.encoding.format)) (length_word big p.encoding.format n)) (inside_bytes big p strings line_strings)
+abbrev pub whole_bytes : Bool → Built → StringTables → Result (List ℕ) Error
+whole_bytes big p texts =
+    after_length (λ n. result_append (Ok (escape_bytes big p.encoding.format)) (length_word big p.encoding.format n)) (inside_bytes big p texts)
 
 -- a unit of this encoding has no line program of that one: up to version 4 a file number is never 0, and addresses
 -- have one size
@@ -100,7 +101,7 @@ is_incompatible unit program = (nat_lt unit.version 5 && nat_le 5 program.versio
 
 -- what is written of a program for a unit of this encoding, with these tables of strings and line strings, which gain the
 -- empty text where it is needed
-abbrev pub unit_bytes : Bool → Encoding → Built → List (List ℕ) → List (List ℕ) → Result (List ℕ) Error
-unit_bytes big unit p strings line_strings =
+abbrev pub unit_bytes : Bool → Encoding → Built → StringTables → Result (List ℕ) Error
+unit_bytes big unit p texts =
     if is_incompatible unit p.encoding then Err IncompatibleLineProgramEncoding
-    else whole_bytes big p (strings_after p strings) (line_strings_after p line_strings)
+    else whole_bytes big p (texts_after p texts)

@@ -4,7 +4,7 @@ use Rattle.std.specs.Option.{is_none}
 use Rattle.std.specs.List.{flat_map, list_any}
 use Rattle.gimli_core.specs.declared.common.Format.{Format}
 use Rattle.gimli_bytes.specs.Number.{uleb}
-use Rattle.gimli_bytes.specs.Texts.{with_text, index_of_text, offset_of}
+use Rattle.gimli_bytes.specs.Texts.{with_text, index_of_text, offset_of, StringTables}
 use Rattle.gimli_bytes.specs.declared.error.Error.{Error}
 use Rattle.gimli_bytes.specs.declared.error.Error.TheVariants.{LineStringFormMismatch}
 use Rattle.gimli_build.specs.Due.{when}
@@ -43,18 +43,18 @@ abbrev pub needs_empty : Built → Bool
 needs_empty p = nat_le 5 p.encoding.version && p.file_has_source && list_any (λ f. is_none f.1.source) p.files
 
 -- the empty text in a form, with these tables
-abbrev pub empty_text : ℕ → List (List ℕ) → List (List ℕ) → LineText
-empty_text form strings line_strings =
-    if nat_eq form 0x0e then InStrings (index_of_text strings [])
-    else (if nat_eq form 0x1f then InLineStrings (index_of_text line_strings [])
+abbrev pub empty_text : ℕ → StringTables → LineText
+empty_text form texts =
+    if nat_eq form 0x0e then InStrings (index_of_text texts.strings [])
+    else (if nat_eq form 0x1f then InLineStrings (index_of_text texts.line_strings [])
     else Inline [])
 
 -- the tables once a program is written: they have gained the empty text where it is needed and has their form
-abbrev pub strings_after : Built → List (List ℕ) → List (List ℕ)
-strings_after p strings = if needs_empty p && nat_eq (first_form (sources p.files)) 0x0e then with_text strings [] else strings
-
-abbrev pub line_strings_after : Built → List (List ℕ) → List (List ℕ)
-line_strings_after p line_strings = if needs_empty p && nat_eq (first_form (sources p.files)) 0x1f then with_text line_strings [] else line_strings
+abbrev pub texts_after : Built → StringTables → StringTables
+texts_after p texts = record {
+  strings = if needs_empty p && nat_eq (first_form (sources p.files)) 0x0e then with_text texts.strings [] else texts.strings;
+  line_strings = if needs_empty p && nat_eq (first_form (sources p.files)) 0x1f then with_text texts.line_strings [] else texts.line_strings;
+}
 
 -- ---- formats
 
@@ -85,12 +85,12 @@ detail_bytes p f =
     ++ (if p.file_has_size then uleb f.1.size else [])
     ++ (if p.file_has_md5 then f.1.md5 else [])
 
-module _ (big : Bool) (format : Format) (strings line_strings : List (List ℕ)) where
+module _ (big : Bool) (format : Format) (texts : StringTables) where
   -- a text: its bytes and a zero byte, or its offset in the section of its table
   abbrev pub text_bytes : LineText → Result (List ℕ) Error
   text_bytes (Inline text) = Ok (text ++ 0 ∷ [])
-  text_bytes (InStrings i) = format_word big format (offset_of strings i)
-  text_bytes (InLineStrings i) = format_word big format (offset_of line_strings i)
+  text_bytes (InStrings i) = format_word big format (offset_of texts.strings i)
+  text_bytes (InLineStrings i) = format_word big format (offset_of texts.line_strings i)
 
   -- a text of a table whose texts have this form
   abbrev pub text_in_form : ℕ → LineText → Result (List ℕ) Error
@@ -106,7 +106,7 @@ module _ (big : Bool) (format : Format) (strings line_strings : List (List ℕ))
   abbrev pub source_bytes : Built → File → Result (List ℕ) Error
   source_bytes p f =
       if p.file_has_source
-      then (let form = first_form (sources p.files) in text_in_form form (unwrap_or f.1.source (empty_text form strings line_strings)))
+      then (let form = first_form (sources p.files) in text_in_form form (unwrap_or f.1.source (empty_text form texts)))
       else Ok []
 
   abbrev pub file_entry_bytes : Built → File → Result (List ℕ) Error

@@ -2,6 +2,7 @@
 
 ghost use Rattle.std.specs.Prelude.{◌≡◌, ◌<◌, ◌≤◌, ◌^◌, ◌⊎◌, length, IsTrue, IfOk, IfErr, OnOk, Err, None};
 ghost use Rattle.gimli_bytes.specs.Written.{Begins, Appends, AppendsThat};
+ghost use Rattle.gimli_bytes.specs.Texts.{texts_in};
 ghost use Rattle.gimli_build.specs.LineText.{line_text};
 ghost use Rattle.gimli_build.specs.Conditions.{CanWrite};
 ghost use Rattle.gimli_build.specs.inside.Conditions.{IsBuilt};
@@ -47,26 +48,27 @@ impl LineProgram {
         line_strings: &mut LineStringTable,
         strings: &mut StringTable,
     ) -> Result<DebugLineOffset>
-        requires { CanWrite self.now strings.old line_strings.old }
+        requires { CanWrite self.now (texts_in strings.old line_strings.old) }
         ensures keeps { Begins (W.contents w.old.0) (W.contents w.new.0) }
         ensures ordered { W.big w.new.0 ≡ W.big w.old.0 }
         ensures offset { IfOk result (λ offset. offset.0 ≡ length (W.contents w.old.0)) }
         ensures unit { IsTrue W.keeps_bytes → OnOk result (Appends
-            (unit_bytes (W.big w.old.0) encoding self.now strings.old line_strings.old)
+            (unit_bytes (W.big w.old.0) encoding self.now (texts_in strings.old line_strings.old))
             (W.contents w.old.0) (W.contents w.new.0)) }
         ensures reads_back { IsTrue W.keeps_bytes → OnOk result (AppendsThat
-            (ReadsBackAs (W.big w.old.0) self.now strings.new line_strings.new)
+            (ReadsBackAs (W.big w.old.0) self.now (texts_in strings.new line_strings.new))
             (W.contents w.old.0) (W.contents w.new.0)) }
-        ensures no_cause { IsTrue W.keeps_bytes → OnOk result
-            (first_cause (W.big w.old.0) encoding self.now strings.old line_strings.old ≡ None) }
+        ensures no_cause { IsTrue W.keeps_bytes → OnOk result (first_cause (W.big w.old.0)
+            encoding self.now (texts_in strings.old line_strings.old) ≡ None) }
         ensures err { IsTrue W.keeps_bytes → IsTrue W.fails_for_memory_alone → IfErr result
-            (IsWriteRefusal (W.big w.old.0) encoding self.now strings.old line_strings.old) }
+            (IsWriteRefusal (W.big w.old.0) encoding self.now
+            (texts_in strings.old line_strings.old)) }
         ensures incompatible { IsTrue (is_incompatible encoding self.now.encoding) →
             (result ≡ Err Error.IncompatibleLineProgramEncoding) × (w.new ≡ w.old) }
         ensures tables { OnOk result (HaveEmptySource self.now
-            strings.old line_strings.old strings.new line_strings.new) }
+            (texts_in strings.old line_strings.old) (texts_in strings.new line_strings.new)) }
         ensures tables_kept { KeepTables self.now encoding
-            strings.old line_strings.old strings.new line_strings.new }
+            (texts_in strings.old line_strings.old) (texts_in strings.new line_strings.new) }
     {
         if is_incompatible(encoding, self.encoding()) {
             return Err(Error::IncompatibleLineProgramEncoding);
@@ -94,10 +96,11 @@ fn write_whole<W: Writer>(
     line_strings: &LineStringTable,
     strings: &StringTable,
 ) -> Result<()>
-    requires can { CanWrite program.now strings.now line_strings.now }
-    requires empty { StandsForNone program.now strings.now line_strings.now (line_text empty.now) }
+    requires can { CanWrite program.now (texts_in strings.now line_strings.now) }
+    requires empty { StandsForNone program.now (texts_in strings.now line_strings.now)
+        (line_text empty.now) }
     ensures writes { Writes W.Writer w.old w.new result
-        (whole_bytes (W.big w.old) program.now strings.now line_strings.now) }
+        (whole_bytes (W.big w.old) program.now (texts_in strings.now line_strings.now)) }
     ensures built { OnOk result (IsBuilt program.now) }
     ensures short { OnOk result (length (W.contents w.new) < 2 ^ 64) }
 {
@@ -117,10 +120,11 @@ fn write_inside<W: Writer>(
     line_strings: &LineStringTable,
     strings: &StringTable,
 ) -> Result<()>
-    requires can { CanWrite program.now strings.now line_strings.now }
-    requires empty { StandsForNone program.now strings.now line_strings.now (line_text empty.now) }
+    requires can { CanWrite program.now (texts_in strings.now line_strings.now) }
+    requires empty { StandsForNone program.now (texts_in strings.now line_strings.now)
+        (line_text empty.now) }
     ensures writes { Writes W.Writer w.old w.new result
-        (inside_bytes (W.big w.old) program.now strings.now line_strings.now) }
+        (inside_bytes (W.big w.old) program.now (texts_in strings.now line_strings.now)) }
     ensures built { OnOk result (IsBuilt program.now) }
 {
     write_opening(w, program.encoding())?;

@@ -31,3 +31,16 @@ offset_of texts i = byte_count (take i texts)
 pub record KeepsTexts (old new : List (List ℕ)) : Type 0 where
   pub text : (i : ℕ) → i < length old → slice_get new i ≡ slice_get old i
   pub offset : (i : ℕ) → i < length old → offset_of new i ≡ offset_of old i
+
+-- the texts of the two tables of strings: those of `.debug_str`, and those of `.debug_line_str`
+pub record StringTables : Type 0 where
+  pub strings : List (List ℕ)
+  pub line_strings : List (List ℕ)
+
+-- the texts in these tables
+abbrev pub texts_in : List (List ℕ) → List (List ℕ) → StringTables
+texts_in strings line_strings = record { strings = strings; line_strings = line_strings }
+
+-- both are empty
+abbrev pub no_texts : StringTables
+no_texts = texts_in [] []

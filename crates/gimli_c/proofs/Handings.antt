@@ -11,8 +11,9 @@ use Rattle.gimli_build.specs.Built.{Built}
 use Rattle.gimli_build.specs.Conditions.{CanWrite}
 use Rattle.gimli_build.specs.LineText.{LineText, Inline, InStrings, InLineStrings, IsWithin, HasNoZero}
 use Rattle.gimli_build.specs.Tables.{File, FileKey, Details, with_file, with_details, has_file, index_of_file}
-use Rattle.gimli_bytes.specs.Texts.{with_text}
-use Rattle.gimli_build.specs.Version5Tables.{needs_empty, strings_after, line_strings_after, first_form, sources}
+use Rattle.gimli_bytes.specs.Texts.{with_text, StringTables, texts_in, no_texts}
+use Rattle.gimli_build.specs.Version5Tables.{needs_empty, texts_after, first_form, sources}
+use Rattle.gimli_build.specs.WrittenTables.{HaveEmptySource}
 use Rattle.gimli_core.specs.declared.common.Encoding.{Encoding}
 use Rattle.gimli_build.specs.declared.built.items.BuiltItem.{BuiltItem}
 use Rattle.gimli_c.specs.declared.encoding.GimliEncoding.{GimliEncoding}
@@ -25,7 +26,7 @@ use Rattle.gimli_c.specs.Handing.{Handed, IsBuiltOf, program_with}
 
 -- ---- texts in the program itself
 
-inline_within : (t : LineText) → IsInline t → IsWithin [] [] t
+inline_within : (t : LineText) → IsInline t → IsWithin no_texts t
 inline_within (Inline bytes) is = tt
 inline_within (InStrings i) is = absurd is
 inline_within (InLineStrings i) is = absurd is
@@ -50,12 +51,12 @@ module _ (Q : File → Type 0) (d : Details) (other : (k : FileKey) (e : Details
       by true = details_with files (index_of_file files k) all
       by false = All-push Q files (k, d) all one
 
-pub file_can : (p : Built) (k : FileKey) (d : Details) → CanWrite p [] [] → IsInline k.0 → d.source ≡ None → CanWrite (record p { files = with_file p.files k (Some d) }) [] []
+pub file_can : (p : Built) (k : FileKey) (d : Details) → CanWrite p no_texts → IsInline k.0 → d.source ≡ None → CanWrite (record p { files = with_file p.files k (Some d) }) no_texts
 file_can p k d can is none = record {
   program = can.program;
   directories = can.directories;
-  paths = files_with (λ f. IsWithin [] [] f.0.0) d (λ _ _ q. q) p.files k can.paths (inline_within k.0 is);
-  sources = files_with (λ f. IfSome f.1.source (IsWithin [] [])) d (λ _ _ _. no_source (IsWithin [] [])) p.files k can.sources (no_source (IsWithin [] []));
+  paths = files_with (λ f. IsWithin no_texts f.0.0) d (λ _ _ q. q) p.files k can.paths (inline_within k.0 is);
+  sources = files_with (λ f. IfSome f.1.source (IsWithin no_texts)) d (λ _ _ _. no_source (IsWithin no_texts)) p.files k can.sources (no_source (IsWithin no_texts));
   sources_end = λ late has. files_with (λ f. IfSome f.1.source HasNoZero) d (λ _ _ _. no_source HasNoZero) p.files k (can.sources_end late has) (no_source HasNoZero);
 }
   where
@@ -80,21 +81,21 @@ no_empty p is = by (nat_le 5 p.encoding.version) p.file_has_source (list_any (λ
     by true true b e = absurd cc
     by false true b e = absurd cc
 
-no_strings : (p : Built) → p.file_has_source ≡ false → strings_after p [] ≡ []
+no_strings : (p : Built) → p.file_has_source ≡ false → (texts_after p no_texts).strings ≡ []
 no_strings p is = ap (λ (b : Bool). if b && nat_eq (first_form (sources p.files)) 0x0e then with_text [] [] else []) (no_empty p is)
 
-no_line_strings : (p : Built) → p.file_has_source ≡ false → line_strings_after p [] ≡ []
+no_line_strings : (p : Built) → p.file_has_source ≡ false → (texts_after p no_texts).line_strings ≡ []
 no_line_strings p is = ap (λ (b : Bool). if b && nat_eq (first_form (sources p.files)) 0x1f then with_text [] [] else []) (no_empty p is)
 
 -- so what was written to an empty section with empty tables is read back with empty tables
-pub read_back : (written big : Bool) (p : Built) (strings line_strings : List (List ℕ)) (old new : List ℕ) → written ≡ big → old ≡ []
-    → p.file_has_source ≡ false → strings ≡ strings_after p [] → line_strings ≡ line_strings_after p []
-    → (unit : List ℕ) × (new ≡ old ++ unit) × ReadsBackAs written p strings line_strings unit → ReadsBackAs big p [] [] new
-read_back written big p strings line_strings old new big_is old_is none s_is l_is given =
-    subst (λ (b : Bool). ReadsBackAs b p [] [] new) big_is
-    (subst (ReadsBackAs written p [] []) (sym (given.1 ∙ ap (λ (xs : List ℕ). xs ++ given.0) old_is))
-    (subst (λ (l : List (List ℕ)). ReadsBackAs written p [] l given.0) (l_is ∙ no_line_strings p none)
-    (subst (λ (s : List (List ℕ)). ReadsBackAs written p s line_strings given.0) (s_is ∙ no_strings p none) given.2)))
+pub read_back : (written big : Bool) (p : Built) (texts : StringTables) (old new : List ℕ) → written ≡ big → old ≡ []
+    → p.file_has_source ≡ false → HaveEmptySource p no_texts texts
+    → (unit : List ℕ) × (new ≡ old ++ unit) × ReadsBackAs written p texts unit → ReadsBackAs big p no_texts new
+read_back written big p texts old new big_is old_is none gained given =
+    subst (λ (b : Bool). ReadsBackAs b p no_texts new) big_is
+    (subst (ReadsBackAs written p no_texts) (sym (given.1 ∙ ap (λ (xs : List ℕ). xs ++ given.0) old_is))
+    (subst (λ (l : List (List ℕ)). ReadsBackAs written p (texts_in [] l) given.0) (gained.line_strings ∙ no_line_strings p none)
+    (subst (λ (s : List (List ℕ)). ReadsBackAs written p (texts_in s texts.line_strings) given.0) (gained.strings ∙ no_strings p none) given.2)))
 
 -- ---- the program that is built
 
@@ -114,7 +115,7 @@ items_built details e start between after p texts bytes ids given files file_ids
     ∙ ap (λ (v : ℕ). items_handed v now None rows) version ∙ ap (λ (xs : List ℕ). items_handed e.version xs None rows) same
 
 -- which details are written changes nothing of what a program requires to be written, where no source is among them
-pub can_with : (details : ℕ) (p : Built) → CanWrite p [] [] → CanWrite (program_with details p) [] []
+pub can_with : (details : ℕ) (p : Built) → CanWrite p no_texts → CanWrite (program_with details p) no_texts
 can_with details p can = record {
   program = can.program;
   directories = can.directories;

@@ -2,6 +2,7 @@
 use Rattle.std.proofs.Common.{◌≡◌, ℕ, Bool, List, [], ◌++◌, map, None, Option, refl, sym, ap, subst, ◌∙◌}
 use Rattle.std.proofs.lemmas.Option.{none-some}
 use Rattle.gimli_bytes.specs.declared.error.Error.{Error}
+use Rattle.gimli_bytes.specs.Texts.{no_texts}
 use Rattle.gimli_build.specs.Built.{Built}
 use Rattle.gimli_build.specs.Cause.{first_cause}
 use Rattle.gimli_build.specs.LineText.{LineText}
@@ -53,13 +54,13 @@ is_program_of h p b =
     ∙ ap (λ (xs : List BuiltItem). let r : Built = record (with_tables h) { items = xs; row = p.row; in_sequence = p.in_sequence } in r) items
 
 -- so each of them has the same first cause
-same_cause : (h : Handed) (big : Bool) (p q : Built) → IsBuiltOf h p → IsBuiltOf h q → first_cause big p.encoding p [] [] ≡ first_cause big q.encoding q [] []
+same_cause : (h : Handed) (big : Bool) (p q : Built) → IsBuiltOf h p → IsBuiltOf h q → first_cause big p.encoding p no_texts ≡ first_cause big q.encoding q no_texts
 same_cause h big p q a b =
-    let cause : Built → Option Error = λ r. first_cause big r.encoding r [] [] in
+    let cause : Built → Option Error = λ r. first_cause big r.encoding r no_texts in
     let same : cause (program_of h p.row p.in_sequence) ≡ cause (program_of h q.row q.in_sequence) = refl in
     ap cause (is_program_of h p a) ∙ same ∙ sym (ap cause (is_program_of h q b))
 
 -- where a program that is built was written, nothing has a cause
-pub no_cause : (h : Handed) (p : Built) (status : ℕ) → HasNone (HasHandedFault h) → IsBuiltOf h p → first_cause h.big p.encoding p [] [] ≡ None → HasCause h status → ⊥
+pub no_cause : (h : Handed) (p : Built) (status : ℕ) → HasNone (HasHandedFault h) → IsBuiltOf h p → first_cause h.big p.encoding p no_texts ≡ None → HasCause h status → ⊥
 no_cause h p status well built none (of_handed fault) = well status fault
 no_cause h p status well built none (of_unit unit) = none-some unit.cause (sym none ∙ same_cause h h.big p unit.program built unit.built ∙ unit.first)

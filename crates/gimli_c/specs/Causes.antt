@@ -2,6 +2,7 @@
 use Rattle.std.specs.Prelude.{◌≡◌, ◌⊎◌, ◌≤◌, ◌<◌, ℕ, ◌+◌, ◌-◌, ◌^◌, false, nat_le, if◌then◌else◌, List, [], ◌∷◌, length, Any, Option, Some, None}
 use Rattle.gimli_core.specs.declared.common.LineEncoding.{LineEncoding}
 use Rattle.gimli_bytes.specs.declared.error.Error.{Error}
+use Rattle.gimli_bytes.specs.Texts.{no_texts}
 use Rattle.gimli_build.specs.Advance.{CanFollow}
 use Rattle.gimli_build.specs.Built.{Built}
 use Rattle.gimli_build.specs.Cause.{first_cause}
@@ -84,7 +85,7 @@ pub record HasUnitFault (h : Handed) (status : ℕ) : Type 0 where
   pub program : Built
   pub built : IsBuiltOf h program
   pub cause : Error
-  pub first : first_cause h.big program.encoding program [] [] ≡ Some cause
+  pub first : first_cause h.big program.encoding program no_texts ≡ Some cause
   pub status_is : status ≡ write_status cause
 
 -- why what is handed over is refused before anything is written

@@ -2,6 +2,7 @@
 use Rattle.std.specs.Prelude.{◌≡◌, ◌≤◌, ◌<◌, ℕ, Bool, false, List, [], length, map, None, Ok}
 use Rattle.gimli_bytes.specs.declared.error.Error.{Error}
 use Rattle.gimli_bytes.specs.declared.error.Error.TheVariants.{UnsupportedVersion, NeedVersion, ValueTooLarge, InitialLengthOverflow}
+use Rattle.gimli_bytes.specs.Texts.{no_texts}
 use Rattle.gimli_build.specs.Built.{Built}
 use Rattle.gimli_build.specs.Conditions.{CanWrite}
 use Rattle.gimli_build.specs.ReadsBack.{ReadsBackAs}
@@ -55,7 +56,7 @@ program_with details p = record p {
 -- a program of these encodings without rows, with the directories and the file that each starts with
 pub record IsStart (h : Handed) (p : Built) : Type 0 where
   pub program_is : p ≡ start_program (encoding_of h.encoding) (line_encoding_of h.encoding) h.texts h.directories h.files
-  pub can : CanWrite p [] []
+  pub can : CanWrite p no_texts
 
 -- a program that is built of what is handed over
 pub record IsBuiltOf (h : Handed) (p : Built) : Type 0 where
@@ -69,12 +70,12 @@ pub record IsBuiltOf (h : Handed) (p : Built) : Type 0 where
   pub files : AddsFiles between after h.texts directory_ids h.files file_ids
   pub items : p.items ≡ items_handed h.encoding.version file_ids None h.rows
   pub others : p ≡ record after { items = p.items; row = p.row; in_sequence = p.in_sequence }
-  pub can : CanWrite p [] []
+  pub can : CanWrite p no_texts
 
 -- bytes are the unit of a program whose texts all stand in it, and read back as it
 pub record IsUnitOf (big : Bool) (p : Built) (bytes : List ℕ) : Type 0 where
-  pub unit : unit_bytes big p.encoding p [] [] ≡ Ok bytes
-  pub reads_back : ReadsBackAs big p [] [] bytes
+  pub unit : unit_bytes big p.encoding p no_texts ≡ Ok bytes
+  pub reads_back : ReadsBackAs big p no_texts bytes
 
 -- the unit stands at the front of the room
 pub record GivesUnitOf (h : Handed) (old new : List ℕ) (size : ℕ) : Type 0 where

@@ -1,6 +1,7 @@
 //! The rows of a unit that is written.
 
 ghost use Rattle.std.specs.Prelude.{◌≡◌, ◌≢◌, ◌<◌, ◌≤◌, ◌-◌, [], ◌∷◌, false, true, length, IfErr, IfNone, IfOk, IfSome, OnOk, None, slice_get, unwrap_or};
+ghost use Rattle.gimli_bytes.specs.Texts.{no_texts};
 ghost use Rattle.gimli_build.specs.declared.built.items.BuiltItem.{BuiltItem};
 ghost use Rattle.gimli_build.specs.Conditions.{CanWrite};
 ghost use Rattle.gimli_build.specs.Built.{previous_position};
@@ -23,8 +24,8 @@ pub(crate) fn add_rows(
     ids: &[FileId],
     rows: &[GimliRow],
 ) -> Result<(), u32>
-    requires { CanWrite program.old [] [] }
-    ensures can { CanWrite program.new [] [] }
+    requires { CanWrite program.old no_texts }
+    ensures can { CanWrite program.new no_texts }
     ensures ok { OnOk result (AddsItems program.old program.new
         (items_handed program.old.encoding.version ids.now None rows.now)) }
     ensures well { previous_position program.old.items ≡ (0, 0) → OnOk result (HasNone
@@ -50,8 +51,8 @@ fn add_row(
     base: Option<u64>,
     row: &GimliRow,
 ) -> Result<Option<u64>, u32>
-    requires { CanWrite program.old [] [] }
-    ensures can { CanWrite program.new [] [] }
+    requires { CanWrite program.old no_texts }
+    ensures can { CanWrite program.new no_texts }
     ensures ok { OnOk result (AddsItems program.old program.new
         (items_of_row program.old.encoding.version ids.now base row.now)) }
     ensures after { IfOk result (λ after. after ≡ base_after base row.now) }
@@ -81,8 +82,8 @@ fn add_row(
 /// The address of the sequence: where it begins, that of its first row, which is set. Requires a program that can be
 /// written.
 fn begin(program: &mut LineProgram, base: Option<u64>, address: u64) -> Result<u64, u32>
-    requires { CanWrite program.old [] [] }
-    ensures can { CanWrite program.new [] [] }
+    requires { CanWrite program.old no_texts }
+    ensures can { CanWrite program.new no_texts }
     ensures start { IfOk result (λ start. start ≡ unwrap_or base address) }
     ensures ok { OnOk result (AddsItems program.old program.new (items_of_start base address)) }
     ensures err { IfErr result IsRefusal }
@@ -101,9 +102,9 @@ fn begin(program: &mut LineProgram, base: Option<u64>, address: u64) -> Result<u
 
 /// Ends a sequence that begins at an address. Requires a program that can be written, and a row that isn't below it.
 fn add_end(program: &mut LineProgram, start: u64, row: &GimliRow) -> Result<(), u32>
-    requires can { CanWrite program.old [] [] }
+    requires can { CanWrite program.old no_texts }
     requires above { start ≤ row.now.address }
-    ensures can { CanWrite program.new [] [] }
+    ensures can { CanWrite program.new no_texts }
     ensures ok { OnOk result (AddsItems program.old program.new
         (BuiltItem.End (row.now.address - start) row.now.op_index ∷ [])) }
     ensures well { ends row.now ≡ true → OnOk result
@@ -132,9 +133,9 @@ fn add_line(
     start: u64,
     row: &GimliRow,
 ) -> Result<(), u32>
-    requires can { CanWrite program.old [] [] }
+    requires can { CanWrite program.old no_texts }
     requires above { start ≤ row.now.address }
-    ensures can { CanWrite program.new [] [] }
+    ensures can { CanWrite program.new no_texts }
     ensures ok { OnOk result (AddsItems program.old program.new
         (BuiltItem.Row (row_handed program.old.encoding.version ids.now start row.now) ∷ [])) }
     ensures stands { OnOk result

@@ -1,6 +1,7 @@
 //! The directories and the files of a unit that is written.
 
 ghost use Rattle.std.specs.Prelude.{◌≡◌, ◌≢◌, ◌<◌, ◌≤◌, [], All, Any, IfErr, IfOk, IfSome, OnOk, None, Some, false, length, map, option_map, slice_get};
+ghost use Rattle.gimli_bytes.specs.Texts.{no_texts};
 ghost use Rattle.gimli_build.specs.Conditions.{Accepts, CanWrite};
 ghost use Rattle.gimli_build.specs.Built.{empty_built};
 ghost use Rattle.gimli_build.specs.FirstTables.{first_directories, first_files};
@@ -46,7 +47,7 @@ pub(crate) fn empty_built(
     files: &[GimliFileName],
 ) -> Result<LineProgram, u32>
     requires { Accepts encoding lines }
-    ensures can { IfOk result (λ program. CanWrite program [] []) }
+    ensures can { IfOk result (λ program. CanWrite program no_texts) }
     ensures start { IfOk result (λ program. program
         ≡ start_program encoding lines texts.now directories.now files.now) }
     ensures source { 5 ≤ encoding.version →
@@ -88,7 +89,7 @@ fn new_program(
     requires working { IsInline (line_text working) }
     requires own { IfSome own (λ own. IsInline (line_text own)) }
     requires path { IsInline (line_text path) }
-    ensures can { IfOk result (λ program. CanWrite program [] []) }
+    ensures can { IfOk result (λ program. CanWrite program no_texts) }
     ensures program { IfOk result (λ program. program ≡ empty_built false encoding lines
         (first_directories encoding.version (line_text working) (option_map line_text own))
         (first_files encoding.version (line_text working) (option_map line_text own)
@@ -125,8 +126,8 @@ pub(crate) fn add_directories(
     texts: &[u8],
     names: &[GimliName],
 ) -> Result<Vec<DirectoryId>, u32>
-    requires { CanWrite program.old [] [] }
-    ensures can { OnOk result (CanWrite program.new [] []) }
+    requires { CanWrite program.old no_texts }
+    ensures can { OnOk result (CanWrite program.new no_texts) }
     ensures within { IfOk result (λ ids.
         All (λ id. id < length program.new.directories) ids.items) }
     ensures ok { IfOk result (λ ids.
@@ -154,7 +155,7 @@ pub(crate) fn add_directories(
 
 /// Up to version 4 the id of the directory of the compilation, whose index is 0. Requires a program that can be written.
 fn first_ids(alloc: Global, program: &LineProgram) -> Result<Vec<DirectoryId>, u32>
-    requires { CanWrite program.now [] [] }
+    requires { CanWrite program.now no_texts }
     ensures ids { IfOk result (λ ids. ids.items ≡ first_ids program.now.encoding.version) }
     ensures within { IfOk result (λ ids.
         All (λ id. id < length program.now.directories) ids.items) }
@@ -179,9 +180,9 @@ pub(crate) fn add_files(
     ids: &[DirectoryId],
     files: &[GimliFileName],
 ) -> Result<Vec<FileId>, u32>
-    requires can { CanWrite program.old [] [] }
+    requires can { CanWrite program.old no_texts }
     requires within { All (λ id. id < length program.old.directories) ids.now }
-    ensures can { OnOk result (CanWrite program.new [] []) }
+    ensures can { OnOk result (CanWrite program.new no_texts) }
     ensures ok { IfOk result (λ file_ids.
         AddsFiles program.old program.new texts.now ids.now files.now file_ids.items) }
     ensures well { OnOk result (All (λ f. HasNone
@@ -208,9 +209,9 @@ fn add_file(
     ids: &[DirectoryId],
     file: &GimliFileName,
 ) -> Result<FileId, u32>
-    requires can { CanWrite program.old [] [] }
+    requires can { CanWrite program.old no_texts }
     requires within { All (λ id. id < length program.old.directories) ids.now }
-    ensures can { OnOk result (CanWrite program.new [] []) }
+    ensures can { OnOk result (CanWrite program.new no_texts) }
     ensures ok { OnOk result (program.new ≡ record program.old {
       files = with_file program.old.files (key_handed texts.now ids.now file.now) (Some (details_handed file.now));
     }) }

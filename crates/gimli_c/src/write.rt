@@ -1,6 +1,7 @@
 //! A unit of directories, files and rows that are handed over.
 
 ghost use Rattle.std.specs.Prelude.{◌≡◌, ◌≢◌, ◌⊎◌, ℕ, [], Bool, Err, IfErr, IfOk, None, OnOk, Some, false};
+ghost use Rattle.gimli_bytes.specs.Texts.{no_texts};
 ghost use Rattle.gimli_build.specs.Cause.{first_cause};
 ghost use Rattle.gimli_build.specs.ReadsBack.{ReadsBackAs};
 ghost use Rattle.gimli_build.specs.Conditions.{CanWrite};
@@ -126,15 +127,15 @@ fn section_of(
     program: &LineProgram,
     big: bool,
 ) -> gimli_bytes::Result<EndianVec<RunTimeEndian>>
-    requires can { CanWrite program.now [] [] }
+    requires can { CanWrite program.now no_texts }
     requires source { program.now.file_has_source ≡ false }
     ensures unit { IfOk result (λ section.
-        Appends (unit_bytes big program.now.encoding program.now [] []) [] section.bytes) }
-    ensures reads_back { IfOk result (λ section. ReadsBackAs big program.now [] [] section.bytes) }
+        Appends (unit_bytes big program.now.encoding program.now no_texts) [] section.bytes) }
+    ensures reads_back { IfOk result (λ section. ReadsBackAs big program.now no_texts section.bytes) }
     ensures no_cause { OnOk result
-        (first_cause big program.now.encoding program.now [] [] ≡ None) }
+        (first_cause big program.now.encoding program.now no_texts ≡ None) }
     ensures err { IfErr result (λ e. (e ≡ Error.OutOfMemory)
-        ⊎ (first_cause big program.now.encoding program.now [] [] ≡ Some e)) }
+        ⊎ (first_cause big program.now.encoding program.now no_texts ≡ Some e)) }
 {
     let mut section = DebugLine::from(EndianVec::new(alloc, order(big)));
     let mut strings = StringTable::default(alloc);

@@ -6,6 +6,7 @@ use Rattle.std.proofs.lemmas.Result.{IfOk-weaker, MatchResult-weaker}
 use Rattle.gimli_core.specs.Notation.{Notation}
 use Rattle.gimli_core.specs.Values.{Value}
 use Rattle.gimli_core.specs.declared.error.Error.{Error}
+use Rattle.gimli_bytes.specs.Texts.{StringTables}
 use Rattle.gimli_line.specs.header.Header.{Header, UnitEntry}
 use Rattle.gimli_line.specs.header.HeaderGrammar.{SpellsUnit}
 use Rattle.gimli_line.specs.run.Instruction.{Ins}
@@ -69,16 +70,16 @@ same_file a b path directory time size md5 source =
     ∙ ap (λ (x : List ℕ). let f : FileAnswer = record b { md5 = x; source = a.source } in f) md5
     ∙ ap (λ (x : Option (List ℕ)). let f : FileAnswer = record b { source = x } in f) source
 
-file_same : (s : Sections) (p : Built) (strings line_strings : List (List ℕ)) (read : ReadFile) (built : File) (answer : FileAnswer)
-    → IsFile s p strings line_strings read built → IsFileAnswer s read answer → answer ≡ built_file p strings line_strings built
-file_same s p strings line_strings read built answer is also =
-    same_file answer (built_file p strings line_strings built)
-    (text_same s read.path_name (bytes_in strings line_strings built.0.0) answer.path is.path also.path)
+file_same : (s : Sections) (p : Built) (texts : StringTables) (read : ReadFile) (built : File) (answer : FileAnswer)
+    → IsFile s p texts read built → IsFileAnswer s read answer → answer ≡ built_file p texts built
+file_same s p texts read built answer is also =
+    same_file answer (built_file p texts built)
+    (text_same s read.path_name (bytes_in texts built.0.0) answer.path is.path also.path)
     (also.directory_index ∙ is.directory)
     (also.timestamp ∙ is.timestamp)
     (also.size ∙ is.size)
     (also.md5 ∙ is.md5)
-    (optional_same s read.source (stored_details p strings line_strings built.1).source answer.source is.source also.source)
+    (optional_same s read.source (stored_details p texts built.1).source answer.source is.source also.source)
 
 -- ---- one run
 
@@ -123,8 +124,8 @@ rows_refused notation h rows e given refused = absurd refused
 
 -- ---- a unit
 
-module _ (notation : Notation) (unit_entry : UnitEntry) (sections : Sections) (p : Built) (strings line_strings : List (List ℕ)) (unit : List ℕ)
-    (back : ReadsBack notation unit_entry sections p strings line_strings unit) where
+module _ (notation : Notation) (unit_entry : UnitEntry) (sections : Sections) (p : Built) (texts : StringTables) (unit : List ℕ)
+    (back : ReadsBack notation unit_entry sections p texts unit) where
   begins : (h : Header) → IsUnit notation unit_entry unit h → SpellsUnit notation unit_entry unit h
   begins h is = (unit, [], sym (append-nil unit), is.spelled)
 
@@ -134,16 +135,16 @@ module _ (notation : Notation) (unit_entry : UnitEntry) (sections : Sections) (p
   answered : (a : Answers) → AnswersUnit notation unit_entry sections unit a → AreAnswers notation sections back.header a
   answered a is = subst (λ (h : Header). AreAnswers notation sections h a) (header_same is.header is.is_unit) is.answered
 
-  directories_built : (a : Answers) → AnswersUnit notation unit_entry sections unit a → a.directories ≡ map (bytes_in strings line_strings) p.directories
+  directories_built : (a : Answers) → AnswersUnit notation unit_entry sections unit a → a.directories ≡ map (bytes_in texts) p.directories
   directories_built a is =
-      one_by_one_same (IsDirectory sections strings line_strings) (IsText sections) (bytes_in strings line_strings)
-      (λ v built text is also. text_same sections v (bytes_in strings line_strings built) text is also)
+      one_by_one_same (IsDirectory sections texts) (IsText sections) (bytes_in texts)
+      (λ v built text is also. text_same sections v (bytes_in texts built) text is also)
       (directories_from_zero back.header) p.directories a.directories back.directories (answered a is).directories
 
-  files_built : (a : Answers) → AnswersUnit notation unit_entry sections unit a → a.files ≡ map (built_file p strings line_strings) p.files
+  files_built : (a : Answers) → AnswersUnit notation unit_entry sections unit a → a.files ≡ map (built_file p texts) p.files
   files_built a is =
-      one_by_one_same (IsFile sections p strings line_strings) (IsFileAnswer sections) (built_file p strings line_strings)
-      (λ read built answer is also. file_same sections p strings line_strings read built answer is also)
+      one_by_one_same (IsFile sections p texts) (IsFileAnswer sections) (built_file p texts)
+      (λ read built answer is also. file_same sections p texts read built answer is also)
       back.header.files p.files a.files back.files (answered a is).files
 
   rows_built : (a : Answers) → AnswersUnit notation unit_entry sections unit a → AddressesFit p.encoding.address_size 0 (0, 0) p.items
@@ -161,22 +162,22 @@ module _ (notation : Notation) (unit_entry : UnitEntry) (sections : Sections) (p
 
 -- ---- the unit of a program
 
-module _ (big : Bool) (p : Built) (strings line_strings : List (List ℕ)) (section : List ℕ) (n : ℕ) (whole : ReadsBackAs big p strings line_strings (drop n section)) (fits : length section < 2 ^ 64) (held : AreShort strings line_strings) where
-  read_again : ReadsBack (slice_notation big) (unit_entry_of p strings line_strings) (sections_of strings line_strings) p strings line_strings (drop n section)
-  read_again = read_back big p strings line_strings section n whole fits held
+module _ (big : Bool) (p : Built) (texts : StringTables) (section : List ℕ) (n : ℕ) (whole : ReadsBackAs big p texts (drop n section)) (fits : length section < 2 ^ 64) (held : AreShort texts) where
+  read_again : ReadsBack (slice_notation big) (unit_entry_of p texts) (sections_of texts) p texts (drop n section)
+  read_again = read_back big p texts section n whole fits held
 
-  pub built_directories : (r : Result RoundTrip ConvertError) → IfOk r (AnswersProgram big p strings line_strings (drop n section))
-      → IfOk r (λ answer. map (λ text. text.items) answer.directories.items ≡ map (bytes_in strings line_strings) p.directories)
-  built_directories r is = IfOk-weaker r _ _ (λ answer a. directories_built _ _ _ p strings line_strings _ read_again (answers answer) a) is
+  pub built_directories : (r : Result RoundTrip ConvertError) → IfOk r (AnswersProgram big p texts (drop n section))
+      → IfOk r (λ answer. map (λ text. text.items) answer.directories.items ≡ map (bytes_in texts) p.directories)
+  built_directories r is = IfOk-weaker r _ _ (λ answer a. directories_built _ _ _ p texts _ read_again (answers answer) a) is
 
-  pub built_files : (r : Result RoundTrip ConvertError) → IfOk r (AnswersProgram big p strings line_strings (drop n section))
-      → IfOk r (λ answer. map file_answer answer.files.items ≡ map (built_file p strings line_strings) p.files)
-  built_files r is = IfOk-weaker r _ _ (λ answer a. files_built _ _ _ p strings line_strings _ read_again (answers answer) a) is
+  pub built_files : (r : Result RoundTrip ConvertError) → IfOk r (AnswersProgram big p texts (drop n section))
+      → IfOk r (λ answer. map file_answer answer.files.items ≡ map (built_file p texts) p.files)
+  built_files r is = IfOk-weaker r _ _ (λ answer a. files_built _ _ _ p texts _ read_again (answers answer) a) is
 
-  pub built_rows : (r : Result RoundTrip ConvertError) → IfOk r (AnswersProgram big p strings line_strings (drop n section))
+  pub built_rows : (r : Result RoundTrip ConvertError) → IfOk r (AnswersProgram big p texts (drop n section))
       → IfOk r (λ answer. AddressesFit p.encoding.address_size 0 (0, 0) p.items → RowsMatch p.encoding.version [] p.items answer.rows.items)
-  built_rows r is = IfOk-weaker r _ _ (λ answer a. rows_built _ _ _ p strings line_strings _ read_again (answers answer) a) is
+  built_rows r is = IfOk-weaker r _ _ (λ answer a. rows_built _ _ _ p texts _ read_again (answers answer) a) is
 
-  pub never_read : (r : Result RoundTrip ConvertError) → IfErr r (RefusesUnit (slice_notation big) (unit_entry_of p strings line_strings) (drop n section))
+  pub never_read : (r : Result RoundTrip ConvertError) → IfErr r (RefusesUnit (slice_notation big) (unit_entry_of p texts) (drop n section))
       → AddressesFit p.encoding.address_size 0 (0, 0) p.items → IfErr r (λ e. e ≡ NoMemory)
-  never_read r is held = MatchResult-weaker r is (λ _ u. u) (λ e f. refused_for_memory _ _ _ p strings line_strings _ read_again e held f)
+  never_read r is held = MatchResult-weaker r is (λ _ u. u) (λ e f. refused_for_memory _ _ _ p texts _ read_again e held f)

@@ -8,6 +8,7 @@ use Rattle.gimli_core.specs.declared.common.Encoding.{Encoding}
 use Rattle.gimli_core.specs.declared.error.Error.{Error}
 use Rattle.gimli_core.specs.declared.error.Error.TheVariants.{AddressOverflow}
 use Rattle.gimli_bytes.specs.declared.address.Address.{Address}
+use Rattle.gimli_bytes.specs.Texts.{texts_in}
 use Rattle.gimli_line.specs.header.Header.{Header}
 use Rattle.gimli_line.specs.header.Parameters.{Parameters}
 use Rattle.gimli_line.specs.run.Events.{defined_files, past_at_end}
@@ -166,20 +167,20 @@ module _ (notation : Notation) (sections : Sections) (h : Header) (given : Hande
   pub encoding_kept : c.program.encoding ≡ encoding_of h given
   encoding_kept = comes.kind.encoding ∙ (prepared_ready [] sections h given line_strings first ready).encoding_is
 
-  pub can_write : (strings : List (List ℕ)) → CanWrite c.program strings c.line_strings
+  pub can_write : (strings : List (List ℕ)) → CanWrite c.program (texts_in strings c.line_strings)
   can_write strings =
       let f = comes.finished in
       let encoding = encoding_of h given in
       let start : IsReady strings encoding first = prepared_ready strings sections h given line_strings first ready in
       let last : IsReady strings encoding f.tables =
       lists_at_keeps (IsReady strings encoding) sections first (λ l n d a so. file_ready strings encoding sections l n d a so) (past_at_end [] reads.list) f.tables f.there start in
-      let files : All (CanKeep strings c.line_strings c.program.encoding.version) c.program.files =
-      subst (λ (t : List (List ℕ)). All (CanKeep strings t c.program.encoding.version) c.program.files) (sym f.line_strings)
-      (subst (λ (files : List BuiltFile). All (CanKeep strings f.tables.line_strings c.program.encoding.version) files) (sym f.files)
-      (subst (λ (e : Encoding). All (CanKeep strings f.tables.line_strings e.version) f.tables.program.files) (last.encoding_is ∙ sym encoding_kept) last.files)) in
-      let directories : All (IsWithin strings c.line_strings) c.program.directories =
-      subst (λ (t : List (List ℕ)). All (IsWithin strings t) c.program.directories) (sym f.line_strings)
-      (subst (λ (ds : List LineText). All (IsWithin strings f.tables.line_strings) ds) (sym f.directories) last.directories) in
+      let files : All (CanKeep (texts_in strings c.line_strings) c.program.encoding.version) c.program.files =
+      subst (λ (t : List (List ℕ)). All (CanKeep (texts_in strings t) c.program.encoding.version) c.program.files) (sym f.line_strings)
+      (subst (λ (files : List BuiltFile). All (CanKeep (texts_in strings f.tables.line_strings) c.program.encoding.version) files) (sym f.files)
+      (subst (λ (e : Encoding). All (CanKeep (texts_in strings f.tables.line_strings) e.version) f.tables.program.files) (last.encoding_is ∙ sym encoding_kept) last.files)) in
+      let directories : All (IsWithin (texts_in strings c.line_strings)) c.program.directories =
+      subst (λ (t : List (List ℕ)). All (IsWithin (texts_in strings t)) c.program.directories) (sym f.line_strings)
+      (subst (λ (ds : List LineText). All (IsWithin (texts_in strings f.tables.line_strings)) ds) (sym f.directories) last.directories) in
       with_kept_files c.program strings c.line_strings (comes.kind.is_none ∙ start.program) directories files
 
   -- the files

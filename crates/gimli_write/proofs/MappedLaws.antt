@@ -5,7 +5,7 @@ use Rattle.std.proofs.lemmas.Option.{slice_get-map, slice_get_within, get_or_fro
 use Rattle.gimli_core.specs.Notation.{Notation}
 use Rattle.gimli_core.specs.declared.error.Error.{Error}
 use Rattle.gimli_bytes.specs.declared.address.Address.{Address}
-use Rattle.gimli_bytes.specs.Texts.{KeepsTexts, with_text}
+use Rattle.gimli_bytes.specs.Texts.{KeepsTexts, with_text, StringTables, texts_in}
 use Rattle.gimli_bytes.proofs.TextLemmas.{with_text-KeepsTexts}
 use Rattle.gimli_line.specs.declared.run.row.LineRow.{LineRow as ReadRow}
 use Rattle.gimli_line.specs.header.Header.{Header}
@@ -20,7 +20,7 @@ use Rattle.gimli_build.specs.Items.{AddressesFit}
 use Rattle.gimli_build.specs.LineText.{LineText, Inline, InStrings, InLineStrings, IsWithin, bytes_in}
 use Rattle.gimli_build.specs.SameRow.{RowsMatch}
 use Rattle.gimli_build.specs.Texts.{OneByOne}
-use Rattle.gimli_build.specs.Version5Tables.{needs_empty, first_form, sources, line_strings_after}
+use Rattle.gimli_build.specs.Version5Tables.{needs_empty, first_form, sources, texts_after}
 use Rattle.gimli_write.specs.RoundTrip.{FileAnswer, built_file}
 use Rattle.gimli_write.specs.declared.convert_error.ConvertError.{ConvertError}
 use Rattle.gimli_write.specs.convert.Conversion.{IsConverted}
@@ -71,17 +71,17 @@ same_rows (x ∷ a) (y ∷ b) is =
 -- ---- tables that gained a text
 
 -- a text that is within a table has the same bytes in a longer one
-bytes_longer : (strings old new : List (List ℕ)) (t : LineText) → KeepsTexts old new → IsWithin strings old t → bytes_in strings new t ≡ bytes_in strings old t
+bytes_longer : (strings old new : List (List ℕ)) (t : LineText) → KeepsTexts old new → IsWithin (texts_in strings old) t → bytes_in (texts_in strings new) t ≡ bytes_in (texts_in strings old) t
 bytes_longer strings old new (Inline bytes) keeps within = refl
 bytes_longer strings old new (InStrings i) keeps within = refl
 bytes_longer strings old new (InLineStrings i) keeps within = ap (λ (o : Option (List ℕ)). unwrap_or o []) (keeps.text i within)
 
-keeps_after : (p : Built) (line_strings : List (List ℕ)) → KeepsTexts line_strings (line_strings_after p line_strings)
-keeps_after p line_strings = by (needs_empty p && nat_eq (first_form (sources p.files)) 0x1f)
+keeps_after : (p : Built) (texts : StringTables) → KeepsTexts texts.line_strings (texts_after p texts).line_strings
+keeps_after p texts = by (needs_empty p && nat_eq (first_form (sources p.files)) 0x1f)
   where
-    by : (b : Bool) → KeepsTexts line_strings (if b then with_text line_strings [] else line_strings)
-    by true = with_text-KeepsTexts line_strings []
-    by false = kept_self line_strings
+    by : (b : Bool) → KeepsTexts texts.line_strings (if b then with_text texts.line_strings [] else texts.line_strings)
+    by true = with_text-KeepsTexts texts.line_strings []
+    by false = kept_self texts.line_strings
 
 element : {A : Type 0} (P : A → Type 0) (xs : List A) (i : ℕ) (x : A) → All P xs → slice_get xs i ≡ Some x → P x
 element P xs i x all is = subst P (get_or_from_slice_get xs i x x is) (all i x (slice_get_within xs i x is))
@@ -90,7 +90,7 @@ element P xs i x all is = subst P (get_or_from_slice_get xs i x x is) (all i x (
 
 module _ (convert_address : ℕ → Option Address) (s : Source) (line_strings : List (List ℕ)) (c : Outcome)
     (so : IsConverted convert_address s line_strings (Ok c)) where
-  pub conversion_written : (strings : List (List ℕ)) → CanWrite c.program strings c.line_strings
+  pub conversion_written : (strings : List (List ℕ)) → CanWrite c.program (texts_in strings c.line_strings)
   conversion_written =
       let w = was_converted convert_address s line_strings c so in
       can_write s.notation s.sections s.header s.given line_strings w.first s.header.program w.reading convert_address c w.ready w.reads w.is
@@ -144,8 +144,8 @@ module _ (convert_address : ℕ → Option Address) (s : Source) (line_strings :
         (found.0, found.1, conversion_back rows found.0 events (λ fit. found.2))
 
   pub files_back : (strings : List (List ℕ)) (files : List File) → FilesAtEnd s.notation true s.header s.header.program files
-      → AreFilesReadAs s.sections s.header files c.file_ids (map (bytes_in strings (line_strings_after c.program c.line_strings)) c.program.directories)
-      (map (built_file c.program strings (line_strings_after c.program c.line_strings)) c.program.files)
+      → (let texts = texts_in strings (texts_after c.program (texts_in strings c.line_strings)).line_strings in
+      AreFilesReadAs s.sections s.header files c.file_ids (map (bytes_in texts) c.program.directories) (map (built_file c.program texts) c.program.files))
   files_back strings files at_end =
       let w = was_converted convert_address s line_strings c so in
       let once = one_decoding s.notation s.header s.header.program w.reads.list w.reads.end w.reads.decoding ∙ sym (one_decoding s.notation s.header s.header.program at_end.list at_end.end at_end.decoding) in
@@ -153,29 +153,30 @@ module _ (convert_address : ℕ → Option Address) (s : Source) (line_strings :
       let mapped : AreFilesMapped s.sections s.header files strings c =
       subst (λ (files : List File). AreFilesMapped s.sections s.header files strings c) same
       (files_same s.notation s.sections s.header s.given line_strings w.first s.header.program w.reading convert_address c w.ready w.reads w.is strings) in
-      let can : CanWrite c.program strings c.line_strings = conversion_written strings in
-      let after = line_strings_after c.program c.line_strings in
-      let keeps : KeepsTexts c.line_strings after = keeps_after c.program c.line_strings in
+      let can : CanWrite c.program (texts_in strings c.line_strings) = conversion_written strings in
+      let before = texts_in strings c.line_strings in
+      let after = (texts_after c.program before).line_strings in
+      let keeps : KeepsTexts c.line_strings after = keeps_after c.program before in
       record {
         each = λ n f at.
             let found = mapped.each n f at in
             let m = found.2 in
-            let built = built_file c.program strings after in
+            let built = built_file c.program (texts_in strings after) in
             let answer : FileAnswer = built m.built in
-            let path : bytes_in strings after m.built.0.0 ≡ bytes_in strings c.line_strings m.built.0.0 =
-            bytes_longer strings c.line_strings after m.built.0.0 keeps (element (λ f. IsWithin strings c.line_strings f.0.0) c.program.files found.0 m.built can.paths m.there) in
-            let directory : bytes_in strings after m.directory ≡ bytes_in strings c.line_strings m.directory =
-            bytes_longer strings c.line_strings after m.directory keeps (element (IsWithin strings c.line_strings) c.program.directories m.built.0.1 m.directory can.directories m.directory_there) in (
+            let path : bytes_in (texts_in strings after) m.built.0.0 ≡ bytes_in (texts_in strings c.line_strings) m.built.0.0 =
+            bytes_longer strings c.line_strings after m.built.0.0 keeps (element (λ f. IsWithin (texts_in strings c.line_strings) f.0.0) c.program.files found.0 m.built can.paths m.there) in
+            let directory : bytes_in (texts_in strings after) m.directory ≡ bytes_in (texts_in strings c.line_strings) m.directory =
+            bytes_longer strings c.line_strings after m.directory keeps (element (IsWithin (texts_in strings c.line_strings)) c.program.directories m.built.0.1 m.directory can.directories m.directory_there) in (
               found.0,
               found.1,
               (
                 answer,
                 slice_get-map built c.program.files found.0 ∙ ap (option_map built) m.there,
                 record {
-                  directory = bytes_in strings after m.directory;
-                  directory_there = slice_get-map (bytes_in strings after) c.program.directories m.built.0.1 ∙ ap (option_map (bytes_in strings after)) m.directory_there;
-                  has = subst (λ (path : List ℕ). HasPaths s.sections s.header path (bytes_in strings after m.directory) f) (sym path)
-                      (subst (λ (d : List ℕ). HasPaths s.sections s.header (bytes_in strings c.line_strings m.built.0.0) d f) (sym directory) m.has);
+                  directory = bytes_in (texts_in strings after) m.directory;
+                  directory_there = slice_get-map (bytes_in (texts_in strings after)) c.program.directories m.built.0.1 ∙ ap (option_map (bytes_in (texts_in strings after))) m.directory_there;
+                  has = subst (λ (path : List ℕ). HasPaths s.sections s.header path (bytes_in (texts_in strings after) m.directory) f) (sym path)
+                      (subst (λ (d : List ℕ). HasPaths s.sections s.header (bytes_in (texts_in strings c.line_strings) m.built.0.0) d f) (sym directory) m.has);
                 },
               ),
             );

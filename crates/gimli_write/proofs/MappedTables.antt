@@ -10,7 +10,7 @@ use Rattle.std.specs.Prelude.{bytes_eq}
 use Rattle.gimli_core.specs.Values.{Value}
 use Rattle.gimli_core.specs.declared.common.Encoding.{Encoding}
 use Rattle.gimli_core.specs.declared.common.LineEncoding.{LineEncoding}
-use Rattle.gimli_bytes.specs.Texts.{with_text, index_of_text}
+use Rattle.gimli_bytes.specs.Texts.{with_text, index_of_text, StringTables, texts_in}
 use Rattle.gimli_bytes.proofs.TextLemmas.{with_text-found}
 use Rattle.gimli_line.specs.declared.run.instruction.LineInstruction.TheVariants.{DefineFile}
 use Rattle.gimli_line.specs.header.File.{File}
@@ -85,17 +85,17 @@ module _ (P : TablesAndTexts → Type 0) where
 
 -- a text that was there is there in a table that has each place of the old one
 module _ (strings old new : List (List ℕ)) (places : (i : ℕ) → i < length old → i < length new) where
-  pub within_where : (t : LineText) → IsWithin strings old t → IsWithin strings new t
+  pub within_where : (t : LineText) → IsWithin (texts_in strings old) t → IsWithin (texts_in strings new) t
   within_where (Inline bytes) so = tt
   within_where (InStrings i) so = so
   within_where (InLineStrings i) so = places i so
 
-  pub if_some_where : (t : Option LineText) → IfSome t (IsWithin strings old) → IfSome t (IsWithin strings new)
+  pub if_some_where : (t : Option LineText) → IfSome t (IsWithin (texts_in strings old)) → IfSome t (IsWithin (texts_in strings new))
   if_some_where (Some t) so = within_where t so
   if_some_where None so = tt
 
 -- so it is in a longer one
-pub within_longer : (strings old new : List (List ℕ)) (t : LineText) → length old ≤ length new → IsWithin strings old t → IsWithin strings new t
+pub within_longer : (strings old new : List (List ℕ)) (t : LineText) → length old ≤ length new → IsWithin (texts_in strings old) t → IsWithin (texts_in strings new) t
 within_longer strings old new t le so = within_where strings old new (λ i lt. omega (arith, lt, le)) t so
 
 pub table_longer : (version : ℕ) (line_strings : List (List ℕ)) (text : List ℕ) → length line_strings ≤ length (made_table version line_strings text)
@@ -107,10 +107,10 @@ table_longer version line_strings text = by (nat_le version 4) (list_any (bytes_
     by false false = omega (arith, length-append line_strings (text ∷ []))
 
 pub made_within : (strings : List (List ℕ)) (version : ℕ) (line_strings : List (List ℕ)) (text : List ℕ)
-    → IsWithin strings (made_table version line_strings text) (made_text version line_strings text)
+    → IsWithin (texts_in strings (made_table version line_strings text)) (made_text version line_strings text)
 made_within strings version line_strings text = by (nat_le version 4)
   where
-    by : (old : Bool) → IsWithin strings (if old then line_strings else with_text line_strings text) (if old then Inline text else InLineStrings (index_of_text line_strings text))
+    by : (old : Bool) → IsWithin (texts_in strings (if old then line_strings else with_text line_strings text)) (if old then Inline text else InLineStrings (index_of_text line_strings text))
     by true = tt
     by false = slice_get_within (with_text line_strings text) (index_of_text line_strings text) text (with_text-found line_strings text)
 
@@ -121,9 +121,9 @@ made_ends version line_strings text new = rw (lt-leb version 4 new) tt
 -- ---- tables that can be written
 
 -- the texts of a file are there, and its source has no zero byte from version 5 on
-pub record CanKeep (strings line_strings : List (List ℕ)) (version : ℕ) (f : BuiltFile) : Type 0 where
-  pub path : IsWithin strings line_strings f.0.0
-  pub source : IfSome f.1.source (IsWithin strings line_strings)
+pub record CanKeep (texts : StringTables) (version : ℕ) (f : BuiltFile) : Type 0 where
+  pub path : IsWithin texts f.0.0
+  pub source : IfSome f.1.source (IsWithin texts)
   pub source_ends : 5 ≤ version → IfSome f.1.source HasNoZero
 
 -- nothing is built yet; and the texts of all directories and files are there
@@ -131,42 +131,42 @@ pub record IsReady (strings : List (List ℕ)) (encoding : Encoding) (tables : T
   pub items : tables.program.items ≡ []
   pub program : tables.program.is_none ≡ false
   pub encoding_is : tables.program.encoding ≡ encoding
-  pub directories : All (IsWithin strings tables.line_strings) tables.program.directories
-  pub files : All (CanKeep strings tables.line_strings (version_of tables)) tables.program.files
+  pub directories : All (IsWithin (texts_in strings tables.line_strings)) tables.program.directories
+  pub files : All (CanKeep (texts_in strings tables.line_strings) (version_of tables)) tables.program.files
 
 -- a program with such directories and files can be written
-pub with_kept_files : (p : Built) (strings line_strings : List (List ℕ)) → p.is_none ≡ false → All (IsWithin strings line_strings) p.directories
-    → All (CanKeep strings line_strings p.encoding.version) p.files → CanWrite p strings line_strings
-with_kept_files p strings line_strings program directories files =
-    let Q = CanKeep strings line_strings p.encoding.version in
+pub with_kept_files : (p : Built) (texts : StringTables) → p.is_none ≡ false → All (IsWithin texts) p.directories
+    → All (CanKeep texts p.encoding.version) p.files → CanWrite p texts
+with_kept_files p texts program directories files =
+    let Q = CanKeep texts p.encoding.version in
     record {
       program = program;
       directories = directories;
-      paths = All-weaker Q (λ f. IsWithin strings line_strings f.0.0) (λ f so. so.path) p.files files;
-      sources = All-weaker Q (λ f. IfSome f.1.source (IsWithin strings line_strings)) (λ f so. so.source) p.files files;
+      paths = All-weaker Q (λ f. IsWithin texts f.0.0) (λ f so. so.path) p.files files;
+      sources = All-weaker Q (λ f. IfSome f.1.source (IsWithin texts)) (λ f so. so.source) p.files files;
       sources_end = λ new has. All-weaker Q (λ f. IfSome f.1.source HasNoZero) (λ f so. so.source_ends new) p.files files;
     }
 
-pub ready_written : (strings : List (List ℕ)) (encoding : Encoding) (tables : TablesAndTexts) → IsReady strings encoding tables → CanWrite tables.program strings tables.line_strings
-ready_written strings encoding tables so = with_kept_files tables.program strings tables.line_strings so.program so.directories so.files
+pub ready_written : (strings : List (List ℕ)) (encoding : Encoding) (tables : TablesAndTexts) → IsReady strings encoding tables → CanWrite tables.program (texts_in strings tables.line_strings)
+ready_written strings encoding tables so = with_kept_files tables.program (texts_in strings tables.line_strings) so.program so.directories so.files
 
-if_some_longer : (strings old new : List (List ℕ)) (t : Option LineText) → length old ≤ length new → IfSome t (IsWithin strings old) → IfSome t (IsWithin strings new)
+if_some_longer : (strings old new : List (List ℕ)) (t : Option LineText) → length old ≤ length new → IfSome t (IsWithin (texts_in strings old)) → IfSome t (IsWithin (texts_in strings new))
 if_some_longer strings old new t le so = if_some_where strings old new (λ i lt. omega (arith, lt, le)) t so
 
-kept_longer : (strings old new : List (List ℕ)) (version : ℕ) (f : BuiltFile) → length old ≤ length new → CanKeep strings old version f → CanKeep strings new version f
+kept_longer : (strings old new : List (List ℕ)) (version : ℕ) (f : BuiltFile) → length old ≤ length new → CanKeep (texts_in strings old) version f → CanKeep (texts_in strings new) version f
 kept_longer strings old new version f le so = record {
   path = within_longer strings old new f.0.0 le so.path;
   source = if_some_longer strings old new f.1.source le so.source;
   source_ends = so.source_ends;
 }
 
-directories_with : (strings line_strings : List (List ℕ)) (ds : List LineText) (t : LineText) → All (IsWithin strings line_strings) ds → IsWithin strings line_strings t
-    → All (IsWithin strings line_strings) (with_directory ds t)
-directories_with strings line_strings ds t all one = by (list_any _ ds)
+directories_with : (texts : StringTables) (ds : List LineText) (t : LineText) → All (IsWithin texts) ds → IsWithin texts t
+    → All (IsWithin texts) (with_directory ds t)
+directories_with texts ds t all one = by (list_any _ ds)
   where
-    by : (b : Bool) → All (IsWithin strings line_strings) (if b then ds else ds ++ t ∷ [])
+    by : (b : Bool) → All (IsWithin texts) (if b then ds else ds ++ t ∷ [])
     by true = all
-    by false = All-push (IsWithin strings line_strings) ds t all one
+    by false = All-push (IsWithin texts) ds t all one
 
 module _ (Q : BuiltFile → Type 0) (d : Details) (other : (k : FileKey) (e : Details) → Q (k, e) → Q (k, d)) where
   details_with : (files : List BuiltFile) (i : ℕ) → All Q files → All Q (with_details files i d)
@@ -194,10 +194,10 @@ directory_ready strings encoding sections tables next v is so =
       items = so.items;
       program = so.program;
       encoding_is = so.encoding_is;
-      directories = directories_with strings after tables.program.directories (made_text (version_of tables) tables.line_strings path)
-          (All-weaker (IsWithin strings tables.line_strings) (IsWithin strings after) (λ d w. within_longer strings tables.line_strings after d le w) tables.program.directories so.directories)
+      directories = directories_with (texts_in strings after) tables.program.directories (made_text (version_of tables) tables.line_strings path)
+          (All-weaker (IsWithin (texts_in strings tables.line_strings)) (IsWithin (texts_in strings after)) (λ d w. within_longer strings tables.line_strings after d le w) tables.program.directories so.directories)
           (made_within strings (version_of tables) tables.line_strings path);
-      files = All-weaker (CanKeep strings tables.line_strings (version_of tables)) (CanKeep strings after (version_of tables)) (λ f w. kept_longer strings tables.line_strings after (version_of tables) f le w) tables.program.files so.files;
+      files = All-weaker (CanKeep (texts_in strings tables.line_strings) (version_of tables)) (CanKeep (texts_in strings after) (version_of tables)) (λ f w. kept_longer strings tables.line_strings after (version_of tables) f le w) tables.program.files so.files;
     })
 
 -- the line strings after the source of a file
@@ -209,7 +209,7 @@ source_longer version paths (Some text) = table_longer version paths text
 source_longer version paths None = omega arith
 
 source_within : (strings : List (List ℕ)) (version : ℕ) (paths : List (List ℕ)) (source : Option (List ℕ))
-    → IfSome (option_map (made_text version paths) source) (IsWithin strings (sources_table version paths source))
+    → IfSome (option_map (made_text version paths) source) (IsWithin (texts_in strings (sources_table version paths source)))
 source_within strings version paths (Some text) = made_within strings version paths text
 source_within strings version paths None = tt
 
@@ -226,16 +226,16 @@ parts_ready strings encoding tables f parts so =
     let details : Details = record { timestamp = f.timestamp; size = f.size; md5 = f.md5; source = option_map (made_text version paths) parts.source } in
     let le : length tables.line_strings ≤ length after = omega (arith, table_longer version tables.line_strings parts.path, source_longer version paths parts.source) in
     let first_le : length paths ≤ length after = source_longer version paths parts.source in
-    let Q : BuiltFile → Type 0 = CanKeep strings after version in
+    let Q : BuiltFile → Type 0 = CanKeep (texts_in strings after) version in
     record {
       items = so.items;
       program = so.program;
       encoding_is = so.encoding_is;
-      directories = All-weaker (IsWithin strings tables.line_strings) (IsWithin strings after) (λ d w. within_longer strings tables.line_strings after d le w) tables.program.directories so.directories;
+      directories = All-weaker (IsWithin (texts_in strings tables.line_strings)) (IsWithin (texts_in strings after)) (λ d w. within_longer strings tables.line_strings after d le w) tables.program.directories so.directories;
       files = files_with Q details
           (λ k e w. record { path = w.path; source = source_within strings version paths parts.source; source_ends = source_ends version paths parts.source })
           tables.program.files (text, parts.directory)
-          (All-weaker (CanKeep strings tables.line_strings version) Q (λ f w. kept_longer strings tables.line_strings after version f le w) tables.program.files so.files)
+          (All-weaker (CanKeep (texts_in strings tables.line_strings) version) Q (λ f w. kept_longer strings tables.line_strings after version f le w) tables.program.files so.files)
           (record {
             path = within_longer strings paths after text first_le (made_within strings version tables.line_strings parts.path);
             source = source_within strings version paths parts.source;
@@ -261,9 +261,9 @@ started_ready strings encoding line_encoding h line_strings directory file =
     let a : length second ≤ length third = source_longer encoding.version second file.directory in
     let b : length third ≤ length last = table_longer encoding.version third file.path in
     let le : length second ≤ length last = omega arith in
-    let working : IsWithin strings last texts.working_directory = within_longer strings second last texts.working_directory le (made_within strings encoding.version line_strings directory) in
-    let own : IfSome texts.source_directory (IsWithin strings last) = if_some_longer strings third last texts.source_directory b (source_within strings encoding.version second file.directory) in
-    let path : IsWithin strings last texts.source_file = made_within strings encoding.version third file.path in
+    let working : IsWithin (texts_in strings last) texts.working_directory = within_longer strings second last texts.working_directory le (made_within strings encoding.version line_strings directory) in
+    let own : IfSome texts.source_directory (IsWithin (texts_in strings last)) = if_some_longer strings third last texts.source_directory b (source_within strings encoding.version second file.directory) in
+    let path : IsWithin (texts_in strings last) texts.source_file = made_within strings encoding.version third file.path in
     record {
       items = refl;
       program = refl;
@@ -272,16 +272,16 @@ started_ready strings encoding line_encoding h line_strings directory file =
       files = one last texts.working_directory texts.source_directory texts.source_file (nat_le encoding.version 4) path;
     }
   where
-    both : (last : List (List ℕ)) (working : LineText) (own : Option LineText) (old : Bool) → IsWithin strings last working → IfSome own (IsWithin strings last)
-        → All (IsWithin strings last) (if old then working ∷ [] else option_map_or (with_directory (working ∷ [])) own (working ∷ []))
-    both last working own true w o = All-cons (IsWithin strings last) working [] w (All-nil (IsWithin strings last))
-    both last working (Some t) false w o = directories_with strings last (working ∷ []) t (All-cons (IsWithin strings last) working [] w (All-nil (IsWithin strings last))) o
-    both last working None false w o = All-cons (IsWithin strings last) working [] w (All-nil (IsWithin strings last))
+    both : (last : List (List ℕ)) (working : LineText) (own : Option LineText) (old : Bool) → IsWithin (texts_in strings last) working → IfSome own (IsWithin (texts_in strings last))
+        → All (IsWithin (texts_in strings last)) (if old then working ∷ [] else option_map_or (with_directory (working ∷ [])) own (working ∷ []))
+    both last working own true w o = All-cons (IsWithin (texts_in strings last)) working [] w (All-nil (IsWithin (texts_in strings last)))
+    both last working (Some t) false w o = directories_with (texts_in strings last) (working ∷ []) t (All-cons (IsWithin (texts_in strings last)) working [] w (All-nil (IsWithin (texts_in strings last)))) o
+    both last working None false w o = All-cons (IsWithin (texts_in strings last)) working [] w (All-nil (IsWithin (texts_in strings last)))
 
-    one : (last : List (List ℕ)) (working : LineText) (own : Option LineText) (path : LineText) (old : Bool) → IsWithin strings last path
-        → All (CanKeep strings last encoding.version) (if old then [] else ((path, option_map_or (index_of_directory (working ∷ [])) own 0), no_details) ∷ [])
-    one last working own path true w = All-nil (CanKeep strings last encoding.version)
-    one last working own path false w = All-cons (CanKeep strings last encoding.version) _ [] (record { path = w; source = tt; source_ends = λ new. tt }) (All-nil (CanKeep strings last encoding.version))
+    one : (last : List (List ℕ)) (working : LineText) (own : Option LineText) (path : LineText) (old : Bool) → IsWithin (texts_in strings last) path
+        → All (CanKeep (texts_in strings last) encoding.version) (if old then [] else ((path, option_map_or (index_of_directory (working ∷ [])) own 0), no_details) ∷ [])
+    one last working own path true w = All-nil (CanKeep (texts_in strings last) encoding.version)
+    one last working own path false w = All-cons (CanKeep (texts_in strings last) encoding.version) _ [] (record { path = w; source = tt; source_ends = λ new. tt }) (All-nil (CanKeep (texts_in strings last) encoding.version))
 
 -- what `new` makes of a header can be written, and nothing is built in it
 pub prepared_ready : (strings : List (List ℕ)) (sections : Sections) (h : Header) (given : Handed) (line_strings : List (List ℕ)) (tables : TablesAndTexts)

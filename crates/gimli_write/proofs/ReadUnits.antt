@@ -13,7 +13,7 @@ use Rattle.gimli_line.specs.header.Header.{Header, UnitEntry}
 use Rattle.gimli_line.specs.header.HeaderGrammar.{SpellsUnit, HasHeaderFault}
 use Rattle.gimli_line.specs.header.File.{File as ReadFile}
 use Rattle.gimli_line.proofs.HeaderLaws.{one_header, no_fault}
-use Rattle.gimli_bytes.specs.Texts.{byte_count, offset_of}
+use Rattle.gimli_bytes.specs.Texts.{byte_count, offset_of, StringTables}
 use Rattle.gimli_build.specs.Texts.{Sections, IsOptionalText, OneByOne}
 use Rattle.gimli_write.specs.inside.TextReading.{HasText, HasOptionalText, HasFileTexts}
 use Rattle.gimli_build.specs.LineText.{LineText, Inline, InStrings, InLineStrings}
@@ -110,18 +110,18 @@ optional_there s None None is = tt
 optional_there s (Some v) None is = absurd is
 optional_there s None (Some text) is = absurd is
 
-file_texts_there : (s : Sections) (p : Built) (strings line_strings : List (List ℕ)) (read : ReadFile) (built : File) → IsFile s p strings line_strings read built → HasFileTexts s read
-file_texts_there s p strings line_strings read built is = record {
+file_texts_there : (s : Sections) (p : Built) (texts : StringTables) (read : ReadFile) (built : File) → IsFile s p texts read built → HasFileTexts s read
+file_texts_there s p texts read built is = record {
   path = (_, is.path);
-  source = optional_there s read.source (stored_details p strings line_strings built.1).source is.source;
+  source = optional_there s read.source (stored_details p texts built.1).source is.source;
 }
 
 -- the sections of the tables have lengths that 64 bits hold
-abbrev pub AreShort : List (List ℕ) → List (List ℕ) → Type 0
-AreShort strings line_strings = (byte_count strings < 2 ^ 64) × (byte_count line_strings < 2 ^ 64)
+abbrev pub AreShort : StringTables → Type 0
+AreShort texts = (byte_count texts.strings < 2 ^ 64) × (byte_count texts.line_strings < 2 ^ 64)
 
-module _ (big : Bool) (p : Built) (strings line_strings : List (List ℕ)) (section : List ℕ) (n : ℕ) (whole : ReadsBackAs big p strings line_strings (drop n section)) (fits : length section < 2 ^ 64) (held : AreShort strings line_strings) where
-  read_well : IsReadWell (slice_notation big) (unit_entry_of p strings line_strings) (sections_of strings line_strings) big p strings line_strings (drop n section)
+module _ (big : Bool) (p : Built) (texts : StringTables) (section : List ℕ) (n : ℕ) (whole : ReadsBackAs big p texts (drop n section)) (fits : length section < 2 ^ 64) (held : AreShort texts) where
+  read_well : IsReadWell (slice_notation big) (unit_entry_of p texts) (sections_of texts) big p texts (drop n section)
   read_well = record {
     order = refl;
     address_size = refl;
@@ -130,53 +130,53 @@ module _ (big : Bool) (p : Built) (strings line_strings : List (List ℕ)) (sect
     line_strings_are = refl;
     instructions_held = omega arith;
     length_held = λ wide. (let rest = length-drop n section in omega (arith, rest));
-    texts_held = λ new wide. all_held (emitted_texts p strings line_strings);
+    texts_held = λ new wide. all_held (emitted_texts p texts);
   }
     where
       offset_held : (texts : List (List ℕ)) (i : ℕ) → byte_count texts < 2 ^ 64 → offset_of texts i < 2 ^ 64
       offset_held texts i short = let le = sum_by-take-le (λ (t : List ℕ). length t + 1) texts i in omega (arith, le, short)
 
-      text_held : (t : LineText) → IsOffsetHeld (2 ^ 64) strings line_strings t
+      text_held : (t : LineText) → IsOffsetHeld (2 ^ 64) texts t
       text_held (Inline text) = tt
-      text_held (InStrings i) = offset_held strings i held.0
-      text_held (InLineStrings i) = offset_held line_strings i held.1
+      text_held (InStrings i) = offset_held texts.strings i held.0
+      text_held (InLineStrings i) = offset_held texts.line_strings i held.1
 
-      all_held : (ts : List (ℕ × LineText)) → All (λ t. IsOffsetHeld (2 ^ 64) strings line_strings t.1) ts
+      all_held : (ts : List (ℕ × LineText)) → All (λ t. IsOffsetHeld (2 ^ 64) texts t.1) ts
       all_held ts = λ i d lt. text_held (get_or ts i d).1
 
-  pub read_back : ReadsBack (slice_notation big) (unit_entry_of p strings line_strings) (sections_of strings line_strings) p strings line_strings (drop n section)
+  pub read_back : ReadsBack (slice_notation big) (unit_entry_of p texts) (sections_of texts) p texts (drop n section)
   read_back = whole _ _ _ read_well
 
   -- `OutOfMemory` before the unit is read
-  pub unread_refused : (e : ConvertError) → e ≡ NoMemory → RefusesUnit (slice_notation big) (unit_entry_of p strings line_strings) (drop n section) e
+  pub unread_refused : (e : ConvertError) → e ≡ NoMemory → RefusesUnit (slice_notation big) (unit_entry_of p texts) (drop n section) e
   unread_refused e is = rw is (read_back.header, read_back.is_unit, tt)
 
 -- what is handed to the reading of a program's unit, by the names of the program
-module _ (big other : Bool) (p : Built) (strings line_strings : List (List ℕ)) (section other_section : List ℕ) (n size : ℕ) (directory : List ℕ) (s : Sections)
+module _ (big other : Bool) (p : Built) (texts : StringTables) (section other_section : List ℕ) (n size : ℕ) (directory : List ℕ) (s : Sections)
     (order : other ≡ big) (there : other_section ≡ section) (sized : size ≡ p.encoding.address_size)
-    (directed : Some directory ≡ (unit_entry_of p strings line_strings).directory) (written : s ≡ sections_of strings line_strings)
-    (whole : ReadsBackAs big p strings line_strings (drop n section)) (fits : length section < 2 ^ 64) (held : AreShort strings line_strings) where
-  back : ReadsBack (slice_notation big) (unit_entry_of p strings line_strings) (sections_of strings line_strings) p strings line_strings (drop n section)
-  back = read_back big p strings line_strings section n whole fits held
+    (directed : Some directory ≡ (unit_entry_of p texts).directory) (written : s ≡ sections_of texts)
+    (whole : ReadsBackAs big p texts (drop n section)) (fits : length section < 2 ^ 64) (held : AreShort texts) where
+  back : ReadsBack (slice_notation big) (unit_entry_of p texts) (sections_of texts) p texts (drop n section)
+  back = read_back big p texts section n whole fits held
 
-  is_unit_entry : unit_entry_with size directory ≡ unit_entry_of p strings line_strings
+  is_unit_entry : unit_entry_with size directory ≡ unit_entry_of p texts
   is_unit_entry =
       ap (λ (x : ℕ). unit_entry_with x directory) sized
       ∙ ap (λ (x : Option (List ℕ)). let g : UnitEntry = record { address_size = p.encoding.address_size; directory = x; name = None } in g) directed
 
   -- the unit by other names
-  moved : (P : Bool → UnitEntry → List ℕ → Sections → Type 0) → P big (unit_entry_of p strings line_strings) section (sections_of strings line_strings)
+  moved : (P : Bool → UnitEntry → List ℕ → Sections → Type 0) → P big (unit_entry_of p texts) section (sections_of texts)
       → P other (unit_entry_with size directory) other_section s
   moved P is =
       subst (λ (x : Bool). P x (unit_entry_with size directory) other_section s) (sym order)
       (subst (λ (x : UnitEntry). P big x other_section s) (sym is_unit_entry)
-      (subst (λ (x : List ℕ). P big (unit_entry_of p strings line_strings) x s) (sym there)
-      (subst (λ (x : Sections). P big (unit_entry_of p strings line_strings) section x) (sym written) is)))
+      (subst (λ (x : List ℕ). P big (unit_entry_of p texts) x s) (sym there)
+      (subst (λ (x : Sections). P big (unit_entry_of p texts) section x) (sym written) is)))
 
-  moved_back : (P : Bool → Sections → Type 0) → P other s → P big (sections_of strings line_strings)
-  moved_back P is = subst (λ (x : Bool). P x (sections_of strings line_strings)) order (subst (λ (x : Sections). P other x) written is)
+  moved_back : (P : Bool → Sections → Type 0) → P other s → P big (sections_of texts)
+  moved_back P is = subst (λ (x : Bool). P x (sections_of texts)) order (subst (λ (x : Sections). P other x) written is)
 
-  begins : BeginsUnit (slice_notation big) (unit_entry_of p strings line_strings) (drop n section) back.header
+  begins : BeginsUnit (slice_notation big) (unit_entry_of p texts) (drop n section) back.header
   begins = record { spelled = (drop n section, [], sym (append-nil (drop n section)), back.is_unit.spelled) }
 
   pub can_read : CanRead (slice_notation other) (unit_entry_with size directory) s (drop n other_section)
@@ -184,8 +184,8 @@ module _ (big other : Bool) (p : Built) (strings line_strings : List (List ℕ))
     header = back.header;
     unit = begins;
     texts = record {
-      directories = one_by_one_all (IsDirectory (sections_of strings line_strings) strings line_strings) (HasText (sections_of strings line_strings)) (λ v t is. (_, is)) (directories_from_zero back.header) p.directories back.directories;
-      files = one_by_one_all (IsFile (sections_of strings line_strings) p strings line_strings) (HasFileTexts (sections_of strings line_strings)) (λ f built is. file_texts_there (sections_of strings line_strings) p strings line_strings f built is) back.header.files p.files back.files;
+      directories = one_by_one_all (IsDirectory (sections_of texts) texts) (HasText (sections_of texts)) (λ v t is. (_, is)) (directories_from_zero back.header) p.directories back.directories;
+      files = one_by_one_all (IsFile (sections_of texts) p texts) (HasFileTexts (sections_of texts)) (λ f built is. file_texts_there (sections_of texts) p texts f built is) back.header.files p.files back.files;
     };
   })
 
@@ -194,14 +194,14 @@ module _ (big other : Bool) (p : Built) (strings line_strings : List (List ℕ))
 
   pub program_answered : (r : Result RoundTrip ConvertError)
       → ((h : Header) → BeginsUnit (slice_notation other) (unit_entry_with size directory) (drop n other_section) h → IfOk r (λ answer. AreAnswers (slice_notation other) s h (answers answer)))
-      → IfOk r (AnswersProgram big p strings line_strings (drop n section))
+      → IfOk r (AnswersProgram big p texts (drop n section))
   program_answered r is =
       let answered = moved_back (λ b t. IfOk r (λ answer. AreAnswers (slice_notation b) t back.header (answers answer))) (is back.header begins_there) in
       IfOk-weaker r _ _ (λ answer a. record { header = back.header; is_unit = back.is_unit; answered = a }) answered
 
   pub program_refused : (r : Result RoundTrip ConvertError)
       → ((h : Header) → BeginsUnit (slice_notation other) (unit_entry_with size directory) (drop n other_section) h → IfErr r (IsRunRefusal (slice_notation other) h))
-      → IfErr r (RefusesUnit (slice_notation big) (unit_entry_of p strings line_strings) (drop n section))
+      → IfErr r (RefusesUnit (slice_notation big) (unit_entry_of p texts) (drop n section))
   program_refused r is =
       let refused = moved_back (λ b t. IfErr r (IsRunRefusal (slice_notation b) back.header)) (is back.header begins_there) in
       MatchResult-weaker r refused (λ _ u. u) (λ e f. (back.header, back.is_unit, f))

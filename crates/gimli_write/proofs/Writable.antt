@@ -2,7 +2,7 @@
 use Rattle.std.proofs.Common.{◌≡◌, ℕ, ◌≤◌, true, false, List, sym, subst}
 use Rattle.std.specs.Prelude.{Option, Some, None, Result, Ok, Err, OnOk, OnErr, IfSome, All, option_map}
 use Rattle.std.proofs.lemmas.List.Elements.{All-weaker}
-use Rattle.gimli_bytes.specs.Texts.{KeepsTexts}
+use Rattle.gimli_bytes.specs.Texts.{KeepsTexts, StringTables, texts_in}
 use Rattle.gimli_build.specs.Built.{Built}
 use Rattle.gimli_build.specs.Calls.{after_file}
 use Rattle.gimli_build.specs.Conditions.{CanWrite}
@@ -17,28 +17,28 @@ use Rattle.gimli_write.proofs.MappedTables.{within_where, if_some_where, files_w
 
 -- with more texts after the others
 module _ (strings old new : List (List ℕ)) (kept : KeepsTexts old new) where
-  within_kept : (t : LineText) → IsWithin strings old t → IsWithin strings new t
+  within_kept : (t : LineText) → IsWithin (texts_in strings old) t → IsWithin (texts_in strings new) t
   within_kept = within_where strings old new (λ i lt. still_there old new i kept lt)
 
-  pub written_later : (p : Built) → CanWrite p strings old → CanWrite p strings new
+  pub written_later : (p : Built) → CanWrite p (texts_in strings old) → CanWrite p (texts_in strings new)
   written_later p can = record {
     program = can.program;
-    directories = All-weaker (IsWithin strings old) (IsWithin strings new) within_kept p.directories can.directories;
-    paths = All-weaker (λ (f : BuiltFile). IsWithin strings old f.0.0) (λ (f : BuiltFile). IsWithin strings new f.0.0) (λ f so. within_kept f.0.0 so) p.files can.paths;
+    directories = All-weaker (IsWithin (texts_in strings old)) (IsWithin (texts_in strings new)) within_kept p.directories can.directories;
+    paths = All-weaker (λ (f : BuiltFile). IsWithin (texts_in strings old) f.0.0) (λ (f : BuiltFile). IsWithin (texts_in strings new) f.0.0) (λ f so. within_kept f.0.0 so) p.files can.paths;
     sources =
-        All-weaker (λ (f : BuiltFile). IfSome f.1.source (IsWithin strings old)) (λ (f : BuiltFile). IfSome f.1.source (IsWithin strings new))
+        All-weaker (λ (f : BuiltFile). IfSome f.1.source (IsWithin (texts_in strings old))) (λ (f : BuiltFile). IfSome f.1.source (IsWithin (texts_in strings new)))
         (λ f so. if_some_where strings old new (λ i lt. still_there old new i kept lt) f.1.source so) p.files can.sources;
     sources_end = can.sources_end;
   }
 
 -- with a file whose texts are there
-written_with_file : (p : Built) (strings line_strings : List (List ℕ)) (path : LineText) (directory : ℕ) (d : Details) → IsWithin strings line_strings path
-    → IfSome d.source (IsWithin strings line_strings) → IfSome d.source HasNoZero → CanWrite p strings line_strings → CanWrite (after_file (path, directory) (Some d) p) strings line_strings
-written_with_file p strings line_strings path directory d within source ends can = record {
+written_with_file : (p : Built) (texts : StringTables) (path : LineText) (directory : ℕ) (d : Details) → IsWithin texts path
+    → IfSome d.source (IsWithin texts) → IfSome d.source HasNoZero → CanWrite p texts → CanWrite (after_file (path, directory) (Some d) p) texts
+written_with_file p texts path directory d within source ends can = record {
   program = can.program;
   directories = can.directories;
-  paths = files_with (λ (f : BuiltFile). IsWithin strings line_strings f.0.0) d (λ k e so. so) p.files (path, directory) can.paths within;
-  sources = files_with (λ (f : BuiltFile). IfSome f.1.source (IsWithin strings line_strings)) d (λ k e so. source) p.files (path, directory) can.sources source;
+  paths = files_with (λ (f : BuiltFile). IsWithin texts f.0.0) d (λ k e so. so) p.files (path, directory) can.paths within;
+  sources = files_with (λ (f : BuiltFile). IfSome f.1.source (IsWithin texts)) d (λ k e so. source) p.files (path, directory) can.sources source;
   sources_end = λ new has. files_with (λ (f : BuiltFile). IfSome f.1.source HasNoZero) d (λ k e so. ends) p.files (path, directory) (can.sources_end new has) ends;
 }
 
@@ -48,18 +48,18 @@ module _ {A : Type 0} (text : A → LineText) where
   source_so P (Some a) so = so
   source_so P None so = tt
 
-  source_within : (strings line_strings : List (List ℕ)) (made : Option A) → IfSome made (λ a. (strings : List (List ℕ)) → IsWithin strings line_strings (text a))
-      → IfSome (option_map text made) (IsWithin strings line_strings)
+  source_within : (strings line_strings : List (List ℕ)) (made : Option A) → IfSome made (λ a. (strings : List (List ℕ)) → IsWithin (texts_in strings line_strings) (text a))
+      → IfSome (option_map text made) (IsWithin (texts_in strings line_strings))
   source_within strings line_strings (Some a) so = so strings
   source_within strings line_strings None so = tt
 
   -- with a file whose path was made, and then its source
   pub written_with_parts : (p : Built) (strings old between new : List (List ℕ)) (path : A) (source : Option A) (directory : ℕ) (timestamp size : ℕ) (md5 : List ℕ)
       → KeepsTexts old between → KeepsTexts between new
-      → ((strings : List (List ℕ)) → IsWithin strings between (text path)) → IfSome source (λ a. (strings : List (List ℕ)) → IsWithin strings new (text a)) → IfSome source (λ a. HasNoZero (text a))
-      → CanWrite p strings old → CanWrite (after_file (text path, directory) (Some (record { timestamp = timestamp; size = size; md5 = md5; source = option_map text source })) p) strings new
+      → ((strings : List (List ℕ)) → IsWithin (texts_in strings between) (text path)) → IfSome source (λ a. (strings : List (List ℕ)) → IsWithin (texts_in strings new) (text a)) → IfSome source (λ a. HasNoZero (text a))
+      → CanWrite p (texts_in strings old) → CanWrite (after_file (text path, directory) (Some (record { timestamp = timestamp; size = size; md5 = md5; source = option_map text source })) p) (texts_in strings new)
   written_with_parts p strings old between new path source directory timestamp size md5 first second within source_there ends can =
-      written_with_file p strings new (text path) directory _
+      written_with_file p (texts_in strings new) (text path) directory _
       (within_kept strings between new second (text path) (within strings))
       (source_within strings new source source_there)
       (source_so HasNoZero source ends)
@@ -71,15 +71,15 @@ writable_then before after = record { still = λ strings can. after.still string
 -- ---- with more items
 
 -- what of a program has to be so that it can be written: nothing that is built in it
-record WrittenTables (p : Built) (strings line_strings : List (List ℕ)) : Type 0 where
+record WrittenTables (p : Built) (texts : StringTables) : Type 0 where
   program : p.is_none ≡ false
-  directories : All (IsWithin strings line_strings) p.directories
-  paths : All (λ (f : BuiltFile). IsWithin strings line_strings f.0.0) p.files
-  sources : All (λ (f : BuiltFile). IfSome f.1.source (IsWithin strings line_strings)) p.files
+  directories : All (IsWithin texts) p.directories
+  paths : All (λ (f : BuiltFile). IsWithin texts f.0.0) p.files
+  sources : All (λ (f : BuiltFile). IfSome f.1.source (IsWithin texts)) p.files
   sources_end : 5 ≤ p.encoding.version → p.file_has_source ≡ true → All (λ (f : BuiltFile). IfSome f.1.source HasNoZero) p.files
 
-tables_written : (p : Built) (strings line_strings : List (List ℕ)) → CanWrite p strings line_strings → WrittenTables (without_items p) strings line_strings
-tables_written p strings line_strings can = record {
+tables_written : (p : Built) (texts : StringTables) → CanWrite p texts → WrittenTables (without_items p) texts
+tables_written p texts can = record {
   program = can.program;
   directories = can.directories;
   paths = can.paths;
@@ -87,8 +87,8 @@ tables_written p strings line_strings can = record {
   sources_end = can.sources_end;
 }
 
-written_tables : (p : Built) (strings line_strings : List (List ℕ)) → WrittenTables (without_items p) strings line_strings → CanWrite p strings line_strings
-written_tables p strings line_strings has = record {
+written_tables : (p : Built) (texts : StringTables) → WrittenTables (without_items p) texts → CanWrite p texts
+written_tables p texts has = record {
   program = has.program;
   directories = has.directories;
   paths = has.paths;
@@ -99,8 +99,8 @@ written_tables p strings line_strings has = record {
 pub writable_with_items : (old new : SourceTables) (line_strings : List (List ℕ)) → without_items new.program ≡ without_items old.program → StaysWritable old line_strings new line_strings
 writable_with_items old new line_strings same = record {
   still = λ strings can.
-      written_tables new.program strings line_strings
-      (subst (λ (p : Built). WrittenTables p strings line_strings) (sym same) (tables_written old.program strings line_strings can));
+      let texts = texts_in strings line_strings in
+      written_tables new.program texts (subst (λ (p : Built). WrittenTables p texts) (sym same) (tables_written old.program texts can));
 }
 
 -- after a builder call, of which a refused one changes nothing

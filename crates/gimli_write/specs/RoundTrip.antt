@@ -7,7 +7,7 @@ use Rattle.gimli_line.specs.header.File.{File as ReadFile}
 use Rattle.gimli_line.specs.run.Events.{Events, row}
 use Rattle.gimli_line.specs.run.Sequences.{HasFirstFault}
 use Rattle.gimli_line.specs.declared.run.row.LineRow.{LineRow as ReadRow}
-use Rattle.gimli_bytes.specs.Texts.{table_bytes}
+use Rattle.gimli_bytes.specs.Texts.{table_bytes, StringTables}
 use Rattle.gimli_bytes.specs.declared.error.Error.{Error}
 use Rattle.gimli_build.specs.LineText.{bytes_in}
 use Rattle.gimli_build.specs.Tables.{File}
@@ -15,7 +15,7 @@ use Rattle.gimli_build.specs.Stored.{stored_details}
 use Rattle.gimli_build.specs.Texts.{Sections, IsText, IsOptionalText, OneByOne}
 use Rattle.gimli_build.specs.ReadsBack.{IsUnit, directories_from_zero}
 use Rattle.gimli_build.specs.Built.{Built}
-use Rattle.gimli_build.specs.Version5Tables.{strings_after, line_strings_after}
+use Rattle.gimli_build.specs.Version5Tables.{texts_after}
 use Rattle.gimli_build.specs.Unit.{unit_bytes}
 use Rattle.gimli_build.specs.Cause.{first_cause}
 use Rattle.gimli_build.specs.Items.{AddressesFit}
@@ -88,38 +88,38 @@ abbrev pub slice_notation : Bool → Notation
 slice_notation big = record { big = big; limit = 2 ^ 64 }
 
 -- with those of the program
-abbrev pub unit_entry_of : Built → List (List ℕ) → List (List ℕ) → UnitEntry
-unit_entry_of p strings line_strings = record {
+abbrev pub unit_entry_of : Built → StringTables → UnitEntry
+unit_entry_of p texts = record {
   address_size = p.encoding.address_size;
-  directory = option_map (bytes_in strings line_strings) (slice_get p.directories 0);
+  directory = option_map (bytes_in texts) (slice_get p.directories 0);
   name = None;
 }
 
 -- beside the tables, each in an empty section
-abbrev pub sections_of : List (List ℕ) → List (List ℕ) → Sections
-sections_of strings line_strings = record { strings = table_bytes strings; line_strings = table_bytes line_strings }
+abbrev pub sections_of : StringTables → Sections
+sections_of texts = record { strings = table_bytes texts.strings; line_strings = table_bytes texts.line_strings }
 
 -- the bytes are a unit and nothing else, and what is read of it is answered, where it is read as a program's unit is
-abbrev pub AnswersProgram : Bool → Built → List (List ℕ) → List (List ℕ) → List ℕ → RoundTrip → Type 0
-AnswersProgram big p strings line_strings unit answer =
-    AnswersUnit (slice_notation big) (unit_entry_of p strings line_strings) (sections_of strings line_strings) unit (answers answer)
+abbrev pub AnswersProgram : Bool → Built → StringTables → List ℕ → RoundTrip → Type 0
+AnswersProgram big p texts unit answer =
+    AnswersUnit (slice_notation big) (unit_entry_of p texts) (sections_of texts) unit (answers answer)
 
 -- what was appended is a unit and nothing else, and what is read of it is answered, where it is read as a program's unit is
-abbrev pub AnswersAppended : Bool → Built → List (List ℕ) → List (List ℕ) → List ℕ → List ℕ → RoundTrip → Type 0
-AnswersAppended big p strings line_strings old new answer =
-    (unit : List ℕ) × (new ≡ old ++ unit) × AnswersProgram big p strings line_strings unit answer
+abbrev pub AnswersAppended : Bool → Built → StringTables → List ℕ → List ℕ → RoundTrip → Type 0
+AnswersAppended big p texts old new answer =
+    (unit : List ℕ) × (new ≡ old ++ unit) × AnswersProgram big p texts unit answer
 
 -- ---- what was built
 
 -- a built file, as it is answered with these tables
-abbrev pub built_file : Built → List (List ℕ) → List (List ℕ) → File → FileAnswer
-built_file p strings line_strings f = record {
-  path = bytes_in strings line_strings f.0.0;
+abbrev pub built_file : Built → StringTables → File → FileAnswer
+built_file p texts f = record {
+  path = bytes_in texts f.0.0;
   directory_index = f.0.1;
-  timestamp = (stored_details p strings line_strings f.1).timestamp;
-  size = (stored_details p strings line_strings f.1).size;
-  md5 = (stored_details p strings line_strings f.1).md5;
-  source = (stored_details p strings line_strings f.1).source;
+  timestamp = (stored_details p texts f.1).timestamp;
+  size = (stored_details p texts f.1).size;
+  md5 = (stored_details p texts f.1).md5;
+  source = (stored_details p texts f.1).source;
 }
 
 -- the addresses of a program fit its address size, and none of them is a tombstone
@@ -163,18 +163,18 @@ IsRefusal big wanted unit_entry old new (Read fault) =
 IsRefusal big wanted unit_entry old new e = ⊥
 
 -- what is to be written of a program in this order and for a unit of this encoding, with these tables
-abbrev pub to_write : Bool → Encoding → Built → List (List ℕ) → List (List ℕ) → ToWrite
-to_write big encoding p strings line_strings = record {
-  cause = first_cause big encoding p strings line_strings;
-  bytes = unit_bytes big encoding p strings line_strings;
+abbrev pub to_write : Bool → Encoding → Built → StringTables → ToWrite
+to_write big encoding p texts = record {
+  cause = first_cause big encoding p texts;
+  bytes = unit_bytes big encoding p texts;
 }
 
 -- why a program isn't written in this order and for a unit of this encoding, with these tables, or not read again beside
 -- what is then in them
-abbrev pub IsRoundTripRefusal : Bool → Encoding → Built → List (List ℕ) → List (List ℕ) → List ℕ → List ℕ → ConvertError → Type 0
-IsRoundTripRefusal big encoding p strings line_strings old new =
-    IsRefusal big (to_write big encoding p strings line_strings)
-    (unit_entry_of p (strings_after p strings) (line_strings_after p line_strings)) old new
+abbrev pub IsRoundTripRefusal : Bool → Encoding → Built → StringTables → List ℕ → List ℕ → ConvertError → Type 0
+IsRoundTripRefusal big encoding p texts old new =
+    IsRefusal big (to_write big encoding p texts)
+    (unit_entry_of p (texts_after p texts)) old new
 
 -- why a program isn't written: the cause why it can't be, if there is one, or `OutOfMemory`
 abbrev pub IsCausedRefusal : Option Error → ConvertError → Type 0

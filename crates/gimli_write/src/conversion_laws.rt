@@ -5,6 +5,7 @@ ghost use Rattle.std.specs.Prelude.{◌≡◌, ℕ, List};
 ghost use Rattle.std.specs.Bool.{Decides};
 ghost use Rattle.gimli_core.specs.Equality.{ClonesGiveSame, IsExact};
 ghost use Rattle.gimli_core.specs.declared.common.LineEncoding.{LineEncoding};
+ghost use Rattle.gimli_bytes.specs.Texts.{texts_in};
 ghost use Rattle.gimli_line.specs.header.File.{File};
 ghost use Rattle.gimli_line.specs.declared.run.row.LineRow.{LineRow as ReadRow};
 ghost use Rattle.gimli_build.specs.Conditions.{CanBuild, CanWrite};
@@ -28,7 +29,7 @@ pub fn conversions_ask_what_the_builder_asks()
 /// A converted program meets what `write` asks, whatever its addresses are mapped to. `write` may refuse it for a cause.
 pub fn converted_programs_can_be_written()
     ensures { (d : DoneConversion) (strings : List (List ℕ))
-        → CanWrite d.outcome.program strings d.outcome.line_strings }
+        → CanWrite d.outcome.program (texts_in strings d.outcome.line_strings) }
 {}
 
 /// A converted program has the encoding that is handed, else that of its source.

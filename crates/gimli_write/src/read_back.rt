@@ -10,7 +10,7 @@ ghost use Rattle.gimli_line.specs.run.Events.{Events, row};
 ghost use Rattle.gimli_build.specs.LineText.{IsWithin, bytes_in};
 ghost use Rattle.gimli_build.specs.Conditions.{CanWrite};
 ghost use Rattle.gimli_build.specs.Unit.{is_incompatible, unit_bytes};
-ghost use Rattle.gimli_bytes.specs.Texts.{byte_count};
+ghost use Rattle.gimli_bytes.specs.Texts.{byte_count, texts_in};
 ghost use Rattle.gimli_build.specs.WrittenTables.{HaveEmptySource, KeepTables};
 ghost use Rattle.gimli_build.specs.Cause.{first_cause};
 ghost use Rattle.gimli_build.specs.Texts.{Sections, IsText, IsOptionalText, OneByOne};
@@ -70,8 +70,8 @@ fn working_directory<'a>(
     line_strings: &'a LineStringTable,
 ) -> &'a [u8]
     requires program { program.now.is_none ≡ false }
-    requires within { All (IsWithin strings.now line_strings.now) program.now.directories }
-    ensures { Some result.now ≡ (unit_entry_of program.now strings.now line_strings.now).directory }
+    requires within { All (IsWithin (texts_in strings.now line_strings.now)) program.now.directories }
+    ensures { Some result.now ≡ (unit_entry_of program.now (texts_in strings.now line_strings.now)).directory }
 {
     let directory = program.default_directory();
     program.get_directory(directory).get(strings, line_strings)
@@ -257,7 +257,7 @@ impl StringSections {
         strings: &StringTable,
         line_strings: &LineStringTable,
     ) -> ConvertResult<StringSections>
-        ensures ok { IfOk result (λ sections. sections ≡ sections_of strings.now line_strings.now) }
+        ensures ok { IfOk result (λ sections. sections ≡ sections_of (texts_in strings.now line_strings.now)) }
         ensures err { IfErr result (λ e. e ≡ ConvertError.OutOfMemory) }
         ensures held { (byte_count strings.now < 2 ^ 64) × (byte_count line_strings.now < 2 ^ 64) }
     {
@@ -324,18 +324,18 @@ fn read_unit<E: Endianity>(
     strings: &StringTable,
 ) -> ConvertResult<RoundTrip>
     requires program { program.now.is_none ≡ false }
-    requires within { All (IsWithin strings.now line_strings.now) program.now.directories }
-    requires unit { ReadsBackAs (E.big section.now.endian) program.now strings.now line_strings.now
+    requires within { All (IsWithin (texts_in strings.now line_strings.now)) program.now.directories }
+    requires unit { ReadsBackAs (E.big section.now.endian) program.now (texts_in strings.now line_strings.now)
         (drop offset.0 section.now.bytes) }
     ensures offset { IfOk result (λ answer. answer.offset ≡ offset) }
-    ensures ok { IfOk result (AnswersProgram (E.big section.now.endian) program.now strings.now line_strings.now
-        (drop offset.0 section.now.bytes)) }
+    ensures ok { IfOk result (AnswersProgram (E.big section.now.endian) program.now
+        (texts_in strings.now line_strings.now) (drop offset.0 section.now.bytes)) }
     ensures err { IfErr result (RefusesUnit (slice_notation (E.big section.now.endian))
-        (unit_entry_of program.now strings.now line_strings.now) (drop offset.0 section.now.bytes)) }
+        (unit_entry_of program.now (texts_in strings.now line_strings.now)) (drop offset.0 section.now.bytes)) }
     ensures directories { IfOk result (λ answer. map (λ text. text.items) answer.directories.items
-        ≡ map (bytes_in strings.now line_strings.now) program.now.directories) }
+        ≡ map (bytes_in (texts_in strings.now line_strings.now)) program.now.directories) }
     ensures files { IfOk result (λ answer. map file_answer answer.files.items
-        ≡ map (built_file program.now strings.now line_strings.now) program.now.files) }
+        ≡ map (built_file program.now (texts_in strings.now line_strings.now)) program.now.files) }
     ensures built { IfOk result (λ answer. AreBuiltRows program.now answer.rows.items) }
     ensures never_read { HasFittingAddresses program.now → IfErr result (λ e. e ≡ ConvertError.OutOfMemory) }
 {
@@ -372,33 +372,34 @@ pub fn round_trip<E: Endianity>(
     line_strings: &mut LineStringTable,
     strings: &mut StringTable,
 ) -> ConvertResult<RoundTrip>
-    requires { CanWrite program.now strings.old line_strings.old }
+    requires { CanWrite program.now (texts_in strings.old line_strings.old) }
     ensures keeps { Begins w.old.0.bytes w.new.0.bytes }
     ensures ordered { E.big w.new.0.endian ≡ E.big w.old.0.endian }
     ensures offset { IfOk result (λ answer. answer.offset.0 ≡ length w.old.0.bytes) }
     ensures unit { OnOk result (Appends (unit_bytes (E.big w.old.0.endian) encoding program.now
-        strings.old line_strings.old) w.old.0.bytes w.new.0.bytes) }
+        (texts_in strings.old line_strings.old)) w.old.0.bytes w.new.0.bytes) }
     ensures answers { IfOk result (AnswersAppended (E.big w.old.0.endian) program.now
-        strings.new line_strings.new w.old.0.bytes w.new.0.bytes) }
+        (texts_in strings.new line_strings.new) w.old.0.bytes w.new.0.bytes) }
     ensures directories { IfOk result (λ answer. map (λ text. text.items) answer.directories.items
-        ≡ map (bytes_in strings.new line_strings.new) program.now.directories) }
+        ≡ map (bytes_in (texts_in strings.new line_strings.new)) program.now.directories) }
     ensures files { IfOk result (λ answer. map file_answer answer.files.items
-        ≡ map (built_file program.now strings.new line_strings.new) program.now.files) }
+        ≡ map (built_file program.now (texts_in strings.new line_strings.new)) program.now.files) }
     ensures built { IfOk result (λ answer. AreBuiltRows program.now answer.rows.items) }
     ensures no_cause { OnOk result (first_cause (E.big w.old.0.endian) encoding program.now
-        strings.old line_strings.old ≡ None) }
+        (texts_in strings.old line_strings.old) ≡ None) }
     ensures incompatible { IsTrue (is_incompatible encoding program.now.encoding)
         → result ≡ Err (ConvertError.Write Error.IncompatibleLineProgramEncoding) }
     ensures nothing_appended { IsTrue (is_incompatible encoding program.now.encoding)
         → w.new ≡ w.old }
     ensures never_read { HasFittingAddresses program.now → IfErr result (IsCausedRefusal
-        (first_cause (E.big w.old.0.endian) encoding program.now strings.old line_strings.old)) }
+        (first_cause (E.big w.old.0.endian) encoding program.now
+        (texts_in strings.old line_strings.old))) }
     ensures refusal { IfErr result (IsRoundTripRefusal (E.big w.old.0.endian) encoding program.now
-        strings.old line_strings.old w.old.0.bytes w.new.0.bytes) }
+        (texts_in strings.old line_strings.old) w.old.0.bytes w.new.0.bytes) }
     ensures tables { OnOk result (HaveEmptySource program.now
-        strings.old line_strings.old strings.new line_strings.new) }
+        (texts_in strings.old line_strings.old) (texts_in strings.new line_strings.new)) }
     ensures tables_kept { KeepTables program.now encoding
-        strings.old line_strings.old strings.new line_strings.new }
+        (texts_in strings.old line_strings.old) (texts_in strings.new line_strings.new) }
 {
     match program.write(w, encoding, line_strings, strings) {
         Ok(offset) => read_unit(program, &w.0, offset, line_strings, strings),

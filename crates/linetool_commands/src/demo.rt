@@ -1,6 +1,7 @@
 //! A unit that is built, written, and read again.
 
 ghost use Rattle.std.specs.Prelude.{◌≡◌, ◌≢◌, [], OnOk, IfErr, IfOk};
+ghost use Rattle.gimli_write.specs.StringTables.{no_texts};
 ghost use Rattle.gimli_write.specs.Conditions.{CanWrite};
 ghost use Rattle.linetool_commands.specs.Demo.{IsAtStart};
 
@@ -46,7 +47,7 @@ fn write_and_read<E: Endianity>(
     program: &LineProgram,
     section: &mut DebugLine<EndianVec<E>>,
 ) -> Result<RoundTrip, Refusal>
-    requires { CanWrite program.now [] [] }
+    requires { CanWrite program.now no_texts }
     ensures refusal { IfErr result (λ r. r ≢ Refusal.Usage) }
 {
     let mut strings = StringTable::default(alloc);
@@ -91,7 +92,7 @@ fn write_program<W: Writer>(
     program: &LineProgram,
     section: &mut DebugLine<W>,
 ) -> Result<(), Refusal>
-    requires { CanWrite program.now [] [] }
+    requires { CanWrite program.now no_texts }
     ensures refusal { IfErr result (λ r. r ≢ Refusal.Usage) }
 {
     let mut strings = StringTable::default(alloc);
@@ -148,7 +149,7 @@ fn print_demo_rows<O: Write>(alloc: Global, bytes: &[u8], out: &mut O) -> Result
 
 /// The program of the unit: a file, and a sequence of two rows. Refused by `OutOfMemory` alone.
 fn demo_program(alloc: Global) -> Result<LineProgram, Error>
-    ensures ok { IfOk result (λ program. CanWrite program [] []) }
+    ensures ok { IfOk result (λ program. CanWrite program no_texts) }
     ensures err { IfErr result (λ e. e ≡ Error.OutOfMemory) }
 {
     let mut program = empty_program(alloc)?;
@@ -159,7 +160,7 @@ fn demo_program(alloc: Global) -> Result<LineProgram, Error>
 
 /// A program of version 4 whose working directory is `/w`. Refused by `OutOfMemory` alone.
 fn empty_program(alloc: Global) -> Result<LineProgram, Error>
-    ensures can { IfOk result (λ program. CanWrite program [] []) }
+    ensures can { IfOk result (λ program. CanWrite program no_texts) }
     ensures files { IfOk result (λ program. program.files ≡ []) }
     ensures start { IfOk result IsAtStart }
     ensures err { IfErr result (λ e. e ≡ Error.OutOfMemory) }
@@ -184,10 +185,10 @@ fn empty_program(alloc: Global) -> Result<LineProgram, Error>
 
 /// Adds the file `a.c`. Refused by `OutOfMemory` alone.
 fn put_file(program: &mut LineProgram, alloc: Global) -> Result<(), Error>
-    requires can { CanWrite program.old [] [] }
+    requires can { CanWrite program.old no_texts }
     requires files { program.old.files ≡ [] }
     requires start { IsAtStart program.old }
-    ensures can { OnOk result (CanWrite program.new [] []) }
+    ensures can { OnOk result (CanWrite program.new no_texts) }
     ensures start { OnOk result (IsAtStart program.new) }
     ensures err { IfErr result (λ e. e ≡ Error.OutOfMemory) }
 {
@@ -200,9 +201,9 @@ fn put_file(program: &mut LineProgram, alloc: Global) -> Result<(), Error>
 /// A row at the address, a row 4 bytes and 2 lines further on, and an end 4 bytes later. Refused by `OutOfMemory`
 /// alone.
 fn put_rows(program: &mut LineProgram) -> Result<(), Error>
-    requires can { CanWrite program.old [] [] }
+    requires can { CanWrite program.old no_texts }
     requires start { IsAtStart program.old }
-    ensures can { OnOk result (CanWrite program.new [] []) }
+    ensures can { OnOk result (CanWrite program.new no_texts) }
     ensures err { IfErr result (λ e. e ≡ Error.OutOfMemory) }
 {
     program.set_address(Address::Constant(0x1000))?;

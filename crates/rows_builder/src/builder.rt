@@ -1,6 +1,6 @@
 //! A builder: a program, its tables, and the calls of a script.
 
-ghost use Rattle.rows_builder.specs.Within.{AreWithin};
+ghost use Rattle.rows_builder.specs.Within.{AreWithin, texts_of};
 
 use crate::calls::{Call, Details, Registers, Start, Text};
 use crate::digest::{TableMark, digest_of};
@@ -32,13 +32,13 @@ pub(crate) struct Builder {
 
 impl Model for Builder {
     ghost use Rattle.std.specs.Prelude.{ℕ};
-    ghost use Rattle.rows_builder.specs.Within.{Stands};
+    ghost use Rattle.rows_builder.specs.Within.{Stands, texts_of};
 
     ghost Value = { ℕ };
 
     ghost view = { λ b. b.before };
 
-    ghost invariant = { λ b. Stands b.program.directories b.directories.items b.tables.strings b.tables.line_strings };
+    ghost invariant = { λ b. Stands b.program.directories b.directories.items (texts_of b.tables) };
 }
 
 impl Builder {
@@ -61,7 +61,7 @@ impl Builder {
         program: LineProgram,
         tables: Tables,
     ) -> Builder
-        requires { AreWithin program.directories tables.strings tables.line_strings }
+        requires { AreWithin program.directories (texts_of tables) }
     {
         Builder {
             alloc,

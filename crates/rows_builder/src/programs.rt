@@ -2,7 +2,7 @@
 
 ghost use Rattle.std.specs.Prelude.{◌≡◌, ◌≢◌, ◌<◌, ◌≤◌, [], length, false, IsTrue, IfOk, IfSome, All};
 ghost use Rattle.gimli_write.specs.LineText.{line_text, HasNoZero, IsNotEmpty, IsWithin};
-ghost use Rattle.rows_builder.specs.Within.{AreWithin, AreIds};
+ghost use Rattle.rows_builder.specs.Within.{AreWithin, AreIds, texts_of};
 
 use crate::calls::{Flags, Form, Registers, Text};
 use crate::fault::Stop;
@@ -74,7 +74,7 @@ fn is_not_empty(text: &LineString) -> bool
 /// Whether a text is in these tables, if it isn't in the program itself.
 pub(crate) fn is_within(text: &LineString, tables: &Tables) -> bool
     ensures { IsTrue result →
-        IsWithin tables.now.strings tables.now.line_strings (line_text text.now) }
+        IsWithin (texts_of tables.now) (line_text text.now) }
 {
     match text {
         LineString::String(_) => true,
@@ -150,7 +150,7 @@ pub(crate) fn begin_program(
     info: Option<FileInfo>,
 ) -> Result<LineProgram, Stop>
     ensures within { IfOk result (λ program.
-        AreWithin program.directories tables.now.strings tables.now.line_strings) }
+        AreWithin program.directories (texts_of tables.now)) }
     ensures there { IfOk result (λ program. 0 < length program.directories) }
 {
     let Names {
@@ -183,7 +183,7 @@ pub(crate) fn begin_program(
 fn is_name(text: &LineString, tables: &Tables) -> bool
     ensures ends { IsTrue result → HasNoZero (line_text text.now) }
     ensures within { IsTrue result →
-        IsWithin tables.now.strings tables.now.line_strings (line_text text.now) }
+        IsWithin (texts_of tables.now) (line_text text.now) }
 {
     has_no_zero(text) && is_within(text, tables)
 }
@@ -192,7 +192,7 @@ fn is_name(text: &LineString, tables: &Tables) -> bool
 fn is_optional_name(text: &Option<LineString>, tables: &Tables) -> bool
     ensures ends { IsTrue result → IfSome text.now (λ text. HasNoZero (line_text text)) }
     ensures within { IsTrue result → IfSome text.now (λ text.
-        IsWithin tables.now.strings tables.now.line_strings (line_text text)) }
+        IsWithin (texts_of tables.now) (line_text text)) }
 {
     match text {
         Some(text) => is_name(text, tables),
@@ -216,8 +216,8 @@ pub(crate) fn add_directory(
     tables: &Tables,
     directory: LineString,
 ) -> Result<DirectoryId, Stop>
-    requires { AreWithin program.old.directories tables.now.strings tables.now.line_strings }
-    ensures within { AreWithin program.new.directories tables.now.strings tables.now.line_strings }
+    requires { AreWithin program.old.directories (texts_of tables.now) }
+    ensures within { AreWithin program.new.directories (texts_of tables.now) }
     ensures grows { length program.old.directories ≤ length program.new.directories }
     ensures id { IfOk result (λ id. id < length program.new.directories) }
 {

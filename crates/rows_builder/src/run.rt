@@ -1,6 +1,6 @@
 //! The command `write`.
 
-ghost use Rattle.rows_builder.specs.Within.{AreWithin};
+ghost use Rattle.rows_builder.specs.Within.{AreWithin, texts_of};
 
 use crate::array_section::ArraySection;
 use crate::builder::Builder;
@@ -75,7 +75,7 @@ pub fn print_program(
     attempts: Attempts,
     text: &mut String,
 ) -> Result<(), AllocError>
-    requires { AreWithin program.directories tables.strings tables.line_strings }
+    requires { AreWithin program.directories (texts_of tables) }
 {
     let mut builder = Builder::of_program(alloc, attempts, program, tables);
     let script = Script::to_read_back(alloc, order);

@@ -4,7 +4,7 @@ ghost use Rattle.std.specs.Prelude.{◌≡◌, ◌≤◌, true, length, IsTrue, 
 ghost use Rattle.std.specs.Option.{option_map};
 ghost use Rattle.gimli_write.specs.LineText.{line_text, HasNoZero, IsWithin};
 ghost use Rattle.gimli_write.specs.Conditions.{CanWrite};
-ghost use Rattle.rows_builder.specs.Within.{AreWithin, IsFileWritable};
+ghost use Rattle.rows_builder.specs.Within.{AreWithin, IsFileWritable, texts_of};
 
 use crate::fault::Stop;
 use crate::programs::{Tables, has_no_zero, is_within};
@@ -21,7 +21,7 @@ pub(crate) fn write_program<W: Writer>(
     section: &mut DebugLine<W>,
     encoding: Encoding,
 ) -> Result<(), Stop>
-    requires { AreWithin program.now.directories tables.old.strings tables.old.line_strings }
+    requires { AreWithin program.now.directories (texts_of tables.old) }
     ensures strings { length tables.old.strings ≤ length tables.new.strings }
     ensures line_strings { length tables.old.line_strings ≤ length tables.new.line_strings }
 {
@@ -46,7 +46,7 @@ pub(crate) fn read_program(
     order: RunTimeEndian,
     encoding: Encoding,
 ) -> Option<ConvertResult<RoundTrip>>
-    requires { AreWithin program.now.directories tables.old.strings tables.old.line_strings }
+    requires { AreWithin program.now.directories (texts_of tables.old) }
     ensures strings { length tables.old.strings ≤ length tables.new.strings }
     ensures line_strings { length tables.old.line_strings ≤ length tables.new.line_strings }
 {
@@ -65,8 +65,8 @@ pub(crate) fn read_program(
 
 /// Whether a program can be written with these tables. Requires directories that are in them.
 fn can_be_written(program: &LineProgram, tables: &Tables) -> bool
-    requires { AreWithin program.now.directories tables.now.strings tables.now.line_strings }
-    ensures { IsTrue result → CanWrite program.now tables.now.strings tables.now.line_strings }
+    requires { AreWithin program.now.directories (texts_of tables.now) }
+    ensures { IsTrue result → CanWrite program.now (texts_of tables.now) }
 {
     !program.is_none() && are_files_writable(program, tables)
 }
@@ -74,7 +74,7 @@ fn can_be_written(program: &LineProgram, tables: &Tables) -> bool
 /// Whether the paths and the sources of files are in these tables, and no source that is written has a zero byte.
 fn are_files_writable(program: &LineProgram, tables: &Tables) -> bool
     ensures { IsTrue result →
-        All (IsFileWritable program.now tables.now.strings tables.now.line_strings) program.now.files }
+        All (IsFileWritable program.now (texts_of tables.now)) program.now.files }
 {
     let emits = program.version() >= 5 && program.file_has_source;
     for (id, path, _) in program.files() {
@@ -89,7 +89,7 @@ fn are_files_writable(program: &LineProgram, tables: &Tables) -> bool
 /// Whether a source is in these tables, and has no zero byte if it is written.
 fn is_source_writable(source: &Option<LineString>, emits: bool, tables: &Tables) -> bool
     ensures within { IsTrue result → IfSome (option_map line_text source.now)
-        (IsWithin tables.now.strings tables.now.line_strings) }
+        (IsWithin (texts_of tables.now)) }
     ensures ends { IsTrue result → emits ≡ true → IfSome (option_map line_text source.now) HasNoZero }
 {
     match source {

@@ -1,7 +1,7 @@
 //! A conversion, and what is printed of it.
 
 ghost use Rattle.std.specs.Prelude.{◌≡◌, true, IfOk, Ok};
-ghost use Rattle.rows_builder.specs.Within.{AreWithin};
+ghost use Rattle.rows_builder.specs.Within.{AreWithin, texts_of};
 ghost use Rattle.rows_conversion.specs.Taken.{IsTaken};
 
 use crate::item_text::FileIndex;
@@ -154,7 +154,7 @@ impl<'i> Conversion<'i> {
     /// What is built: by a second conversion, where memory is refused to the first and attempts are two.
     fn built(self, tables: &mut Tables) -> ConvertResult<(LineProgram, Vec<FileId>)>
         requires { IsTaken self.target }
-        ensures { IfOk result (λ built. AreWithin built.0.directories tables.new.strings tables.new.line_strings) }
+        ensures { IfOk result (λ built. AreWithin built.0.directories (texts_of tables.new)) }
     {
         match self.built_once(tables) {
             Err(ConvertError::OutOfMemory) if self.attempts == Attempts::Two => {
@@ -168,7 +168,7 @@ impl<'i> Conversion<'i> {
     /// What one conversion builds.
     fn built_once(self, tables: &mut Tables) -> ConvertResult<(LineProgram, Vec<FileId>)>
         requires { IsTaken self.target }
-        ensures { IfOk result (λ built. AreWithin built.0.directories tables.new.strings tables.new.line_strings) }
+        ensures { IfOk result (λ built. AreWithin built.0.directories (texts_of tables.new)) }
     {
         let program = match self.unit.program(self.alloc, self.attempts) {
             Ok(program) => program,

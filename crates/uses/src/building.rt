@@ -3,6 +3,7 @@
 
 ghost use Rattle.std.specs.Prelude.{◌≡◌, [], false, IfErr, IfOk};
 ghost use Rattle.gimli_bytes.specs.Written.{Appends};
+ghost use Rattle.gimli_write.specs.StringTables.{no_texts};
 ghost use Rattle.gimli_write.specs.Unit.{unit_bytes};
 ghost use Rattle.gimli_write.specs.Conditions.{CanWrite};
 
@@ -15,7 +16,7 @@ use std::alloc::Global;
 
 /// A program of version 5 without rows, whose one file is `a.c` of the directory `/w`. Refused by `OutOfMemory` alone.
 pub fn one_file(alloc: Global) -> Result<LineProgram>
-    ensures can { IfOk result (λ program. CanWrite program [] []) }
+    ensures can { IfOk result (λ program. CanWrite program no_texts) }
     ensures err { IfErr result (λ e. e ≡ Error.OutOfMemory) }
 {
     let encoding = Encoding {
@@ -53,8 +54,8 @@ pub fn add_sequence(
     places: &[BuiltPlace],
     length: u64,
 ) -> Result<bool>
-    requires can { CanWrite program.old [] [] }
-    ensures can { CanWrite program.new [] [] }
+    requires can { CanWrite program.old no_texts }
+    ensures can { CanWrite program.new no_texts }
     ensures err { IfErr result (λ e. e ≡ Error.OutOfMemory) }
 {
     program.set_address(Address::Constant(address))?;
@@ -78,9 +79,9 @@ pub fn add_sequence(
 /// The bytes of a unit whose texts all stand in the program. Refused by the first cause that the program has, or by
 /// `OutOfMemory`.
 pub fn written(alloc: Global, program: &LineProgram) -> Result<EndianVec<LittleEndian>>
-    requires can { CanWrite program.now [] [] }
+    requires can { CanWrite program.now no_texts }
     ensures unit { IfOk result
-        (λ section. Appends (unit_bytes false program.now.encoding program.now [] []) [] section.bytes) }
+        (λ section. Appends (unit_bytes false program.now.encoding program.now no_texts) [] section.bytes) }
 {
     let mut section = DebugLine::from(EndianVec::new(alloc, LittleEndian));
     let mut strings = StringTable::default(alloc);

@@ -2,6 +2,7 @@
 #![tactic(auto)]
 
 ghost use Rattle.std.specs.Prelude.{[], IfOk};
+ghost use Rattle.gimli_write.specs.StringTables.{texts_in};
 ghost use Rattle.gimli_write.specs.Conditions.{CanWrite};
 
 use anyhow::{Result, bail};
@@ -39,7 +40,7 @@ pub fn make_unit(alloc: Global) -> Result<(EndianVec<LittleEndian>, EndianVec<Li
 
 /// Lines 3 and 4 of `a.c` in `/w`: the first at 0x1000, the second from 0x1004 up to 0x1009.
 fn build(alloc: Global, line_strings: &mut LineStringTable) -> Result<LineProgram>
-    ensures { IfOk result (λ program. CanWrite program [] line_strings.new) }
+    ensures { IfOk result (λ program. CanWrite program (texts_in [] line_strings.new)) }
 {
     let mut program = without_rows(alloc, line_strings)?;
     let Some((file, _, _)) = program.files().next() else {
@@ -65,7 +66,7 @@ fn build(alloc: Global, line_strings: &mut LineStringTable) -> Result<LineProgra
 
 /// A program whose directory and file are texts of the table.
 fn without_rows(alloc: Global, line_strings: &mut LineStringTable) -> Result<LineProgram>
-    ensures { IfOk result (λ program. CanWrite program [] line_strings.new) }
+    ensures { IfOk result (λ program. CanWrite program (texts_in [] line_strings.new)) }
 {
     let encoding = Encoding {
         address_size: 8,

@@ -5,11 +5,12 @@ use Rattle.std.specs.Option.{is_none}
 use Rattle.std.specs.List.{list_any}
 use Rattle.std.proofs.lemmas.Bool.{le-leb}
 use Rattle.std.proofs.lemmas.List.Elements.{All-weaker}
+use Rattle.gimli_bytes.specs.Texts.{StringTables}
 use Rattle.gimli_build.specs.LineText.{IsWithin}
 use Rattle.gimli_build.specs.Tables.{File}
 use Rattle.gimli_build.specs.Built.{Built}
 use Rattle.gimli_build.specs.Conditions.{CanWrite}
-use Rattle.gimli_build.specs.Version5Tables.{needs_empty, strings_after, line_strings_after}
+use Rattle.gimli_build.specs.Version5Tables.{needs_empty, texts_after}
 use Rattle.gimli_build.proofs.reading.ReadyTexts.{within_after}
 
 -- ---- what is there stays
@@ -19,16 +20,15 @@ if-some P Q f (Some x) p = f x p
 if-some P Q f None p = tt
 
 -- a program that could be written can be written then
-pub can-write-after : (p : Built) (strings line_strings : List (List ℕ)) → CanWrite p strings line_strings → CanWrite p (strings_after p strings) (line_strings_after p line_strings)
-can-write-after p strings line_strings can =
-    let after = strings_after p strings in
-    let line_after = line_strings_after p line_strings in
-    let within = within_after p strings line_strings in
+pub can-write-after : (p : Built) (texts : StringTables) → CanWrite p texts → CanWrite p (texts_after p texts)
+can-write-after p texts can =
+    let after = texts_after p texts in
+    let within = within_after p texts in
     record {
       program = can.program;
-      directories = All-weaker (IsWithin strings line_strings) (IsWithin after line_after) within p.directories can.directories;
-      paths = All-weaker (λ (f : File). IsWithin strings line_strings f.0.0) (λ (f : File). IsWithin after line_after f.0.0) (λ f w. within f.0.0 w) p.files can.paths;
-      sources = All-weaker (λ (f : File). IfSome f.1.source (IsWithin strings line_strings)) (λ (f : File). IfSome f.1.source (IsWithin after line_after)) (λ f w. if-some (IsWithin strings line_strings) (IsWithin after line_after) within f.1.source w) p.files can.sources;
+      directories = All-weaker (IsWithin texts) (IsWithin after) within p.directories can.directories;
+      paths = All-weaker (λ (f : File). IsWithin texts f.0.0) (λ (f : File). IsWithin after f.0.0) (λ f w. within f.0.0 w) p.files can.paths;
+      sources = All-weaker (λ (f : File). IfSome f.1.source (IsWithin texts)) (λ (f : File). IfSome f.1.source (IsWithin after)) (λ f w. if-some (IsWithin texts) (IsWithin after) within f.1.source w) p.files can.sources;
       sources_end = can.sources_end;
     }
 

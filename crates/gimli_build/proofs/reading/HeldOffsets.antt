@@ -2,6 +2,7 @@
 use Rattle.std.proofs.Common.{◌≡◌, ℕ, Bool, true, false, List, [], ◌∷◌, ◌++◌, map, if◌then◌else◌}
 use Rattle.std.specs.Prelude.{All, nat_le, flat_map}
 use Rattle.std.proofs.lemmas.List.Elements.{All-nil, All-cons, All-head, All-tail}
+use Rattle.gimli_bytes.specs.Texts.{StringTables}
 use Rattle.gimli_build.specs.LineText.{LineText}
 use Rattle.gimli_build.specs.Tables.{File}
 use Rattle.gimli_build.specs.Built.{Built}
@@ -10,14 +11,14 @@ use Rattle.gimli_build.specs.Cause.{file_texts, emitted_texts}
 use Rattle.gimli_build.specs.ReadsBack.{IsOffsetHeld}
 use Rattle.gimli_build.proofs.reading.ReadyTexts.{source_of}
 
-module _ (limit : ℕ) (p : Built) (strings line_strings : List (List ℕ)) where
+module _ (limit : ℕ) (p : Built) (texts : StringTables) where
   abbrev pub IsHeld : LineText → Type 0
-  IsHeld t = IsOffsetHeld limit strings line_strings t
+  IsHeld t = IsOffsetHeld limit texts t
 
   -- those of a file
   pub record IsFileHeld (f : File) : Type 0 where
     pub path : IsHeld f.0.0
-    pub source : p.file_has_source ≡ true → IsHeld (source_of p strings line_strings f)
+    pub source : p.file_has_source ≡ true → IsHeld (source_of p texts f)
 
   -- those of a program of version 5
   pub record AreHeld : Type 0 where
@@ -43,10 +44,10 @@ module _ (limit : ℕ) (p : Built) (strings line_strings : List (List ℕ)) wher
       All-cons IsHeld t ts (All-head IsEmittedHeld (form, t) (map (λ t. (form, t)) ts) all)
       (directories_held form ts (All-tail IsEmittedHeld (form, t) (map (λ t. (form, t)) ts) all))
 
-  file_held : (f : File) → All IsEmittedHeld (file_texts p strings line_strings f) → IsFileHeld f
+  file_held : (f : File) → All IsEmittedHeld (file_texts p texts f) → IsFileHeld f
   file_held f all =
       let path : ℕ × LineText = (first_form (path_texts p.files), f.0.0) in
-      let source : ℕ × LineText = (first_form (sources p.files), source_of p strings line_strings f) in
+      let source : ℕ × LineText = (first_form (sources p.files), source_of p texts f) in
       let last : List (ℕ × LineText) = if p.file_has_source then source ∷ [] else [] in
       record {
         path = All-head IsEmittedHeld path last all;
@@ -57,18 +58,18 @@ module _ (limit : ℕ) (p : Built) (strings line_strings : List (List ℕ)) wher
       by true t all is = All-head IsEmittedHeld t [] all
       by false t all is = absurd cc
 
-  files_held : (fs : List File) → All IsEmittedHeld (flat_map (file_texts p strings line_strings) fs) → All IsFileHeld fs
+  files_held : (fs : List File) → All IsEmittedHeld (flat_map (file_texts p texts) fs) → All IsFileHeld fs
   files_held [] all = All-nil IsFileHeld
   files_held (f ∷ fs) all =
-      let texts = file_texts p strings line_strings in
-      All-cons IsFileHeld f fs (file_held f (first_held (texts f) (flat_map texts fs) all)) (files_held fs (last_held (texts f) (flat_map texts fs) all))
+      let own = file_texts p texts in
+      All-cons IsFileHeld f fs (file_held f (first_held (own f) (flat_map own fs) all)) (files_held fs (last_held (own f) (flat_map own fs) all))
 
   -- ---- all that is emitted
 
-  pub are-held : nat_le p.encoding.version 4 ≡ false → All IsEmittedHeld (emitted_texts p strings line_strings) → AreHeld
+  pub are-held : nat_le p.encoding.version 4 ≡ false → All IsEmittedHeld (emitted_texts p texts) → AreHeld
   are-held new all =
       let form = first_form p.directories in
       let named = map (λ (t : LineText). (form, t)) p.directories in
-      let filed = flat_map (file_texts p strings line_strings) p.files in
+      let filed = flat_map (file_texts p texts) p.files in
       let emitted : All IsEmittedHeld (named ++ filed) = rw new at all in
       record { directories = directories_held form p.directories (first_held named filed emitted); files = files_held p.files (last_held named filed emitted) }

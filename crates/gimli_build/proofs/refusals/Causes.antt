@@ -10,6 +10,7 @@ use Rattle.gimli_bytes.specs.Written.{Appends}
 use Rattle.gimli_bytes.specs.declared.address.Address.TheVariants.{Constant, Symbol}
 use Rattle.gimli_bytes.specs.declared.error.Error.{Error}
 use Rattle.gimli_bytes.specs.declared.error.Error.TheVariants.{IncompatibleLineProgramEncoding, UnsupportedVersion, NeedVersion, OutOfMemory}
+use Rattle.gimli_bytes.specs.Texts.{StringTables}
 use Rattle.gimli_build.specs.declared.built.row.LineRow.{LineRow}
 use Rattle.gimli_build.specs.declared.built.items.BuiltItem.{BuiltItem}
 use Rattle.gimli_build.specs.declared.built.items.BuiltItem.TheVariants.{SetAddress, Row, End}
@@ -19,7 +20,7 @@ use Rattle.gimli_build.specs.FormatWord.{format_word}
 use Rattle.gimli_build.specs.Joined.{result_append}
 use Rattle.gimli_build.specs.inside.Joined.{RefusesFor}
 use Rattle.gimli_build.specs.Items.{item_bytes, items_bytes, next_previous}
-use Rattle.gimli_build.specs.Version5Tables.{strings_after, line_strings_after}
+use Rattle.gimli_build.specs.Version5Tables.{texts_after}
 use Rattle.gimli_build.specs.Unit.{version_bytes, opening_bytes, operations_bytes, line_encoding_bytes, flag_byte, base_byte, opcode_bytes, tables_bytes, fields_bytes, header_bytes, program_bytes, inside_bytes, escape_bytes, whole_bytes, is_incompatible, unit_bytes}
 use Rattle.gimli_build.specs.Cause.{cause_if, first_of, text_cause, item_cause, word_cause, unit_length_cause, header_length, unit_length, emitted_texts, first_cause}
 use Rattle.gimli_build.proofs.refusals.Refusals.{refusal, or_first, first_before_none, first_apart, joined-refusal, after-refusal, tested-refusal, barred-refusal, seven_causes}
@@ -39,17 +40,17 @@ operations_cause version operations = cause_if (nat_lt version 4 && not (nat_eq 
 abbrev encoding_cause : Built → Option Error
 encoding_cause p = operations_cause p.encoding.version p.line_encoding.maximum_operations_per_instruction
 
-abbrev texts_cause : Built → List (List ℕ) → List (List ℕ) → Option Error
-texts_cause p strings line_strings = first_of (map (text_cause p.encoding.format strings line_strings) (emitted_texts p strings line_strings))
+abbrev texts_cause : Built → StringTables → Option Error
+texts_cause p texts = first_of (map (text_cause p.encoding.format texts) (emitted_texts p texts))
 
-abbrev header_cause : Built → List (List ℕ) → List (List ℕ) → Option Error
-header_cause p strings line_strings = word_cause p.encoding.format (header_length p strings line_strings)
+abbrev header_cause : Built → StringTables → Option Error
+header_cause p texts = word_cause p.encoding.format (header_length p texts)
 
 abbrev items_cause : Built → Option Error
 items_cause p = first_of (map (item_cause p.encoding.address_size) p.items)
 
-abbrev unit_cause : Bool → Built → List (List ℕ) → List (List ℕ) → Option Error
-unit_cause big p strings line_strings = unit_length_cause p.encoding.format (unit_length big p strings line_strings)
+abbrev unit_cause : Bool → Built → StringTables → Option Error
+unit_cause big p texts = unit_length_cause p.encoding.format (unit_length big p texts)
 
 -- ---- the version and what stands with it
 
@@ -116,25 +117,25 @@ items-refusal big encoding e known previous (item ∷ items) =
 
 -- ---- the unit
 
-module _ (big : Bool) (p : Built) (strings line_strings : List (List ℕ)) where
-  fields-refusal : refusal (fields_bytes big p strings line_strings) ≡ or_first (encoding_cause p) (texts_cause p strings line_strings)
+module _ (big : Bool) (p : Built) (texts : StringTables) where
+  fields-refusal : refusal (fields_bytes big p texts) ≡ or_first (encoding_cause p) (texts_cause p texts)
   fields-refusal =
-      let tables = tables_bytes big p strings line_strings in
+      let tables = tables_bytes big p texts in
       let rest = result_append (Ok opcode_bytes) tables in
       joined-refusal (line_encoding_bytes p.encoding.version p.line_encoding) rest
       ∙ ap (λ (c : Option Error). or_first c (refusal rest)) (line_encoding-refusal p.encoding.version p.line_encoding)
-      ∙ ap (λ (c : Option Error). or_first (encoding_cause p) c) (joined-refusal (Ok opcode_bytes) tables ∙ tables-refusal big p strings line_strings)
+      ∙ ap (λ (c : Option Error). or_first (encoding_cause p) c) (joined-refusal (Ok opcode_bytes) tables ∙ tables-refusal big p texts)
 
   -- the causes of the header
   abbrev first_causes : Option Error
-  first_causes = or_first (or_first (encoding_cause p) (texts_cause p strings line_strings)) (header_cause p strings line_strings)
+  first_causes = or_first (or_first (encoding_cause p) (texts_cause p texts)) (header_cause p texts)
 
-  header-refusal : refusal (header_bytes big p strings line_strings) ≡ first_causes
+  header-refusal : refusal (header_bytes big p texts) ≡ first_causes
   header-refusal =
       let format = p.encoding.format in
-      let cause = header_cause p strings line_strings in
-      after-refusal (λ n. format_word big format n) (fields_bytes big p strings line_strings) cause
-      (λ bytes is. word-refusal big format (length bytes) ∙ ap (word_cause format) (fields_size big p strings line_strings bytes is))
+      let cause = header_cause p texts in
+      after-refusal (λ n. format_word big format n) (fields_bytes big p texts) cause
+      (λ bytes is. word-refusal big format (length bytes) ∙ ap (word_cause format) (fields_size big p texts bytes is))
       ∙ ap (λ (c : Option Error). or_first c cause) fields-refusal
 
   -- the causes of what the unit length counts
@@ -142,10 +143,10 @@ module _ (big : Bool) (p : Built) (strings line_strings : List (List ℕ)) where
   inside_cause = or_first (version_cause p) (or_first first_causes (items_cause p))
 
   module _ (known : IsTrue (is_address_size p.encoding.address_size)) where
-    inside-refusal : refusal (inside_bytes big p strings line_strings) ≡ inside_cause
+    inside-refusal : refusal (inside_bytes big p texts) ≡ inside_cause
     inside-refusal =
         let program = program_bytes big p in
-        let header = header_bytes big p strings line_strings in
+        let header = header_bytes big p texts in
         let rest = result_append header program in
         let first = initial_row p.encoding.version p.line_encoding.default_is_stmt in
         joined-refusal (opening_bytes big p.encoding) rest
@@ -156,38 +157,37 @@ module _ (big : Bool) (p : Built) (strings line_strings : List (List ℕ)) where
         ∙ ap (λ (c : Option Error). or_first first_causes c)
         (items-refusal big p.encoding p.line_encoding known first p.items))
 
-    whole-refusal : refusal (whole_bytes big p strings line_strings) ≡ or_first inside_cause (unit_cause big p strings line_strings)
+    whole-refusal : refusal (whole_bytes big p texts) ≡ or_first inside_cause (unit_cause big p texts)
     whole-refusal =
         let format = p.encoding.format in
-        let cause = unit_cause big p strings line_strings in
-        after-refusal (λ n. result_append (Ok (escape_bytes big format)) (length_word big format n)) (inside_bytes big p strings line_strings) cause
+        let cause = unit_cause big p texts in
+        after-refusal (λ n. result_append (Ok (escape_bytes big format)) (length_word big format n)) (inside_bytes big p texts) cause
         (λ bytes is. joined-refusal (Ok (escape_bytes big format)) (length_word big format (length bytes))
-        ∙ length-refusal big format (length bytes) ∙ ap (unit_length_cause format) (inside_size big p strings line_strings bytes is))
+        ∙ length-refusal big format (length bytes) ∙ ap (unit_length_cause format) (inside_size big p texts bytes is))
         ∙ ap (λ (c : Option Error). or_first c cause) inside-refusal
 
 -- the first cause of a program is what its bytes are refused for
-pub cause-is : (big : Bool) (unit : Encoding) (p : Built) (strings line_strings : List (List ℕ)) → IsTrue (is_address_size p.encoding.address_size)
-    → first_cause big unit p strings line_strings ≡ refusal (unit_bytes big unit p strings line_strings)
-cause-is big unit p strings line_strings known =
+pub cause-is : (big : Bool) (unit : Encoding) (p : Built) (texts : StringTables) → IsTrue (is_address_size p.encoding.address_size)
+    → first_cause big unit p texts ≡ refusal (unit_bytes big unit p texts)
+cause-is big unit p texts known =
     let barred = is_incompatible unit p.encoding in
     let bar = cause_if barred IncompatibleLineProgramEncoding in
-    let texts = strings_after p strings in
-    let line_texts = line_strings_after p line_strings in
-    seven_causes bar (version_cause p) (encoding_cause p) (texts_cause p texts line_texts) (header_cause p texts line_texts) (items_cause p) (unit_cause big p texts line_texts)
-    ∙ ap (λ (c : Option Error). or_first bar c) (sym (whole-refusal big p texts line_texts known))
-    ∙ sym (barred-refusal barred IncompatibleLineProgramEncoding (whole_bytes big p texts line_texts))
+    let after = texts_after p texts in
+    seven_causes bar (version_cause p) (encoding_cause p) (texts_cause p after) (header_cause p after) (items_cause p) (unit_cause big p after)
+    ∙ ap (λ (c : Option Error). or_first bar c) (sym (whole-refusal big p after known))
+    ∙ sym (barred-refusal barred IncompatibleLineProgramEncoding (whole_bytes big p after))
 
 -- ---- what a call knows
 
 -- what was written has no cause
-pub no-cause : (big : Bool) (unit : Encoding) (p : Built) (strings line_strings : List (List ℕ)) → IsTrue (is_address_size p.encoding.address_size)
-    → (old new : List ℕ) → Appends (unit_bytes big unit p strings line_strings) old new → first_cause big unit p strings line_strings ≡ None
-no-cause big unit p strings line_strings known old new written =
-    let own = appended_bytes (unit_bytes big unit p strings line_strings) old new written in
-    cause-is big unit p strings line_strings known ∙ ap refusal own.1
+pub no-cause : (big : Bool) (unit : Encoding) (p : Built) (texts : StringTables) → IsTrue (is_address_size p.encoding.address_size)
+    → (old new : List ℕ) → Appends (unit_bytes big unit p texts) old new → first_cause big unit p texts ≡ None
+no-cause big unit p texts known old new written =
+    let own = appended_bytes (unit_bytes big unit p texts) old new written in
+    cause-is big unit p texts known ∙ ap refusal own.1
 
 -- what was refused was so for memory, or for the first cause
-pub refused-for : (big : Bool) (unit : Encoding) (p : Built) (strings line_strings : List (List ℕ)) → IsTrue (is_address_size p.encoding.address_size)
-    → (e : Error) → RefusesFor (unit_bytes big unit p strings line_strings) e → (e ≡ OutOfMemory) ⊎ (first_cause big unit p strings line_strings ≡ Some e)
-refused-for big unit p strings line_strings known e (inl memory) = inl memory
-refused-for big unit p strings line_strings known e (inr is) = inr (cause-is big unit p strings line_strings known ∙ ap refusal is)
+pub refused-for : (big : Bool) (unit : Encoding) (p : Built) (texts : StringTables) → IsTrue (is_address_size p.encoding.address_size)
+    → (e : Error) → RefusesFor (unit_bytes big unit p texts) e → (e ≡ OutOfMemory) ⊎ (first_cause big unit p texts ≡ Some e)
+refused-for big unit p texts known e (inl memory) = inl memory
+refused-for big unit p texts known e (inr is) = inr (cause-is big unit p texts known ∙ ap refusal is)

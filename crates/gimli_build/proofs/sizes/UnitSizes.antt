@@ -6,6 +6,7 @@ use Rattle.gimli_core.specs.declared.common.Encoding.{Encoding}
 use Rattle.gimli_core.specs.declared.common.LineEncoding.{LineEncoding}
 use Rattle.gimli_bytes.specs.declared.error.Error.{Error}
 use Rattle.gimli_bytes.specs.declared.error.Error.TheVariants.{UnsupportedVersion, NeedVersion}
+use Rattle.gimli_bytes.specs.Texts.{StringTables}
 use Rattle.gimli_build.specs.Built.{Built}
 use Rattle.gimli_build.specs.FormatWord.{format_word}
 use Rattle.gimli_build.specs.Joined.{result_append}
@@ -61,35 +62,35 @@ own_size (Err e) = size_of_none e 0
 two_and_two : (a b c d : ℕ) → a + ((b + c) + d) ≡ a + b + c + d
 two_and_two a b c d = omega arith
 
-module _ (big : Bool) (p : Built) (strings line_strings : List (List ℕ)) where
+module _ (big : Bool) (p : Built) (texts : StringTables) where
   -- what the header length counts is as long as it says
-  pub fields_size : HasSize (fields_bytes big p strings line_strings) (header_length p strings line_strings)
+  pub fields_size : HasSize (fields_bytes big p texts) (header_length p texts)
   fields_size =
       let encoding = if nat_le 4 p.encoding.version then 5 else 4 in
-      let tables = tables_bytes big p strings line_strings in
-      let count = tables_size p strings line_strings in
-      size_as (fields_bytes big p strings line_strings) (encoding + (13 + count)) (header_length p strings line_strings) (three_parts encoding 13 count)
+      let tables = tables_bytes big p texts in
+      let count = tables_size p texts in
+      size_as (fields_bytes big p texts) (encoding + (13 + count)) (header_length p texts) (three_parts encoding 13 count)
       (size_joined (line_encoding_bytes p.encoding.version p.line_encoding) (result_append (Ok opcode_bytes) tables) encoding (13 + count)
       (line_encoding_size p.encoding.version p.line_encoding)
-      (size_joined (Ok opcode_bytes) tables 13 count (size_of_ok opcode_bytes) (tables-size big p strings line_strings)))
+      (size_joined (Ok opcode_bytes) tables 13 count (size_of_ok opcode_bytes) (tables-size big p texts)))
 
   -- ---- what the unit length counts
 
-  header_size : HasSize (header_bytes big p strings line_strings) (word_size p.encoding.format + header_length p strings line_strings)
+  header_size : HasSize (header_bytes big p texts) (word_size p.encoding.format + header_length p texts)
   header_size =
       let word = word_size p.encoding.format in
-      size_after (λ n. format_word big p.encoding.format n) (fields_bytes big p strings line_strings) word (header_length p strings line_strings)
+      size_after (λ n. format_word big p.encoding.format n) (fields_bytes big p texts) word (header_length p texts)
       (λ n. format_word_size big p.encoding.format n) fields_size
 
   -- what the unit length counts is as long as it says
-  pub inside_size : HasSize (inside_bytes big p strings line_strings) (unit_length big p strings line_strings)
+  pub inside_size : HasSize (inside_bytes big p texts) (unit_length big p texts)
   inside_size =
       let opening = if nat_le p.encoding.version 4 then 2 else 4 in
       let word = word_size p.encoding.format in
       let program = size_of (program_bytes big p) in
-      let header = header_bytes big p strings line_strings in
-      let counted = header_length p strings line_strings in
-      size_as (inside_bytes big p strings line_strings) (opening + ((word + counted) + program)) (unit_length big p strings line_strings)
+      let header = header_bytes big p texts in
+      let counted = header_length p texts in
+      size_as (inside_bytes big p texts) (opening + ((word + counted) + program)) (unit_length big p texts)
       (two_and_two opening word counted program)
       (size_joined (opening_bytes big p.encoding) (result_append header (program_bytes big p)) opening ((word + counted) + program)
       (opening_size big p.encoding)

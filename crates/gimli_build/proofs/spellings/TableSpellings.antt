@@ -7,6 +7,7 @@ use Rattle.gimli_core.specs.Production.{Production, ◌>>=◌, Each}
 use Rattle.gimli_core.specs.Numbers.{SpellsUleb128}
 use Rattle.gimli_bytes.specs.Number.{uleb}
 use Rattle.gimli_bytes.proofs.ShortestUleb.{uleb_shortest}
+use Rattle.gimli_bytes.specs.Texts.{StringTables}
 use Rattle.gimli_line.specs.header.Productions.{name}
 use Rattle.gimli_line.specs.header.Header.{plain_file}
 use Rattle.gimli_line.specs.header.File.{File as ReadFile}
@@ -22,16 +23,16 @@ use Rattle.gimli_build.proofs.writing.WrittenParts.{same_written, both_written, 
 unsigned_spelled : (n : ℕ) → n < 2 ^ 64 → SpellsUleb128 64 (uleb n) n
 unsigned_spelled n lt = (uleb_shortest n lt).spells
 
-module _ (strings line_strings : List (List ℕ)) where
+module _ (texts : StringTables) where
   -- a text in the unit itself is its bytes
-  name_spelled : (t : LineText) (bytes : List ℕ) → IsNotEmpty t → HasNoZero t → name_bytes t ≡ Ok bytes → name.Spells bytes (bytes_in strings line_strings t)
+  name_spelled : (t : LineText) (bytes : List ℕ) → IsNotEmpty t → HasNoZero t → name_bytes t ≡ Ok bytes → name.Spells bytes (bytes_in texts t)
   name_spelled (Inline text) bytes some clean is = (some, (recursion_from_All (λ b. b ≢ 0) text clean, same_written (text ++ 0 ∷ []) bytes is))
   name_spelled (InStrings i) bytes some clean is = absurd cc
   name_spelled (InLineStrings i) bytes some clean is = absurd cc
 
   -- ---- directories
 
-  names_spelled : (ts : List LineText) (bytes : List ℕ) → All IsNotEmpty ts → All HasNoZero ts → result_concat name_bytes ts ≡ Ok bytes → Each name.Spells bytes (map (bytes_in strings line_strings) ts)
+  names_spelled : (ts : List LineText) (bytes : List ℕ) → All IsNotEmpty ts → All HasNoZero ts → result_concat name_bytes ts ≡ Ok bytes → Each name.Spells bytes (map (bytes_in texts) ts)
   names_spelled [] bytes some clean is = same_written [] bytes is
   names_spelled (t ∷ ts) bytes some clean is =
       let b = both_written (name_bytes t) (result_concat name_bytes ts) bytes is in
@@ -39,7 +40,7 @@ module _ (strings line_strings : List (List ℕ)) where
       (b.first, b.rest, b.whole, own, names_spelled ts b.rest (All-tail IsNotEmpty t ts some) (All-tail HasNoZero t ts clean) b.rest_is)
 
   pub directories-spelled : (ds : List LineText) (bytes : List ℕ) → All IsNotEmpty (drop 1 ds) → All HasNoZero (drop 1 ds) → directories_bytes ds ≡ Ok bytes
-      → SpellsPaths bytes (map (bytes_in strings line_strings) (drop 1 ds))
+      → SpellsPaths bytes (map (bytes_in texts) (drop 1 ds))
   directories-spelled ds bytes some clean is =
       let b = before_written (result_concat name_bytes (drop 1 ds)) (0 ∷ []) bytes is in
       (b.front, b.whole, names_spelled (drop 1 ds) b.front some clean b.front_is)
@@ -52,7 +53,7 @@ module _ (strings line_strings : List (List ℕ)) where
 
   -- what is read of a file up to version 4
   abbrev pub read_file : File → ReadFile
-  read_file f = plain_file (bytes_in strings line_strings f.0.0) f.0.1 f.1.timestamp f.1.size
+  read_file f = plain_file (bytes_in texts f.0.0) f.0.1 f.1.timestamp f.1.size
 
   numbers_spelled : (path : List ℕ) (directory time size : ℕ) → directory < 2 ^ 64 → time < 2 ^ 64 → size < 2 ^ 64
       → (file_production path).Spells (uleb directory ++ uleb time ++ uleb size) (plain_file path directory time size)
@@ -75,7 +76,7 @@ module _ (strings line_strings : List (List ℕ)) where
   file_spelled : (f : File) (bytes : List ℕ) → IsNotEmpty f.0.0 → HasNoZero f.0.0 → FitsFile f → file_bytes f ≡ Ok bytes → entry_production.Spells bytes (read_file f)
   file_spelled f bytes some clean fits is =
       let b = before_written (name_bytes f.0.0) (uleb f.0.1 ++ uleb f.1.timestamp ++ uleb f.1.size) bytes is in
-      let path = bytes_in strings line_strings f.0.0 in
+      let path = bytes_in texts f.0.0 in
       let numbers = numbers_spelled path f.0.1 f.1.timestamp f.1.size fits.directory fits.timestamp fits.size in
       (path, b.front, uleb f.0.1 ++ uleb f.1.timestamp ++ uleb f.1.size, b.whole, name_spelled f.0.0 b.front some clean b.front_is, numbers)
 

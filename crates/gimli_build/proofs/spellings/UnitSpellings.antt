@@ -9,6 +9,7 @@ use Rattle.gimli_core.specs.declared.common.Format.TheVariants.{Dwarf32, Dwarf64
 use Rattle.gimli_core.specs.declared.error.Error.TheVariants.{OpcodeBaseZero}
 use Rattle.gimli_bytes.specs.Number.{length_word}
 use Rattle.gimli_bytes.specs.declared.error.Error.{Error}
+use Rattle.gimli_bytes.specs.Texts.{StringTables}
 use Rattle.gimli_line.specs.header.Header.{Header, UnitEntry, plain_file}
 use Rattle.gimli_line.specs.header.HeaderGrammar.{Opening, handed_value, parameters_production, opening_production, fields_production, header_production}
 use Rattle.gimli_build.specs.Built.{Built}
@@ -26,7 +27,7 @@ use Rattle.gimli_build.proofs.reading.TablesBack.{TablesBack}
 
 -- ---- a unit that was written, and its parts
 
-pub record UnitWritten (big : Bool) (p : Built) (strings line_strings : List (List ℕ)) (unit : List ℕ) : Type 0 where
+pub record UnitWritten (big : Bool) (p : Built) (texts : StringTables) (unit : List ℕ) : Type 0 where
   pub length_bytes : List ℕ
   pub opening : List ℕ
   pub size : List ℕ
@@ -36,7 +37,7 @@ pub record UnitWritten (big : Bool) (p : Built) (strings line_strings : List (Li
   pub length_is : length_word big p.encoding.format (length inside) ≡ Ok length_bytes
   pub opening_is : opening_bytes big p.encoding ≡ Ok opening
   pub size_is : format_word big p.encoding.format (length fields) ≡ Ok size
-  pub fields_are : fields_bytes big p strings line_strings ≡ Ok fields
+  pub fields_are : fields_bytes big p texts ≡ Ok fields
   pub program_is : program_bytes big p ≡ Ok program
   pub inside_is : inside ≡ opening ++ ((size ++ fields) ++ program)
   pub whole : unit ≡ (escape_bytes big p.encoding.format ++ length_bytes) ++ inside
@@ -49,15 +50,15 @@ front_in_two whole front rest first second is parts = is ∙ ap (λ (l : List �
 rest_in_three : (whole first rest header size fields last : List ℕ) → whole ≡ first ++ rest → rest ≡ header ++ last → header ≡ size ++ fields → whole ≡ first ++ ((size ++ fields) ++ last)
 rest_in_three whole first rest header size fields last is parts inner = is ∙ ap (λ (l : List ℕ). first ++ l) (parts ∙ ap (λ (l : List ℕ). l ++ last) inner)
 
-pub unit_written : (big : Bool) (p : Built) (strings line_strings : List (List ℕ)) (unit : List ℕ) → whole_bytes big p strings line_strings ≡ Ok unit → UnitWritten big p strings line_strings unit
-unit_written big p strings line_strings unit is =
+pub unit_written : (big : Bool) (p : Built) (texts : StringTables) (unit : List ℕ) → whole_bytes big p texts ≡ Ok unit → UnitWritten big p texts unit
+unit_written big p texts unit is =
     let escape = escape_bytes big p.encoding.format in
     let word : ℕ → Result (List ℕ) Error = λ n. length_word big p.encoding.format n in
-    let a = counted_written (λ n. result_append (Ok escape) (word n)) (inside_bytes big p strings line_strings) unit is in
+    let a = counted_written (λ n. result_append (Ok escape) (word n)) (inside_bytes big p texts) unit is in
     let b = after_written escape (word (length a.inside)) a.size a.size_is in
-    let c = both_written (opening_bytes big p.encoding) (result_append (header_bytes big p strings line_strings) (program_bytes big p)) a.inside a.inside_is in
-    let d = both_written (header_bytes big p strings line_strings) (program_bytes big p) c.rest c.rest_is in
-    let e = counted_written (λ n. format_word big p.encoding.format n) (fields_bytes big p strings line_strings) d.first d.first_is in
+    let c = both_written (opening_bytes big p.encoding) (result_append (header_bytes big p texts) (program_bytes big p)) a.inside a.inside_is in
+    let d = both_written (header_bytes big p texts) (program_bytes big p) c.rest c.rest_is in
+    let e = counted_written (λ n. format_word big p.encoding.format n) (fields_bytes big p texts) d.first d.first_is in
     record {
       length_bytes = b.rest;
       opening = c.first;
@@ -75,17 +76,17 @@ unit_written big p strings line_strings unit is =
     }
 
 -- the fields, and their parts
-pub record FieldsWritten (big : Bool) (p : Built) (strings line_strings : List (List ℕ)) (fields : List ℕ) : Type 0 where
+pub record FieldsWritten (big : Bool) (p : Built) (texts : StringTables) (fields : List ℕ) : Type 0 where
   encoding : List ℕ
   pub tables : List ℕ
   encoding_is : line_encoding_bytes p.encoding.version p.line_encoding ≡ Ok encoding
-  pub tables_are : tables_bytes big p strings line_strings ≡ Ok tables
+  pub tables_are : tables_bytes big p texts ≡ Ok tables
   whole : fields ≡ (encoding ++ 13 ∷ []) ++ (operand_counts ++ tables)
 
-pub fields_written : (big : Bool) (p : Built) (strings line_strings : List (List ℕ)) (fields : List ℕ) → fields_bytes big p strings line_strings ≡ Ok fields → FieldsWritten big p strings line_strings fields
-fields_written big p strings line_strings fields is =
-    let a = both_written (line_encoding_bytes p.encoding.version p.line_encoding) (result_append (Ok opcode_bytes) (tables_bytes big p strings line_strings)) fields is in
-    let b = after_written opcode_bytes (tables_bytes big p strings line_strings) a.rest a.rest_is in
+pub fields_written : (big : Bool) (p : Built) (texts : StringTables) (fields : List ℕ) → fields_bytes big p texts ≡ Ok fields → FieldsWritten big p texts fields
+fields_written big p texts fields is =
+    let a = both_written (line_encoding_bytes p.encoding.version p.line_encoding) (result_append (Ok opcode_bytes) (tables_bytes big p texts)) fields is in
+    let b = after_written opcode_bytes (tables_bytes big p texts) a.rest a.rest_is in
     record {
       encoding = a.first;
       tables = b.rest;
@@ -95,8 +96,8 @@ fields_written big p strings line_strings fields is =
     }
 
 -- what is written of a unit is no longer than the unit
-pub inside-short : (big : Bool) (p : Built) (strings line_strings : List (List ℕ)) (unit : List ℕ) (w : UnitWritten big p strings line_strings unit) → length w.inside ≤ length unit
-inside-short big p strings line_strings unit w =
+pub inside-short : (big : Bool) (p : Built) (texts : StringTables) (unit : List ℕ) (w : UnitWritten big p texts unit) → length w.inside ≤ length unit
+inside-short big p texts unit w =
     let whole = ap (λ (l : List ℕ). length l) w.whole in
     omega (arith, whole, length-append (escape_bytes big p.encoding.format ++ w.length_bytes) w.inside)
 
@@ -109,28 +110,28 @@ length_wide big Dwarf64 n word wide is =
     let eight = ap length (same_written (number_bytes big 8 n) word is) ∙ size_8 big n in
     omega (arith, whole, escape, eight)
 
-inside-wide : (big : Bool) (p : Built) (strings line_strings : List (List ℕ)) (unit : List ℕ) (w : UnitWritten big p strings line_strings unit) → p.encoding.format ≡ Dwarf64 → length w.inside + 12 ≡ length unit
-inside-wide big p strings line_strings unit w wide =
+inside-wide : (big : Bool) (p : Built) (texts : StringTables) (unit : List ℕ) (w : UnitWritten big p texts unit) → p.encoding.format ≡ Dwarf64 → length w.inside + 12 ≡ length unit
+inside-wide big p texts unit w wide =
     let whole = ap (λ (l : List ℕ). length l) w.whole in
     let front = length_wide big p.encoding.format (length w.inside) w.length_bytes wide w.length_is in
     omega (arith, whole, front, length-append (escape_bytes big p.encoding.format ++ w.length_bytes) w.inside)
 
-pub fields-short : (big : Bool) (p : Built) (strings line_strings : List (List ℕ)) (unit : List ℕ) (w : UnitWritten big p strings line_strings unit) → length w.fields ≤ length w.inside
-fields-short big p strings line_strings unit w =
+pub fields-short : (big : Bool) (p : Built) (texts : StringTables) (unit : List ℕ) (w : UnitWritten big p texts unit) → length w.fields ≤ length w.inside
+fields-short big p texts unit w =
     let whole = ap (λ (l : List ℕ). length l) w.inside_is in
     omega (arith, whole, length-append w.opening ((w.size ++ w.fields) ++ w.program), length-append (w.size ++ w.fields) w.program, length-append w.size w.fields)
 
 -- the tables are no longer than the fields
-pub tables-short : (big : Bool) (p : Built) (strings line_strings : List (List ℕ)) (fields : List ℕ) (w : FieldsWritten big p strings line_strings fields) → length w.tables ≤ length fields
-tables-short big p strings line_strings fields w =
+pub tables-short : (big : Bool) (p : Built) (texts : StringTables) (fields : List ℕ) (w : FieldsWritten big p texts fields) → length w.tables ≤ length fields
+tables-short big p texts fields w =
     let whole = ap (λ (l : List ℕ). length l) w.whole in
     omega (arith, whole, length-append (w.encoding ++ 13 ∷ []) (operand_counts ++ w.tables), length-append operand_counts w.tables)
 
 -- ---- the header
 
-module _ (notation : Notation) (unit_entry : UnitEntry) (sections : Sections) (p : Built) (strings line_strings : List (List ℕ)) (built : IsBuilt p) where
+module _ (notation : Notation) (unit_entry : UnitEntry) (sections : Sections) (p : Built) (texts : StringTables) (built : IsBuilt p) where
   abbrev pub Tables : List ℕ → Type 0
-  Tables bytes = TablesBack notation unit_entry sections p strings line_strings bytes
+  Tables bytes = TablesBack notation unit_entry sections p texts bytes
 
   abbrev pub header_of : (bytes : List ℕ) → Tables bytes → ℕ → ℕ → List ℕ → Header
   header_of bytes t unit_size fields_size program = record {
@@ -154,7 +155,7 @@ module _ (notation : Notation) (unit_entry : UnitEntry) (sections : Sections) (p
   rules_spelled bytes is =
       (p.line_encoding, bytes, 13 ∷ [], refl, encoding-spelled p.encoding.version p.line_encoding bytes built.is.lines is, (13, 13 ∷ [], [], refl, positive-spelled 13 OpcodeBaseZero (omega arith), (refl, refl)))
 
-  fields_spelled : (unit_size : ℕ) (fields program : List ℕ) (w : FieldsWritten notation.big p strings line_strings fields) (t : Tables w.tables)
+  fields_spelled : (unit_size : ℕ) (fields program : List ℕ) (w : FieldsWritten notation.big p texts fields) (t : Tables w.tables)
       → (fields_production notation unit_entry unit_size (opening_of fields) program).Spells fields (header_of w.tables t unit_size (length fields) program)
   fields_spelled unit_size fields program w t = (
     built_rules p.encoding p.line_encoding,
@@ -208,7 +209,7 @@ module _ (notation : Notation) (unit_entry : UnitEntry) (sections : Sections) (p
         ),
       )
 
-  module _ (unit : List ℕ) (w : UnitWritten notation.big p strings line_strings unit) (v : FieldsWritten notation.big p strings line_strings w.fields) (t : Tables v.tables)
+  module _ (unit : List ℕ) (w : UnitWritten notation.big p texts unit) (v : FieldsWritten notation.big p texts w.fields) (t : Tables v.tables)
       (same : unit_entry.address_size ≡ p.encoding.address_size) (holds : p.encoding.format ≡ Dwarf64 → length unit - 12 < notation.limit) (small : length unit < 2 ^ 64) where
     abbrev header : Header
     header = header_of v.tables t (length w.inside) (length w.fields) w.program
@@ -218,9 +219,9 @@ module _ (notation : Notation) (unit_entry : UnitEntry) (sections : Sections) (p
 
     unit_spelled : (header_production notation unit_entry).Spells unit header
     unit_spelled =
-        let inside = inside-short notation.big p strings line_strings unit w in
-        let fields = fields-short notation.big p strings line_strings unit w in
-        let inside_held : p.encoding.format ≡ Dwarf64 → length w.inside < notation.limit = λ wide. (let rest = inside-wide notation.big p strings line_strings unit w wide in let lt = holds wide in omega (arith, rest, lt)) in
+        let inside = inside-short notation.big p texts unit w in
+        let fields = fields-short notation.big p texts unit w in
+        let inside_held : p.encoding.format ≡ Dwarf64 → length w.inside < notation.limit = λ wide. (let rest = inside-wide notation.big p texts unit w wide in let lt = holds wide in omega (arith, rest, lt)) in
         let fields_held : p.encoding.format ≡ Dwarf64 → length w.fields < notation.limit = λ wide. (let lt = inside_held wide in omega (arith, fields, lt)) in
         let length_spelled = length-spelled notation p.encoding.format (length w.inside) w.length_bytes inside_held (omega (arith, inside, small)) w.length_is in
         let opened = opening_spelled w.opening w.size w.fields same fields_held (omega (arith, inside, fields, small)) w.opening_is w.size_is in

@@ -10,7 +10,7 @@ use Rattle.gimli_core.specs.Production.{times}
 use Rattle.gimli_core.specs.declared.common.Format.{Format}
 use Rattle.gimli_core.specs.declared.common.Format.TheVariants.{Dwarf64}
 use Rattle.gimli_bytes.specs.Number.{uleb}
-use Rattle.gimli_bytes.specs.Texts.{AreTexts, table_bytes}
+use Rattle.gimli_bytes.specs.Texts.{AreTexts, table_bytes, StringTables}
 use Rattle.gimli_bytes.specs.declared.error.Error.{Error}
 use Rattle.gimli_bytes.proofs.ShortestUleb.{uleb_shortest}
 use Rattle.gimli_line.specs.header.File.{File as ReadFile}
@@ -73,100 +73,100 @@ module _ (notation : Notation) (format : Format) {X : Type 0} (formats : List (�
 
 -- ---- the tables of a program
 
-abbrev pub directory_entry : List (List ℕ) → List (List ℕ) → LineText → Entry
-directory_entry strings line_strings t = (0x0001, read_text strings line_strings t) ∷ []
+abbrev pub directory_entry : StringTables → LineText → Entry
+directory_entry texts t = (0x0001, read_text texts t) ∷ []
 
-abbrev pub file_entry : Built → List (List ℕ) → List (List ℕ) → File → Entry
-file_entry p strings line_strings f =
+abbrev pub file_entry : Built → StringTables → File → Entry
+file_entry p texts f =
     entry_of p.file_has_timestamp p.file_has_size p.file_has_md5 p.file_has_source
-    (read_text strings line_strings f.0.0) f.0.1 f.1.timestamp f.1.size f.1.md5 (read_text strings line_strings (source_of p strings line_strings f))
+    (read_text texts f.0.0) f.0.1 f.1.timestamp f.1.size f.1.md5 (read_text texts (source_of p texts f))
 
-module _ (notation : Notation) (p : Built) (strings line_strings : List (List ℕ)) (ready : AreReady p strings line_strings)
-    (strings_short : length (table_bytes strings) < 2 ^ 64) (line_strings_short : length (table_bytes line_strings) < 2 ^ 64)
-    (held : p.encoding.format ≡ Dwarf64 → AreHeld notation.limit p strings line_strings) where
+module _ (notation : Notation) (p : Built) (texts : StringTables) (ready : AreReady p texts)
+    (strings_short : length (table_bytes texts.strings) < 2 ^ 64) (line_strings_short : length (table_bytes texts.line_strings) < 2 ^ 64)
+    (held : p.encoding.format ≡ Dwarf64 → AreHeld notation.limit p texts) where
   -- a text can be read back, by this reader
   abbrev IsReadable : LineText → Type 0
-  IsReadable t = IsReady strings line_strings t × (p.encoding.format ≡ Dwarf64 → IsHeld notation.limit p strings line_strings t)
+  IsReadable t = IsReady texts t × (p.encoding.format ≡ Dwarf64 → IsHeld notation.limit p texts t)
 
   abbrev IsFileReadable : File → Type 0
-  IsFileReadable f = IsFileReady p strings line_strings f × (p.encoding.format ≡ Dwarf64 → IsFileHeld notation.limit p strings line_strings f)
+  IsFileReadable f = IsFileReady p texts f × (p.encoding.format ≡ Dwarf64 → IsFileHeld notation.limit p texts f)
 
   abbrev text_written : ℕ → LineText → Result (List ℕ) Error
-  text_written form t = text_in_form notation.big p.encoding.format strings line_strings form t
+  text_written form t = text_in_form notation.big p.encoding.format texts form t
 
-  pub new-directories-spelled : (bytes : List ℕ) → directory_table_bytes notation.big p.encoding.format strings line_strings p ≡ Ok bytes → length bytes < 2 ^ 64
-      → (table_production notation p.encoding.format).Spells bytes (map read_format (directory_formats p), map (directory_entry strings line_strings) p.directories)
+  pub new-directories-spelled : (bytes : List ℕ) → directory_table_bytes notation.big p.encoding.format texts p ≡ Ok bytes → length bytes < 2 ^ 64
+      → (table_production notation p.encoding.format).Spells bytes (map read_format (directory_formats p), map (directory_entry texts) p.directories)
   new-directories-spelled bytes is small =
       let form = first_form p.directories in
-      table_spelled notation p.encoding.format (directory_formats p) IsReadable (text_written form) (directory_entry strings line_strings)
-      (λ t b own written. last-spelled notation p.encoding.format 0x0001 form b (read_text strings line_strings t)
-      (text-spelled notation p.encoding.format strings line_strings strings_short line_strings_short form t b own.0 own.1 written))
-      (λ t b written. text-long notation.big p.encoding.format strings line_strings form t b written)
+      table_spelled notation p.encoding.format (directory_formats p) IsReadable (text_written form) (directory_entry texts)
+      (λ t b own written. last-spelled notation p.encoding.format 0x0001 form b (read_text texts t)
+      (text-spelled notation p.encoding.format texts strings_short line_strings_short form t b own.0 own.1 written))
+      (λ t b written. text-long notation.big p.encoding.format texts form t b written)
       p.directories bytes (directory-formats p) (λ i d lt. (ready.directories i d lt, λ wide. (held wide).directories i d lt)) is small
 
   -- the bytes of a source, where it is written
-  source_written : (f : File) (bytes : List ℕ) → source_bytes notation.big p.encoding.format strings line_strings p f ≡ Ok bytes
-      → (p.file_has_source ≡ true → text_written (first_form (sources p.files)) (source_of p strings line_strings f) ≡ Ok bytes) × (p.file_has_source ≡ false → bytes ≡ [])
-  source_written f bytes is = by p.file_has_source (text_written (first_form (sources p.files)) (source_of p strings line_strings f)) is
+  source_written : (f : File) (bytes : List ℕ) → source_bytes notation.big p.encoding.format texts p f ≡ Ok bytes
+      → (p.file_has_source ≡ true → text_written (first_form (sources p.files)) (source_of p texts f) ≡ Ok bytes) × (p.file_has_source ≡ false → bytes ≡ [])
+  source_written f bytes is = by p.file_has_source (text_written (first_form (sources p.files)) (source_of p texts f)) is
     where
       by : (b : Bool) (r : Result (List ℕ) Error) → (let s : Result (List ℕ) Error = if b then r else Ok [] in s) ≡ Ok bytes → (b ≡ true → r ≡ Ok bytes) × (b ≡ false → bytes ≡ [])
       by true r is = (λ same. is, λ same. absurd cc)
       by false r is = (λ same. absurd cc, λ same. same_written [] bytes is)
 
-  file_spelled : (f : File) (bytes : List ℕ) → IsFileReadable f → file_entry_bytes notation.big p.encoding.format strings line_strings p f ≡ Ok bytes
-      → IsSpelled notation p.encoding.format (file_formats p) bytes (file_entry p strings line_strings f)
+  file_spelled : (f : File) (bytes : List ℕ) → IsFileReadable f → file_entry_bytes notation.big p.encoding.format texts p f ≡ Ok bytes
+      → IsSpelled notation p.encoding.format (file_formats p) bytes (file_entry p texts f)
   file_spelled f bytes own is =
       let path_form = first_form (path_texts p.files) in
       let source_form = first_form (sources p.files) in
-      let source = source_bytes notation.big p.encoding.format strings line_strings p f in
+      let source = source_bytes notation.big p.encoding.format texts p f in
       let a = both_written (text_written path_form f.0.0) (result_append (Ok (detail_bytes p f)) source) bytes is in
       let b = after_written (detail_bytes p f) source a.rest a.rest_is in
       let s = source_written f b.rest b.rest_is in
-      let spell = text-spelled notation p.encoding.format strings line_strings strings_short line_strings_short in
+      let spell = text-spelled notation p.encoding.format texts strings_short line_strings_short in
       let whole : bytes ≡ a.first ++ (detail_bytes p f ++ b.rest) = a.whole ∙ ap (λ (l : List ℕ). a.first ++ l) b.whole in
-      let text = source_of p strings line_strings f in
+      let text = source_of p texts f in
       let list = formats_of p.file_has_timestamp p.file_has_size p.file_has_md5 p.file_has_source path_form source_form in
-      let entry = file_entry p strings line_strings f in
+      let entry = file_entry p texts f in
       let spelled : IsSpelled notation p.encoding.format list (a.first ++ (detail_bytes p f ++ b.rest)) entry =
       entry-spelled notation p.encoding.format p.file_has_timestamp p.file_has_size p.file_has_md5 p.file_has_source path_form source_form
-      (read_text strings line_strings f.0.0) f.0.1 f.1.timestamp f.1.size f.1.md5 (read_text strings line_strings text) a.first b.rest
+      (read_text texts f.0.0) f.0.1 f.1.timestamp f.1.size f.1.md5 (read_text texts text) a.first b.rest
       (spell path_form f.0.0 a.first own.0.path (λ wide. (own.1 wide).path) a.first_is) own.0.fits.directory own.0.fits.timestamp own.0.fits.size own.0.fits.md5
       (λ flag. spell source_form text b.rest (own.0.source flag) (λ wide. (own.1 wide).source flag) (s.0 flag)) s.1 in
       let same : IsSpelled notation p.encoding.format list bytes entry = subst (λ (l : List ℕ). IsSpelled notation p.encoding.format list l entry) (sym whole) spelled in
       subst (λ (l : List (ℕ × ℕ)). IsSpelled notation p.encoding.format l bytes entry) (sym (formats-same p)) same
 
-  file_long : (f : File) (bytes : List ℕ) → file_entry_bytes notation.big p.encoding.format strings line_strings p f ≡ Ok bytes → 0 < length bytes
+  file_long : (f : File) (bytes : List ℕ) → file_entry_bytes notation.big p.encoding.format texts p f ≡ Ok bytes → 0 < length bytes
   file_long f bytes is =
       let form = first_form (path_texts p.files) in
-      let a = both_written (text_written form f.0.0) (result_append (Ok (detail_bytes p f)) (source_bytes notation.big p.encoding.format strings line_strings p f)) bytes is in
+      let a = both_written (text_written form f.0.0) (result_append (Ok (detail_bytes p f)) (source_bytes notation.big p.encoding.format texts p f)) bytes is in
       let whole = ap length a.whole ∙ length-append a.first a.rest in
-      let long = text-long notation.big p.encoding.format strings line_strings form f.0.0 a.first a.first_is in
+      let long = text-long notation.big p.encoding.format texts form f.0.0 a.first a.first_is in
       omega (arith, whole, long)
 
-  pub new-files-spelled : (bytes : List ℕ) → file_table_bytes notation.big p.encoding.format strings line_strings p ≡ Ok bytes → length bytes < 2 ^ 64
-      → (table_production notation p.encoding.format).Spells bytes (map read_format (file_formats p), map (file_entry p strings line_strings) p.files)
+  pub new-files-spelled : (bytes : List ℕ) → file_table_bytes notation.big p.encoding.format texts p ≡ Ok bytes → length bytes < 2 ^ 64
+      → (table_production notation p.encoding.format).Spells bytes (map read_format (file_formats p), map (file_entry p texts) p.files)
   new-files-spelled bytes is small =
-      table_spelled notation p.encoding.format (file_formats p) IsFileReadable (file_entry_bytes notation.big p.encoding.format strings line_strings p) (file_entry p strings line_strings)
+      table_spelled notation p.encoding.format (file_formats p) IsFileReadable (file_entry_bytes notation.big p.encoding.format texts p) (file_entry p texts)
       file_spelled file_long p.files bytes (file-formats p) (λ i d lt. (ready.files i d lt, λ wide. (held wide).files i d lt)) is small
 
 -- ---- what is read stands for what was built
 
-module _ (sections : Sections) (p : Built) (strings line_strings : List (List ℕ)) (strings_are : sections.strings ≡ table_bytes strings) (line_strings_are : sections.line_strings ≡ table_bytes line_strings)
-    (texts : AreTexts strings) (line_texts : AreTexts line_strings) where
-  text_back : (t : LineText) → IsReady strings line_strings t → IsText sections (read_text strings line_strings t) (bytes_in strings line_strings t)
-  text_back t ready = text-back sections strings line_strings strings_are line_strings_are texts line_texts t ready.within
+module _ (sections : Sections) (p : Built) (texts : StringTables) (strings_are : sections.strings ≡ table_bytes texts.strings) (line_strings_are : sections.line_strings ≡ table_bytes texts.line_strings)
+    (are_texts : AreTexts texts.strings) (are_line_texts : AreTexts texts.line_strings) where
+  text_back : (t : LineText) → IsReady texts t → IsText sections (read_text texts t) (bytes_in texts t)
+  text_back t ready = text-back sections texts strings_are line_strings_are are_texts are_line_texts t ready.within
 
-  pub new-directories-back : (ts : List LineText) → All (IsReady strings line_strings) ts → OneByOne (IsDirectory sections strings line_strings) (map path_of (map (directory_entry strings line_strings) ts)) ts
+  pub new-directories-back : (ts : List LineText) → All (IsReady texts) ts → OneByOne (IsDirectory sections texts) (map path_of (map (directory_entry texts) ts)) ts
   new-directories-back [] all = tt
   new-directories-back (t ∷ ts) all =
-      (text_back t (All-head (IsReady strings line_strings) t ts all), new-directories-back ts (All-tail (IsReady strings line_strings) t ts all))
+      (text_back t (All-head (IsReady texts) t ts all), new-directories-back ts (All-tail (IsReady texts) t ts all))
 
   -- what a file keeps in version 5
-  stored_new : (d : Details) → nat_le p.encoding.version 4 ≡ false → stored_details p strings line_strings d ≡ record {
+  stored_new : (d : Details) → nat_le p.encoding.version 4 ≡ false → stored_details p texts d ≡ record {
     timestamp = if p.file_has_timestamp then d.timestamp else 0;
     size = if p.file_has_size then d.size else 0;
     md5 = if p.file_has_md5 then d.md5 else replicate 16 0;
-    source = if p.file_has_source then Some (option_map_or (bytes_in strings line_strings) d.source []) else None;
+    source = if p.file_has_source then Some (option_map_or (bytes_in texts) d.source []) else None;
   }
   stored_new d new = rw new refl
 
@@ -177,9 +177,9 @@ module _ (sections : Sections) (p : Built) (strings line_strings : List (List �
   abbrev file_seen : File → ReadFile
   file_seen f =
       file_with p.file_has_timestamp p.file_has_size p.file_has_md5 p.file_has_source
-      (read_text strings line_strings f.0.0) f.0.1 f.1.timestamp f.1.size f.1.md5 (read_text strings line_strings (source_of p strings line_strings f))
+      (read_text texts f.0.0) f.0.1 f.1.timestamp f.1.size f.1.md5 (read_text texts (source_of p texts f))
 
-  seen_back : (f : File) → nat_le p.encoding.version 4 ≡ false → IsFileReady p strings line_strings f → IsFile sections p strings line_strings (file_seen f) f
+  seen_back : (f : File) → nat_le p.encoding.version 4 ≡ false → IsFileReady p texts f → IsFile sections p texts (file_seen f) f
   seen_back f new own =
       let same = stored_new f.1 new in
       record {
@@ -188,19 +188,19 @@ module _ (sections : Sections) (p : Built) (strings line_strings : List (List �
         timestamp = sym (ap (λ (s : Stored). s.timestamp) same);
         size = sym (ap (λ (s : Stored). s.size) same);
         md5 = sym (ap (λ (s : Stored). s.md5) same);
-        source = rw (ap (λ (s : Stored). s.source) same) (source_back p.file_has_source (read_text strings line_strings (source_of p strings line_strings f)) (option_map_or (bytes_in strings line_strings) f.1.source [])
-            (λ flag. rw (← own.source_bytes flag) (text_back (source_of p strings line_strings f) (own.source flag))));
+        source = rw (ap (λ (s : Stored). s.source) same) (source_back p.file_has_source (read_text texts (source_of p texts f)) (option_map_or (bytes_in texts) f.1.source [])
+            (λ flag. rw (← own.source_bytes flag) (text_back (source_of p texts f) (own.source flag))));
       }
 
-  file_back : (f : File) → nat_le p.encoding.version 4 ≡ false → IsFileReady p strings line_strings f → IsFile sections p strings line_strings (file_of_entry (file_entry p strings line_strings f)) f
+  file_back : (f : File) → nat_le p.encoding.version 4 ≡ false → IsFileReady p texts f → IsFile sections p texts (file_of_entry (file_entry p texts f)) f
   file_back f new own =
-      subst (λ (r : ReadFile). IsFile sections p strings line_strings r f)
+      subst (λ (r : ReadFile). IsFile sections p texts r f)
       (sym (file-read p.file_has_timestamp p.file_has_size p.file_has_md5 p.file_has_source
-      (read_text strings line_strings f.0.0) f.0.1 f.1.timestamp f.1.size f.1.md5 (read_text strings line_strings (source_of p strings line_strings f)) own.fits.md5))
+      (read_text texts f.0.0) f.0.1 f.1.timestamp f.1.size f.1.md5 (read_text texts (source_of p texts f)) own.fits.md5))
       (seen_back f new own)
 
-  pub new-files-back : (fs : List File) → nat_le p.encoding.version 4 ≡ false → All (IsFileReady p strings line_strings) fs
-      → OneByOne (IsFile sections p strings line_strings) (map file_of_entry (map (file_entry p strings line_strings) fs)) fs
+  pub new-files-back : (fs : List File) → nat_le p.encoding.version 4 ≡ false → All (IsFileReady p texts) fs
+      → OneByOne (IsFile sections p texts) (map file_of_entry (map (file_entry p texts) fs)) fs
   new-files-back [] new all = tt
   new-files-back (f ∷ fs) new all =
-      (file_back f new (All-head (IsFileReady p strings line_strings) f fs all), new-files-back fs new (All-tail (IsFileReady p strings line_strings) f fs all))
+      (file_back f new (All-head (IsFileReady p texts) f fs all), new-files-back fs new (All-tail (IsFileReady p texts) f fs all))

@@ -1,14 +1,15 @@
 -- The text that stands for the source of a file that has none.
 use Rattle.std.specs.Prelude.{◌≡◌, ℕ, true, List}
+use Rattle.gimli_bytes.specs.Texts.{StringTables}
 use Rattle.gimli_build.specs.LineText.{LineText, IsWithin}
 use Rattle.gimli_build.specs.Built.{Built}
 use Rattle.gimli_build.specs.Version5Tables.{first_form, sources, needs_empty, empty_text}
 
 -- it is the empty text in the form of the other sources, and is in these tables
-pub record IsEmptySource (p : Built) (strings line_strings : List (List ℕ)) (t : LineText) : Type 0 where
-  pub is : t ≡ empty_text (first_form (sources p.files)) strings line_strings
-  pub within : IsWithin strings line_strings t
+pub record IsEmptySource (p : Built) (texts : StringTables) (t : LineText) : Type 0 where
+  pub is : t ≡ empty_text (first_form (sources p.files)) texts
+  pub within : IsWithin texts t
 
 -- so it is where the program needs one
-abbrev pub StandsForNone : Built → List (List ℕ) → List (List ℕ) → LineText → Type 0
-StandsForNone p strings line_strings t = needs_empty p ≡ true → IsEmptySource p strings line_strings t
+abbrev pub StandsForNone : Built → StringTables → LineText → Type 0
+StandsForNone p texts t = needs_empty p ≡ true → IsEmptySource p texts t

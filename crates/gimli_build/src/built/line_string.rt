@@ -19,7 +19,7 @@ pub enum LineString {
 
 impl LineString {
     ghost use Rattle.gimli_build.specs.LineText.{line_text, made_text, made_table, IsWithin, bytes_in, HasNoZero};
-    ghost use Rattle.gimli_bytes.specs.Texts.{KeepsTexts};
+    ghost use Rattle.gimli_bytes.specs.Texts.{KeepsTexts, texts_in};
     ghost use Rattle.gimli_build.specs.Version5Tables.{text_form};
 
     /// Makes a text of bytes, in the form that is usual for programs of this encoding: up to
@@ -37,9 +37,9 @@ impl LineString {
         ensures table { OnOk result
             (line_strings.new ≡ made_table encoding.version line_strings.old text.now) }
         ensures reads { IfOk result (λ made. (strings : List (List ℕ)) →
-            bytes_in strings line_strings.new (line_text made) ≡ text.now) }
+            bytes_in (texts_in strings line_strings.new) (line_text made) ≡ text.now) }
         ensures within { IfOk result (λ made. (strings : List (List ℕ)) →
-            IsWithin strings line_strings.new (line_text made)) }
+            IsWithin (texts_in strings line_strings.new) (line_text made)) }
         ensures no_zero { IfOk result (λ made. HasNoZero (line_text made)) }
         ensures stays { OnOk result (KeepsTexts line_strings.old line_strings.new) }
         ensures err { OnErr result (line_strings.new ≡ line_strings.old) }
@@ -70,8 +70,9 @@ impl LineString {
         strings: &'a StringTable,
         line_strings: &'a LineStringTable,
     ) -> &'a [u8]
-        requires { IsWithin strings.now line_strings.now (line_text self.now) }
-        ensures { result.now ≡ bytes_in strings.now line_strings.now (line_text self.now) }
+        requires { IsWithin (texts_in strings.now line_strings.now) (line_text self.now) }
+        ensures { result.now
+            ≡ bytes_in (texts_in strings.now line_strings.now) (line_text self.now) }
     {
         match self {
             LineString::String(text) => text.as_slice(),

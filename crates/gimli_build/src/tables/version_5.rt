@@ -4,14 +4,15 @@ ghost use Rattle.std.specs.Prelude.{◌≡◌, ◌<◌, ◌≤◌, ◌^◌, true
 ghost use Rattle.std.specs.Option.{is_none};
 ghost use Rattle.std.specs.List.{list_any};
 ghost use Rattle.gimli_bytes.specs.Number.{uleb};
-ghost use Rattle.gimli_bytes.specs.Texts.{AreTexts, byte_count, with_text};
+ghost use Rattle.gimli_bytes.specs.Texts.{AreTexts, byte_count, with_text, texts_in};
 ghost use Rattle.gimli_bytes.specs.declared.error.Error.TheVariants.{OutOfMemory};
 ghost use Rattle.gimli_build.specs.LineText.{Inline, line_text, IsWithin};
 ghost use Rattle.gimli_build.specs.inside.Tables.{FitsFile};
 ghost use Rattle.gimli_build.specs.TableFields.{details};
 ghost use Rattle.gimli_build.specs.Conditions.{CanWrite};
 ghost use Rattle.gimli_build.specs.Joined.{result_append, result_concat};
-ghost use Rattle.gimli_build.specs.Version5Tables.{first_form, path_texts, sources, needs_empty, empty_text, strings_after, line_strings_after, formats_bytes, file_formats, text_in_form, directory_table_bytes, source_bytes, file_entry_bytes, file_table_bytes};
+ghost use Rattle.gimli_build.specs.Version5Tables.{first_form, path_texts, sources, needs_empty, empty_text, formats_bytes, file_formats, text_in_form, directory_table_bytes, source_bytes, file_entry_bytes, file_table_bytes};
+ghost use Rattle.gimli_build.specs.WrittenTables.{HaveEmptySource};
 ghost use Rattle.gimli_build.specs.inside.EmptySource.{IsEmptySource, StandsForNone};
 ghost use Rattle.gimli_build.specs.inside.Writes.{Writes};
 
@@ -30,11 +31,10 @@ pub(crate) fn add_empty_source(
     line_strings: &mut LineStringTable,
     strings: &mut StringTable,
 ) -> Result<LineString>
-    ensures strings { OnOk result (strings.new ≡ strings_after program.now strings.old) }
-    ensures line_strings { OnOk result
-        (line_strings.new ≡ line_strings_after program.now line_strings.old) }
+    ensures tables { OnOk result (HaveEmptySource program.now
+        (texts_in strings.old line_strings.old) (texts_in strings.new line_strings.new)) }
     ensures empty { IfOk result (λ empty.
-        StandsForNone program.now strings.new line_strings.new (line_text empty)) }
+        StandsForNone program.now (texts_in strings.new line_strings.new) (line_text empty)) }
     ensures texts { OnOk result (AreTexts strings.new) }
     ensures line_texts { OnOk result (AreTexts line_strings.new) }
     ensures short { OnOk result (byte_count strings.new < 2 ^ 64) }
@@ -71,8 +71,9 @@ fn add_empty(
     ensures line_strings { OnOk result (line_strings.new
         ≡ (if nat_eq form.0 0x1f then with_text line_strings.old [] else line_strings.old)) }
     ensures empty { IfOk result (λ empty.
-        line_text empty ≡ empty_text form.0 strings.old line_strings.old) }
-    ensures within { IfOk result (λ empty. IsWithin strings.new line_strings.new (line_text empty)) }
+        line_text empty ≡ empty_text form.0 (texts_in strings.old line_strings.old)) }
+    ensures within { IfOk result (λ empty.
+        IsWithin (texts_in strings.new line_strings.new) (line_text empty)) }
     ensures strings_kept { OnErr result (strings.new ≡ strings.old) }
     ensures line_strings_kept { OnErr result (line_strings.new ≡ line_strings.old) }
     ensures memory { IfErr result (λ e. e ≡ OutOfMemory) }
@@ -149,13 +150,15 @@ pub(crate) fn write_version_5_tables<W: Writer>(
     line_strings: &LineStringTable,
     strings: &StringTable,
 ) -> Result<()>
-    requires can { CanWrite program.now strings.now line_strings.now }
-    requires empty { StandsForNone program.now strings.now line_strings.now (line_text empty.now) }
+    requires can { CanWrite program.now (texts_in strings.now line_strings.now) }
+    requires empty { StandsForNone program.now (texts_in strings.now line_strings.now)
+        (line_text empty.now) }
     requires version { 5 ≤ program.now.encoding.version }
     ensures writes { Writes W.Writer w.old w.new result
-        (result_append (directory_table_bytes (W.big w.old) program.now.encoding.format
-        strings.now line_strings.now program.now) (file_table_bytes (W.big w.old) program.now.encoding.format
-        strings.now line_strings.now program.now)) }
+        (let texts = texts_in strings.now line_strings.now in
+        let format = program.now.encoding.format in
+        result_append (directory_table_bytes (W.big w.old) format texts program.now)
+        (file_table_bytes (W.big w.old) format texts program.now)) }
     ensures fit { OnOk result (All FitsFile program.now.files) }
 {
     write_directory_table(w, program, line_strings, strings)?;
@@ -169,10 +172,10 @@ fn write_directory_table<W: Writer>(
     line_strings: &LineStringTable,
     strings: &StringTable,
 ) -> Result<()>
-    requires { All (IsWithin strings.now line_strings.now) program.now.directories }
+    requires { All (IsWithin (texts_in strings.now line_strings.now)) program.now.directories }
     ensures { Writes W.Writer w.old w.new result
         (directory_table_bytes (W.big w.old) program.now.encoding.format
-        strings.now line_strings.now program.now) }
+        (texts_in strings.now line_strings.now) program.now) }
 {
     let directories = program.tables().directories();
     let form = directory_form(directories);
@@ -214,10 +217,10 @@ fn write_texts<W: Writer>(
     line_strings: &LineStringTable,
     strings: &StringTable,
 ) -> Result<()>
-    requires { All (IsWithin strings.now line_strings.now) (map line_text texts.now) }
+    requires { All (IsWithin (texts_in strings.now line_strings.now)) (map line_text texts.now) }
     ensures { Writes W.Writer w.old w.new result
         (result_concat (text_in_form (W.big w.old) format
-        strings.now line_strings.now form.0) (map line_text texts.now)) }
+        (texts_in strings.now line_strings.now) form.0) (map line_text texts.now)) }
 {
     for text in texts {
         write_line_string(w, format, form, text, line_strings, strings)?;
@@ -234,10 +237,10 @@ fn write_line_string<W: Writer>(
     line_strings: &LineStringTable,
     strings: &StringTable,
 ) -> Result<()>
-    requires { IsWithin strings.now line_strings.now (line_text text.now) }
+    requires { IsWithin (texts_in strings.now line_strings.now) (line_text text.now) }
     ensures { Writes W.Writer w.old w.new result
         (text_in_form (W.big w.old) format
-        strings.now line_strings.now form.0 (line_text text.now)) }
+        (texts_in strings.now line_strings.now) form.0 (line_text text.now)) }
 {
     if text.form() != form {
         return Err(Error::LineStringFormMismatch);
@@ -263,12 +266,13 @@ fn write_file_table<W: Writer>(
     line_strings: &LineStringTable,
     strings: &StringTable,
 ) -> Result<()>
-    requires can { CanWrite program.now strings.now line_strings.now }
-    requires empty { StandsForNone program.now strings.now line_strings.now (line_text empty.now) }
+    requires can { CanWrite program.now (texts_in strings.now line_strings.now) }
+    requires empty { StandsForNone program.now (texts_in strings.now line_strings.now)
+        (line_text empty.now) }
     requires version { 5 ≤ program.now.encoding.version }
     ensures writes { Writes W.Writer w.old w.new result
         (file_table_bytes (W.big w.old) program.now.encoding.format
-        strings.now line_strings.now program.now) }
+        (texts_in strings.now line_strings.now) program.now) }
     ensures fit { OnOk result (All FitsFile program.now.files) }
 {
     let form = source_form(program.tables());
@@ -361,13 +365,14 @@ fn write_file_entries<W: Writer>(
     line_strings: &LineStringTable,
     strings: &StringTable,
 ) -> Result<()>
-    requires can { CanWrite program.now strings.now line_strings.now }
-    requires empty { StandsForNone program.now strings.now line_strings.now (line_text empty.now) }
+    requires can { CanWrite program.now (texts_in strings.now line_strings.now) }
+    requires empty { StandsForNone program.now (texts_in strings.now line_strings.now)
+        (line_text empty.now) }
     requires version { 5 ≤ program.now.encoding.version }
     requires source_form { source_form.0 ≡ first_form (sources program.now.files) }
     ensures writes { Writes W.Writer w.old w.new result
         (result_concat (file_entry_bytes (W.big w.old) program.now.encoding.format
-        strings.now line_strings.now program.now) program.now.files) }
+        (texts_in strings.now line_strings.now) program.now) program.now.files) }
     ensures fit { OnOk result (All FitsFile program.now.files) }
 {
     let tables = program.tables();
@@ -388,13 +393,15 @@ fn write_file_entry<W: Writer>(
     line_strings: &LineStringTable,
     strings: &StringTable,
 ) -> Result<()>
-    requires path { IsWithin strings.now line_strings.now (line_text file.0.now) }
-    requires source { IfSome (details file.2.now).source (IsWithin strings.now line_strings.now) }
+    requires path { IsWithin (texts_in strings.now line_strings.now) (line_text file.0.now) }
+    requires source { IfSome (details file.2.now).source
+        (IsWithin (texts_in strings.now line_strings.now)) }
     requires empty { program.now.file_has_source ≡ true → (details file.2.now).source ≡ None
-        → IsEmptySource program.now strings.now line_strings.now (line_text empty.now) }
+        → IsEmptySource program.now (texts_in strings.now line_strings.now) (line_text empty.now) }
     requires source_form { source_form.0 ≡ first_form (sources program.now.files) }
     ensures writes { Writes W.Writer w.old w.new result
-        (file_entry_bytes (W.big w.old) program.now.encoding.format strings.now line_strings.now program.now
+        (file_entry_bytes (W.big w.old) program.now.encoding.format
+        (texts_in strings.now line_strings.now) program.now
         ((line_text file.entry.0.now, file.entry.1), details file.entry.2.now)) }
     ensures fit { OnOk result (FitsFile ((line_text file.entry.0.now, file.entry.1), details file.entry.2.now)) }
 {
@@ -462,13 +469,14 @@ fn write_source<W: Writer>(
     line_strings: &LineStringTable,
     strings: &StringTable,
 ) -> Result<()>
-    requires source { IfSome (details info.now).source (IsWithin strings.now line_strings.now) }
+    requires source { IfSome (details info.now).source
+        (IsWithin (texts_in strings.now line_strings.now)) }
     requires empty { program.now.file_has_source ≡ true → (details info.now).source ≡ None
-        → IsEmptySource program.now strings.now line_strings.now (line_text empty.now) }
+        → IsEmptySource program.now (texts_in strings.now line_strings.now) (line_text empty.now) }
     requires form { form.0 ≡ first_form (sources program.now.files) }
     ensures { Writes W.Writer w.old w.new result
         (source_bytes (W.big w.old) program.now.encoding.format
-        strings.now line_strings.now program.now ((Inline [], 0), details info.now)) }
+        (texts_in strings.now line_strings.now) program.now ((Inline [], 0), details info.now)) }
 {
     if !program.file_has_source {
         return Ok(());

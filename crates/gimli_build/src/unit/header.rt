@@ -1,6 +1,7 @@
 //! The header of a unit.
 
 ghost use Rattle.std.specs.Prelude.{All, OnOk};
+ghost use Rattle.gimli_bytes.specs.Texts.{texts_in};
 ghost use Rattle.gimli_build.specs.LineText.{line_text};
 ghost use Rattle.gimli_build.specs.inside.Tables.{FitsFile};
 ghost use Rattle.gimli_build.specs.Conditions.{CanWrite};
@@ -25,10 +26,11 @@ pub(crate) fn write_header<W: Writer>(
     line_strings: &LineStringTable,
     strings: &StringTable,
 ) -> Result<()>
-    requires can { CanWrite program.now strings.now line_strings.now }
-    requires empty { StandsForNone program.now strings.now line_strings.now (line_text empty.now) }
+    requires can { CanWrite program.now (texts_in strings.now line_strings.now) }
+    requires empty { StandsForNone program.now (texts_in strings.now line_strings.now)
+        (line_text empty.now) }
     ensures writes { Writes W.Writer w.old w.new result
-        (header_bytes (W.big w.old) program.now strings.now line_strings.now) }
+        (header_bytes (W.big w.old) program.now (texts_in strings.now line_strings.now)) }
     ensures fit { OnOk result (All FitsFile program.now.files) }
 {
     let size = program.format().word_size();
@@ -48,10 +50,11 @@ fn write_fields<W: Writer>(
     line_strings: &LineStringTable,
     strings: &StringTable,
 ) -> Result<()>
-    requires can { CanWrite program.now strings.now line_strings.now }
-    requires empty { StandsForNone program.now strings.now line_strings.now (line_text empty.now) }
+    requires can { CanWrite program.now (texts_in strings.now line_strings.now) }
+    requires empty { StandsForNone program.now (texts_in strings.now line_strings.now)
+        (line_text empty.now) }
     ensures writes { Writes W.Writer w.old w.new result
-        (fields_bytes (W.big w.old) program.now strings.now line_strings.now) }
+        (fields_bytes (W.big w.old) program.now (texts_in strings.now line_strings.now)) }
     ensures fit { OnOk result (All FitsFile program.now.files) }
 {
     write_line_encoding(w, program.version(), program.line_encoding())?;
@@ -97,10 +100,11 @@ fn write_tables<W: Writer>(
     line_strings: &LineStringTable,
     strings: &StringTable,
 ) -> Result<()>
-    requires can { CanWrite program.now strings.now line_strings.now }
-    requires empty { StandsForNone program.now strings.now line_strings.now (line_text empty.now) }
+    requires can { CanWrite program.now (texts_in strings.now line_strings.now) }
+    requires empty { StandsForNone program.now (texts_in strings.now line_strings.now)
+        (line_text empty.now) }
     ensures writes { Writes W.Writer w.old w.new result
-        (tables_bytes (W.big w.old) program.now strings.now line_strings.now) }
+        (tables_bytes (W.big w.old) program.now (texts_in strings.now line_strings.now)) }
     ensures fit { OnOk result (All FitsFile program.now.files) }
 {
     if program.version() <= 4 {

@@ -2,6 +2,7 @@
 use Rattle.std.specs.Prelude.{ℕ, true, List, map, Option, Ok}
 use Rattle.gimli_core.specs.Notation.{Notation}
 use Rattle.gimli_bytes.specs.declared.address.Address.{Address}
+use Rattle.gimli_bytes.specs.Texts.{StringTables, texts_in}
 use Rattle.gimli_line.specs.declared.run.row.LineRow.{LineRow as ReadRow}
 use Rattle.gimli_line.specs.header.Header.{UnitEntry}
 use Rattle.gimli_line.specs.header.File.{File}
@@ -11,7 +12,7 @@ use Rattle.gimli_build.specs.Built.{Built}
 use Rattle.gimli_build.specs.LineText.{bytes_in}
 use Rattle.gimli_build.specs.ReadsBack.{ReadsBack}
 use Rattle.gimli_build.specs.Texts.{Sections, OneByOne}
-use Rattle.gimli_build.specs.Version5Tables.{line_strings_after}
+use Rattle.gimli_build.specs.Version5Tables.{texts_after}
 use Rattle.gimli_write.specs.RoundTrip.{built_file}
 use Rattle.gimli_write.specs.convert.Conversion.{IsConverted}
 use Rattle.gimli_write.specs.convert.Outcome.{Outcome}
@@ -45,10 +46,9 @@ pub record UnitReadBack (p : Built) : Type 0 where
   pub notation : Notation
   pub unit_entry : UnitEntry
   pub sections : Sections
-  pub strings : List (List ℕ)
-  pub line_strings : List (List ℕ)
+  pub texts : StringTables
   pub bytes : List ℕ
-  pub back : ReadsBack notation unit_entry sections p strings line_strings bytes
+  pub back : ReadsBack notation unit_entry sections p texts bytes
 
 -- it gives these rows and no fault
 abbrev pub UnitGives : {p : Built} → UnitReadBack p → List ReadRow → Type 0
@@ -68,6 +68,6 @@ SourceFilesAre d files = FilesAtEnd d.source.notation true d.source.header d.sou
 abbrev pub AreFilesReadBack : DoneConversion → List (List ℕ) → List File → Type 0
 AreFilesReadBack d strings files =
     let p = d.outcome.program in
-    let line_strings = line_strings_after p d.outcome.line_strings in
+    let texts = texts_in strings (texts_after p (texts_in strings d.outcome.line_strings)).line_strings in
     AreFilesReadAs d.source.sections d.source.header files d.outcome.file_ids
-    (map (bytes_in strings line_strings) p.directories) (map (built_file p strings line_strings) p.files)
+    (map (bytes_in texts) p.directories) (map (built_file p texts) p.files)

@@ -2,6 +2,7 @@
 -- another cause than `OutOfMemory`, all are there that its source defines before. And the program can be written,
 -- whatever was read.
 use Rattle.std.specs.Prelude.{◌≡◌, ℕ, if◌then◌else◌, is_some, List}
+use Rattle.gimli_bytes.specs.Texts.{texts_in}
 use Rattle.gimli_build.specs.Built.{Built}
 use Rattle.gimli_build.specs.Conditions.{CanWrite}
 use Rattle.gimli_build.specs.Tables.{keys_of, Keeps}
@@ -38,11 +39,11 @@ KeepsFinalTables old old_strings new new_strings = final_tables new new_strings 
 
 -- a program can be written, whatever the table of strings is, which it names no text of
 pub record IsWritable (p : Built) (line_strings : List (List ℕ)) : Type 0 where
-  pub can : (strings : List (List ℕ)) → CanWrite p strings line_strings
+  pub can : (strings : List (List ℕ)) → CanWrite p (texts_in strings line_strings)
 
 -- a program that could be written still can be
 pub record StaysWritable (old : SourceTables) (old_strings : List (List ℕ)) (new : SourceTables) (new_strings : List (List ℕ)) : Type 0 where
-  pub still : (strings : List (List ℕ)) → CanWrite old.program strings old_strings → CanWrite new.program strings new_strings
+  pub still : (strings : List (List ℕ)) → CanWrite old.program (texts_in strings old_strings) → CanWrite new.program (texts_in strings new_strings)
 
 -- nothing of the program of a source is read yet
 abbrev pub IsUnread : Source → Conversion → Type 0

@@ -8,6 +8,7 @@ use Rattle.gimli_core.specs.Values.{Value}
 use Rattle.gimli_core.specs.declared.error.Error.{Error}
 use Rattle.gimli_bytes.specs.declared.address.Address.{Address}
 use Rattle.gimli_bytes.specs.declared.address.Address.TheVariants.{Constant}
+use Rattle.gimli_bytes.specs.Texts.{StringTables, texts_in}
 use Rattle.gimli_line.specs.declared.run.row.LineRow.{LineRow as ReadRow}
 use Rattle.gimli_line.specs.header.File.{File}
 use Rattle.gimli_line.specs.header.Header.{Header, directory_of, entry_of}
@@ -122,13 +123,13 @@ pub record IsMappedFile (sections : Sections) (h : Header) (files : List File) (
   pub there : slice_get c.program.files id ≡ Some built
   pub directory : LineText
   pub directory_there : slice_get c.program.directories built.0.1 ≡ Some directory
-  pub has : HasPaths sections h (bytes_in strings c.line_strings built.0.0) (bytes_in strings c.line_strings directory) f
+  pub has : HasPaths sections h (bytes_in (texts_in strings c.line_strings) built.0.0) (bytes_in (texts_in strings c.line_strings) directory) f
   pub last : File
-  pub is_last : IsLastWithPaths sections h (bytes_in strings c.line_strings built.0.0) (bytes_in strings c.line_strings directory) files last
+  pub is_last : IsLastWithPaths sections h (bytes_in (texts_in strings c.line_strings) built.0.0) (bytes_in (texts_in strings c.line_strings) directory) files last
   pub timestamp : built.1.timestamp ≡ last.timestamp
   pub size : built.1.size ≡ last.size
   pub md5 : built.1.md5 ≡ last.md5
-  pub source : IsOptionalText sections last.source (option_map (bytes_in strings c.line_strings) built.1.source)
+  pub source : IsOptionalText sections last.source (option_map (bytes_in (texts_in strings c.line_strings)) built.1.source)
 
 -- each file number of the source has an id, whose file is the one that it stands for; no other number has one
 pub record AreFilesMapped (sections : Sections) (h : Header) (files : List File) (strings : List (List ℕ)) (c : Outcome) : Type 0 where
@@ -181,7 +182,7 @@ HasConstantAddresses p = AllByRecursion SetsConstant p.items
 -- a converted program can be written; it says what its source says, in addresses that are numbers, fit and hide nothing;
 -- and rows that are read back as it was built say what the rows of the source say
 pub record IsFaithful (s : Source) (strings : List (List ℕ)) (c : Outcome) : Type 0 where
-  pub can_write : CanWrite c.program strings c.line_strings
+  pub can_write : CanWrite c.program (texts_in strings c.line_strings)
   pub mapped : IsMapped s strings c
   pub addresses : HasFittingAddresses c.program
   pub constants : HasConstantAddresses c.program
@@ -191,16 +192,16 @@ pub record IsFaithful (s : Source) (strings : List (List ℕ)) (c : Outcome) : T
 
 -- where what is asked of a source, of what is handed and of the map of addresses holds, what was answered is faithful, with
 -- these tables after it
-abbrev pub IsFaithfulIfItCan : (ℕ → Option Address → Type 0) → Source → List (List ℕ) → Built × Vec ℕ Global → List (List ℕ) → Type 0
-IsFaithfulIfItCan map s strings answer line_strings =
-    (g : ℕ → Option Address) → AnswersAs map g → CanBeFaithful g s → IsFaithful s strings (outcome_with answer line_strings)
+abbrev pub IsFaithfulIfItCan : (ℕ → Option Address → Type 0) → Source → Built × Vec ℕ Global → StringTables → Type 0
+IsFaithfulIfItCan map s answer texts =
+    (g : ℕ → Option Address) → AnswersAs map g → CanBeFaithful g s → IsFaithful s texts.strings (outcome_with answer texts.line_strings)
 
 -- by such a map a source is converted to this answer, which is faithful where it can be, with these tables after it
-pub record ConvertsWell (map : ℕ → Option Address → Type 0) (s : Source) (old : List (List ℕ)) (answer : Built × Vec ℕ Global) (strings line_strings : List (List ℕ)) : Type 0 where
-  pub converts : ConvertsTo map s old answer line_strings
-  pub faithful : IsFaithfulIfItCan map s strings answer line_strings
+pub record ConvertsWell (map : ℕ → Option Address → Type 0) (s : Source) (old : List (List ℕ)) (answer : Built × Vec ℕ Global) (texts : StringTables) : Type 0 where
+  pub converts : ConvertsTo map s old answer texts.line_strings
+  pub faithful : IsFaithfulIfItCan map s answer texts
 
 -- what a call returns that converts a source by such a map: the old line strings are those before it
-abbrev pub IsAnswerOf : (ℕ → Option Address → Type 0) → Source → List (List ℕ) → Result (Built × Vec ℕ Global) ConvertError → List (List ℕ) → List (List ℕ) → Type 0
-IsAnswerOf map s old result strings line_strings =
-    MatchResult result (λ answer. ConvertsWell map s old answer strings line_strings) (IsConvertRefusal map s old)
+abbrev pub IsAnswerOf : (ℕ → Option Address → Type 0) → Source → List (List ℕ) → Result (Built × Vec ℕ Global) ConvertError → StringTables → Type 0
+IsAnswerOf map s old result texts =
+    MatchResult result (λ answer. ConvertsWell map s old answer texts) (IsConvertRefusal map s old)

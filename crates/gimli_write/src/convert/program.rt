@@ -2,7 +2,7 @@
 
 ghost use Rattle.std.specs.Prelude.{◌≡◌, ◌≢◌, ℕ, false, Option, Some, None, Err, IfErr, IfOk, IfSome, IsTrue, OnErr, OnOk};
 ghost use Rattle.gimli_core.specs.Numbers.{is_address_size};
-ghost use Rattle.gimli_bytes.specs.Texts.{KeepsTexts};
+ghost use Rattle.gimli_bytes.specs.Texts.{KeepsTexts, texts_in};
 ghost use Rattle.gimli_build.specs.Calls.{after_begin, after_address, after_row, after_end};
 ghost use Rattle.gimli_build.specs.Advance.{CanEncode};
 ghost use Rattle.gimli_build.specs.Conditions.{CanEndSequence};
@@ -392,7 +392,7 @@ pub fn convert_program<R: Reader, F: Fn(u64) -> Option<Address>>(
     requires lines { IfSome line_encoding CanEncode }
     requires callable { F.IsAlwaysCallable convert_address }
     ensures outcome { IsAnswerOf (F.post convert_address) (source_of R.bytes debug_str debug_line_str from_program
-        from_comp_name encoding line_encoding) line_strings.old result strings.new line_strings.new }
+        from_comp_name encoding line_encoding) line_strings.old result (texts_in strings.new line_strings.new) }
     ensures stays { KeepsTexts line_strings.old line_strings.new }
     ensures strings { strings.new ≡ strings.old }
 {

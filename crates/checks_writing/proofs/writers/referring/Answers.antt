@@ -1,6 +1,7 @@
 use Rattle.std.proofs.Common.{◌≡◌, ℕ, false, List, [], ◌∷◌, sym, subst, ap, refl}
 use Rattle.std.proofs.lemmas.List.Elements.{All-nil, All-cons}
 use Rattle.std.specs.Prelude.{All, IfSome}
+use Rattle.gimli_bytes.specs.Texts.{StringTables, texts_in}
 use Rattle.gimli_write.specs.LineText.{LineText, line_text, IsWithin, HasNoZero}
 use Rattle.gimli_write.specs.Tables.{File}
 use Rattle.gimli_write.specs.Built.{Built}
@@ -11,20 +12,20 @@ one : {A : Type 0} (P : A → Type 0) (xs : List A) (x : A) → xs ≡ x ∷ [] 
 one P xs x is p = subst (All P) (sym is) (All-cons P x [] p (All-nil P))
 
 -- a program with one directory and one file, whose texts are in the tables
-first_texts : (p : Built) (strings line_strings : List (List ℕ)) (directory : LineText) (file : File) → p.is_none ≡ false → p.directories ≡ directory ∷ [] → p.files ≡ file ∷ []
-    → IsWithin strings line_strings directory → IsWithin strings line_strings file.0.0 → IfSome file.1.source (IsWithin strings line_strings) → IfSome file.1.source HasNoZero
-    → CanWrite p strings line_strings
-first_texts p strings line_strings directory file program directories files directory_there file_there source_there source_ends = record {
+first_texts : (p : Built) (texts : StringTables) (directory : LineText) (file : File) → p.is_none ≡ false → p.directories ≡ directory ∷ [] → p.files ≡ file ∷ []
+    → IsWithin texts directory → IsWithin texts file.0.0 → IfSome file.1.source (IsWithin texts) → IfSome file.1.source HasNoZero
+    → CanWrite p texts
+first_texts p texts directory file program directories files directory_there file_there source_there source_ends = record {
   program = program;
-  directories = one (IsWithin strings line_strings) p.directories directory directories directory_there;
-  paths = one (λ (f : File). IsWithin strings line_strings f.0.0) p.files file files file_there;
-  sources = one (λ (f : File). IfSome f.1.source (IsWithin strings line_strings)) p.files file files source_there;
+  directories = one (IsWithin texts) p.directories directory directories directory_there;
+  paths = one (λ (f : File). IsWithin texts f.0.0) p.files file files file_there;
+  sources = one (λ (f : File). IfSome f.1.source (IsWithin texts)) p.files file files source_there;
   sources_end = λ late has. one (λ (f : File). IfSome f.1.source HasNoZero) p.files file files source_ends;
 }
 
 pub returns : goal.returns
 returns c =
     let is = c.in_ok-program.ensures.ok in
-    first_texts _ c.args.strings.now c.args.line_strings.now (line_text c.args.working_dir) _
+    first_texts _ (texts_in c.args.strings.now c.args.line_strings.now) (line_text c.args.working_dir) _
     (ap (λ (q : Built). q.is_none) is) (ap (λ (q : Built). q.directories) is) (ap (λ (q : Built). q.files) is)
     (c.if-not-is_within.ensures refl) (c.if-not-is_within-2.ensures refl) tt tt

@@ -3,6 +3,7 @@ use Rattle.std.specs.Prelude.{Result}
 use Rattle.gimli_bytes.specs.Number.{length_word}
 use Rattle.gimli_bytes.specs.Written.{Appends}
 use Rattle.gimli_bytes.specs.declared.error.Error.{Error}
+use Rattle.gimli_bytes.specs.Texts.{texts_in}
 use Rattle.gimli_build.specs.Joined.{result_append}
 use Rattle.gimli_build.specs.Unit.{escape_bytes, inside_bytes}
 use Rattle.gimli_build.proofs.writing.Joined.{on_ok, if_err, begins_then, begins_before}
@@ -22,7 +23,7 @@ returns-clause-writes g c =
     let inside = c.in_ok-write_inside.ensures.writes in
     let n = c.len.result - c.len-start.result in
     let whole : ℕ → Result (List ℕ) Error = λ k. result_append (Ok (escape_bytes big format)) (length_word big format k) in
-    let bytes = inside_bytes big c.args.program.now c.args.strings.now c.args.line_strings.now in
+    let bytes = inside_bytes big c.args.program.now (texts_in c.args.strings.now c.args.line_strings.now) in
     let opened : IsTrue g.W.Writer.keeps_bytes → c1 ≡ (old ++ escape_bytes big format) ++ open_word big format = λ keeps_bytes. rw c.format-format.ensures at (c.in_ok-length.ensures.ok keeps_bytes) ∙ ap (λ l. old ++ l) (escape_is big format) ∙ sym (append_assoc old (escape_bytes big format) (open_word big format)) in
     let at : IsTrue g.W.Writer.keeps_bytes → start ≡ length old + length (escape_bytes big format) = λ keeps_bytes. rw c.format-format.ensures at (c.in_ok-length.ensures.place keeps_bytes) ∙ ap (λ k. length old + k) (sym (escape_long big format)) in
     let written : IsTrue g.W.Writer.keeps_bytes → Appends bytes c1 c2 = λ keeps_bytes. rw c.in_ok-length.ensures.ordered at (inside.ok keeps_bytes) in

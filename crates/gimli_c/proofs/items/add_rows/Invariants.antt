@@ -1,4 +1,5 @@
 use Rattle.std.proofs.Common.{◌≡◌, ℕ, ◌++◌, [], None, length, drop}
+use Rattle.gimli_bytes.specs.Texts.{no_texts}
 use Rattle.gimli_build.specs.Conditions.{CanWrite}
 use Rattle.gimli_build.specs.Built.{previous_position}
 use Rattle.gimli_c.specs.Causes.{HasRowsFault}
@@ -10,7 +11,7 @@ abbrev pub invariant-loop-row : goal.invariant-loop-row
 invariant-loop-row l =
     let version = l.fn.program.encoding.version in
     record {
-      can : CanWrite l.program [] [];
+      can : CanWrite l.program no_texts;
       items : l.program.items ++ items_handed version l.ids l.base (drop l.row-index l.rows) ≡ l.fn.program.items ++ items_handed version l.ids None l.rows;
       start : previous_position l.fn.program.items ≡ (0, 0) → l.base ≡ None → previous_position l.program.items ≡ (0, 0);
       faults : (s : ℕ) → HasRowsFault l.fn.program.line_encoding version (length l.ids) l.base (previous_position l.program.items) (drop l.row-index l.rows) s

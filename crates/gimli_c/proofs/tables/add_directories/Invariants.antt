@@ -1,5 +1,6 @@
 use Rattle.std.proofs.Common.{◌≡◌, ◌<◌, ◌++◌, [], length, map, take, drop}
 use Rattle.std.specs.Prelude.{All}
+use Rattle.gimli_bytes.specs.Texts.{no_texts}
 use Rattle.gimli_build.specs.Conditions.{CanWrite}
 use Rattle.gimli_c.specs.Causes.{HasTextFault}
 use Rattle.gimli_c.specs.inside.Causes.{HasNone}
@@ -12,7 +13,7 @@ invariant-loop-name l =
     let left = map (text_handed l.texts) (drop l.name-index l.names) in
     let all = map (text_handed l.texts) l.names in
     record {
-      can : CanWrite l.program [] [];
+      can : CanWrite l.program no_texts;
       within : All (λ id. id < length l.program.directories) l.ids.items;
       directories : directories_handed l.program.directories left ≡ directories_handed l.fn.program.directories all;
       ids : l.ids.items ++ ids_of_directories l.program.directories left

@@ -1,5 +1,6 @@
 use Rattle.std.proofs.Common.{◌≡◌, ◌++◌, [], length, take, drop}
 use Rattle.std.specs.Prelude.{All}
+use Rattle.gimli_bytes.specs.Texts.{no_texts}
 use Rattle.gimli_build.specs.Conditions.{CanWrite}
 use Rattle.gimli_c.specs.Causes.{HasFileFault}
 use Rattle.gimli_c.specs.inside.Causes.{HasNone}
@@ -11,7 +12,7 @@ abbrev pub invariant-loop-file : goal.invariant-loop-file
 invariant-loop-file l =
     let left = drop l.file-index l.files in
     record {
-      can : CanWrite l.program [] [];
+      can : CanWrite l.program no_texts;
       files : files_handed l.texts l.ids l.program.files left ≡ files_handed l.texts l.ids l.fn.program.files l.files;
       ids : l.file_ids.items ++ ids_of_files l.texts l.ids l.program.files left ≡ ids_of_files l.texts l.ids l.fn.program.files l.files;
       well : All (λ f. HasNone (HasFileFault l.fn.program.encoding.version l.texts (length l.ids) f)) (take l.file-index l.files);

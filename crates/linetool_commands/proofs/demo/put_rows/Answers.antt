@@ -1,5 +1,6 @@
 use Rattle.std.proofs.Common.{◌≡◌, [], Bool, List}
 use Rattle.std.proofs.lemmas.Result.{on_ok_weaker}
+use Rattle.gimli_bytes.specs.Texts.{no_texts}
 use Rattle.gimli_write.specs.Built.{Built}
 use Rattle.gimli_write.specs.Conditions.{CanWrite}
 use Rattle.gimli_write.specs.BuiltItem.{BuiltItem}
@@ -7,7 +8,7 @@ use Rattle.gimli_write.specs.LineRow.{LineRow}
 use Rattle.linetool_commands.proofs.demo.put_rows.Goals as goal
 
 -- what can be written can be written with other items
-still_can : (p q : Built) (items : List BuiltItem) (row : LineRow) (begun : Bool) → q ≡ record p { items = items; row = row; in_sequence = begun } → CanWrite p [] [] → CanWrite q [] []
+still_can : (p q : Built) (items : List BuiltItem) (row : LineRow) (begun : Bool) → q ≡ record p { items = items; row = row; in_sequence = begun } → CanWrite p no_texts → CanWrite q no_texts
 still_can p q items row begun is can =
     rw is (record { program = can.program; directories = can.directories; paths = can.paths; sources = can.sources; sources_end = can.sources_end })
 

@@ -2,6 +2,7 @@
 use Rattle.std.proofs.Common.{◌≡◌, List, [], ◌∷◌, sym, subst, ap}
 use Rattle.std.proofs.lemmas.List.Elements.{All-nil, All-cons}
 use Rattle.std.specs.Prelude.{ℕ, false, All, IfSome}
+use Rattle.gimli_bytes.specs.Texts.{StringTables, texts_in}
 use Rattle.gimli_write.specs.Built.{Built}
 use Rattle.gimli_write.specs.Conditions.{CanWrite}
 use Rattle.gimli_write.specs.LineText.{LineText, line_text, IsWithin, HasNoZero}
@@ -13,14 +14,14 @@ use Rattle.uses.proofs.make_unit.without_rows.Goals as goal
 one : {A : Type 0} (P : A → Type 0) (xs : List A) (x : A) → xs ≡ x ∷ [] → P x → All P xs
 one P xs x is p = subst (All P) (sym is) (All-cons P x [] p (All-nil P))
 
-first_texts : (p : Built) (line_strings : List (List ℕ)) (directory : LineText) (file : File) → p.is_none ≡ false → p.directories ≡ directory ∷ [] → p.files ≡ file ∷ []
-    → IsWithin [] line_strings directory → IsWithin [] line_strings file.0.0 → IfSome file.1.source (IsWithin [] line_strings) → IfSome file.1.source HasNoZero
-    → CanWrite p [] line_strings
-first_texts p line_strings directory file program directories files directory_there file_there source_there source_ends = record {
+first_texts : (p : Built) (texts : StringTables) (directory : LineText) (file : File) → p.is_none ≡ false → p.directories ≡ directory ∷ [] → p.files ≡ file ∷ []
+    → IsWithin texts directory → IsWithin texts file.0.0 → IfSome file.1.source (IsWithin texts) → IfSome file.1.source HasNoZero
+    → CanWrite p texts
+first_texts p texts directory file program directories files directory_there file_there source_there source_ends = record {
   program = program;
-  directories = one (IsWithin [] line_strings) p.directories directory directories directory_there;
-  paths = one (λ (f : File). IsWithin [] line_strings f.0.0) p.files file files file_there;
-  sources = one (λ (f : File). IfSome f.1.source (IsWithin [] line_strings)) p.files file files source_there;
+  directories = one (IsWithin texts) p.directories directory directories directory_there;
+  paths = one (λ (f : File). IsWithin texts f.0.0) p.files file files file_there;
+  sources = one (λ (f : File). IfSome f.1.source (IsWithin texts)) p.files file files source_there;
   sources_end = λ late has. one (λ (f : File). IfSome f.1.source HasNoZero) p.files file files source_ends;
 }
 

@@ -1,4 +1,5 @@
 use Rattle.std.proofs.Common.{drop, take, All}
+use Rattle.gimli_bytes.specs.Texts.{texts_in}
 use Rattle.gimli_build.specs.inside.Tables.{FitsFile}
 use Rattle.gimli_build.specs.Version5Tables.{file_entry_bytes}
 use Rattle.gimli_build.proofs.writing.Writes.{WritesSoFar}
@@ -6,6 +7,6 @@ use Rattle.gimli_build.proofs.tables.version_5.write_file_entries.Given as goal
 
 abbrev pub invariant-loop-index : goal.invariant-loop-index
 invariant-loop-index g l = record {
-  so : WritesSoFar g.W.Writer (file_entry_bytes (g.W.Writer.big l.fn.w) l.program.encoding.format l.strings l.line_strings l.program) l.program.files (drop l.index l.program.files) l.fn.w l.w;
+  so : WritesSoFar g.W.Writer (file_entry_bytes (g.W.Writer.big l.fn.w) l.program.encoding.format (texts_in l.strings l.line_strings) l.program) l.program.files (drop l.index l.program.files) l.fn.w l.w;
   fit : All FitsFile (take l.index l.program.files);
 }

@@ -1,5 +1,6 @@
 use Rattle.std.proofs.Common.{◌<◌, length, map, arith}
 use Rattle.std.proofs.lemmas.Result.{err_from_is_err_and}
+use Rattle.gimli_bytes.specs.Texts.{texts_in}
 use Rattle.gimli_build.specs.LineText.{line_text, IsWithin}
 use Rattle.gimli_build.specs.Version5Tables.{text_in_form}
 use Rattle.gimli_build.proofs.writing.Joined.{next_seen, all_seen}
@@ -10,11 +11,11 @@ pub write_line_string-requires : goal.write_line_string-requires
 write_line_string-requires g c =
     let texts = c.args.texts.now in
     let lt : c.loop-text.text-index < length texts = omega arith in
-    all_seen (IsWithin c.args.strings.now c.args.line_strings.now) line_text texts c.loop-text.text-index c.text-item.result lt c.text-item.is c.requires
+    all_seen (IsWithin (texts_in c.args.strings.now c.args.line_strings.now)) line_text texts c.loop-text.text-index c.text-item.result lt c.text-item.is c.requires
 
 pub loop-text-init : goal.loop-text-init
 loop-text-init g c =
-    let part = text_in_form (g.W.Writer.big c.args.w.now) c.args.format c.args.strings.now c.args.line_strings.now c.args.form.0 in
+    let part = text_in_form (g.W.Writer.big c.args.w.now) c.args.format (texts_in c.args.strings.now c.args.line_strings.now) c.args.form.0 in
     record { so = none_written g.W.Writer part (map line_text c.args.texts.now) c.args.w.now }
 
 pub returns-in_err-write_line_string : goal.returns-in_err-write_line_string

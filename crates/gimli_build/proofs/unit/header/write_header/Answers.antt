@@ -3,6 +3,7 @@ use Rattle.std.specs.Prelude.{Result}
 use Rattle.std.proofs.lemmas.List.{append-nil}
 use Rattle.gimli_bytes.specs.Written.{Appends}
 use Rattle.gimli_bytes.specs.declared.error.Error.{Error}
+use Rattle.gimli_bytes.specs.Texts.{texts_in}
 use Rattle.gimli_build.specs.FormatWord.{format_word}
 use Rattle.gimli_build.specs.Unit.{fields_bytes}
 use Rattle.gimli_build.proofs.writing.Joined.{on_ok, if_err, begins_then, begins_before}
@@ -22,7 +23,7 @@ returns-clause-writes g c =
     let fields = c.in_ok-write_fields.ensures.writes in
     let n = c.len.result - c.len-start.result in
     let word : ℕ → Result (List ℕ) Error = λ k. format_word big format k in
-    let bytes = fields_bytes big c.args.program.now c.args.strings.now c.args.line_strings.now in
+    let bytes = fields_bytes big c.args.program.now (texts_in c.args.strings.now c.args.line_strings.now) in
     let ordered = fields.ordered ∙ c.in_ok-write_udata.ensures.ordered in
     let opened : IsTrue g.W.Writer.keeps_bytes → c1 ≡ (old ++ []) ++ open_word big format = λ keeps_bytes.
     rw (c.word_size-size.ensures, c.format.ensures, zero_word big format) at (c.in_ok-write_udata.ensures.ok keeps_bytes) ∙ ap (λ (l : List ℕ). l ++ open_word big format) (sym (append-nil old)) in
