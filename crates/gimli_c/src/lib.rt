@@ -13,7 +13,7 @@ mod index;
 mod items;
 pub mod laws;
 mod loose;
-mod place;
+mod location;
 mod row;
 mod row_reader;
 mod rows;

@@ -4,6 +4,7 @@
 ghost use Rattle.std.specs.Prelude.{◌≡◌, ◌≢◌, ◌≤◌, Err, IfErr, IsNone, map};
 ghost use Rattle.linetool_commands.specs.Words.{IsCommand, ReadsFile};
 
+use crate::count::count_rows;
 use crate::demo::{print_demo, print_demo_pieces};
 use crate::find::print_pair;
 use crate::print::{finished, print_line, print_program, print_rows};
@@ -12,7 +13,7 @@ use crate::section::{program_at, read_section};
 use crate::units::print_units;
 use crate::words::Command;
 use gimli_core::Reader;
-use gimli_line::{CompleteLineProgram, LineProgram, LineRows, LineSequence};
+use gimli_line::{CompleteLineProgram, LineSequence};
 use rows_units::{Place, SequenceLine};
 use std::alloc::Global;
 use std::io::{Read, Write};
@@ -116,22 +117,10 @@ fn print_each<R: Reader, O: Write>(
         let line = SequenceLine {
             start: sequence.start,
             end: sequence.end,
-            rows: count_of_rows(program.resume_from(sequence)),
+            rows: count_rows(program.resume_from(sequence))?,
         };
         print_line(line, out)?;
         print_rows(program.resume_from(sequence), out)?;
     }
     Ok(())
-}
-
-/// How many rows are still to come.
-fn count_of_rows<R: Reader, P: LineProgram<R> + Drop>(rows: LineRows<R, P>) -> u64 {
-    let mut rows = rows;
-    for count in 0..u64::MAX {
-        match rows.next_row() {
-            Ok(Some(_)) => {}
-            Ok(None) | Err(_) => return count,
-        }
-    }
-    u64::MAX
 }

@@ -495,7 +495,7 @@ fn can_encode(line_encoding: LineEncoding) -> bool
         && line_encoding.maximum_operations_per_instruction >= 1
 }
 
-/// Whether a row or an end at an offset and operation can follow a row at another place.
+/// Whether a row or an end at an offset and operation can follow a row at another position.
 fn can_follow(
     line_encoding: LineEncoding,
     previous_offset: u64,

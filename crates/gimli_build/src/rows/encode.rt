@@ -53,7 +53,7 @@ pub(crate) fn write_items<W: Writer>(
     Ok(())
 }
 
-/// The row that the next item follows, but for its place: what was built isn't copied.
+/// The row that the next item follows, but for its position: what was built isn't copied.
 #[inline(always)]
 fn next_row<'a>(initial: &'a LineRow, previous: &'a LineRow, item: &'a BuiltItem) -> &'a LineRow
     ensures { (version : ℕ) (is_stmt : Bool) (position : ℕ × ℕ) → initial.now ≡ initial_row version is_stmt →
@@ -258,7 +258,7 @@ fn maker(line_encoding: &LineEncoding, opcode: u8) -> LineInstruction
     }
 }
 
-/// How many operations an offset and an op_index are after the place of the row before.
+/// How many operations an offset and an op_index are after the position of the row before.
 fn operation_advance(
     line_encoding: &LineEncoding,
     position: (u64, u64),

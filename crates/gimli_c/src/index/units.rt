@@ -15,9 +15,9 @@ use std::alloc::Global;
 impl SectionIndex {
     ghost use Rattle.gimli_lookup.specs.Section.{KeptUnit};
 
-    /// The place of a unit, or `NOT_FOUND` where there is none.
+    /// The index of a unit, or `NOT_FOUND` where there is none.
     fn unit_at(&self, unit: u64) -> Result<usize, u32>
-        ensures ok { IfOk result (λ place. (place ≡ unit) × (unit < length self.now.units)) }
+        ensures ok { IfOk result (λ index. (index ≡ unit) × (unit < length self.now.units)) }
         ensures err { IfErr result (λ s. (s ≡ NOT_FOUND) × (slice_get self.now.units unit ≡ None)) }
     {
         if unit < self.units.units().len() as u64 {
@@ -33,8 +33,8 @@ impl SectionIndex {
             × (found.now ≡ kept.unit)) }
         ensures err { IfErr result (λ s. (s ≡ NOT_FOUND) × (slice_get self.now.units unit ≡ None)) }
     {
-        let place = self.unit_at(unit)?;
-        Ok(&self.units.units()[place])
+        let index = self.unit_at(unit)?;
+        Ok(&self.units.units()[index])
     }
 
     /// The offset of a unit in its section, or `NOT_FOUND` where there is none.
@@ -119,15 +119,15 @@ pub extern "C" fn gimli_line_index_unit(
     }
 }
 
-/// Puts addresses into a place, as far as there is room.
+/// Puts addresses into an array, as far as there is room.
 pub(crate) fn copy_addresses(addresses: &[u64], room: &mut [u64])
     ensures { room.new ≡ slots_with addresses.now room.old }
 {
-    for (place, address) in addresses.iter().enumerate() {
-        if place >= room.len() {
+    for (slot, address) in addresses.iter().enumerate() {
+        if slot >= room.len() {
             return;
         }
-        room[place] = *address;
+        room[slot] = *address;
     }
 }
 
@@ -137,8 +137,8 @@ fn addresses_in(index: &SectionIndex, unit: u64, file: u64, line: u64) -> Result
     ensures err { IfErr result (λ s. (s ≡ OUT_OF_MEMORY)
         ⊎ ((s ≡ NOT_FOUND) × HasNoAddress index.now unit file line)) }
 {
-    let place = index.unit_at(unit)?;
-    let found = match index.units.addresses_of_file(place, file, line) {
+    let unit_index = index.unit_at(unit)?;
+    let found = match index.units.addresses_of_file(unit_index, file, line) {
         Ok(found) => found,
         Err(_) => return Err(OUT_OF_MEMORY),
     };
