@@ -297,11 +297,11 @@ fn references(
     let file = LineString::StringRef(strings.add(b"a.c")?);
     let directory = LineString::LineStringRef(line_strings.add(b"/w")?);
     let program = referring(alloc, strings, line_strings, directory, file)?;
-    noted(alloc, &program, strings, line_strings)
+    note(alloc, &program, strings, line_strings)
 }
 
 /// The section of a program.
-fn noted(
+fn note(
     alloc: Global,
     program: &LineProgram,
     strings: &mut StringTable,

@@ -186,8 +186,8 @@ impl<'d> Details<'d> {
         strings: StringSections<Slice<'i>>,
     ) -> Details<'d> {
         Details {
-            time: known(file.timestamp()),
-            size: known(file.size()),
+            time: known_number(file.timestamp()),
+            size: known_number(file.size()),
             md5: if header.file_has_md5() {
                 Some(file.md5())
             } else {
@@ -209,7 +209,7 @@ fn source_length<'i>(
 }
 
 /// A number that isn't 0.
-fn known(number: u64) -> Option<u64> {
+fn known_number(number: u64) -> Option<u64> {
     match number {
         0 => None,
         _ => Some(number),

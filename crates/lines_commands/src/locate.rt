@@ -228,7 +228,7 @@ struct JsonPlace<'p>(Place<'p>);
 impl fmt::Display for Place<'_> {
     fn fmt<W: fmt::Write>(&self, f: &mut fmt::Formatter<W>) -> fmt::Result {
         let path = PathText(self.path.unwrap_or(b"??"));
-        let (line, column) = shown(self.found);
+        let (line, column) = line_and_column(self.found);
         write!(f, "{path}:{line}:{column}")
     }
 }
@@ -239,7 +239,7 @@ impl fmt::Display for JsonPlace<'_> {
         let row = &place.found.row;
         let address = place.address;
         let path = JsonPath(place.path);
-        let (line, column) = shown(place.found);
+        let (line, column) = line_and_column(place.found);
         let start = row.address();
         let end = place.found.next.address();
         let discriminator = row.discriminator();
@@ -266,7 +266,7 @@ impl fmt::Display for JsonPath<'_> {
 
 /// The line and the column that are shown: those of the row that covers the address, which is the
 /// first of the two.
-fn shown(found: &CoveringRows) -> (u64, u64)
+fn line_and_column(found: &CoveringRows) -> (u64, u64)
     ensures { result ≡ (found.now.row.line, found.now.row.column) }
 {
     (line_of(&found.row), column_of(&found.row))

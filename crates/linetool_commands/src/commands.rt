@@ -7,7 +7,7 @@ ghost use Rattle.linetool_commands.specs.Words.{IsCommand, ReadsFile};
 use crate::count::count_rows;
 use crate::demo::{print_demo, print_demo_pieces};
 use crate::find::print_pair;
-use crate::print::{finished, print_line, print_program, print_rows};
+use crate::print::{finish, print_line, print_program, print_rows};
 use crate::refusal::Refusal;
 use crate::section::{program_at, read_section};
 use crate::units::print_units;
@@ -85,7 +85,7 @@ fn print_unit<O: Write>(
 {
     let program = program_at(alloc, section, place)?;
     let outcome = print_program(program, out);
-    finished(outcome, out)
+    finish(outcome, out)
 }
 
 /// Prints the sequences of a unit. Nothing is printed where it can't be cut.
@@ -102,7 +102,7 @@ fn print_sequences<O: Write>(
         .sequences()
         .map_err(|e| Refusal::of_unit(e, Refusal::Rows))?;
     let outcome = print_each(&program, &sequences, out);
-    finished(outcome, out)
+    finish(outcome, out)
 }
 
 /// Prints sequences one after the other, each with its rows.

@@ -4,7 +4,7 @@ ghost use Rattle.std.specs.Prelude.{◌≡◌, ◌≢◌, [], OnOk, IfErr, IfOk}
 ghost use Rattle.gimli_write.specs.Conditions.{CanWrite};
 ghost use Rattle.linetool_commands.specs.Demo.{IsAtStart};
 
-use crate::print::{finished, print_program, print_row};
+use crate::print::{finish, print_program, print_row};
 use crate::refusal::Refusal;
 use crate::section::program_at;
 use gimli_core::{Encoding, Endianity, Format, LineEncoding, LittleEndian, RunTimeEndian};
@@ -24,7 +24,7 @@ pub fn print_demo<O: Write>(alloc: Global, out: &mut O) -> Result<(), Refusal>
     let mut section = DebugLine::from(EndianVec::new(alloc, LittleEndian));
     let answer = write_demo(alloc, &mut section)?;
     let outcome = print_unit(section.0.slice(), &answer, out);
-    finished(outcome, out)
+    finish(outcome, out)
 }
 
 /// Writes the unit, and reads it again.
@@ -63,7 +63,7 @@ pub fn print_demo_pieces<O: Write>(alloc: Global, out: &mut O) -> Result<(), Ref
 {
     let section = write_demo_pieces(alloc)?;
     let outcome = print_pieces(alloc, section, out);
-    finished(outcome, out)
+    finish(outcome, out)
 }
 
 /// Writes the unit in pieces.

@@ -2,7 +2,7 @@
 
 ghost use Rattle.std.specs.Prelude.{◌≢◌, IfErr};
 
-use crate::print::{finished, print_line, print_row};
+use crate::print::{finish, print_line, print_row};
 use crate::refusal::Refusal;
 use crate::section::program_at;
 use crate::words::Query;
@@ -27,7 +27,7 @@ pub(crate) fn print_pair<O: Write>(
         Ok(None) => print_line("none", out),
         Err(e) => return Err(Refusal::of_unit(e, Refusal::Rows)),
     };
-    finished(outcome, out)
+    finish(outcome, out)
 }
 
 /// Prints two rows.

@@ -4,7 +4,7 @@ ghost use Rattle.std.specs.Prelude.{◌≡◌, ◌≢◌, ◌≤◌, ◌++◌, I
 ghost use Rattle.std.specs.Fmt.{decimal};
 
 use crate::count::count_rows;
-use crate::print::{finished, write_line};
+use crate::print::{finish, write_line};
 use crate::refusal::Refusal;
 use crate::words::Numbers;
 use gimli_core::{Reader, ReaderOffset};
@@ -60,7 +60,7 @@ pub(crate) fn print_units<O: Write>(
     let section = DebugLine::new(section, numbers.order);
     let units = section.units(alloc, numbers.address_size.bytes());
     let outcome = print_each(units, out);
-    finished(outcome, out)
+    finish(outcome, out)
 }
 
 /// The same of units of any reader, without what stands in the writer's own memory.

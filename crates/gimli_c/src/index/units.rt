@@ -28,7 +28,10 @@ impl SectionIndex {
     }
 
     /// A unit, or `NOT_FOUND` where there is none.
-    fn listed(&self, unit: u64) -> Result<&UnitLookup<EndianSlice<'static, RunTimeEndian>>, u32>
+    fn listed_unit(
+        &self,
+        unit: u64,
+    ) -> Result<&UnitLookup<EndianSlice<'static, RunTimeEndian>>, u32>
         ensures ok { IfOk result (λ found. (kept : KeptUnit) × IsUnit self.now unit kept
             × (found.now ≡ kept.unit)) }
         ensures err { IfErr result (λ s. (s ≡ NOT_FOUND) × (slice_get self.now.units unit ≡ None)) }
@@ -43,7 +46,7 @@ impl SectionIndex {
             × (offset ≡ kept.unit.offset)) }
         ensures err { IfErr result (λ s. (s ≡ NOT_FOUND) × (slice_get self.now.units unit ≡ None)) }
     {
-        let found = self.listed(unit)?;
+        let found = self.listed_unit(unit)?;
         Ok(found.offset().0)
     }
 }
@@ -82,7 +85,7 @@ fn unit_in(index: &SectionIndex, unit: u64) -> Result<GimliIndexUnit, u32>
     ensures ok { IfOk result (GivesIndexUnit index.now unit) }
     ensures err { IfErr result (λ s. (s ≡ NOT_FOUND) × (slice_get index.now.units unit ≡ None)) }
 {
-    let found = index.listed(unit)?;
+    let found = index.listed_unit(unit)?;
     Ok(GimliIndexUnit {
         offset: found.offset().0 as u64,
         fault: fault_status(found.fault()),

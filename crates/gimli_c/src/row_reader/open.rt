@@ -42,7 +42,7 @@ fn keep_rows<R: Reader>(
 }
 
 /// Rows in memory of their own. Refused by `OUT_OF_MEMORY` alone.
-fn boxed(alloc: Global, rows: UnitRows) -> Result<Box<UnitRows>, u32>
+fn box_of(alloc: Global, rows: UnitRows) -> Result<Box<UnitRows>, u32>
     ensures ok { IfOk result (λ kept. kept.value ≡ rows) }
     ensures err { IfErr result (λ s. s ≡ OUT_OF_MEMORY) }
 {
@@ -81,7 +81,7 @@ fn rows_at(
         next: 0,
         fault,
     };
-    boxed(alloc, kept)
+    box_of(alloc, kept)
 }
 
 /// Runs the program of the unit at an offset, and puts its rows behind the handle; what stood there is given back. Then

@@ -19,13 +19,13 @@ returns-in-Err-clause-number c = λ ok.
 pub returns-clause-ok : goal.returns-clause-ok
 returns-clause-ok c =
     let p = location c.args.section.now c.args.big c.args.address_size c.args.offset in
-    ok_more c.boxed.result (λ kept is. subst (λ (r : UnitRows). IsAtFirstRow p r) (sym is) (record {
+    ok_more c.box_of.result (λ kept is. subst (λ (r : UnitRows). IsAtFirstRow p r) (sym is) (record {
       header = c.in-Ok.program.meaning;
       events = events_of (events_left c.rows.result);
       unit = has_events _ _ _ _ c.in-Ok.ensures.unit c.in-Ok.ensures.notation c.rows.ensures.events;
       rows_are = c.in-Ok-keep_rows.ensures.rows ∙ ap (λ (xs : List LineRow). xs ++ rows_of (events_of (events_left c.rows.result))) c.new-rows.ensures;
       fault_is = c.in-Ok-keep_rows.ensures.fault;
-    })) c.boxed.ensures.ok
+    })) c.box_of.ensures.ok
 
 pub returns-clause-refused : goal.returns-clause-refused
-returns-clause-refused c = err_more c.boxed.result (λ s is other. absurd (other is)) c.boxed.ensures.err
+returns-clause-refused c = err_more c.box_of.result (λ s is other. absurd (other is)) c.box_of.ensures.err

@@ -2,7 +2,7 @@ use Rattle.std.proofs.Common.{◌≡◌, ℕ, List, map, ap, ◌∙◌}
 use Rattle.std.specs.Prelude.{slice_index_or}
 use Rattle.gimli_lookup.specs.Section.{ListedUnit, KeptUnit}
 use Rattle.gimli_c.proofs.Indexes.{unit_there}
-use Rattle.gimli_c.proofs.index.kept.SectionIndex.listed.Goals as goal
+use Rattle.gimli_c.proofs.index.kept.SectionIndex.listed_unit.Goals as goal
 
 pub returns-clause-ok : goal.returns-clause-ok
 returns-clause-ok c =
