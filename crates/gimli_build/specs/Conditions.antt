@@ -4,10 +4,9 @@ use Rattle.gimli_core.specs.Numbers.{is_address_size}
 use Rattle.gimli_core.specs.declared.common.Encoding.{Encoding}
 use Rattle.gimli_core.specs.declared.common.LineEncoding.{LineEncoding}
 use Rattle.gimli_build.specs.LineText.{LineText, IsWithin, HasNoZero, IsNotEmpty}
-use Rattle.gimli_build.specs.Tables.{FileKey, FitsFile, AreTables, keys_of}
+use Rattle.gimli_build.specs.Tables.{FileKey}
 use Rattle.gimli_build.specs.Advance.{CanEncode, CanFollow}
 use Rattle.gimli_build.specs.Built.{Built, position_after, previous_position}
-use Rattle.gimli_build.specs.Items.{AreFit}
 use Rattle.gimli_build.specs.declared.built.items.BuiltItem.{BuiltItem}
 use Rattle.gimli_build.specs.declared.built.items.BuiltItem.TheVariants.{SetAddress, Row, End}
 
@@ -47,13 +46,6 @@ pub record IsProgram (is_none : Bool) (encoding : Encoding) (e : LineEncoding) (
   pub directories_not_empty : encoding.version ≤ 4 → All IsNotEmpty (drop 1 directories)
   pub paths_not_empty : encoding.version ≤ 4 → All (λ k. IsNotEmpty k.0) keys
   pub items_built : AreBuilt e (0, 0) items
-
--- the same of a program that isn't none, with what its types say
-pub record IsBuilt (p : Built) : Type 0 where
-  pub is : IsProgram false p.encoding p.line_encoding p.directories (keys_of p.files) p.items
-  pub tables : AreTables p.directories (keys_of p.files)
-  pub items_fit : AreFit p.encoding.version p.items
-  pub files_fit : All FitsFile p.files
 
 -- a program can be written with these tables: each text that it names is there; and a source that is written has no
 -- zero byte, which would end it

@@ -3,7 +3,7 @@ use Rattle.std.specs.Prelude.{ℕ, List, [], ◌∷◌, nat_le, if◌then◌else
 use Rattle.std.specs.Option.{option_map_or}
 use Rattle.gimli_build.specs.LineText.{LineText, line_text}
 use Rattle.gimli_build.specs.Tables.{Details, File, Tables, no_details, with_directory, index_of_directory}
-use Rattle.gimli_build.specs.TablesInside.{details}
+use Rattle.gimli_build.specs.TableFields.{details}
 use Rattle.gimli_build.specs.declared.built.line_string.LineString.{LineString}
 use Rattle.gimli_build.specs.declared.built.files.FileInfo.{FileInfo}
 

@@ -1,7 +1,6 @@
 -- Bytes that are written one part after the other, where each part may be refused: the first refusal counts.
-use Rattle.std.specs.Prelude.{◌≡◌, ◌⊎◌, ℕ, List, [], ◌∷◌, ◌++◌, length, Result, Ok, Err}
+use Rattle.std.specs.Prelude.{ℕ, List, [], ◌∷◌, ◌++◌, length, Result, Ok, Err}
 use Rattle.gimli_bytes.specs.declared.error.Error.{Error}
-use Rattle.gimli_bytes.specs.declared.error.Error.TheVariants.{OutOfMemory}
 
 -- one after the other, or the first refusal
 abbrev pub result_append : Result (List ℕ) Error → Result (List ℕ) Error → Result (List ℕ) Error
@@ -18,7 +17,3 @@ result_concat part (x ∷ xs) = result_append (part x) (result_concat part xs)
 abbrev pub after_length : (ℕ → Result (List ℕ) Error) → Result (List ℕ) Error → Result (List ℕ) Error
 after_length length_of (Ok bytes) = result_append (length_of (length bytes)) (Ok bytes)
 after_length length_of (Err e) = Err e
-
--- an append is refused for memory, or for what is wanted
-abbrev pub RefusesFor : Result (List ℕ) Error → Error → Type 0
-RefusesFor wanted e = (e ≡ OutOfMemory) ⊎ (wanted ≡ Err e)

@@ -3,7 +3,7 @@ use Rattle.std.specs.Prelude.{ℕ}
 use Rattle.std.specs.Borrow.{Lends, MutBor, Fml}
 use Rattle.gimli_build.specs.Built.{Built}
 use Rattle.gimli_build.specs.Tables.{with_details}
-use Rattle.gimli_build.specs.TablesInside.{details}
+use Rattle.gimli_build.specs.TableFields.{details}
 use Rattle.gimli_build.specs.declared.built.row.LineRow.{LineRow}
 use Rattle.gimli_build.specs.declared.built.files.FileInfo.{FileInfo}
 use Rattle.gimli_build.specs.contracts.built.line_program.LineProgram.{the_row}

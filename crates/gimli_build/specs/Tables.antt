@@ -1,5 +1,5 @@
 -- The directories and the files of a line program, as lists.
-use Rattle.std.specs.Prelude.{◌≡◌, ◌≢◌, ℕ, suc, zero, ◌+◌, ◌<◌, ◌≤◌, ◌^◌, Bool, ◌&&◌, List, [], ◌∷◌, ◌++◌, length, slice_get, map, replicate, nat_eq, if◌then◌else◌, Option, Some, None, unwrap_or, All, AllPairs}
+use Rattle.std.specs.Prelude.{◌≡◌, ◌≢◌, ℕ, suc, zero, ◌+◌, ◌<◌, ◌≤◌, Bool, ◌&&◌, List, [], ◌∷◌, ◌++◌, length, slice_get, map, replicate, nat_eq, if◌then◌else◌, Option, Some, None, unwrap_or, All, AllPairs}
 use Rattle.std.specs.List.{list_any, position_or_len}
 use Rattle.gimli_build.specs.LineText.{LineText, line_text_eq, HasNoZero}
 
@@ -42,13 +42,6 @@ has_file files key = list_any (λ f. key_eq key f.0) files
 -- the index of a file, which is the end where it isn't there
 abbrev pub index_of_file : List File → FileKey → ℕ
 index_of_file files key = position_or_len (λ f. key_eq key f.0) files
-
--- 64 bits hold the numbers of a file, and a digest has sixteen bytes, as in any program
-pub record FitsFile (f : File) : Type 0 where
-  pub directory : f.0.1 < 2 ^ 64
-  pub timestamp : f.1.timestamp < 2 ^ 64
-  pub size : f.1.size < 2 ^ 64
-  pub md5 : length f.1.md5 ≡ 16
 
 -- the files with other details at an index
 abbrev pub with_details : List File → ℕ → Details → List File

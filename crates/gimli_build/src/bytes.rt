@@ -2,7 +2,7 @@
 
 ghost use Rattle.std.specs.Prelude.{[], ◌∷◌, ◌++◌, Ok};
 ghost use Rattle.gimli_build.specs.FormatWord.{format_word};
-ghost use Rattle.gimli_build.specs.Writes.{Writes};
+ghost use Rattle.gimli_build.specs.inside.Writes.{Writes};
 
 use gimli_bytes::{Result, Writer};
 use gimli_core::{Format, SectionId};

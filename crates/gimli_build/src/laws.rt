@@ -35,7 +35,7 @@ ghost use Rattle.gimli_build.specs.NoFiles.{DefinesNoFile, program_started};
 ghost use Rattle.gimli_build.specs.declared.built.files.FileInfo.{FileInfo};
 ghost use Rattle.gimli_build.specs.declared.built.line_string.LineString.{LineString};
 ghost use Rattle.gimli_build.specs.LineText.{line_text};
-ghost use Rattle.gimli_build.specs.TablesInside.{details};
+ghost use Rattle.gimli_build.specs.TableFields.{details};
 
 use crate::built::files::{DirectoryId, FileId, FileInfo};
 use crate::built::items::BuiltItem;

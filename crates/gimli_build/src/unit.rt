@@ -3,13 +3,14 @@
 ghost use Rattle.std.specs.Prelude.{◌≡◌, ◌<◌, ◌≤◌, ◌^◌, ◌⊎◌, length, IsTrue, IfOk, IfErr, OnOk, Err, None};
 ghost use Rattle.gimli_bytes.specs.Written.{Begins, Appends, AppendsThat};
 ghost use Rattle.gimli_build.specs.LineText.{line_text};
-ghost use Rattle.gimli_build.specs.Conditions.{CanWrite, IsBuilt};
-ghost use Rattle.gimli_build.specs.EmptySource.{StandsForNone};
+ghost use Rattle.gimli_build.specs.Conditions.{CanWrite};
+ghost use Rattle.gimli_build.specs.inside.Conditions.{IsBuilt};
+ghost use Rattle.gimli_build.specs.inside.EmptySource.{StandsForNone};
 ghost use Rattle.gimli_build.specs.Unit.{version_bytes, opening_bytes, inside_bytes, whole_bytes, is_incompatible, unit_bytes};
 ghost use Rattle.gimli_build.specs.Cause.{first_cause, IsWriteRefusal};
 ghost use Rattle.gimli_build.specs.ReadsBack.{ReadsBackAs};
 ghost use Rattle.gimli_build.specs.WrittenTables.{HaveEmptySource, KeepTables};
-ghost use Rattle.gimli_build.specs.Writes.{Writes};
+ghost use Rattle.gimli_build.specs.inside.Writes.{Writes};
 
 mod header;
 

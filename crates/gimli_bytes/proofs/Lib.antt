@@ -8,4 +8,3 @@ pub mod Parts
 pub mod WrittenAs
 pub mod InitialLengths
 pub mod TablesWritten
-pub mod Variants

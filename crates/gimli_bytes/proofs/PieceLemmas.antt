@@ -13,7 +13,8 @@ use Rattle.std.proofs.lemmas.Nat.{div-add-mod', div_below}
 use native.Mathlib.Nat.{lt_of_mul-lt-mul_right}
 use Rattle.gimli_bytes.specs.Written.{overwrite_of}
 use Rattle.gimli_bytes.specs.declared.error.Error.TheVariants.{LengthOutOfBounds}
-use Rattle.gimli_bytes.specs.Pieces.{HaveSizes, NeedsNoPiece, ArePieces, put_over, in_use, HoldPieces}
+use Rattle.gimli_bytes.specs.Pieces.{HaveSizes, NeedsNoPiece, ArePieces, in_use, HoldPieces}
+use Rattle.gimli_bytes.specs.inside.Pieces.{put_over}
 
 abbrev pub Sized : ℕ → List (List ℕ) → Type 0
 Sized n pieces = All (λ piece. length piece ≡ n) pieces

@@ -6,7 +6,7 @@ use Rattle.std.proofs.lemmas.Grind.{common_steps}
 use Rattle.std.proofs.lemmas.List.{take_all}
 use Rattle.gimli_core.specs.Numbers.{number_bytes}
 use Rattle.gimli_bytes.specs.Texts.{table_bytes}
-use Rattle.gimli_bytes.specs.TextsInside.{texts_of}
+use Rattle.gimli_bytes.specs.inside.TextFields.{texts_of}
 
 zero_byte : (big : Bool) → number_bytes big 1 0 ≡ 0 ∷ []
 zero_byte true = refl

@@ -11,7 +11,7 @@ use Rattle.std.proofs.lemmas.List.Quantifiers.{all_pairs_push}
 use Rattle.std.proofs.lemmas.List.Sums.{sum_by-append, sum_by-cons, sum_by-take-le}
 use Rattle.std.proofs.lemmas.Slice.Eq.{bytes_eq-Decides}
 use Rattle.gimli_bytes.specs.Texts.{AreTexts, KeepsTexts, with_text, index_of_text, byte_count, offset_of, table_bytes}
-use Rattle.gimli_bytes.specs.TextsInside.{texts_of}
+use Rattle.gimli_bytes.specs.inside.TextFields.{texts_of}
 
 -- ---- from keys to texts
 

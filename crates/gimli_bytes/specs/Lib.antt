@@ -3,5 +3,5 @@ pub mod Number
 pub mod Section
 pub mod Pieces
 pub mod Texts
-pub mod TextsInside
 pub mod HashAlike
+pub mod inside

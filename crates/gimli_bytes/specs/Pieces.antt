@@ -1,5 +1,5 @@
 -- Bytes in pieces of one size.
-use Rattle.std.specs.Prelude.{◌≡◌, ℕ, ◌+◌, ◌-◌, ◌*◌, ◌<◌, ◌≤◌, List, [], ◌∷◌, ◌++◌, All, length, take, drop}
+use Rattle.std.specs.Prelude.{◌≡◌, ℕ, ◌+◌, ◌-◌, ◌*◌, ◌<◌, ◌≤◌, List, [], ◌∷◌, All, length, take}
 use Rattle.std.specs.List.{concat}
 use Rattle.std.specs.Int.{div_ceil}
 
@@ -13,10 +13,6 @@ HaveSizes n (piece ∷ next ∷ others) = (length piece ≡ n) × HaveSizes n (n
 pub record ArePieces (n : ℕ) (bytes : List ℕ) (pieces : List (List ℕ)) : Type 0 where
   pub joined : concat pieces ≡ bytes
   pub sizes : HaveSizes n pieces
-
--- bytes put over others from a place on
-abbrev pub put_over : List ℕ → ℕ → List ℕ → List ℕ
-put_over old at bytes = take at old ++ bytes ++ drop (at + length bytes) old
 
 -- what is in use of the memory of pieces, where it holds so many bytes
 abbrev pub in_use : ℕ → List (List ℕ) → List (List ℕ)

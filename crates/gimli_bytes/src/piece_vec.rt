@@ -3,7 +3,8 @@
 ghost use Rattle.std.specs.Prelude.{◌≡◌, ℕ, ◌+◌, ◌<◌, ◌≤◌, ◌^◌, ◌++◌, [], true, IsOk, IfOk, IfErr, OnOk, OnErr, All, length};
 ghost use Rattle.std.specs.List.{concat};
 ghost use Rattle.std.specs.Int.{div_ceil};
-ghost use Rattle.gimli_bytes.specs.Pieces.{ArePieces, NeedsNoPiece, put_over};
+ghost use Rattle.gimli_bytes.specs.Pieces.{ArePieces, NeedsNoPiece};
+ghost use Rattle.gimli_bytes.specs.inside.Pieces.{put_over};
 
 use crate::error::{Error, Result};
 use crate::sink::Sink;

@@ -22,7 +22,7 @@ struct Texts {
 impl Model for Texts {
     ghost use Rattle.std.specs.Prelude.{◌≡◌, ℕ, List};
     ghost use Rattle.gimli_bytes.specs.Texts.{AreTexts, byte_count};
-    ghost use Rattle.gimli_bytes.specs.TextsInside.{texts_of, IsInside};
+    ghost use Rattle.gimli_bytes.specs.inside.TextFields.{texts_of, IsInside};
 
     ghost Value = { List (List ℕ) };
 

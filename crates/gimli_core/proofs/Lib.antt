@@ -8,3 +8,4 @@ pub mod SignedLaws
 pub mod ProductionLaws
 pub mod Written
 pub mod OffsetClones
+pub mod Variants

@@ -12,7 +12,8 @@ use Rattle.gimli_core.specs.declared.error.Error.{Error}
 use Rattle.gimli_core.specs.declared.error.Error.TheVariants.{UnknownReservedLength, UnsupportedAddressSize, UnsupportedOffset}
 use Rattle.gimli_core.specs.Notation.{Notation}
 use Rattle.gimli_core.specs.Numbers.{SpellsNumber, SpellsInitialLength, value_of, is_address_size}
-use Rattle.gimli_core.specs.Reading.{Read, ◌>>=◌, result_map, eof, byte_at, signed_byte_at, number_at, split_at, text_at, word_at, initial_length_at, address_size_at, offset_of, check_at, below_at}
+use Rattle.gimli_core.specs.Reading.{Read, ◌>>=◌, result_map, eof, byte_at, signed_byte_at, number_at, split_at, text_at, word_at, initial_length_at, address_size_at, offset_of}
+use Rattle.gimli_core.specs.inside.Reading.{check_at, below_at}
 use Rattle.gimli_core.specs.Production.{Production, check, byte, signed_byte, number, some_bytes, text, address_size, below_limit, fits_offset, offset_word, initial_length, unit_length, IsWanting, Reads}
 use Rattle.gimli_core.proofs.Productions.{ok_parts, bind_ok, bind_fault, bind_refused, reads_both, reads_done, reads_check, reads_same}
 use Rattle.gimli_core.proofs.Padded.{split_ok}

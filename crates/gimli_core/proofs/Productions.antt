@@ -1,7 +1,8 @@
 -- Reading one production after another: what reads the productions reads what is put together of them.
 use Rattle.std.proofs.Common.{◌≡◌, ℕ, zero, suc, Bool, true, false, if◌then◌else◌, List, [], ◌∷◌, ◌++◌, Ok, Err, refl, sym, ap, ◌∙◌, append_assoc, ◌⊎◌, inl, inr}
 use Rattle.gimli_core.specs.declared.error.Error.{Error}
-use Rattle.gimli_core.specs.Reading.{Read, ◌>>=◌, check_at, times_at, with_rest, within_at}
+use Rattle.gimli_core.specs.Reading.{Read, ◌>>=◌, times_at, with_rest, within_at}
+use Rattle.gimli_core.specs.inside.Reading.{check_at}
 use Rattle.gimli_core.specs.Production.{Production, ◌>>=◌ as ◌>>>◌, done, refuse, check, choose, times, within, Reads}
 
 -- ---- steps that may fail

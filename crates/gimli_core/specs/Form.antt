@@ -90,7 +90,3 @@ module _ (notation : Notation) (format : Format) where
     | Some shape ↦ shape_production shape
     | None ↦ refuse (UnknownForm (record { 0 = form }))
   ]
-
-  -- the bytes are a value in this form
-  abbrev pub SpellsForm : ℕ → List ℕ → Value → Type 0
-  SpellsForm form = (form_production form).Spells

@@ -6,3 +6,4 @@ pub mod Reading
 pub mod Production
 pub mod Form
 pub mod Equality
+pub mod inside

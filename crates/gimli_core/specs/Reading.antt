@@ -17,10 +17,6 @@ abbrev pub ◌>>=◌ : {A B : Type 0} → Read A → (A → List ℕ → Read B)
 (Ok x, rest) >>= f = f x rest
 (Err e, rest) >>= f = (Err e, rest)
 
--- a test
-abbrev pub check_at : Bool → Error → List ℕ → Read (Unit {0})
-check_at b d bytes = if b then (Ok tt, bytes) else (Err d, bytes)
-
 -- so many of a call
 abbrev pub times_at : {A : Type 0} → ℕ → (List ℕ → Read A) → List ℕ → Read (List A)
 times_at zero read bytes = (Ok [], bytes)
@@ -84,10 +80,6 @@ number_at big size bytes = if nat_lt (length bytes) size then (Err (eof bytes), 
 abbrev pub offset_of : ℕ → ℕ → Result ℕ Error
 offset_of limit n = if nat_le limit n then Err UnsupportedOffset else Ok n
 
--- a number that an offset has to hold
-abbrev pub below_at : ℕ → (List ℕ → Read ℕ) → List ℕ → Read ℕ
-below_at limit read bytes = read bytes >>= λ n rest. (offset_of limit n, rest)
-
 -- the groups of seven bits of an unsigned number: at most so many bytes before the last, and then one of at most top
 unfoldable pub uleb_at : ℕ → ℕ → List ℕ → Read ℕ
 uleb_at zero top bytes =
@@ -116,10 +108,6 @@ sleb_at zero bytes =
     byte_at bytes >>= λ b rest. if nat_eq b 0 || nat_eq b 127 then (Ok (last_group b), rest) else (Err BadSignedLeb128, rest)
 sleb_at (suc more) bytes =
     byte_at bytes >>= λ b rest. if nat_lt b 128 then (Ok (last_group b), rest) else (sleb_at more rest >>= λ high rest. (Ok (b % 128 + 128 * high.0, 128 * high.1), rest))
-
--- nine groups that are n as an unsigned number, and the tenth byte, which only repeats the sign
-abbrev pub tenth_at : ℕ → ℕ → Result ℤ Error
-tenth_at n b = if nat_eq b 0 then Ok (pos n) else (if nat_eq b 127 then Ok (pos n -ℤ pos (2 ^ 63)) else Err BadSignedLeb128)
 
 -- a signed LEB128 number of 64 bits
 abbrev pub signed_at : List ℕ → Read ℤ

@@ -1,7 +1,7 @@
 //! Steps of reading LEB128 numbers, seven bits at a time, the least significant first.
 
 ghost use Rattle.std.specs.Prelude.{◌≡◌, ◌+◌, ◌*◌, ◌%◌, ◌^◌, ◌<◌, ◌≤◌, ◌-ℤ◌, pos, if◌then◌else◌, nat_le};
-ghost use Rattle.gimli_core.specs.Reading.{tenth_at};
+ghost use Rattle.gimli_core.specs.inside.Reading.{tenth_at};
 
 use crate::error::{Error, Result};
 

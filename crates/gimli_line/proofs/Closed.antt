@@ -9,7 +9,7 @@ use Rattle.gimli_core.specs.Production.{Production, ◌>>=◌ as ◌>>>◌, text
 use Rattle.gimli_core.proofs.Productions.{bind_ok, bind_fault, bind_refused, ok_parts}
 use Rattle.gimli_core.proofs.ProductionLaws.{reads_text}
 use Rattle.gimli_line.specs.header.Productions.{name}
-use Rattle.gimli_line.specs.header.TableReading.{is_closed, closed_below, list_to_zero_at}
+use Rattle.gimli_line.specs.inside.header.TableReading.{is_closed, closed_below, list_to_zero_at}
 
 -- bytes that begin with one that isn't zero
 pub record Opens (bytes : List ℕ) : Type 0 where

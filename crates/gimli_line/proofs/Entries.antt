@@ -7,13 +7,13 @@ use Rattle.gimli_core.specs.Values.{Value, udata_value}
 use Rattle.gimli_core.specs.Reading.{Read, ◌>>=◌}
 use Rattle.gimli_core.specs.declared.common.Format.{Format}
 use Rattle.gimli_core.specs.declared.attribute_value.AttributeValue.TheVariants.{String}
-use Rattle.gimli_line.specs.header.Outcome.{read_map}
+use Rattle.gimli_line.specs.inside.header.Outcome.{read_map}
 use Rattle.gimli_line.specs.header.File.{File}
 use Rattle.gimli_line.specs.header.Header.{plain_file}
 use Rattle.gimli_line.specs.header.HeaderGrammar.{Entry, last_value, digest, path_of, file_of_entry}
-use Rattle.gimli_line.specs.header.FormReading.{form_at}
-use Rattle.gimli_line.specs.header.HeaderReading.{entry_at}
-use Rattle.gimli_line.specs.header.EntryReading.{value_after, path_with, file_with, fold_of, folded_at}
+use Rattle.gimli_line.specs.inside.header.FormReading.{form_at}
+use Rattle.gimli_line.specs.inside.header.HeaderReading.{entry_at}
+use Rattle.gimli_line.specs.inside.header.EntryReading.{value_after, path_with, file_with, fold_of, folded_at}
 use Rattle.gimli_line.specs.declared.header.file_entry.FileEntryFormat.{FileEntryFormat}
 
 -- the last value of an entry, from its first value on

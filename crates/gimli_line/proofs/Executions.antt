@@ -16,8 +16,9 @@ use Rattle.gimli_line.specs.run.Instruction.{Ins, makes_row, defines_file, files
 use Rattle.gimli_line.specs.run.InstructionReading.{standard_at, ins_at}
 use Rattle.gimli_line.specs.run.Machine.{step_of, is_refused, reset_row}
 use Rattle.gimli_line.specs.run.Registers.{advanced_line}
-use Rattle.gimli_line.specs.run.Execution.{Executed, ExecutedWell}
-use Rattle.gimli_line.specs.run.Rows.{StepIs, FaultIs}
+use Rattle.gimli_line.specs.inside.run.Execution.{Executed, ExecutedWell}
+use Rattle.gimli_line.specs.run.Rows.{FaultIs}
+use Rattle.gimli_line.specs.inside.run.Rows.{StepIs}
 use Rattle.gimli_line.specs.run.Unread.{Unread}
 use Rattle.gimli_line.proofs.InstructionLaws.{reads_instruction}
 use Rattle.gimli_line.proofs.Runs.{state, after_quiet, after_tombstone, after_seen, after_overflow, is_shorter, passes_quiet, passes_tombstone, passes_seen}

@@ -9,7 +9,7 @@ use Rattle.gimli_line.specs.header.Parameters.{Parameters}
 use Rattle.gimli_line.specs.header.File.{File}
 use Rattle.gimli_line.specs.header.Header.{UnitEntry, plain_file}
 use Rattle.gimli_line.specs.header.HeaderGrammar.{Opening, handed_value}
-use Rattle.gimli_line.specs.header.HeaderReading.{parameters_at, directories_at, file_names_at, fields_at}
+use Rattle.gimli_line.specs.inside.header.HeaderReading.{parameters_at, directories_at, file_names_at, fields_at}
 use Rattle.gimli_line.specs.declared.header.file_entry.FileEntryFormat.{FileEntryFormat}
 
 -- a step that refused

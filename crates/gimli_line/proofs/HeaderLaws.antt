@@ -3,7 +3,8 @@ use Rattle.std.proofs.Common.{◌≡◌, ℕ, ◌-◌, Bool, true, false, not, i
 use Rattle.std.specs.Prelude.{nat_eq, nat_le, count_by, ◌&&◌}
 use Rattle.gimli_core.specs.Notation.{Notation}
 use Rattle.gimli_core.specs.Numbers.{is_address_size}
-use Rattle.gimli_core.specs.Reading.{Read, ◌>>=◌, byte_at, address_size_at, check_at}
+use Rattle.gimli_core.specs.Reading.{Read, ◌>>=◌, byte_at, address_size_at}
+use Rattle.gimli_core.specs.inside.Reading.{check_at}
 use Rattle.gimli_core.specs.Production.{Production, ◌>>=◌ as ◌>>>◌, done, refuse, check, choose, times, byte, number, some_bytes, text, unsigned, unsigned_16, signed, below_limit, offset_word, unit_length, within, Reads}
 use Rattle.gimli_core.specs.Form.{Shape, fixed, three_bytes, word_offset, leb, signed_leb, leb_offset, block, counted, leb_counted, string, shape_among, shapes, block_production, shape_production, form_production}
 use Rattle.gimli_core.specs.declared.common.Encoding.{Encoding}
@@ -18,9 +19,10 @@ use Rattle.gimli_core.proofs.SignedLaws.{reads_signed}
 use Rattle.gimli_line.specs.header.File.{File}
 use Rattle.gimli_line.specs.header.Header.{Header, UnitEntry, plain_file}
 use Rattle.gimli_line.specs.header.Productions.{name, positive}
-use Rattle.gimli_line.specs.header.FormReading.{block_at, shape_at, form_at}
+use Rattle.gimli_line.specs.inside.header.FormReading.{block_at, shape_at, form_at}
 use Rattle.gimli_line.specs.header.HeaderGrammar.{is_content, Opening, paths_production, file_production, files_production, format_production, formats_production, entry_production, entries_production, table_production, version_production, address_size_production, opening_production, line_encoding_production, parameters_production, directory_table, file_table, fields_production, header_production, SpellsUnit, HasHeaderFault}
-use Rattle.gimli_line.specs.header.HeaderReading.{positive_at, paths_at, plain_file_at, named_file_at, files_at, format_at, formats_at, entry_at, entries_at, table_at, version_at, own_address_size_at, size_at, opening_at, operations_at, line_encoding_at, parameters_at, directories_at, file_names_at, fields_at, header_at}
+use Rattle.gimli_line.specs.header.HeaderReading.{plain_file_at}
+use Rattle.gimli_line.specs.inside.header.HeaderReading.{positive_at, paths_at, named_file_at, files_at, format_at, formats_at, entry_at, entries_at, table_at, version_at, own_address_size_at, size_at, opening_at, operations_at, line_encoding_at, parameters_at, directories_at, file_names_at, fields_at, header_at}
 use Rattle.gimli_line.specs.declared.header.file_entry.FileEntryFormat.{FileEntryFormat}
 use Rattle.gimli_line.proofs.Closed.{ReadsOpen, reads_name, reads_open_both, reads_closed}
 

@@ -13,9 +13,10 @@ use Rattle.gimli_line.specs.header.Parameters.{Parameters}
 use Rattle.gimli_line.specs.header.File.{File}
 use Rattle.gimli_line.specs.header.Header.{Header, UnitEntry, plain_file}
 use Rattle.gimli_line.specs.header.HeaderGrammar.{SpellsUnit, HasHeaderFault}
-use Rattle.gimli_line.specs.header.TableReading.{closed_below}
-use Rattle.gimli_line.specs.header.FormReading.{form_at}
-use Rattle.gimli_line.specs.header.HeaderReading.{positive_at, plain_file_at, format_at, formats_at, entries_at, table_at, version_at, own_address_size_at, opening_at, line_encoding_at, parameters_at, directories_at, file_names_at, fields_at, header_at}
+use Rattle.gimli_line.specs.inside.header.TableReading.{closed_below}
+use Rattle.gimli_line.specs.inside.header.FormReading.{form_at}
+use Rattle.gimli_line.specs.header.HeaderReading.{plain_file_at}
+use Rattle.gimli_line.specs.inside.header.HeaderReading.{positive_at, format_at, formats_at, entries_at, table_at, version_at, own_address_size_at, opening_at, line_encoding_at, parameters_at, directories_at, file_names_at, fields_at, header_at}
 use Rattle.gimli_line.proofs.HeaderLaws.{reads_header, unit_found}
 
 abbrev little : Notation

@@ -3,7 +3,6 @@ pub mod AddressSizes
 pub mod Backwards
 pub mod ShortLeb
 pub mod Steps
-pub mod Variants
 pub mod Worked
 pub mod Closed
 pub mod HeaderLaws

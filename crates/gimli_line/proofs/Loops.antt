@@ -11,12 +11,13 @@ use Rattle.gimli_core.specs.declared.common.Format.{Format}
 use Rattle.gimli_core.specs.Production.{Production, IsOpen}
 use Rattle.gimli_core.proofs.Productions.{bind_ok, bind_refused, ok_parts}
 use Rattle.gimli_core.proofs.ProductionLaws.{reads_text}
-use Rattle.gimli_line.specs.header.Outcome.{read_map}
-use Rattle.gimli_line.specs.header.TableReading.{is_closed, closed_below, list_to_zero_at}
+use Rattle.gimli_line.specs.inside.header.Outcome.{read_map}
+use Rattle.gimli_line.specs.inside.header.TableReading.{is_closed, closed_below, list_to_zero_at}
 use Rattle.gimli_line.specs.header.File.{File}
 use Rattle.gimli_line.specs.header.HeaderGrammar.{Entry, file_of_entry}
 use Rattle.gimli_core.specs.declared.common.Encoding.{Encoding}
-use Rattle.gimli_line.specs.header.HeaderReading.{plain_file_at, named_file_at, files_at, formats_at, entry_at, entries_at, table_at, file_names_at}
+use Rattle.gimli_line.specs.header.HeaderReading.{plain_file_at}
+use Rattle.gimli_line.specs.inside.header.HeaderReading.{named_file_at, files_at, formats_at, entry_at, entries_at, table_at, file_names_at}
 use Rattle.gimli_line.specs.declared.header.file_entry.FileEntryFormat.{FileEntryFormat}
 use Rattle.gimli_line.proofs.Closed.{ReadsOpen}
 

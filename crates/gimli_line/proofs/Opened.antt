@@ -4,10 +4,10 @@ use Rattle.gimli_core.specs.Notation.{Notation}
 use Rattle.gimli_core.specs.Reading.{Read, ◌>>=◌, split_at, initial_length_at, within_at}
 use Rattle.gimli_core.specs.declared.common.Format.{Format}
 use Rattle.gimli_core.specs.declared.error.Error.{Error}
-use Rattle.gimli_line.specs.header.Outcome.{IsAnswer}
+use Rattle.gimli_line.specs.inside.header.Outcome.{IsAnswer}
 use Rattle.gimli_line.specs.header.Header.{Header, UnitEntry}
 use Rattle.gimli_line.specs.header.HeaderGrammar.{Opening}
-use Rattle.gimli_line.specs.header.HeaderReading.{opening_at, fields_at, header_at}
+use Rattle.gimli_line.specs.inside.header.HeaderReading.{opening_at, fields_at, header_at}
 
 -- the answer of the last part is that of all
 last_answer : (r : Read Header) (rest : List ℕ) → (within_at [] (λ bytes. r) rest >>= λ fields left. (Ok fields.0, left)).0 ≡ r.0

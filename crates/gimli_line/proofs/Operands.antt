@@ -5,7 +5,7 @@ use Rattle.gimli_core.specs.Reading.{Read, ◌>>=◌, times_at, unsigned_at}
 use Rattle.gimli_core.specs.Production.{unsigned}
 use Rattle.gimli_core.proofs.Productions.{bind_ok, ok_parts, reads_times}
 use Rattle.gimli_core.proofs.UnsignedLeb.{reads_unsigned}
-use Rattle.gimli_line.specs.run.InstructionReading.{without_value}
+use Rattle.gimli_line.specs.inside.run.InstructionReading.{without_value}
 
 module _ {A : Type 0} (read : List ℕ → Read A) where
   after_item : (x : A) (r : Read (List A)) → without_value (r >>= λ xs left. (let s : Read (List A) = (Ok (x ∷ xs), left) in s)) ≡ without_value r

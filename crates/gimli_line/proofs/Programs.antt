@@ -14,8 +14,9 @@ use Rattle.gimli_line.specs.header.File.{File}
 use Rattle.gimli_line.specs.header.Header.{Header, UnitEntry, plain_file}
 use Rattle.gimli_line.specs.header.HeaderGrammar.{SpellsUnit}
 use Rattle.gimli_line.specs.run.InstructionGrammar.{Decodes}
-use Rattle.gimli_line.specs.header.TableReading.{closed_below}
-use Rattle.gimli_line.specs.header.HeaderReading.{positive_at, plain_file_at, version_at, opening_at, line_encoding_at, parameters_at, directories_at, file_names_at, fields_at, header_at}
+use Rattle.gimli_line.specs.inside.header.TableReading.{closed_below}
+use Rattle.gimli_line.specs.header.HeaderReading.{plain_file_at}
+use Rattle.gimli_line.specs.inside.header.HeaderReading.{positive_at, version_at, opening_at, line_encoding_at, parameters_at, directories_at, file_names_at, fields_at, header_at}
 use Rattle.gimli_line.specs.run.InstructionReading.{standard_at, extended_operands_at, extended_at, ins_at, decoded_upto, decoded_at}
 use Rattle.gimli_line.specs.run.Events.{Event, row, fault, Events, program_events}
 use Rattle.gimli_line.proofs.HeaderLaws.{unit_found}

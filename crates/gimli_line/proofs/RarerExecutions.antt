@@ -12,7 +12,7 @@ use Rattle.gimli_line.specs.header.Parameters.{Parameters}
 use Rattle.gimli_line.specs.run.Instruction.{Ins, defines_file}
 use Rattle.gimli_line.specs.run.InstructionReading.{standard_at, extended_at, extended_operands_at, ins_at}
 use Rattle.gimli_line.specs.run.Machine.{step_of, is_refused}
-use Rattle.gimli_line.specs.run.Execution.{Executed, ExecutedWell}
+use Rattle.gimli_line.specs.inside.run.Execution.{Executed, ExecutedWell}
 use Rattle.gimli_line.proofs.Executions.{standard_first}
 
 -- ---- opcodes below the opcode base

@@ -8,7 +8,8 @@ use Rattle.gimli_core.specs.Production.{Each}
 use Rattle.gimli_core.specs.declared.error.Error.{Error}
 use Rattle.gimli_line.specs.declared.run.row.LineRow.{LineRow}
 use Rattle.gimli_line.specs.header.Parameters.{Parameters}
-use Rattle.gimli_line.specs.header.Orders.{HeaderOrders, no_orders}
+use Rattle.gimli_line.specs.header.Orders.{HeaderOrders}
+use Rattle.gimli_line.specs.inside.header.Orders.{no_orders}
 use Rattle.gimli_line.specs.header.Header.{Header, without_files}
 use Rattle.gimli_line.specs.run.Instruction.{files_after}
 use Rattle.gimli_line.specs.run.Instruction.{Ins, makes_row}
@@ -19,12 +20,13 @@ use Rattle.gimli_line.specs.run.OperationPointer.{overflows}
 use Rattle.gimli_line.specs.run.Events.{Event, row, fault, events_at, events_after, end_events, program_events, defined_files, past_at_end, ends_sequence, through_last_end}
 use Rattle.gimli_line.specs.run.Machine.{initial, reset_row}
 use Rattle.gimli_line.specs.run.EventsWithFiles.{EventWithFiles, with_files, events_with_files_from, step_events, next_registers}
-use Rattle.gimli_line.specs.run.Unread.{Unread, front_of}
+use Rattle.gimli_line.specs.run.Unread.{Unread}
+use Rattle.gimli_line.specs.inside.run.Unread.{front_of}
 use Rattle.gimli_line.specs.run.RunState.{RunState}
 use Rattle.gimli_line.specs.run.Progress.{Progress, with_reset_row, events_from, registers_from}
 use Rattle.gimli_line.specs.run.Rows.{live_events, events_left, start_of_run, event_of}
 use Rattle.gimli_line.specs.run.Sequences.{Part, events_of, first_address, IsSequence, HasRun, HaveRuns, AreSequences, HasFirstFault}
-use Rattle.gimli_line.specs.run.SequenceSplit.{SequenceSplit, with_row, RowSplit, with_kept_row}
+use Rattle.gimli_line.specs.inside.run.SequenceSplit.{SequenceSplit, with_row, RowSplit, with_kept_row}
 use Rattle.gimli_line.proofs.Backwards.{registers}
 use Rattle.gimli_line.proofs.EventsWithFilesLaws.{gives, goes, files_from_start}
 use Rattle.gimli_line.proofs.InstructionLaws.{is_decoded, takes_bytes}

@@ -8,7 +8,8 @@ use Rattle.gimli_line.specs.declared.run.rows.Step.TheVariants.{Done, Made, More
 use Rattle.gimli_line.specs.run.Events.{row}
 use Rattle.gimli_line.specs.run.Progress.{Progress, with_reset_row}
 use Rattle.gimli_line.specs.run.RunState.{RunState}
-use Rattle.gimli_line.specs.run.Rows.{live_events, StepIs, FaultIs}
+use Rattle.gimli_line.specs.run.Rows.{live_events, FaultIs}
+use Rattle.gimli_line.specs.inside.run.Rows.{StepIs}
 use Rattle.gimli_line.proofs.Runs.{passes_both, refused_after}
 
 module _ (a b c : RunState) (events : live_events a ≡ live_events b) (passed : Progress a b []) where

@@ -13,11 +13,11 @@ use Rattle.gimli_core.specs.declared.common.Format.{Format}
 use Rattle.gimli_core.specs.declared.error.Error.{Error}
 use Rattle.gimli_core.proofs.Productions.{bind_refused}
 use Rattle.gimli_line.specs.header.File.{File}
-use Rattle.gimli_line.specs.header.FormReading.{form_at}
-use Rattle.gimli_line.specs.header.Outcome.{read_map}
+use Rattle.gimli_line.specs.inside.header.FormReading.{form_at}
+use Rattle.gimli_line.specs.inside.header.Outcome.{read_map}
 use Rattle.gimli_line.specs.header.HeaderGrammar.{path_of, file_of_entry}
-use Rattle.gimli_line.specs.header.HeaderReading.{paths_at, files_at, format_at, formats_at, entries_at, directory_entries_at, file_entries_at, table_at, directories_at, file_names_at}
-use Rattle.gimli_line.specs.header.EntryReading.{path_with, folded_at}
+use Rattle.gimli_line.specs.inside.header.HeaderReading.{paths_at, files_at, format_at, formats_at, entries_at, directory_entries_at, file_entries_at, table_at, directories_at, file_names_at}
+use Rattle.gimli_line.specs.inside.header.EntryReading.{path_with, folded_at}
 use Rattle.gimli_line.specs.header.Productions.{name}
 use Rattle.gimli_line.specs.declared.header.file_entry.FileEntryFormat.{FileEntryFormat}
 use Rattle.gimli_line.proofs.Closed.{reads_name}

@@ -3,3 +3,4 @@ pub mod run
 pub mod UnitAt
 pub mod Units
 pub mod UnitReading
+pub mod inside

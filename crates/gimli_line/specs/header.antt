@@ -6,9 +6,5 @@ pub mod Orders
 pub mod HeaderParts
 pub mod Productions
 pub mod HeaderGrammar
-pub mod TableReading
 pub mod FormReading
-pub mod Outcome
 pub mod HeaderReading
-pub mod EntryReading
-pub mod Opening

@@ -17,5 +17,4 @@ pub mod Progress
 pub mod Rows
 pub mod Started
 pub mod Sequences
-pub mod SequenceSplit
 pub mod NonDecreasing

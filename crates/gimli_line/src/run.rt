@@ -1,5 +1,6 @@
 //! Runs of line programs: instructions, registers, rows and sequences.
 
+mod common;
 pub(crate) mod instruction;
 pub(crate) mod leb128;
 pub(crate) mod program;

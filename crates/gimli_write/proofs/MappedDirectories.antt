@@ -16,7 +16,7 @@ use Rattle.gimli_build.specs.LineText.{LineText, line_text_eq, made_text, made_t
 use Rattle.gimli_build.specs.Tables.{with_directory, index_of_directory}
 use Rattle.gimli_build.specs.FirstTables.{first_directories}
 use Rattle.gimli_build.specs.Texts.{Sections, IsText}
-use Rattle.gimli_build.proofs.TableLemmas.{directory_found}
+use Rattle.gimli_build.proofs.building.TableLemmas.{directory_found}
 use Rattle.gimli_write.specs.TextReading.{text_of}
 use Rattle.gimli_write.specs.declared.convert_error.ConvertError.TheVariants.{Read, MissingCompilationDirectory, InvalidAttributeValue}
 use Rattle.gimli_write.specs.convert.Texts.{◌>>=◌, without_zero, source_text, source_path}

@@ -11,7 +11,8 @@ use Rattle.gimli_core.specs.declared.error.Error.{Error}
 use Rattle.gimli_core.specs.declared.attribute_value.AttributeValue.TheVariants.{String, DebugStrRef, DebugLineStrRef}
 use Rattle.gimli_core.proofs.ProductionLaws.{reads_text}
 use Rattle.gimli_build.specs.Texts.{Sections, IsTextAt, IsText, OneByOne}
-use Rattle.gimli_write.specs.TextReading.{text_from, text_of, HasText}
+use Rattle.gimli_write.specs.TextReading.{text_from, text_of}
+use Rattle.gimli_write.specs.inside.TextReading.{HasText}
 
 -- ---- one text
 

@@ -15,7 +15,7 @@ use Rattle.gimli_line.specs.header.File.{File as ReadFile}
 use Rattle.gimli_line.proofs.HeaderLaws.{one_header, no_fault}
 use Rattle.gimli_bytes.specs.Texts.{byte_count, offset_of}
 use Rattle.gimli_build.specs.Texts.{Sections, IsOptionalText, OneByOne}
-use Rattle.gimli_write.specs.TextReading.{HasText, HasOptionalText, HasFileTexts}
+use Rattle.gimli_write.specs.inside.TextReading.{HasText, HasOptionalText, HasFileTexts}
 use Rattle.gimli_build.specs.LineText.{LineText, Inline, InStrings, InLineStrings}
 use Rattle.gimli_build.specs.Tables.{File}
 use Rattle.gimli_build.specs.Cause.{emitted_texts}
@@ -25,7 +25,8 @@ use Rattle.gimli_build.specs.ReadsBack.{IsDirectory, IsFile, IsOffsetHeld, Reads
 use Rattle.gimli_write.specs.declared.convert_error.ConvertError.{ConvertError}
 use Rattle.gimli_write.specs.declared.convert_error.ConvertError.TheVariants.{OutOfMemory as NoMemory}
 use Rattle.gimli_write.specs.declared.read_back.RoundTrip.{RoundTrip}
-use Rattle.gimli_write.specs.RoundTrip.{answers, AreAnswers, AnswersProgram, BeginsUnit, CanRead, HasTexts, IsRunRefusal, RefusesUnit, slice_notation, unit_entry_with, unit_entry_of, sections_of}
+use Rattle.gimli_write.specs.RoundTrip.{answers, AreAnswers, AnswersProgram, IsRunRefusal, RefusesUnit, slice_notation, unit_entry_of, sections_of}
+use Rattle.gimli_write.specs.inside.RoundTrip.{BeginsUnit, CanRead, HasTexts, unit_entry_with}
 use Rattle.gimli_write.proofs.ReadRuns.{is_memory}
 
 -- ---- what a slice is read as

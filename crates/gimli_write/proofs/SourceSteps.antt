@@ -28,7 +28,8 @@ use Rattle.gimli_write.specs.declared.convert.run.SourceStep.{SourceStep}
 use Rattle.gimli_write.specs.declared.convert.run.SourceStep.TheVariants.{More, Made}
 use Rattle.gimli_write.specs.convert.SourceTables.{TablesAndTexts, file_added}
 use Rattle.gimli_write.specs.convert.Items.{Reading, defines, with_definition, ends, stops, address_operand, source_row_offered, tables_after_definition}
-use Rattle.gimli_write.specs.convert.SourceRun.{SourceRun, row_made, base_after, pending_after, state_after, instruction_reading, reading_from, reading_upon, reading_left, step_reading, step_made, Shortens}
+use Rattle.gimli_write.specs.convert.SourceRun.{SourceRun, row_made, base_after, pending_after, state_after, instruction_reading, reading_from, reading_upon, reading_left}
+use Rattle.gimli_write.specs.inside.convert.SourceRun.{step_reading, step_made, Shortens}
 
 -- ---- what a program is decoded into, by its front
 

@@ -19,8 +19,10 @@ use Rattle.gimli_write.specs.declared.convert.run.SourceStep.TheVariants.{More, 
 use Rattle.gimli_write.specs.convert.Texts.{IsRefusedBy}
 use Rattle.gimli_write.specs.convert.SourceTables.{TablesAndTexts, file_added}
 use Rattle.gimli_write.specs.convert.Items.{tables_after_definition}
-use Rattle.gimli_write.specs.convert.SourceRun.{SourceRun, row_made, state_after, step_made}
-use Rattle.gimli_write.specs.convert.TablesAtEnd.{lacks_file, refuses, unless_refused, tables_after, tables_at_end, tables_after_row, step_tables}
+use Rattle.gimli_write.specs.convert.SourceRun.{SourceRun, row_made, state_after}
+use Rattle.gimli_write.specs.inside.convert.SourceRun.{step_made}
+use Rattle.gimli_write.specs.convert.TablesAtEnd.{lacks_file, refuses, unless_refused, tables_after, tables_at_end, tables_after_row}
+use Rattle.gimli_write.specs.inside.convert.TablesAtEnd.{step_tables}
 use Rattle.gimli_write.proofs.SourceSteps.{decoded_none, decoded_some, decoded_fault, no_file, with_unread}
 
 -- bytes that are unread count by their instructions alone

@@ -24,7 +24,7 @@ pub use Rattle.gimli_build.specs.SameRow
 pub use Rattle.gimli_build.specs.Sizes
 pub use Rattle.gimli_build.specs.Stored
 pub use Rattle.gimli_build.specs.Tables
-pub use Rattle.gimli_build.specs.TablesInside
+pub use Rattle.gimli_build.specs.TableFields
 pub use Rattle.gimli_build.specs.Texts
 pub use Rattle.gimli_build.specs.Unit
 pub use Rattle.gimli_build.specs.UnitReader
@@ -32,3 +32,4 @@ pub use Rattle.gimli_build.specs.Version4Tables
 pub use Rattle.gimli_build.specs.Version5Tables
 pub use Rattle.gimli_build.specs.declared.built.items.BuiltItem
 pub use Rattle.gimli_build.specs.declared.built.row.LineRow
+pub mod inside

@@ -1,9 +1,8 @@
 -- What is answered of a unit that was written and read again.
-use Rattle.std.specs.Prelude.{◌≡◌, ℕ, ◌^◌, List, [], ◌++◌, map, slice_get, Option, Some, None, option_map, Result, Ok, Bool, All}
+use Rattle.std.specs.Prelude.{◌≡◌, ℕ, ◌^◌, List, [], ◌++◌, map, slice_get, Option, Some, None, option_map, Result, Ok, Bool}
 use Rattle.gimli_core.specs.Notation.{Notation}
 use Rattle.gimli_core.specs.declared.common.Encoding.{Encoding}
 use Rattle.gimli_line.specs.header.Header.{Header, UnitEntry}
-use Rattle.gimli_line.specs.header.HeaderGrammar.{SpellsUnit}
 use Rattle.gimli_line.specs.header.File.{File as ReadFile}
 use Rattle.gimli_line.specs.run.Events.{Events, row}
 use Rattle.gimli_line.specs.run.Sequences.{HasFirstFault}
@@ -14,7 +13,6 @@ use Rattle.gimli_build.specs.LineText.{bytes_in}
 use Rattle.gimli_build.specs.Tables.{File}
 use Rattle.gimli_build.specs.Stored.{stored_details}
 use Rattle.gimli_build.specs.Texts.{Sections, IsText, IsOptionalText, OneByOne}
-use Rattle.gimli_write.specs.TextReading.{HasText, HasFileTexts}
 use Rattle.gimli_build.specs.ReadsBack.{IsUnit, directories_from_zero}
 use Rattle.gimli_build.specs.Built.{Built}
 use Rattle.gimli_build.specs.Version5Tables.{strings_after, line_strings_after}
@@ -89,10 +87,6 @@ pub record AnswersUnit (notation : Notation) (unit_entry : UnitEntry) (sections 
 abbrev pub slice_notation : Bool → Notation
 slice_notation big = record { big = big; limit = 2 ^ 64 }
 
--- with this address size and working directory, and no name
-abbrev pub unit_entry_with : ℕ → List ℕ → UnitEntry
-unit_entry_with size directory = record { address_size = size; directory = Some directory; name = None }
-
 -- with those of the program
 abbrev pub unit_entry_of : Built → List (List ℕ) → List (List ℕ) → UnitEntry
 unit_entry_of p strings line_strings = record {
@@ -137,21 +131,6 @@ abbrev pub AreBuiltRows : Built → List ReadRow → Type 0
 AreBuiltRows p rows = HasFittingAddresses p → RowsMatch p.encoding.version [] p.items rows
 
 -- ---- refusals
-
--- the bytes begin with a unit that has this header
-pub record BeginsUnit (notation : Notation) (unit_entry : UnitEntry) (bytes : List ℕ) (h : Header) : Type 0 where
-  pub spelled : SpellsUnit notation unit_entry bytes h
-
--- the texts of a header are there
-pub record HasTexts (sections : Sections) (h : Header) : Type 0 where
-  pub directories : All (HasText sections) (directories_from_zero h)
-  pub files : All (HasFileTexts sections) h.files
-
--- the bytes begin with a unit whose texts are there
-pub record CanRead (notation : Notation) (unit_entry : UnitEntry) (sections : Sections) (bytes : List ℕ) : Type 0 where
-  pub header : Header
-  pub unit : BeginsUnit notation unit_entry bytes header
-  pub texts : HasTexts sections header
 
 -- why the rows of a program aren't answered: its first fault, or `OutOfMemory`
 abbrev pub IsRunRefusal : Notation → Header → ConvertError → Type 0

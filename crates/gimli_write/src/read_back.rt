@@ -14,7 +14,7 @@ ghost use Rattle.gimli_bytes.specs.Texts.{byte_count};
 ghost use Rattle.gimli_build.specs.WrittenTables.{HaveEmptySource, KeepTables};
 ghost use Rattle.gimli_build.specs.Cause.{first_cause};
 ghost use Rattle.gimli_build.specs.Texts.{Sections, IsText, IsOptionalText, OneByOne};
-ghost use Rattle.gimli_write.specs.TextReading.{HasText, HasOptionalText, HasFileTexts};
+ghost use Rattle.gimli_write.specs.inside.TextReading.{HasText, HasOptionalText, HasFileTexts};
 ghost use Rattle.gimli_build.specs.ReadsBack.{ReadsBackAs, directories_from_zero};
 
 use crate::convert_error::{ConvertError, ConvertResult, from_read, from_write};
@@ -60,7 +60,8 @@ pub struct RoundTripFile {
     pub source: Option<Vec<u8>>,
 }
 
-ghost use Rattle.gimli_write.specs.RoundTrip.{answers, file_answer, IsFileAnswer, AreAnswers, HasTexts, slice_notation, unit_entry_of, sections_of, IsRunRefusal, RefusesUnit, IsRoundTripRefusal, IsCausedRefusal, built_file, HasFittingAddresses, AreBuiltRows, AnswersProgram, AnswersAppended, unit_entry_with, BeginsUnit, CanRead};
+ghost use Rattle.gimli_write.specs.RoundTrip.{answers, file_answer, IsFileAnswer, AreAnswers, slice_notation, unit_entry_of, sections_of, IsRunRefusal, RefusesUnit, IsRoundTripRefusal, IsCausedRefusal, built_file, HasFittingAddresses, AreBuiltRows, AnswersProgram, AnswersAppended};
+ghost use Rattle.gimli_write.specs.inside.RoundTrip.{HasTexts, unit_entry_with, BeginsUnit, CanRead};
 
 /// The working directory of a program.
 fn working_directory<'a>(

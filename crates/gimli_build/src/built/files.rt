@@ -105,7 +105,7 @@ impl Default for FileInfo {
 }
 
 impl Clone for FileInfo {
-    ghost use Rattle.gimli_build.specs.TablesInside.{details};
+    ghost use Rattle.gimli_build.specs.TableFields.{details};
 
     ghost is_clone = { λ info copy. details copy ≡ details info };
 
@@ -135,7 +135,7 @@ impl Model for FileTable {
 
     ghost Value = { Tables };
 
-    ghost use Rattle.gimli_build.specs.TablesInside.{directories_of, files_of};
+    ghost use Rattle.gimli_build.specs.inside.TableFields.{directories_of, files_of};
 
     ghost view = { λ t. record {
       directories = directories_of t.directories.keys;
@@ -150,9 +150,9 @@ impl FileTable {
     ghost use Rattle.std.specs.Borrow.{sem};
     ghost use Rattle.gimli_build.specs.LineText.{line_text, HasNoZero};
     ghost use Rattle.gimli_build.specs.Tables.{AreTables, with_directory, index_of_directory, with_file, index_of_file, with_indexes, keys_of};
-    ghost use Rattle.gimli_build.specs.TablesInside.{details};
+    ghost use Rattle.gimli_build.specs.TableFields.{details};
     ghost use Rattle.gimli_build.specs.FirstTables.{first_tables};
-    ghost use Rattle.gimli_build.specs.LentDetails.{lends_details};
+    ghost use Rattle.gimli_build.specs.inside.LentDetails.{lends_details};
 
     /// No directory and no file.
     pub(crate) fn new(alloc: Global) -> FileTable
@@ -409,7 +409,7 @@ impl<'a> Model for Files<'a> {
 
 impl<'a> Iterator for Files<'a> {
     ghost use Rattle.std.specs.Iterator.{YieldsFirstBy, item_count};
-    ghost use Rattle.gimli_build.specs.TablesInside.{file_seen};
+    ghost use Rattle.gimli_build.specs.TableFields.{file_seen};
 
     type Item = (FileId, &'a LineString, DirectoryId);
 

@@ -41,7 +41,7 @@ impl Model for LineProgram {
 
     ghost Value = { Built };
 
-    ghost use Rattle.gimli_build.specs.BuiltInside.{built_of, IsKept};
+    ghost use Rattle.gimli_build.specs.BuiltFields.{built_of, IsKept};
 
     ghost view = { built_of };
 
@@ -181,7 +181,7 @@ impl LineProgram {
     ghost use Rattle.std.specs.Borrow.{sem};
     ghost use Rattle.gimli_build.specs.LineText.{line_text, HasNoZero, IsNotEmpty};
     ghost use Rattle.gimli_build.specs.Tables.{index_of_directory, index_of_file, with_indexes, keys_of, Keeps, AreTables};
-    ghost use Rattle.gimli_build.specs.TablesInside.{details};
+    ghost use Rattle.gimli_build.specs.TableFields.{details};
     ghost use Rattle.gimli_build.specs.Calls.{after_directory, after_file};
     ghost use Rattle.gimli_build.specs.LentRow.{lends_info};
 

@@ -10,8 +10,8 @@ ghost use Rattle.gimli_build.specs.Due.{when};
 ghost use Rattle.gimli_build.specs.Encode.{marks, changes, is_special_advance, line_opcode, line_part, row_maker, operation_part, row_instructions};
 ghost use Rattle.gimli_build.specs.InstructionBytes.{instructions_bytes, FitsInstructions};
 ghost use Rattle.gimli_build.specs.FileNumber.{file_number};
-ghost use Rattle.gimli_build.specs.ReadAs.{read_as};
-ghost use Rattle.gimli_build.specs.Writes.{Writes};
+ghost use Rattle.gimli_build.specs.inside.ReadAs.{read_as};
+ghost use Rattle.gimli_build.specs.inside.Writes.{Writes};
 ghost use Rattle.gimli_line.specs.declared.run.instruction.LineInstruction.TheVariants.{AdvancePc, EndSequence};
 
 use crate::built::items::BuiltItem;

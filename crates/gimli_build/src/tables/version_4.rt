@@ -3,11 +3,11 @@
 ghost use Rattle.std.specs.Prelude.{◌≡◌, [], ◌++◌, map, drop, All, OnOk, Ok};
 ghost use Rattle.gimli_bytes.specs.Number.{uleb};
 ghost use Rattle.gimli_build.specs.LineText.{Inline, line_text};
-ghost use Rattle.gimli_build.specs.Tables.{FitsFile};
-ghost use Rattle.gimli_build.specs.TablesInside.{details};
+ghost use Rattle.gimli_build.specs.inside.Tables.{FitsFile};
+ghost use Rattle.gimli_build.specs.TableFields.{details};
 ghost use Rattle.gimli_build.specs.Joined.{result_append, result_concat};
 ghost use Rattle.gimli_build.specs.Version4Tables.{name_bytes, directories_bytes, file_bytes, files_bytes};
-ghost use Rattle.gimli_build.specs.Writes.{Writes};
+ghost use Rattle.gimli_build.specs.inside.Writes.{Writes};
 
 use crate::built::files::{DirectoryId, FileInfo, FileTable};
 use crate::built::line_string::LineString;

@@ -7,13 +7,13 @@ ghost use Rattle.gimli_bytes.specs.Number.{uleb};
 ghost use Rattle.gimli_bytes.specs.Texts.{AreTexts, byte_count, with_text};
 ghost use Rattle.gimli_bytes.specs.declared.error.Error.TheVariants.{OutOfMemory};
 ghost use Rattle.gimli_build.specs.LineText.{Inline, line_text, IsWithin};
-ghost use Rattle.gimli_build.specs.Tables.{FitsFile};
-ghost use Rattle.gimli_build.specs.TablesInside.{details};
+ghost use Rattle.gimli_build.specs.inside.Tables.{FitsFile};
+ghost use Rattle.gimli_build.specs.TableFields.{details};
 ghost use Rattle.gimli_build.specs.Conditions.{CanWrite};
 ghost use Rattle.gimli_build.specs.Joined.{result_append, result_concat};
 ghost use Rattle.gimli_build.specs.Version5Tables.{first_form, path_texts, sources, needs_empty, empty_text, strings_after, line_strings_after, formats_bytes, file_formats, text_in_form, directory_table_bytes, source_bytes, file_entry_bytes, file_table_bytes};
-ghost use Rattle.gimli_build.specs.EmptySource.{IsEmptySource, StandsForNone};
-ghost use Rattle.gimli_build.specs.Writes.{Writes};
+ghost use Rattle.gimli_build.specs.inside.EmptySource.{IsEmptySource, StandsForNone};
+ghost use Rattle.gimli_build.specs.inside.Writes.{Writes};
 
 use crate::built::files::{DirectoryId, FileInfo, FileTable};
 use crate::built::line_program::LineProgram;

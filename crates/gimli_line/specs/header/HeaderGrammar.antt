@@ -247,18 +247,6 @@ HasNoUnit notation unit_entry bytes = (e : Error) × HasHeaderFault notation uni
 
 -- ---- what spells a table
 
--- texts that aren't empty, closed by an empty one
-abbrev pub SpellsPaths : List ℕ → List (List ℕ) → Type 0
-SpellsPaths = paths_production.Spells
-
--- files of the tables up to version 4
-abbrev pub SpellsFiles : List ℕ → List File → Type 0
-SpellsFiles = files_production.Spells
-
--- the formats of a table of version 5
-abbrev pub SpellsFormats : List ℕ → List FileEntryFormat → Type 0
-SpellsFormats = formats_production.Spells
-
 -- the entries of a table of version 5
 abbrev pub SpellsEntries : Notation → Format → List FileEntryFormat → List ℕ → List Entry → Type 0
 SpellsEntries notation format formats = (entries_production notation format formats).Spells

@@ -1,5 +1,5 @@
 -- The orders of bytes of the readers that a header takes from its section.
-use Rattle.std.specs.Prelude.{◌≡◌, Bool, false, List, [], map, Option, None, option_map, IfSome, All}
+use Rattle.std.specs.Prelude.{◌≡◌, Bool, List, map, Option, option_map, IfSome, All}
 use Rattle.gimli_core.specs.Values.{value_order}
 use Rattle.gimli_line.specs.header.File.{FileOrders, file_orders}
 use Rattle.gimli_line.specs.header.Header.{SeenHeader}
@@ -15,10 +15,6 @@ pub record HeaderOrders : Type 0 where
   pub directories : List (Option Bool)
   pub files : List FileOrders
   pub handed : HandedOrders
-
--- those of no header
-abbrev pub no_orders : HeaderOrders
-no_orders = record { operand_counts = false; directories = []; files = []; handed = (None, None) }
 
 module _ {R Offset Endian : Type 0} (big : R → Bool) where
   abbrev pub header_orders : SeenHeader R Offset Endian → HeaderOrders

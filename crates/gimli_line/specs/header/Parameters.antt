@@ -1,6 +1,5 @@
 -- What the instructions of a unit are executed by.
-use Rattle.std.specs.Prelude.{ℕ, ◌<◌, IsTrue}
-use Rattle.gimli_core.specs.Numbers.{is_address_size}
+use Rattle.std.specs.Prelude.{ℕ, ◌<◌}
 use Rattle.gimli_core.specs.declared.common.Encoding.{Encoding}
 use Rattle.gimli_core.specs.declared.common.LineEncoding.{LineEncoding}
 
@@ -16,9 +15,3 @@ pub record IsLineEncoding (e : LineEncoding) : Type 0 where
   pub instruction_length : 0 < e.minimum_instruction_length
   pub operations : 0 < e.maximum_operations_per_instruction
   pub range : 0 < e.line_range
-
--- what every header allows: addresses of a known size, and no number that is divided by or counted from is 0
-pub record AreAllowed (parameters : Parameters) : Type 0 where
-  pub address_size : IsTrue (is_address_size parameters.encoding.address_size)
-  pub line_encoding : IsLineEncoding parameters.line_encoding
-  pub base : 0 < parameters.opcode_base

@@ -1,12 +1,11 @@
 -- What is done where an instruction is refused, and instructions that are executed from their bytes, without a value of
 -- their own between.
-use Rattle.std.specs.Prelude.{◌≡◌, ◌≢◌, ℕ, List, Bool, true, false, Ok}
-use Rattle.gimli_core.specs.Reading.{Read}
+use Rattle.std.specs.Prelude.{◌≡◌, ◌≢◌, Bool, true}
 use Rattle.gimli_core.specs.declared.error.Error.{Error}
 use Rattle.gimli_core.specs.declared.error.Error.TheVariants.{AddressOverflow, OutOfMemory}
 use Rattle.gimli_line.specs.declared.run.row.LineRow.{LineRow}
 use Rattle.gimli_line.specs.header.Parameters.{Parameters}
-use Rattle.gimli_line.specs.run.Instruction.{Ins, makes_row, defines_file}
+use Rattle.gimli_line.specs.run.Instruction.{Ins, defines_file}
 use Rattle.gimli_line.specs.run.Machine.{step_of, is_refused}
 
 -- a refusal that is `AddressOverflow`: the address would pass the greatest one of its size; the registers go on, but for
@@ -17,16 +16,3 @@ OverflowIs parameters i old new e = e ≡ AddressOverflow → (is_refused parame
 -- any other refusal: memory was missing to add the file that the instruction defines, and no register changes
 abbrev pub OtherRefusalIs : Bool → Ins → LineRow → LineRow → Error → Type 0
 OtherRefusalIs appends i old new e = e ≢ AddressOverflow → (e ≡ OutOfMemory) × (appends ≡ true) × (defines_file i ≡ true) × (new ≡ old)
-
--- what reading gives is an instruction that defines no file, with this rest after it; it was executed on the
--- registers, and refused or not
-pub record Executed (parameters : Parameters) (read : Read Ins) (rest : List ℕ) (old new : LineRow) (refused : Bool) : Type 0 where
-  pub instruction : Ins
-  pub reading : read ≡ (Ok instruction, rest)
-  pub defines : defines_file instruction ≡ false
-  pub refusal : is_refused parameters instruction old ≡ refused
-  pub registers : new ≡ step_of parameters instruction old
-
--- it wasn't refused, and made a row or none
-abbrev pub ExecutedWell : Parameters → Read Ins → List ℕ → LineRow → LineRow → Bool → Type 0
-ExecutedWell parameters read rest old new made = (executed : Executed parameters read rest old new false) × (made ≡ makes_row executed.instruction)

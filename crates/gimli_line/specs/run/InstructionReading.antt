@@ -15,10 +15,6 @@ use Rattle.gimli_line.specs.run.InstructionGrammar.{Operand, none, uleb, sleb, h
 abbrev pub bytes_at : {A : Type 0} → (List ℕ → Read A) → List ℕ → Read (List ℕ)
 bytes_at read bytes = read bytes >>= λ x rest. (Ok (take (length bytes - length rest) bytes), rest)
 
--- the values are passed over
-abbrev pub without_value : {A : Type 0} → Read A → Read (Unit {0})
-without_value r = r >>= λ x rest. (Ok tt, rest)
-
 module _ (notation : Notation) (h : Header) where
   abbrev pub operand_at : Operand → List ℕ → Read Ins
   operand_at (none i) bytes = (Ok i, bytes)

@@ -1,11 +1,9 @@
 -- What a row iterator still gives.
-use Rattle.std.specs.Prelude.{◌≡◌, ◌≢◌, ◌⊎◌, ◌<◌, ℕ, Bool, true, false, List, [], ◌∷◌, ◌++◌, length, All, Option, Some, None, Result, Ok, Err}
+use Rattle.std.specs.Prelude.{◌≡◌, ◌≢◌, ◌⊎◌, ℕ, Bool, true, false, List, [], ◌∷◌, ◌++◌, All, Option, Some, None, Result, Ok, Err}
 use Rattle.std.specs.Borrow.{Bor}
 use Rattle.gimli_core.specs.declared.error.Error.{Error}
 use Rattle.gimli_core.specs.declared.error.Error.TheVariants.{AddressOverflow, OutOfMemory}
 use Rattle.gimli_core.specs.Notation.{Notation}
-use Rattle.gimli_line.specs.declared.run.rows.Step.{Step}
-use Rattle.gimli_line.specs.declared.run.rows.Step.TheVariants.{Done, Made, More}
 use Rattle.gimli_line.specs.declared.run.row.LineRow.{LineRow}
 use Rattle.gimli_line.specs.header.File.{File}
 use Rattle.gimli_line.specs.header.Header.{Header, SeenHeader, without_files}
@@ -77,12 +75,6 @@ pub record KeepsHeader (old new : RunState) : Type 0 where
   pub appends : new.appends ≡ old.appends
   pub notation : new.notation ≡ old.notation
   pub offset : new.offset ≡ old.offset
-
--- what one instruction did
-abbrev pub StepIs : RunState → RunState → Step → Type 0
-StepIs old new Done = (live_events old ≡ []) × (new.unread.bytes ≡ []) × Progress old new []
-StepIs old new Made = (live_events old ≡ event_of (row new.row) new ∷ events_left new) × Progress old (with_reset_row new) (row new.row ∷ [])
-StepIs old new More = (live_events old ≡ live_events new) × (length new.unread.bytes < length old.unread.bytes) × Progress old new []
 
 -- a row was the next to come, and these are the files of its point; those at the end are still the same
 abbrev pub RowIs : RunState → RunState → LineRow → List File → Type 0

@@ -1,18 +1,8 @@
 -- A row as a list of rows keeps it.
-use Rattle.std.specs.Prelude.{◌<◌, ◌^◌}
 use Rattle.gimli_line.specs.declared.run.row.LineRow.{LineRow}
 use Rattle.gimli_line.specs.declared.run.row_list.NarrowRow.{NarrowRow}
 use Rattle.gimli_line.specs.declared.run.row_list.StoredRow.{StoredRow}
 use Rattle.gimli_line.specs.declared.run.row_list.StoredRow.TheVariants.{Narrow, Wide}
-
--- each number of the row, but for the address, fits the narrow one
-pub record IsNarrow (row : LineRow) : Type 0 where
-  pub op_index : row.op_index < 2 ^ 8
-  pub file : row.file < 2 ^ 32
-  pub line : row.line < 2 ^ 32
-  pub column : row.column < 2 ^ 32
-  pub isa : row.isa < 2 ^ 32
-  pub discriminator : row.discriminator < 2 ^ 32
 
 -- the row that has these numbers
 abbrev pub row_of_narrow : NarrowRow → LineRow

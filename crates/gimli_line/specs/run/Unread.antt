@@ -1,5 +1,5 @@
 -- What is read from, whatever the type of the reader.
-use Rattle.std.specs.Prelude.{ℕ, ◌-◌, Bool, List, length, take}
+use Rattle.std.specs.Prelude.{ℕ, Bool, List}
 use Rattle.gimli_core.specs.Notation.{Notation, notation_of}
 use Rattle.gimli_line.specs.header.Header.{Header}
 
@@ -15,7 +15,3 @@ unread_of bytes big limit reader = record { bytes = bytes reader; notation = not
 -- the whole program of a header
 abbrev pub whole_program : Header → Notation → Unread
 whole_program h notation = record { bytes = h.program; notation = notation }
-
--- what stands in front of a rest
-abbrev pub front_of : Unread → Unread → Unread
-front_of whole rest = record whole { bytes = take (length whole.bytes - length rest.bytes) whole.bytes }

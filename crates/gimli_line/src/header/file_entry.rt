@@ -43,7 +43,7 @@ where
     ghost use Rattle.gimli_line.specs.header.File.{file_seen, FileHasOrder};
     ghost use Rattle.gimli_line.specs.header.Header.{plain_file};
     ghost use Rattle.gimli_line.specs.header.HeaderReading.{plain_file_at};
-    ghost use Rattle.gimli_line.specs.header.EntryReading.{file_with};
+    ghost use Rattle.gimli_line.specs.inside.header.EntryReading.{file_with};
 
     /// A file of which the path alone is known.
     pub(crate) fn of_path(path_name: R) -> Self

@@ -4,7 +4,8 @@ ghost use Rattle.std.specs.Prelude.{◌≡◌, IfOk};
 ghost use Rattle.gimli_core.specs.Reading.{result_map, unsigned_at};
 ghost use Rattle.gimli_core.specs.Notation.{notation_of};
 ghost use Rattle.gimli_core.specs.Values.{value_seen, ValueHasOrder};
-ghost use Rattle.gimli_line.specs.header.FormReading.{form_at, number_form_at, word_form_at, index_form_at, block_at, offset_at};
+ghost use Rattle.gimli_line.specs.header.FormReading.{offset_at};
+ghost use Rattle.gimli_line.specs.inside.header.FormReading.{form_at, number_form_at, word_form_at, index_form_at, block_at};
 
 use crate::run::leb128::read_uleb128;
 use gimli_core::{

@@ -13,7 +13,8 @@ pub(crate) struct Parameters {
 }
 
 impl Model for Parameters {
-    ghost use Rattle.gimli_line.specs.header.Parameters.{Parameters, AreAllowed};
+    ghost use Rattle.gimli_line.specs.header.Parameters.{Parameters};
+    ghost use Rattle.gimli_line.specs.inside.header.Parameters.{AreAllowed};
 
     ghost Value = { Parameters };
 

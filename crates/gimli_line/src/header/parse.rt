@@ -4,7 +4,7 @@ ghost use Rattle.std.specs.Prelude.{◌≡◌, ◌<◌, IfOk, IsTrue, option_map
 ghost use Rattle.gimli_core.specs.Notation.{notation_of};
 ghost use Rattle.gimli_core.specs.Numbers.{is_address_size};
 ghost use Rattle.gimli_core.specs.Reading.{result_map};
-ghost use Rattle.gimli_line.specs.header.HeaderReading.{positive_at, version_at, own_address_size_at, size_at, operations_at, line_encoding_at, parameters_at};
+ghost use Rattle.gimli_line.specs.inside.header.HeaderReading.{positive_at, version_at, own_address_size_at, size_at, operations_at, line_encoding_at, parameters_at};
 ghost use Rattle.gimli_line.specs.header.Parameters.{IsLineEncoding};
 
 use crate::header::file_entry::FileEntry;
@@ -126,8 +126,8 @@ struct Opening<R: Reader> {
 }
 
 impl<R: Reader> Opening<R> {
-    ghost use Rattle.gimli_line.specs.header.HeaderReading.{opening_at};
-    ghost use Rattle.gimli_line.specs.header.Opening.{opening_seen};
+    ghost use Rattle.gimli_line.specs.inside.header.HeaderReading.{opening_at};
+    ghost use Rattle.gimli_line.specs.inside.header.Opening.{opening_seen};
 
     /// Takes a unit up to the end of its header; what is left is its program.
     #[tactic(auto, unfolding(crate::specs::header::HeaderReading::opening_at))]
@@ -160,12 +160,12 @@ where
     R: Reader<Offset = Offset>,
     Offset: ReaderOffset,
 {
-    ghost use Rattle.gimli_line.specs.header.Outcome.{IsAnswer};
+    ghost use Rattle.gimli_line.specs.inside.header.Outcome.{IsAnswer};
     ghost use Rattle.gimli_core.specs.declared.attribute_value.AttributeValue.TheVariants.{String};
     ghost use Rattle.gimli_line.specs.header.Header.{plain_file, unit_entry, HasOneOrder};
     ghost use Rattle.gimli_line.specs.header.HeaderGrammar.{handed_value};
-    ghost use Rattle.gimli_line.specs.header.HeaderReading.{fields_at, header_at};
-    ghost use Rattle.gimli_line.specs.header.Opening.{opening_seen};
+    ghost use Rattle.gimli_line.specs.inside.header.HeaderReading.{fields_at, header_at};
+    ghost use Rattle.gimli_line.specs.inside.header.Opening.{opening_seen};
     ghost use Rattle.gimli_line.specs.header.File.{file_seen};
 
     /// Takes the header of a unit, and its program. The unit length says where the unit ends, and the header length

@@ -6,8 +6,8 @@ ghost use Rattle.std.specs.List.{All};
 ghost use Rattle.gimli_core.specs.Notation.{notation_of};
 ghost use Rattle.gimli_core.specs.Values.{value_seen, ValueHasOrder};
 ghost use Rattle.gimli_core.specs.declared.attribute_value.AttributeValue.TheVariants.{String};
-ghost use Rattle.gimli_line.specs.header.Outcome.{IsOutcome, IsListOutcome, IsTableOutcome, read_map};
-ghost use Rattle.gimli_line.specs.header.HeaderReading.{format_at, formats_at, paths_at, files_at, directory_at, file_at, directory_entries_at, file_entries_at, directories_at, file_names_at};
+ghost use Rattle.gimli_line.specs.inside.header.Outcome.{IsOutcome, IsListOutcome, IsTableOutcome, read_map};
+ghost use Rattle.gimli_line.specs.inside.header.HeaderReading.{format_at, formats_at, paths_at, files_at, directory_at, file_at, directory_entries_at, file_entries_at, directories_at, file_names_at};
 ghost use Rattle.gimli_line.specs.header.File.{file_seen, FileHasOrder};
 
 use crate::header::file_entry::{FileEntry, FileEntryFormat};

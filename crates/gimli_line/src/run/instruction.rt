@@ -2,7 +2,8 @@
 
 ghost use Rattle.std.specs.Prelude.{◌≡◌, ◌-◌, IfOk, IfSome, slice_index};
 ghost use Rattle.gimli_core.specs.Reading.{result_map, times_at, unsigned_at};
-ghost use Rattle.gimli_line.specs.run.InstructionReading.{bytes_at, without_value};
+ghost use Rattle.gimli_line.specs.run.InstructionReading.{bytes_at};
+ghost use Rattle.gimli_line.specs.inside.run.InstructionReading.{without_value};
 
 use crate::header::file_entry::FileEntry;
 use crate::header::forms::parse_offset;
@@ -269,7 +270,8 @@ impl<R: Reader> LineInstructions<R> {
     ghost use Rattle.std.specs.Prelude.{Ok, None};
     ghost use Rattle.gimli_line.specs.run.NextInstruction.{TakesNext, EndsByFault};
     ghost use Rattle.gimli_line.specs.run.Machine.{IsAllowed};
-    ghost use Rattle.gimli_line.specs.run.Unread.{unread_of, front_of};
+    ghost use Rattle.gimli_line.specs.run.Unread.{unread_of};
+    ghost use Rattle.gimli_line.specs.inside.run.Unread.{front_of};
 
     /// The instructions of these bytes.
     pub(crate) fn new(input: R) -> Self

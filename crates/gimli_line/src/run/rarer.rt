@@ -39,7 +39,7 @@ fn read_set_address<R: Reader>(operands: &mut R, parameters: &Parameters) -> Res
 impl LineRow {
     ghost use Rattle.std.specs.Prelude.{IsNone};
     ghost use Rattle.gimli_core.specs.Notation.{notation_of};
-    ghost use Rattle.gimli_line.specs.run.Execution.{ExecutedWell};
+    ghost use Rattle.gimli_line.specs.inside.run.Execution.{ExecutedWell};
     ghost use Rattle.gimli_line.specs.run.InstructionReading.{extended_at};
 
     /// Executes one of the extended opcodes that are met most, from the bytes after the zero byte,
@@ -91,7 +91,7 @@ impl LineRow {
 
 impl<R: Reader> LineInstructions<R> {
     ghost use Rattle.std.specs.Prelude.{true, IfOk, IfErr, IsNone};
-    ghost use Rattle.gimli_line.specs.run.Execution.{Executed, ExecutedWell};
+    ghost use Rattle.gimli_line.specs.inside.run.Execution.{Executed, ExecutedWell};
     ghost use Rattle.gimli_line.specs.run.InstructionReading.{ins_at};
 
     /// Executes the next instruction on the registers, from its bytes, where it is one of those

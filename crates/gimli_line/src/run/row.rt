@@ -63,7 +63,8 @@ impl LineRow {
     ghost use Rattle.gimli_line.specs.header.File.{file_seen};
     ghost use Rattle.gimli_line.specs.run.Machine.{initial, reset_row, rebase_of, IsAllowed, is_refused, step_of, with_register};
     ghost use Rattle.gimli_line.specs.run.OperationPointer.{is_too_large};
-    ghost use Rattle.gimli_line.specs.run.Execution.{ExecutedWell, OverflowIs, OtherRefusalIs};
+    ghost use Rattle.gimli_line.specs.run.Execution.{OverflowIs, OtherRefusalIs};
+    ghost use Rattle.gimli_line.specs.inside.run.Execution.{ExecutedWell};
     ghost use Rattle.gimli_line.specs.run.InstructionReading.{standard_at};
     ghost use Rattle.gimli_line.specs.run.Row.{column_number};
     ghost use Rattle.gimli_line.specs.run.Registers.{advanced_line};

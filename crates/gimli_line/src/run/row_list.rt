@@ -1,7 +1,7 @@
 //! Rows kept in few bytes each, for who holds all rows of a unit: most have small numbers.
 
 ghost use Rattle.std.specs.Prelude.{◌↔◌, IsTrue};
-ghost use Rattle.gimli_line.specs.run.StoredRow.{IsNarrow};
+ghost use Rattle.gimli_line.specs.inside.run.StoredRow.{IsNarrow};
 
 use crate::header::tables::push;
 use crate::run::row::LineRow;
@@ -41,7 +41,8 @@ fn is_narrow(row: &LineRow) -> bool
 
 impl NarrowRow {
     ghost use Rattle.std.specs.Prelude.{◌≡◌};
-    ghost use Rattle.gimli_line.specs.run.StoredRow.{IsNarrow, row_of_narrow};
+    ghost use Rattle.gimli_line.specs.run.StoredRow.{row_of_narrow};
+    ghost use Rattle.gimli_line.specs.inside.run.StoredRow.{IsNarrow};
 
     /// A row in narrow numbers. Requires that they fit.
     fn new(row: &LineRow) -> NarrowRow

@@ -4,7 +4,7 @@ use crate::header::program_header::LineProgramHeader;
 use crate::run::instruction::LineInstructions;
 use crate::run::program::{CompleteLineProgram, IncompleteLineProgram, LineProgram};
 use crate::run::row::LineRow;
-use gimli_core::{DwLns, Error, Reader, ReaderOffset, Result};
+use gimli_core::{Error, Reader, Result};
 use std::marker::Model;
 
 /// What was done on the way to a row.
@@ -62,50 +62,6 @@ impl<R: Reader, P: LineProgram<R>> Lent for LineRows<R, P> {
     ghost lent = { the_row R.row P.row R.Endian.row R.Offset.row R.Reader.own R.Endian.Endianity.own R.Endian.PartialEq.own R.Offset.ReaderOffset.own R.Offset.PartialEq.own R.Offset.Ord.own R.Offset.PartialOrd.own P.LineProgram.own };
 }
 
-impl<R: Reader> LineInstructions<R> {
-    ghost use Rattle.std.specs.Prelude.{◌≡◌, true, IfOk, IfErr, IfSome, IsNone};
-    ghost use Rattle.gimli_line.specs.run.Execution.{Executed, ExecutedWell};
-    ghost use Rattle.gimli_line.specs.run.InstructionReading.{ins_at};
-
-    /// Executes the next instruction on the registers, from its bytes, where it is one of those that are met most,
-    /// and says whether it makes a row. None, and nothing is changed, where it is another one or isn't there as a
-    /// whole. Refused by `AddressOverflow` as it is executed.
-    #[inline(always)]
-    pub(crate) fn execute_common(
-        &mut self,
-        header: &LineProgramHeader<R>,
-        row: &mut LineRow,
-    ) -> Result<Option<bool>>
-        ensures ok { IfOk result (λ found. IfSome found (λ made.
-            ExecutedWell header.now.meaning.parameters
-            (ins_at self.old.notation header.now.meaning self.old.bytes) self.new.bytes row.old row.new made)) }
-        ensures none { IfOk result (λ found. IsNone found → (self.new ≡ self.old) × (row.new ≡ row.old)) }
-        ensures err { IfErr result (λ e. (e ≡ Error.AddressOverflow)
-            × Executed header.now.meaning.parameters
-            (ins_at self.old.notation header.now.meaning self.old.bytes) self.new.bytes row.old row.new true) }
-        ensures notation { self.new.notation ≡ self.old.notation }
-    {
-        let mut input = self.input;
-        let Ok(opcode) = input.read_u8() else {
-            return Ok(None);
-        };
-        if opcode >= header.opcode_base() {
-            self.input = input;
-            match row.exec_special_opcode(opcode, &header.parameters) {
-                Err(e) => return Err(e),
-                Ok(()) => return Ok(Some(true)),
-            }
-        }
-        match row.exec_common_opcode(DwLns(opcode), &mut input) {
-            None => Ok(None),
-            Some(made) => {
-                self.input = input;
-                Ok(Some(made))
-            }
-        }
-    }
-}
-
 impl<R: Reader, P: LineProgram<R>> LineRows<R, P> {
     ghost use Rattle.std.specs.Prelude.{◌≡◌, [], ◌∷◌, None, Ok, IfErr, IfOk, IfSome, IsOk, MatchBool};
     ghost use Rattle.std.specs.Borrow.{sem};
@@ -114,7 +70,8 @@ impl<R: Reader, P: LineProgram<R>> LineRows<R, P> {
     ghost use Rattle.gimli_line.specs.header.Header.{without_files, HasOneOrder};
     ghost use Rattle.gimli_line.specs.header.Orders.{header_orders};
     ghost use Rattle.gimli_line.specs.run.Progress.{with_reset_row, Progress};
-    ghost use Rattle.gimli_line.specs.run.Rows.{start_of_run, GivesRowsAlone, IsOfOneOrder, KeepsHeader, StepIs, NextIs, RowIs, EndIs, FaultIs};
+    ghost use Rattle.gimli_line.specs.run.Rows.{start_of_run, GivesRowsAlone, IsOfOneOrder, KeepsHeader, NextIs, RowIs, EndIs, FaultIs};
+    ghost use Rattle.gimli_line.specs.inside.run.Rows.{StepIs};
 
     /// The rows of these instructions of a program, from the start of a sequence on.
     pub(crate) fn start(program: P, instructions: LineInstructions<R>) -> Self

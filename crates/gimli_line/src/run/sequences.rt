@@ -47,7 +47,7 @@ struct SequenceSplit<R: Reader> {
 
 impl<R: Reader> Model for SequenceSplit<R> {
     ghost use Rattle.std.specs.Prelude.{map};
-    ghost use Rattle.gimli_line.specs.run.SequenceSplit.{SequenceSplit};
+    ghost use Rattle.gimli_line.specs.inside.run.SequenceSplit.{SequenceSplit};
     ghost use Rattle.gimli_line.specs.run.Sequences.{part_of};
 
     ghost Value = { SequenceSplit };
@@ -57,7 +57,7 @@ impl<R: Reader> Model for SequenceSplit<R> {
 
 impl<R: Reader> SequenceSplit<R> {
     ghost use Rattle.std.specs.Prelude.{◌≡◌, ◌++◌, ℕ, List, [], None, map, IfErr, OnOk};
-    ghost use Rattle.gimli_line.specs.run.SequenceSplit.{with_row};
+    ghost use Rattle.gimli_line.specs.inside.run.SequenceSplit.{with_row};
     ghost use Rattle.gimli_line.specs.run.Sequences.{part_of};
 
     /// No sequence yet, and an open one that starts with these instructions.
@@ -109,7 +109,7 @@ struct RowSplit {
 }
 
 impl Model for RowSplit {
-    ghost use Rattle.gimli_line.specs.run.SequenceSplit.{RowSplit};
+    ghost use Rattle.gimli_line.specs.inside.run.SequenceSplit.{RowSplit};
 
     ghost Value = { RowSplit };
 
@@ -118,7 +118,7 @@ impl Model for RowSplit {
 
 impl RowSplit {
     ghost use Rattle.std.specs.Prelude.{◌≡◌, [], IfErr, OnOk};
-    ghost use Rattle.gimli_line.specs.run.SequenceSplit.{with_kept_row};
+    ghost use Rattle.gimli_line.specs.inside.run.SequenceSplit.{with_kept_row};
 
     /// No rows yet.
     fn new(alloc: Global) -> Self

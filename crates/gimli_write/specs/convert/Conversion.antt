@@ -82,12 +82,6 @@ abbrev pub HandsOut : Reading → Option ConvertLineRow → TablesAndTexts → R
 HandsOut old (Some row) tables rest = after_definitions old ≡ offers row tables rest
 HandsOut old None tables rest = (after_definitions old ≡ ends tables) × (rest ≡ ends tables)
 
--- the same of a row of the source, with the address that was set for it
-abbrev pub TakesRow : ℕ → Reading → Option SourceRow → TablesAndTexts → Reading → Type 0
-TakesRow version old (Some r) tables rest =
-    after_definitions old ≡ address_offered r.set_address tables (row_or_end_offered version tables r rest)
-TakesRow version old None tables rest = (after_definitions old ≡ ends tables) × (rest ≡ ends tables)
-
 -- a read is refused: as what was to be read is, after the files that are defined before it, or for `OutOfMemory` where
 -- a file is defined before anything else is read
 abbrev pub IsReadRefusal : Reading → ConvertError → Type 0

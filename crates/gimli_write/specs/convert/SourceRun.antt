@@ -1,9 +1,8 @@
 -- What a run over a source has still to read.
-use Rattle.std.specs.Prelude.{◌≡◌, ◌<◌, ℕ, ◌-◌, not, ◌&&◌, if◌then◌else◌, List, [], ◌∷◌, length, Option, Some, None, unwrap_or, Result, Ok}
+use Rattle.std.specs.Prelude.{ℕ, ◌-◌, not, ◌&&◌, if◌then◌else◌, List, [], ◌∷◌, Option, Some, None, unwrap_or, Result, Ok}
 use Rattle.gimli_core.specs.declared.error.Error.{Error}
 use Rattle.gimli_core.specs.declared.error.Error.TheVariants.{AddressOverflow}
 use Rattle.gimli_line.specs.header.Header.{Header}
-use Rattle.gimli_line.specs.header.File.{file_seen}
 use Rattle.gimli_line.specs.declared.run.row.LineRow.{LineRow}
 use Rattle.gimli_line.specs.run.Instruction.{Ins, is_end, makes_row}
 use Rattle.gimli_line.specs.run.InstructionReading.{decoded_at}
@@ -14,10 +13,8 @@ use Rattle.gimli_build.specs.Texts.{Sections}
 use Rattle.gimli_write.specs.declared.convert_error.ConvertError.{ConvertError}
 use Rattle.gimli_write.specs.declared.convert_error.ConvertError.TheVariants.{Read}
 use Rattle.gimli_write.specs.declared.convert.run.SourceRow.{SourceRow}
-use Rattle.gimli_write.specs.declared.convert.run.SourceStep.{SourceStep}
-use Rattle.gimli_write.specs.declared.convert.run.SourceStep.TheVariants.{Done, More, Defines, Made}
-use Rattle.gimli_write.specs.convert.SourceTables.{TablesAndTexts, file_added}
-use Rattle.gimli_write.specs.convert.Items.{Reading, ends, stops, defines, address_operand, source_row_offered, end_reading, reading_with, tables_after_definition, with_definition}
+use Rattle.gimli_write.specs.convert.SourceTables.{TablesAndTexts}
+use Rattle.gimli_write.specs.convert.Items.{Reading, stops, address_operand, source_row_offered, end_reading, reading_with, tables_after_definition, with_definition}
 
 pub record SourceRun : Type 0 where
   pub header : Header
@@ -79,20 +76,3 @@ abbrev pub reading_left : Sections → SourceRun → TablesAndTexts → Reading
 reading_left sections s tables = reading_upon sections s (Ok tables)
 
 -- ---- steps
-
-module _ {R Offset Endian : Type 0} (bytes : R → List ℕ) (number : Offset → ℕ) where
-  -- what is read from a step on, after which this state is
-  abbrev pub step_reading : Sections → TablesAndTexts → SourceStep R Endian Offset → SourceRun → Reading
-  step_reading sections tables Done s = ends tables
-  step_reading sections tables More s = reading_left sections s tables
-  step_reading sections tables (Defines f) s = defines (reading_upon sections s (file_added sections tables (file_seen bytes number f)))
-  step_reading sections tables (Made r) s = source_row_offered s.header.parameters.encoding.version tables r (reading_left sections s tables)
-
--- the step of an instruction that defines no file
-abbrev pub step_made : {R Endian Offset : Type 0} → SourceRun → Ins → SourceStep R Endian Offset
-step_made s i = if makes_row i && not s.row.tombstone then Made (row_made s i) else More
-
--- fewer bytes are unread after a step, and none after the end
-abbrev pub Shortens : {R Endian Offset : Type 0} → SourceStep R Endian Offset → SourceRun → SourceRun → Type 0
-Shortens Done old new = new.unread.bytes ≡ []
-Shortens step old new = length new.unread.bytes < length old.unread.bytes

@@ -1,15 +1,12 @@
 -- The tables that a source leaves: the files that it defines are added, up to its end or to what is refused.
 use Rattle.std.specs.Prelude.{ℕ, Bool, not, ◌&&◌, ◌||◌, if◌then◌else◌, List, [], ◌∷◌, Option, Some, None, Result, Ok, Err, is_err}
-use Rattle.gimli_line.specs.header.File.{file_seen}
 use Rattle.gimli_line.specs.run.Instruction.{Ins, makes_row}
 use Rattle.gimli_line.specs.run.InstructionReading.{decoded_at}
 use Rattle.gimli_line.specs.run.Machine.{is_refused}
 use Rattle.gimli_build.specs.Texts.{Sections}
 use Rattle.gimli_write.specs.declared.convert_error.ConvertError.{ConvertError}
 use Rattle.gimli_write.specs.declared.convert.run.SourceRow.{SourceRow}
-use Rattle.gimli_write.specs.declared.convert.run.SourceStep.{SourceStep}
-use Rattle.gimli_write.specs.declared.convert.run.SourceStep.TheVariants.{Done, More, Defines, Made}
-use Rattle.gimli_write.specs.convert.SourceTables.{TablesAndTexts, file_added}
+use Rattle.gimli_write.specs.convert.SourceTables.{TablesAndTexts}
 use Rattle.gimli_write.specs.convert.Items.{file_id, tables_after_definition}
 use Rattle.gimli_write.specs.convert.SourceRun.{SourceRun, row_made, state_after}
 
@@ -43,11 +40,3 @@ tables_at_end sections s tables = tables_after sections s tables (decoded_at s.u
 abbrev pub tables_after_row : ℕ → TablesAndTexts → Option SourceRow → TablesAndTexts → TablesAndTexts
 tables_after_row version tables (Some r) rest = if lacks_file version tables r then tables else rest
 tables_after_row version tables None rest = rest
-
-module _ {R Offset Endian : Type 0} (bytes : R → List ℕ) (number : Offset → ℕ) where
-  -- the same from a step on, after which this state is
-  abbrev pub step_tables : Sections → TablesAndTexts → SourceStep R Endian Offset → SourceRun → TablesAndTexts
-  step_tables sections tables Done s = tables
-  step_tables sections tables More s = tables_at_end sections s tables
-  step_tables sections tables (Defines f) s = unless_refused tables (file_added sections tables (file_seen bytes number f)) (λ next. tables_at_end sections s next)
-  step_tables sections tables (Made r) s = tables_after_row s.header.parameters.encoding.version tables (Some r) (tables_at_end sections s tables)

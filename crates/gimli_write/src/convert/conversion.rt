@@ -9,7 +9,8 @@ ghost use Rattle.gimli_write.specs.convert.KeptTables.{KeepsFiles, IsWritable, S
 ghost use Rattle.gimli_write.specs.convert.Items.{Reading, stops, offers, row_or_end_offered};
 ghost use Rattle.gimli_write.specs.convert.SourceRun.{start_of_source};
 ghost use Rattle.gimli_write.specs.convert.TablesAtEnd.{lacks_file, tables_after_row};
-ghost use Rattle.gimli_write.specs.convert.Conversion.{start_of_conversion, tables_of, version_of_source, source_left, still_to_read, HandsOut, TakesRow, IsReadRefusal, AddsFiles, with_program, outcome_of_rest, AnswersAs, RestConvertsTo, IsRestRefusal};
+ghost use Rattle.gimli_write.specs.convert.Conversion.{start_of_conversion, tables_of, version_of_source, source_left, still_to_read, HandsOut, IsReadRefusal, AddsFiles, with_program, outcome_of_rest, AnswersAs, RestConvertsTo, IsRestRefusal};
+ghost use Rattle.gimli_write.specs.inside.convert.Conversion.{TakesRow};
 ghost use Rattle.gimli_write.specs.convert.Sequences.{sequence_from, sequence_read};
 ghost use Rattle.gimli_write.specs.convert.Outcome.{after_item, without_items};
 

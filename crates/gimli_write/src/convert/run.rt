@@ -121,8 +121,10 @@ impl<R: Reader> SourceRun<R> {
     ghost use Rattle.gimli_build.specs.Texts.{Sections};
     ghost use Rattle.gimli_write.specs.convert.SourceTables.{TablesAndTexts};
     ghost use Rattle.gimli_write.specs.convert.Items.{stops, address_operand, ReadsItems};
-    ghost use Rattle.gimli_write.specs.convert.TablesAtEnd.{tables_at_end, step_tables};
-    ghost use Rattle.gimli_write.specs.convert.SourceRun.{start_of_source, state_after, step_made, reading_left, step_reading, Shortens};
+    ghost use Rattle.gimli_write.specs.convert.TablesAtEnd.{tables_at_end};
+    ghost use Rattle.gimli_write.specs.inside.convert.TablesAtEnd.{step_tables};
+    ghost use Rattle.gimli_write.specs.convert.SourceRun.{start_of_source, state_after, reading_left};
+    ghost use Rattle.gimli_write.specs.inside.convert.SourceRun.{step_made, step_reading, Shortens};
 
     /// The source, from its start on.
     pub(crate) fn start(program: IncompleteLineProgram<R>) -> Self

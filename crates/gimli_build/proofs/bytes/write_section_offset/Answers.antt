@@ -1,7 +1,7 @@
 use Rattle.std.proofs.Common.{◌<◌, ◌^◌, arith}
 use Rattle.gimli_build.specs.FormatWord.{format_word}
-use Rattle.gimli_build.proofs.Frames.{word_is}
-use Rattle.gimli_build.proofs.Writes.{writes}
+use Rattle.gimli_build.proofs.writing.Frames.{word_is}
+use Rattle.gimli_build.proofs.writing.Writes.{writes}
 use Rattle.gimli_build.proofs.bytes.write_section_offset.Goals as goal
 
 pub returns : goal.returns

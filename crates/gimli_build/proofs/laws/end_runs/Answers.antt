@@ -1,4 +1,4 @@
-use Rattle.gimli_build.proofs.RowRuns.{end-runs}
+use Rattle.gimli_build.proofs.reading.RowRuns.{end-runs}
 use Rattle.gimli_build.proofs.laws.end_runs.Goals as goal
 
 pub returns : goal.returns

@@ -1,4 +1,4 @@
-use Rattle.gimli_build.proofs.Equality.{row-Decides, item-Decides}
+use Rattle.gimli_build.proofs.building.Equality.{row-Decides, item-Decides}
 use Rattle.gimli_build.proofs.laws.equal_rows_and_items.Goals as goal
 
 pub returns : goal.returns

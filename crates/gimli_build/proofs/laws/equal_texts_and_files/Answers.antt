@@ -1,4 +1,4 @@
-use Rattle.gimli_build.proofs.Equality.{text-Decides, info-Decides, directory-Decides, file-Decides}
+use Rattle.gimli_build.proofs.building.Equality.{text-Decides, info-Decides, directory-Decides, file-Decides}
 use Rattle.gimli_build.proofs.laws.equal_texts_and_files.Goals as goal
 
 pub returns : goal.returns

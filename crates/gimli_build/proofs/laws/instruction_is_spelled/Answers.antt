@@ -1,4 +1,4 @@
-use Rattle.gimli_build.proofs.Spellings.{instruction-spelled}
+use Rattle.gimli_build.proofs.spellings.Spellings.{instruction-spelled}
 use Rattle.gimli_build.proofs.laws.instruction_is_spelled.Goals as goal
 
 pub returns : goal.returns

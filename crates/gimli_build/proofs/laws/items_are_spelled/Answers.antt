@@ -1,5 +1,5 @@
 use Rattle.gimli_build.specs.UnitReader.{bytes_of_items}
-use Rattle.gimli_build.proofs.ItemSpellings.{if_written, items-spelled-under}
+use Rattle.gimli_build.proofs.spellings.ItemSpellings.{if_written, items-spelled-under}
 use Rattle.gimli_build.proofs.laws.items_are_spelled.Goals as goal
 
 pub returns : goal.returns

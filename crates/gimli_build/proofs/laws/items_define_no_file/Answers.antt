@@ -1,4 +1,4 @@
-use Rattle.gimli_build.proofs.NoFiles.{items-none}
+use Rattle.gimli_build.proofs.reading.NoFiles.{items-none}
 use Rattle.gimli_build.proofs.laws.items_define_no_file.Goals as goal
 
 pub returns : goal.returns

@@ -1,4 +1,4 @@
-use Rattle.gimli_build.proofs.ItemRuns.{items-run}
+use Rattle.gimli_build.proofs.reading.ItemRuns.{items-run}
 use Rattle.gimli_build.proofs.laws.items_run.Goals as goal
 
 pub returns : goal.returns

@@ -1,4 +1,4 @@
-use Rattle.gimli_build.proofs.RowSizes.{one_byte, two_bytes}
+use Rattle.gimli_build.proofs.sizes.RowSizes.{one_byte, two_bytes}
 use Rattle.gimli_build.proofs.laws.moving_rows_are_short.Goals as goal
 
 pub returns : goal.returns

@@ -4,8 +4,8 @@ use Rattle.gimli_line.specs.run.Machine.{run}
 use Rattle.gimli_build.specs.Rows.{initial_row}
 use Rattle.gimli_build.specs.SameRow.{built_rules}
 use Rattle.gimli_build.specs.Runs.{program_instructions}
-use Rattle.gimli_build.proofs.RowRuns.{start-is}
-use Rattle.gimli_build.proofs.ItemRuns.{items-run, start_position}
+use Rattle.gimli_build.proofs.reading.RowRuns.{start-is}
+use Rattle.gimli_build.proofs.reading.ItemRuns.{items-run, start_position}
 use Rattle.gimli_build.proofs.laws.program_runs.Goals as goal
 
 pub returns : goal.returns

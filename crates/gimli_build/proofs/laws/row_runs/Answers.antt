@@ -1,4 +1,4 @@
-use Rattle.gimli_build.proofs.RowRuns.{row-runs}
+use Rattle.gimli_build.proofs.reading.RowRuns.{row-runs}
 use Rattle.gimli_build.proofs.laws.row_runs.Goals as goal
 
 pub returns : goal.returns

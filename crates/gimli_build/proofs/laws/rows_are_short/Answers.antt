@@ -1,4 +1,4 @@
-use Rattle.gimli_build.proofs.RowSizes.{row_short}
+use Rattle.gimli_build.proofs.sizes.RowSizes.{row_short}
 use Rattle.gimli_build.proofs.laws.rows_are_short.Goals as goal
 
 pub returns : goal.returns

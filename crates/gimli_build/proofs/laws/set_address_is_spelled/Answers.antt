@@ -1,6 +1,6 @@
 use Rattle.gimli_build.specs.UnitReader.{bytes_of_address}
-use Rattle.gimli_build.proofs.ItemSpellings.{if_written}
-use Rattle.gimli_build.proofs.Spellings.{address-spelled}
+use Rattle.gimli_build.proofs.spellings.ItemSpellings.{if_written}
+use Rattle.gimli_build.proofs.spellings.Spellings.{address-spelled}
 use Rattle.gimli_build.proofs.laws.set_address_is_spelled.Goals as goal
 
 pub returns : goal.returns

@@ -1,4 +1,4 @@
-use Rattle.gimli_build.proofs.RowRuns.{set-address-runs}
+use Rattle.gimli_build.proofs.reading.RowRuns.{set-address-runs}
 use Rattle.gimli_build.proofs.laws.set_address_runs.Goals as goal
 
 pub returns : goal.returns

@@ -1,4 +1,4 @@
-use Rattle.gimli_build.proofs.RowRuns.{start-is}
+use Rattle.gimli_build.proofs.reading.RowRuns.{start-is}
 use Rattle.gimli_build.proofs.laws.start_is_initial.Goals as goal
 
 pub returns : goal.returns

@@ -1,6 +1,6 @@
 use Rattle.std.proofs.Common.{◌∙◌}
-use Rattle.gimli_build.proofs.Joined.{on_ok}
-use Rattle.gimli_build.proofs.Writes.{joins}
+use Rattle.gimli_build.proofs.writing.Joined.{on_ok}
+use Rattle.gimli_build.proofs.writing.Writes.{joins}
 use Rattle.gimli_build.proofs.unit.write_inside.Goals as goal
 
 pub returns-clause-writes : goal.returns-clause-writes

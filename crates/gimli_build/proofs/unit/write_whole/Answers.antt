@@ -5,8 +5,8 @@ use Rattle.gimli_bytes.specs.Written.{Appends}
 use Rattle.gimli_bytes.specs.declared.error.Error.{Error}
 use Rattle.gimli_build.specs.Joined.{result_append}
 use Rattle.gimli_build.specs.Unit.{escape_bytes, inside_bytes}
-use Rattle.gimli_build.proofs.Joined.{on_ok, if_err, begins_then, begins_before}
-use Rattle.gimli_build.proofs.Frames.{framed, frame_refused, open_word, escape_is, escape_long, length_word_long}
+use Rattle.gimli_build.proofs.writing.Joined.{on_ok, if_err, begins_then, begins_before}
+use Rattle.gimli_build.proofs.writing.Frames.{framed, frame_refused, open_word, escape_is, escape_long, length_word_long}
 use Rattle.gimli_build.proofs.unit.write_whole.Goals as goal
 
 pub returns-clause-writes : goal.returns-clause-writes

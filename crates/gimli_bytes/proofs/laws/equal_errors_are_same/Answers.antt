@@ -1,6 +1,6 @@
 use Rattle.std.proofs.Common.{rules, ap}
 use Rattle.std.specs.Cmp.{unsigned_Decides, signed_Decides}
-use Rattle.gimli_bytes.proofs.Variants.{or, end, none, one}
+use Rattle.gimli_core.proofs.Variants.{or, end, none, one}
 use denote.Enum.Declared.{values_one}
 use Rattle.gimli_bytes.specs.contracts.error.Error.{as_values, enum}
 use Rattle.gimli_bytes.proofs.laws.equal_errors_are_same.Goals as goal

@@ -3,7 +3,7 @@ use Rattle.std.proofs.lemmas.Grind.{common_steps}
 use Rattle.std.proofs.lemmas.List.{take-append-drop}
 use Rattle.std.proofs.lemmas.List.Elements.{All-set}
 use Rattle.std.proofs.lemmas.Nat.{mod_below}
-use Rattle.gimli_bytes.specs.Pieces.{put_over}
+use Rattle.gimli_bytes.specs.inside.Pieces.{put_over}
 use Rattle.gimli_bytes.proofs.PieceLemmas.{piece-inside, put-step, length-put_over, length-concat}
 use Rattle.gimli_bytes.proofs.piece_vec.put.Goals as goal
 

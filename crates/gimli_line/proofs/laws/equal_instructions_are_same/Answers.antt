@@ -1,6 +1,6 @@
 use Rattle.std.proofs.Common.{rules, ap}
 use Rattle.std.specs.Cmp.{unsigned_Decides, signed_Decides}
-use Rattle.gimli_line.proofs.Variants.{or, end, none, one, two}
+use Rattle.gimli_core.proofs.Variants.{or, end, none, one, two}
 use denote.Enum.Declared.{values_one}
 use Rattle.gimli_line.specs.contracts.run.instruction.LineInstruction.{as_values, enum}
 use Rattle.gimli_line.proofs.laws.equal_instructions_are_same.Goals as goal

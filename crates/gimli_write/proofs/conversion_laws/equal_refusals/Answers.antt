@@ -1,6 +1,6 @@
 use Rattle.std.proofs.Common.{ap}
 use denote.Enum.Declared.{values_one}
-use Rattle.gimli_line.proofs.Variants.{or, end, none, one}
+use Rattle.gimli_core.proofs.Variants.{or, end, none, one}
 use Rattle.gimli_write.specs.contracts.convert_error.ConvertError.{as_values, enum}
 use Rattle.gimli_write.proofs.conversion_laws.equal_refusals.Goals as goal
 

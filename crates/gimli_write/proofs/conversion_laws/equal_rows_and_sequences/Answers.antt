@@ -6,8 +6,8 @@ use Rattle.std.specs.Option.{option_eq}
 use Rattle.std.proofs.lemmas.Slice.Eq.{slice_eq-Decides}
 use denote.Enum.Declared.{values_one}
 use Rattle.gimli_line.proofs.Equality.{both, whole}
-use Rattle.gimli_line.proofs.Variants.{or, end, one}
-use Rattle.gimli_build.proofs.Equality.{row-Decides}
+use Rattle.gimli_core.proofs.Variants.{or, end, one}
+use Rattle.gimli_build.proofs.building.Equality.{row-Decides}
 use Rattle.gimli_write.specs.contracts.convert.rows.ConvertLineSequenceEnd.{as_values, enum}
 use Rattle.gimli_write.specs.contracts.convert.rows.ConvertLineSequenceEndPartialEq.TheImpl.{ghosts as the_ends}
 use Rattle.gimli_write.specs.declared.convert.rows.ConvertLineSequenceEnd.{ConvertLineSequenceEnd}

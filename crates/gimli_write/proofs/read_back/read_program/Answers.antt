@@ -3,7 +3,7 @@ use Rattle.std.proofs.lemmas.List.Elements.{All-same}
 use Rattle.gimli_core.specs.Values.{value_seen}
 use Rattle.gimli_line.specs.header.File.{file_seen}
 use Rattle.gimli_build.specs.ReadsBack.{directories_from_zero}
-use Rattle.gimli_write.specs.TextReading.{HasText, HasFileTexts}
+use Rattle.gimli_write.specs.inside.TextReading.{HasText, HasFileTexts}
 use Rattle.gimli_write.proofs.read_back.read_program.Goals as goal
 
 pub texts-requires : goal.texts-requires

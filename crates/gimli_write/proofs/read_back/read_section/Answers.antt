@@ -1,5 +1,6 @@
 use Rattle.std.proofs.Common.{◌∙◌, ◌^◌, drop}
-use Rattle.gimli_write.specs.RoundTrip.{slice_notation, unit_entry_with}
+use Rattle.gimli_write.specs.RoundTrip.{slice_notation}
+use Rattle.gimli_write.specs.inside.RoundTrip.{unit_entry_with}
 use Rattle.gimli_write.proofs.ReadUnits.{same_unit, same_fault, same_sections, same_notation, same_header, texts_there, header_refused, same_answers, same_refusal}
 use Rattle.gimli_write.proofs.read_back.read_section.Goals as goal
 

@@ -4,7 +4,7 @@ use Rattle.gimli_build.specs.Version5Tables.{strings_after, line_strings_after}
 use Rattle.gimli_build.specs.Cause.{first_cause}
 use Rattle.gimli_write.specs.RoundTrip.{RefusesUnit, slice_notation, unit_entry_of, to_write}
 use Rattle.gimli_write.proofs.RoundTrips.{write_refused, unwritten_refused, memory_refused, unit_not_answered}
-use Rattle.gimli_build.proofs.EmptySource.{can-write-after}
+use Rattle.gimli_build.proofs.building.EmptySource.{can-write-after}
 use Rattle.gimli_write.proofs.read_back.round_trip.Goals as goal
 
 pub returns-in-Ok-clause-refusal : goal.returns-in-Ok-clause-refusal

@@ -2,7 +2,7 @@ use Rattle.std.proofs.Common.{◌≡◌, ◌≤◌, true, Some, refl, sym, ap, s
 use Rattle.std.specs.Prelude.{IfSome}
 use Rattle.gimli_write.specs.LineText.{LineText, line_text, IsWithin, HasNoZero}
 use Rattle.gimli_write.specs.Tables.{Details, File}
-use Rattle.gimli_write.specs.TablesInside.{details}
+use Rattle.gimli_write.specs.TableFields.{details}
 use Rattle.gimli_write.specs.Built.{Built}
 use Rattle.rows_builder.specs.Within.{IsFileWritable}
 use Rattle.rows_builder.proofs.FileWalk.{Next, walked_start, walked_next, walked_end}

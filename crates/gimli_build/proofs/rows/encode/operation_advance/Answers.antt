@@ -1,5 +1,5 @@
 use Rattle.std.proofs.Common.{arith}
-use Rattle.gimli_build.proofs.Steps.{operations_above}
+use Rattle.gimli_build.proofs.sizes.Steps.{operations_above}
 use Rattle.gimli_build.proofs.rows.encode.operation_advance.Goals as goal
 
 pub overflow_sub-result : goal.overflow_sub-result

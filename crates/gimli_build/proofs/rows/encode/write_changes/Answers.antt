@@ -6,8 +6,8 @@ use Rattle.gimli_build.specs.FileNumber.{file_number}
 use Rattle.gimli_build.specs.Due.{when}
 use Rattle.gimli_build.specs.Encode.{changes, differ}
 use Rattle.gimli_build.specs.InstructionBytes.{instructions_bytes}
-use Rattle.gimli_build.proofs.InstructionsWritten.{four_parts}
-use Rattle.gimli_build.proofs.Writes.{joins, unwritten}
+use Rattle.gimli_build.proofs.writing.InstructionsWritten.{four_parts}
+use Rattle.gimli_build.proofs.writing.Writes.{joins, unwritten}
 use Rattle.gimli_build.proofs.rows.encode.write_changes.Goals as goal
 
 differs : (a b : Bool) → not (beq a b) ≡ differ a b

@@ -1,9 +1,9 @@
 use Rattle.std.proofs.Common.{◌≡◌, ℕ, ap, ◌+◌, ◌<◌, length, drop, take, refl, ◌∙◌, arith, lit<}
 use Rattle.gimli_build.specs.Rows.{initial_row, at_position}
 use Rattle.gimli_build.specs.Items.{items_bytes, next_previous}
-use Rattle.gimli_build.proofs.ItemRuns.{start_position}
-use Rattle.gimli_build.proofs.ItemsWritten.{taken_next, fit_more, way_on, standing_start, standing_more}
-use Rattle.gimli_build.proofs.Joined.{next_left, begins_self, begins_then}
+use Rattle.gimli_build.proofs.reading.ItemRuns.{start_position}
+use Rattle.gimli_build.proofs.writing.ItemsWritten.{taken_next, fit_more, way_on, standing_start, standing_more}
+use Rattle.gimli_build.proofs.writing.Joined.{next_left, begins_self, begins_then}
 use Rattle.gimli_build.proofs.rows.encode.write_items.Goals as goal
 
 pub loop-item-init : goal.loop-item-init

@@ -2,7 +2,7 @@ use Rattle.std.proofs.Common.{◌≡◌, IsTrue, drop, take}
 use Rattle.gimli_bytes.specs.Written.{Begins}
 use Rattle.gimli_build.specs.Items.{items_bytes, AreFit}
 use Rattle.gimli_build.specs.Rows.{initial_row, at_position}
-use Rattle.gimli_build.proofs.ItemsWritten.{OnTheWay, Standing}
+use Rattle.gimli_build.proofs.writing.ItemsWritten.{OnTheWay, Standing}
 use Rattle.gimli_build.proofs.rows.encode.write_items.Given as goal
 
 abbrev pub invariant-loop-item : goal.invariant-loop-item

@@ -4,8 +4,8 @@ use Rattle.gimli_line.specs.declared.run.instruction.LineInstruction.TheVariants
 use Rattle.gimli_build.specs.Due.{when}
 use Rattle.gimli_build.specs.Encode.{marks}
 use Rattle.gimli_build.specs.InstructionBytes.{instructions_bytes}
-use Rattle.gimli_build.proofs.InstructionsWritten.{four_parts}
-use Rattle.gimli_build.proofs.Writes.{joins, unwritten}
+use Rattle.gimli_build.proofs.writing.InstructionsWritten.{four_parts}
+use Rattle.gimli_build.proofs.writing.Writes.{joins, unwritten}
 use Rattle.gimli_build.proofs.rows.encode.write_marks.Goals as goal
 
 pub returns-in_err-write_if-2-clause-writes : goal.returns-in_err-write_if-2-clause-writes

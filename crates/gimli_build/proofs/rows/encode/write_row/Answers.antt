@@ -5,8 +5,8 @@ use Rattle.gimli_build.specs.Advance.{operations}
 use Rattle.gimli_build.specs.Encode.{marks, changes, line_part, line_opcode, operation_part, row_instructions}
 use Rattle.gimli_build.specs.Rows.{at_position}
 use Rattle.gimli_build.specs.InstructionBytes.{instructions_bytes}
-use Rattle.gimli_build.proofs.InstructionsWritten.{four_parts}
-use Rattle.gimli_build.proofs.Writes.{joins, unwritten}
+use Rattle.gimli_build.proofs.writing.InstructionsWritten.{four_parts}
+use Rattle.gimli_build.proofs.writing.Writes.{joins, unwritten}
 use Rattle.gimli_build.proofs.rows.encode.write_row.Goals as goal
 
 pub returns-in_err-write_changes-clause-writes : goal.returns-in_err-write_changes-clause-writes

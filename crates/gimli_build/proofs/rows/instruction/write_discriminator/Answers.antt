@@ -5,8 +5,8 @@ use Rattle.gimli_line.specs.declared.run.instruction.LineInstruction.TheVariants
 use Rattle.gimli_bytes.specs.Number.{uleb}
 use Rattle.gimli_bytes.specs.declared.error.Error.{Error}
 use Rattle.gimli_build.specs.InstructionBytes.{instruction_bytes}
-use Rattle.gimli_build.proofs.OneCall.{refused_alike}
-use Rattle.gimli_build.proofs.Writes.{joins, unwritten, writes}
+use Rattle.gimli_build.proofs.writing.OneCall.{refused_alike}
+use Rattle.gimli_build.proofs.writing.Writes.{joins, unwritten, writes}
 use Rattle.gimli_build.proofs.rows.instruction.write_discriminator.Goals as goal
 
 pub returns-in_err-write_byte : goal.returns-in_err-write_byte

@@ -1,5 +1,5 @@
 use Rattle.std.proofs.Common.{[], ◌∷◌, Ok}
-use Rattle.gimli_build.proofs.Writes.{writes}
+use Rattle.gimli_build.proofs.writing.Writes.{writes}
 use Rattle.gimli_build.proofs.rows.instruction.write_instruction.Goals as goal
 
 pub returns-in-Special : goal.returns-in-Special

@@ -2,7 +2,7 @@ use Rattle.std.proofs.Common.{◌≡◌, [], ◌∷◌, Ok, true, sym, ap, ◌�
 use Rattle.std.proofs.lemmas.Int.{ints}
 use Rattle.gimli_bytes.specs.Number.{low_bits, has_seven_bits}
 use Rattle.gimli_bytes.proofs.LebLemmas.{sleb_one}
-use Rattle.gimli_build.proofs.Writes.{writes}
+use Rattle.gimli_build.proofs.writing.Writes.{writes}
 use Rattle.gimli_build.proofs.rows.instruction.write_signed.Goals as goal
 
 pub returns-then-has_seven_bits : goal.returns-then-has_seven_bits

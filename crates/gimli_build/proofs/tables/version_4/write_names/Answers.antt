@@ -2,8 +2,8 @@ use Rattle.std.proofs.Common.{◌<◌, length, map, arith}
 use Rattle.std.proofs.lemmas.Result.{err_from_is_err_and}
 use Rattle.gimli_build.specs.LineText.{line_text}
 use Rattle.gimli_build.specs.Version4Tables.{name_bytes}
-use Rattle.gimli_build.proofs.Joined.{next_seen}
-use Rattle.gimli_build.proofs.Writes.{none_written, one_written, one_unwritten}
+use Rattle.gimli_build.proofs.writing.Joined.{next_seen}
+use Rattle.gimli_build.proofs.writing.Writes.{none_written, one_written, one_unwritten}
 use Rattle.gimli_build.proofs.tables.version_4.write_names.Goals as goal
 
 pub loop-name-init : goal.loop-name-init

@@ -1,7 +1,7 @@
 use Rattle.std.proofs.Common.{drop, map}
 use Rattle.gimli_build.specs.LineText.{line_text}
 use Rattle.gimli_build.specs.Version4Tables.{name_bytes}
-use Rattle.gimli_build.proofs.Writes.{WritesSoFar}
+use Rattle.gimli_build.proofs.writing.Writes.{WritesSoFar}
 use Rattle.gimli_build.proofs.tables.version_4.write_names.Given as goal
 
 abbrev pub invariant-loop-name : goal.invariant-loop-name

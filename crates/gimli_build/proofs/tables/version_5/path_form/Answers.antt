@@ -1,8 +1,8 @@
 use Rattle.std.proofs.Common.{◌∙◌}
 use Rattle.gimli_build.specs.LineText.{line_text}
 use Rattle.gimli_build.specs.Tables.{File}
-use Rattle.gimli_build.specs.TablesInside.{details}
-use Rattle.gimli_build.proofs.SourceLemmas.{first_path}
+use Rattle.gimli_build.specs.TableFields.{details}
+use Rattle.gimli_build.proofs.building.SourceLemmas.{first_path}
 use Rattle.gimli_build.proofs.tables.version_5.path_form.Goals as goal
 
 pub returns : goal.returns

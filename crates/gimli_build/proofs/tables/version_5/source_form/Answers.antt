@@ -1,8 +1,8 @@
 use Rattle.std.proofs.Common.{◌≡◌, Some, None, option_map, ap, ◌∙◌}
 use Rattle.gimli_build.specs.LineText.{line_text}
 use Rattle.gimli_build.specs.Tables.{File}
-use Rattle.gimli_build.specs.TablesInside.{details}
-use Rattle.gimli_build.proofs.SourceLemmas.{source_found, source_passed}
+use Rattle.gimli_build.specs.TableFields.{details}
+use Rattle.gimli_build.proofs.building.SourceLemmas.{source_found, source_passed}
 use Rattle.gimli_build.proofs.tables.version_5.source_form.Goals as goal
 
 pub returns-in-Some : goal.returns-in-Some

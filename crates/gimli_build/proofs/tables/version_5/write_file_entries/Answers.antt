@@ -4,12 +4,13 @@ use Rattle.std.proofs.lemmas.Result.{err_from_is_err_and}
 use Rattle.std.proofs.lemmas.List.{take_all, drop_all}
 use Rattle.std.proofs.lemmas.List.Elements.{All-nil, All-push}
 use Rattle.gimli_build.specs.LineText.{line_text}
-use Rattle.gimli_build.specs.Tables.{File, FitsFile}
-use Rattle.gimli_build.specs.TablesInside.{details}
+use Rattle.gimli_build.specs.Tables.{File}
+use Rattle.gimli_build.specs.inside.Tables.{FitsFile}
+use Rattle.gimli_build.specs.TableFields.{details}
 use Rattle.gimli_build.specs.Version5Tables.{file_entry_bytes}
-use Rattle.gimli_build.proofs.Joined.{next_at, taken_at}
-use Rattle.gimli_build.proofs.Writes.{none_written, one_written, one_unwritten, all_written}
-use Rattle.gimli_build.proofs.EmptySource.{needs-empty}
+use Rattle.gimli_build.proofs.writing.Joined.{next_at, taken_at}
+use Rattle.gimli_build.proofs.writing.Writes.{none_written, one_written, one_unwritten, all_written}
+use Rattle.gimli_build.proofs.building.EmptySource.{needs-empty}
 use Rattle.gimli_build.proofs.tables.version_5.write_file_entries.Goals as goal
 
 pub write_file_entry-requires-clause-empty : goal.write_file_entry-requires-clause-empty

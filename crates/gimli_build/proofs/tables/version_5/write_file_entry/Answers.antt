@@ -1,8 +1,8 @@
 use Rattle.std.proofs.Common.{ap, ◌∙◌, List}
 use Rattle.gimli_build.specs.Tables.{File}
 use Rattle.gimli_build.specs.Version5Tables.{first_form, path_texts}
-use Rattle.gimli_build.proofs.Joined.{always_ok}
-use Rattle.gimli_build.proofs.Writes.{joins}
+use Rattle.gimli_build.proofs.writing.Joined.{always_ok}
+use Rattle.gimli_build.proofs.writing.Writes.{joins}
 use Rattle.gimli_build.proofs.tables.version_5.write_file_entry.Goals as goal
 
 pub returns-clause-writes : goal.returns-clause-writes

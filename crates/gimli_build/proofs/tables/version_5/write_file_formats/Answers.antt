@@ -2,8 +2,8 @@ use Rattle.std.proofs.Common.{length, Ok, ap}
 use Rattle.gimli_bytes.specs.Number.{uleb}
 use Rattle.gimli_build.specs.Built.{Built}
 use Rattle.gimli_build.specs.Version5Tables.{first_form, path_texts, sources}
-use Rattle.gimli_build.proofs.FormatLemmas.{formats-grouped}
-use Rattle.gimli_build.proofs.Writes.{joins, writes}
+use Rattle.gimli_build.proofs.building.FormatLemmas.{formats-grouped}
+use Rattle.gimli_build.proofs.writing.Writes.{joins, writes}
 use Rattle.gimli_build.proofs.tables.version_5.write_file_formats.Goals as goal
 
 pub returns : goal.returns

@@ -1,4 +1,4 @@
-use Rattle.gimli_build.proofs.Writes.{joins}
+use Rattle.gimli_build.proofs.writing.Writes.{joins}
 use Rattle.gimli_build.proofs.tables.version_5.write_file_table.Goals as goal
 
 pub returns-clause-writes : goal.returns-clause-writes

@@ -2,8 +2,8 @@ use Rattle.std.proofs.Common.{◌<◌, length, map, arith}
 use Rattle.std.proofs.lemmas.Result.{err_from_is_err_and}
 use Rattle.gimli_build.specs.LineText.{line_text, IsWithin}
 use Rattle.gimli_build.specs.Version5Tables.{text_in_form}
-use Rattle.gimli_build.proofs.Joined.{next_seen, all_seen}
-use Rattle.gimli_build.proofs.Writes.{none_written, one_written, one_unwritten}
+use Rattle.gimli_build.proofs.writing.Joined.{next_seen, all_seen}
+use Rattle.gimli_build.proofs.writing.Writes.{none_written, one_written, one_unwritten}
 use Rattle.gimli_build.proofs.tables.version_5.write_texts.Goals as goal
 
 pub write_line_string-requires : goal.write_line_string-requires

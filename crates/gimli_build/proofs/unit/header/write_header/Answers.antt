@@ -5,8 +5,8 @@ use Rattle.gimli_bytes.specs.Written.{Appends}
 use Rattle.gimli_bytes.specs.declared.error.Error.{Error}
 use Rattle.gimli_build.specs.FormatWord.{format_word}
 use Rattle.gimli_build.specs.Unit.{fields_bytes}
-use Rattle.gimli_build.proofs.Joined.{on_ok, if_err, begins_then, begins_before}
-use Rattle.gimli_build.proofs.Frames.{framed, frame_refused, open_word, word_is, zero_word, no_escape, header_word_long}
+use Rattle.gimli_build.proofs.writing.Joined.{on_ok, if_err, begins_then, begins_before}
+use Rattle.gimli_build.proofs.writing.Frames.{framed, frame_refused, open_word, word_is, zero_word, no_escape, header_word_long}
 use Rattle.gimli_build.proofs.unit.header.write_header.Goals as goal
 
 pub returns-clause-writes : goal.returns-clause-writes

@@ -1,6 +1,6 @@
 use Rattle.std.proofs.Common.{◌≡◌, [], ◌∷◌, Ok, rules}
 use Rattle.gimli_build.specs.Unit.{flag_byte, base_byte}
-use Rattle.gimli_build.proofs.Writes.{joins, writes}
+use Rattle.gimli_build.proofs.writing.Writes.{joins, writes}
 use Rattle.gimli_build.proofs.unit.header.write_line_encoding.Goals as goal
 
 pub returns : goal.returns

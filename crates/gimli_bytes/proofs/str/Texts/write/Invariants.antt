@@ -1,6 +1,6 @@
 use Rattle.std.proofs.Common.{◌≡◌, ◌++◌, IsTrue, take}
 use Rattle.gimli_bytes.specs.Texts.{table_bytes}
-use Rattle.gimli_bytes.specs.TextsInside.{texts_of}
+use Rattle.gimli_bytes.specs.inside.TextFields.{texts_of}
 use Rattle.gimli_bytes.specs.Written.{Begins}
 use Rattle.gimli_bytes.proofs.str.Texts.write.Given as goal
 

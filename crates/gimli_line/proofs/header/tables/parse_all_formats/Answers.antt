@@ -1,6 +1,6 @@
 use Rattle.std.proofs.Common.{refl, ◌∙◌, sym}
 use Rattle.std.proofs.lemmas.Result.{err_from_is_err_and}
-use Rattle.gimli_line.specs.header.HeaderReading.{format_at}
+use Rattle.gimli_line.specs.inside.header.HeaderReading.{format_at}
 use Rattle.gimli_line.proofs.Loops.{viewed_same, times_goes_on, times_ends, times_done}
 use Rattle.gimli_line.proofs.Tables.{formats_start}
 use Rattle.gimli_line.proofs.header.tables.parse_all_formats.Goals as goal

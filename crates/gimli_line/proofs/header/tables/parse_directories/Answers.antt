@@ -4,7 +4,7 @@ use Rattle.std.proofs.lemmas.Result.{err_from_is_err_and}
 use Rattle.gimli_core.specs.Reading.{text_at}
 use Rattle.gimli_core.specs.Values.{ValueHasOrder}
 use Rattle.gimli_core.specs.declared.attribute_value.AttributeValue.TheVariants.{String}
-use Rattle.gimli_line.specs.header.Outcome.{read_map}
+use Rattle.gimli_line.specs.inside.header.Outcome.{read_map}
 use Rattle.gimli_line.specs.header.Productions.{name}
 use Rattle.gimli_line.proofs.Order.{values_pushed}
 use Rattle.gimli_line.proofs.Tables.{none_yet, text_smaller}

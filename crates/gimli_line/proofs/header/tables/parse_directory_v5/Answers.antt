@@ -1,7 +1,7 @@
 use Rattle.std.proofs.Common.{refl, ◌∙◌}
 use Rattle.std.proofs.lemmas.Result.{err_from_is_err_and}
 use Rattle.gimli_core.specs.Values.{value_seen}
-use Rattle.gimli_line.specs.header.EntryReading.{path_with}
+use Rattle.gimli_line.specs.inside.header.EntryReading.{path_with}
 use Rattle.gimli_line.proofs.Order.{value_kept}
 use Rattle.gimli_line.proofs.Entries.{directory_is}
 use Rattle.gimli_line.proofs.Tables.{entry_goes_on, entry_ends, entry_done, path_replaced, path_left}

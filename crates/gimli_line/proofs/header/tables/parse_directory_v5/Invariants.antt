@@ -2,9 +2,9 @@ use Rattle.std.proofs.Common.{◌≡◌, drop}
 use Rattle.gimli_core.specs.Notation.{Notation}
 use Rattle.gimli_core.specs.Values.{value_seen, ValueHasOrder}
 use Rattle.gimli_line.specs.header.HeaderGrammar.{path_of}
-use Rattle.gimli_line.specs.header.HeaderReading.{entry_at}
-use Rattle.gimli_line.specs.header.Outcome.{read_map}
-use Rattle.gimli_line.specs.header.EntryReading.{path_with, folded_at}
+use Rattle.gimli_line.specs.inside.header.HeaderReading.{entry_at}
+use Rattle.gimli_line.specs.inside.header.Outcome.{read_map}
+use Rattle.gimli_line.specs.inside.header.EntryReading.{path_with, folded_at}
 use Rattle.gimli_line.proofs.header.tables.parse_directory_v5.Given as goal
 
 abbrev pub invariant-loop-entry_format : goal.invariant-loop-entry_format

@@ -1,6 +1,6 @@
 use Rattle.std.proofs.Common.{refl, ◌∙◌}
 use Rattle.std.proofs.lemmas.Result.{err_from_is_err_and}
-use Rattle.gimli_line.specs.header.EntryReading.{file_with}
+use Rattle.gimli_line.specs.inside.header.EntryReading.{file_with}
 use Rattle.gimli_line.proofs.Order.{value_kept, file_kept}
 use Rattle.gimli_line.proofs.Entries.{file_is, file_goes_on}
 use Rattle.gimli_line.proofs.Tables.{entry_ends, entry_done}

@@ -1,7 +1,7 @@
 use Rattle.std.proofs.Common.{refl, ◌∙◌}
 use Rattle.std.proofs.lemmas.List.{map_push}
 use Rattle.std.proofs.lemmas.Result.{err_from_is_err_and}
-use Rattle.gimli_line.specs.header.HeaderReading.{named_file_at, files_at}
+use Rattle.gimli_line.specs.inside.header.HeaderReading.{named_file_at, files_at}
 use Rattle.gimli_line.specs.header.File.{FileHasOrder}
 use Rattle.gimli_line.proofs.Order.{files_pushed}
 use Rattle.gimli_line.proofs.HeaderLaws.{reads_named_file, named_file}

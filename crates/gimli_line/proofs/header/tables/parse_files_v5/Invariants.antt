@@ -3,9 +3,9 @@ use Rattle.gimli_core.specs.Reading.{times_at}
 use Rattle.std.proofs.Common.{◌≡◌, ◌-◌, map}
 use Rattle.gimli_core.specs.Notation.{Notation}
 use Rattle.gimli_line.specs.header.File.{file_seen, FileHasOrder}
-use Rattle.gimli_line.specs.header.Outcome.{read_map}
+use Rattle.gimli_line.specs.inside.header.Outcome.{read_map}
 use Rattle.gimli_line.specs.header.HeaderGrammar.{file_of_entry}
-use Rattle.gimli_line.specs.header.HeaderReading.{entry_at, entries_at}
+use Rattle.gimli_line.specs.inside.header.HeaderReading.{entry_at, entries_at}
 use Rattle.gimli_line.proofs.Loops.{collected}
 use Rattle.gimli_line.proofs.header.tables.parse_files_v5.Given as goal
 

@@ -1,6 +1,6 @@
 use Rattle.std.proofs.Common.{◌≡◌, ◌-◌}
 use Rattle.gimli_core.specs.Reading.{times_at, unsigned_at}
-use Rattle.gimli_line.specs.run.InstructionReading.{without_value}
+use Rattle.gimli_line.specs.inside.run.InstructionReading.{without_value}
 use Rattle.gimli_line.proofs.run.instruction.skip_operands.Given as goal
 
 abbrev pub invariant-loop : goal.invariant-loop

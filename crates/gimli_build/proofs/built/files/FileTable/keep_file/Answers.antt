@@ -1,8 +1,9 @@
 use Rattle.std.proofs.Common.{◌<◌, List, ◌∙◌, ap, Some, true, false, sym, length, subst}
 use Rattle.gimli_build.specs.declared.built.files.FileInfo.{FileInfo}
 use Rattle.gimli_build.specs.Tables.{File, Tables, with_file}
-use Rattle.gimli_build.specs.TablesInside.{details, key, directories_of, files_of}
-use Rattle.gimli_build.proofs.TableLemmas.{files_insert, index_of_equal_file, index_found, pair_eq, file_found, with_file-AreTables, with_file-kept, with_file-new}
+use Rattle.gimli_build.specs.TableFields.{details}
+use Rattle.gimli_build.specs.inside.TableFields.{key, directories_of, files_of}
+use Rattle.gimli_build.proofs.building.TableLemmas.{files_insert, index_of_equal_file, index_found, pair_eq, file_found, with_file-AreTables, with_file-kept, with_file-new}
 use Rattle.gimli_build.proofs.built.files.FileTable.keep_file.Goals as goal
 
 pub returns-in-Some-clause-ok : goal.returns-in-Some-clause-ok

@@ -1,7 +1,8 @@
 use Rattle.std.proofs.Common.{◌<◌, List, ◌∙◌, ap, length, sym, subst}
 use Rattle.gimli_build.specs.Tables.{File, Tables}
-use Rattle.gimli_build.specs.TablesInside.{details, key, directories_of, files_of}
-use Rattle.gimli_build.proofs.TableLemmas.{files_insert, index_of_equal_file, with_file-AreTables}
+use Rattle.gimli_build.specs.TableFields.{details}
+use Rattle.gimli_build.specs.inside.TableFields.{key, directories_of, files_of}
+use Rattle.gimli_build.proofs.building.TableLemmas.{files_insert, index_of_equal_file, with_file-AreTables}
 use Rattle.gimli_build.proofs.built.files.FileTable.set_file.Goals as goal
 
 pub invariant_of-self-2 : goal.invariant_of-self-2

@@ -1,4 +1,4 @@
-use Rattle.gimli_build.proofs.TableLemmas.{directories_cloned, files_cloned}
+use Rattle.gimli_build.proofs.building.TableLemmas.{directories_cloned, files_cloned}
 use Rattle.gimli_build.proofs.built.files.FileTableClone.clone.Goals as goal
 
 pub invariant_of-result : goal.invariant_of-result

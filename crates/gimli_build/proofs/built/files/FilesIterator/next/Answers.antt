@@ -1,5 +1,5 @@
 use Rattle.std.proofs.Common.{rules, sym, ap, length}
-use Rattle.gimli_build.proofs.TableLemmas.{numbered_more}
+use Rattle.gimli_build.proofs.building.TableLemmas.{numbered_more}
 use Rattle.gimli_build.proofs.built.files.FilesIterator.next.Goals as goal
 
 pub returns-clause-steps : goal.returns-clause-steps

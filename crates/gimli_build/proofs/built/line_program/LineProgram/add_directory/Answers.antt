@@ -3,8 +3,8 @@ use Rattle.gimli_build.specs.LineText.{line_text, IsNotEmpty}
 use Rattle.gimli_build.specs.Tables.{Tables, keys_of, Keeps, with_directory}
 use Rattle.gimli_build.specs.Built.{Built}
 use Rattle.gimli_build.specs.Conditions.{IsProgram}
-use Rattle.gimli_build.proofs.TableLemmas.{directory_found, directory_keeps, some_within}
-use Rattle.gimli_build.proofs.BuiltLemmas.{directory_added}
+use Rattle.gimli_build.proofs.building.TableLemmas.{directory_found, directory_keeps, some_within}
+use Rattle.gimli_build.proofs.building.BuiltLemmas.{directory_added}
 use Rattle.gimli_build.proofs.built.line_program.LineProgram.add_directory.Goals as goal
 
 pub invariant_of-self-2 : goal.invariant_of-self-2

@@ -1,4 +1,4 @@
-use Rattle.gimli_build.proofs.BuiltLemmas.{previous_stands}
+use Rattle.gimli_build.proofs.building.BuiltLemmas.{previous_stands}
 use Rattle.gimli_build.proofs.built.line_program.LineProgram.can_generate_row.Goals as goal
 
 pub can_follow-requires-clause-stands : goal.can_follow-requires-clause-stands

@@ -1,5 +1,5 @@
-use Rattle.gimli_build.specs.TablesInside.{details}
-use Rattle.gimli_build.proofs.BuiltLemmas.{details_written}
+use Rattle.gimli_build.specs.TableFields.{details}
+use Rattle.gimli_build.proofs.building.BuiltLemmas.{details_written}
 use Rattle.gimli_build.proofs.built.line_program.LineProgram.get_file_info_mut.Goals as goal
 
 pub invariant_of-self-lent : goal.invariant_of-self-lent

@@ -1,5 +1,5 @@
 use Rattle.gimli_build.specs.declared.built.items.BuiltItem.TheVariants.{SetAddress}
-use Rattle.gimli_build.proofs.BuiltLemmas.{item_pushed}
+use Rattle.gimli_build.proofs.building.BuiltLemmas.{item_pushed}
 use Rattle.gimli_build.proofs.built.line_program.LineProgram.set_address.Goals as goal
 
 pub invariant_of-self-2 : goal.invariant_of-self-2

@@ -2,13 +2,13 @@ use Rattle.std.proofs.Common.{rules, ◌≡◌, ◌<◌, ◌^◌, false, length,
 use Rattle.std.proofs.lemmas.Result.{err_from_is_err_and}
 use Rattle.gimli_bytes.specs.Written.{Appends}
 use Rattle.gimli_bytes.specs.Texts.{AreTexts, byte_count}
-use Rattle.gimli_build.specs.Joined.{RefusesFor}
+use Rattle.gimli_build.specs.inside.Joined.{RefusesFor}
 use Rattle.gimli_build.specs.Version5Tables.{strings_after, line_strings_after}
 use Rattle.gimli_build.specs.Unit.{whole_bytes, unit_bytes, is_incompatible}
-use Rattle.gimli_build.proofs.Joined.{appended_bytes}
-use Rattle.gimli_build.proofs.EmptySource.{can-write-after}
-use Rattle.gimli_build.proofs.ReadBack.{reads-back}
-use Rattle.gimli_build.proofs.Causes.{no-cause, refused-for}
+use Rattle.gimli_build.proofs.writing.Joined.{appended_bytes}
+use Rattle.gimli_build.proofs.building.EmptySource.{can-write-after}
+use Rattle.gimli_build.proofs.reading.ReadBack.{reads-back}
+use Rattle.gimli_build.proofs.refusals.Causes.{no-cause, refused-for}
 use Rattle.gimli_build.proofs.built.line_program.LineProgram.write.Goals as goal
 
 pub write_whole-requires-clause-can : goal.write_whole-requires-clause-can

@@ -2,7 +2,8 @@ use Rattle.std.proofs.Common.{[], ◌∷◌, ◌++◌, true, map, List, refl, sy
 use Rattle.std.proofs.lemmas.List.{map-append, append-nil}
 use Rattle.std.proofs.lemmas.Result.{err_from_is_err_and}
 use Rattle.gimli_line.specs.run.Events.{Event, row}
-use Rattle.gimli_line.specs.header.Orders.{no_orders, header_orders}
+use Rattle.gimli_line.specs.header.Orders.{header_orders}
+use Rattle.gimli_line.specs.inside.header.Orders.{no_orders}
 use Rattle.gimli_line.specs.header.Header.{without_files}
 use Rattle.gimli_line.specs.run.Unread.{Unread}
 use Rattle.gimli_line.specs.run.Progress.{Progress, with_reset_row}

@@ -1,7 +1,8 @@
 use Rattle.std.proofs.Common.{◌≡◌, true, List, length, map}
 use Rattle.gimli_line.specs.declared.run.row.LineRow.{LineRow}
 use Rattle.gimli_line.specs.header.Header.{HasOneOrder}
-use Rattle.gimli_line.specs.header.Orders.{no_orders, header_orders}
+use Rattle.gimli_line.specs.header.Orders.{header_orders}
+use Rattle.gimli_line.specs.inside.header.Orders.{no_orders}
 use Rattle.gimli_line.specs.run.Events.{row}
 use Rattle.gimli_line.specs.run.Progress.{Progress, with_reset_row}
 use Rattle.gimli_line.specs.run.Rows.{start_of_run, IsOfOneOrder}

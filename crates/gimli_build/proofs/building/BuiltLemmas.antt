@@ -1,0 +1,130 @@
+-- What builder calls keep true of a program.
+use Rattle.std.proofs.Common.{◌≡◌, ℕ, zero, suc, ◌-◌, ◌<◌, ◌≤◌, Bool, true, false, List, [], ◌∷◌, ◌++◌, length, drop, refl, sym, subst, if◌then◌else◌, slice_get, Option, arith, length-append}
+use Rattle.std.specs.Prelude.{All}
+use Rattle.std.specs.List.{list_any}
+use Rattle.std.specs.Option.{option_map_or}
+use Rattle.std.proofs.lemmas.List.Elements.{All-push}
+use Rattle.gimli_core.specs.declared.common.Encoding.{Encoding}
+use Rattle.gimli_core.specs.declared.common.LineEncoding.{LineEncoding}
+use Rattle.gimli_build.specs.LineText.{LineText, line_text_eq, IsNotEmpty}
+use Rattle.gimli_build.specs.Tables.{Details, File, FileKey, has_file, with_directory, with_file, with_details, keys_of}
+use Rattle.gimli_build.specs.Advance.{CanEncode, IsPosition}
+use Rattle.gimli_build.specs.Built.{position_after, previous_position}
+use Rattle.gimli_build.specs.Conditions.{CanBuild, AreBuilt, IsProgram}
+use Rattle.gimli_build.specs.declared.built.items.BuiltItem.{BuiltItem}
+use Rattle.gimli_build.specs.declared.built.items.BuiltItem.TheVariants.{SetAddress, Row, End}
+use Rattle.gimli_build.proofs.reading.ItemRuns.{start_position}
+use Rattle.gimli_build.proofs.building.TableLemmas.{keys-with_file, keys-with_details}
+
+-- ---- items
+
+-- where items leave off, from a place on
+reached : ℕ × ℕ → List BuiltItem → ℕ × ℕ
+reached position [] = position
+reached position (item ∷ items) = reached (position_after item) items
+
+last_at : (position : ℕ × ℕ) (item : BuiltItem) (items : List BuiltItem) (n : ℕ) → n ≡ length items → reached position (item ∷ items) ≡ option_map_or position_after (slice_get (item ∷ items) n) (0, 0)
+unfolding reached
+last_at position item [] zero h = refl
+last_at position item [] (suc n) h = absurd (omega arith)
+last_at position item (next ∷ items) zero h = absurd (omega arith)
+last_at position item (next ∷ items) (suc n) h = last_at (position_after item) next items n (omega arith)
+
+reached_last : (items : List BuiltItem) → reached (0, 0) items ≡ previous_position items
+unfolding reached
+reached_last [] = refl
+reached_last (item ∷ items) = last_at (0, 0) item items (length (item ∷ items) - 1) (omega arith)
+
+push_reached : (e : LineEncoding) (position : ℕ × ℕ) (items : List BuiltItem) (item : BuiltItem) → AreBuilt e position items → CanBuild e (reached position items) item → AreBuilt e position (items ++ item ∷ [])
+unfolding reached
+push_reached e position [] item so can = (can, tt)
+push_reached e position (first ∷ items) item so can = (so.0, push_reached e (position_after first) items item so.1 can)
+
+stands_at : (e : LineEncoding) (position : ℕ × ℕ) (items : List BuiltItem) → CanEncode e → IsPosition e position.0 position.1 → AreBuilt e position items
+    → IsPosition e (reached position items).0 (reached position items).1
+unfolding reached
+stands_at e position [] can so built = so
+stands_at e position (SetAddress a ∷ items) can so built = stands_at e (0, 0) items can (start_position e can) built.1
+stands_at e position (Row r ∷ items) can so built = stands_at e (r.address_offset, r.op_index) items can built.0.0.position built.1
+stands_at e position (End o i ∷ items) can so built = stands_at e (0, 0) items can (start_position e can) built.1
+
+-- the previous row stands at a position
+pub previous_stands : (e : LineEncoding) (items : List BuiltItem) → CanEncode e → AreBuilt e (0, 0) items → IsPosition e (previous_position items).0 (previous_position items).1
+previous_stands e items can built =
+    subst (λ (position : ℕ × ℕ). IsPosition e position.0 position.1) (reached_last items) (stands_at e (0, 0) items can (start_position e can) built)
+
+-- an item is built after others
+pub item_pushed : {is_none : Bool} {encoding : Encoding} {e : LineEncoding} {directories : List LineText} {keys : List FileKey} (items : List BuiltItem) (item : BuiltItem)
+    → IsProgram is_none encoding e directories keys items → CanBuild e (previous_position items) item → IsProgram is_none encoding e directories keys (items ++ item ∷ [])
+item_pushed {e = e} items item so can = record {
+  lines = so.lines;
+  address_size = so.address_size;
+  working_dir = so.working_dir;
+  source_file = so.source_file;
+  directories_not_empty = so.directories_not_empty;
+  paths_not_empty = so.paths_not_empty;
+  items_built = push_reached e (0, 0) items item so.items_built (subst (λ (position : ℕ × ℕ). CanBuild e position item) (sym (reached_last items)) can);
+}
+
+-- ---- tables
+
+not_empty_pushed : (ds : List LineText) (t : LineText) → 0 < length ds → All IsNotEmpty (drop 1 ds) → IsNotEmpty t → All IsNotEmpty (drop 1 (with_directory ds t))
+not_empty_pushed [] t some all h = absurd (omega arith)
+not_empty_pushed (d ∷ ds) t some all h = by (list_any (line_text_eq t) (d ∷ ds))
+  where
+    by : (b : Bool) → All IsNotEmpty (drop 1 (if b then d ∷ ds else d ∷ ds ++ t ∷ []))
+    by true = all
+    by false = All-push IsNotEmpty ds t all h
+
+longer : (ds : List LineText) (t : LineText) → 0 < length ds → 0 < length (with_directory ds t)
+longer [] t some = absurd (omega arith)
+longer (d ∷ ds) t some = by (list_any (line_text_eq t) (d ∷ ds))
+  where
+    by : (b : Bool) → 0 < length (if b then d ∷ ds else d ∷ ds ++ t ∷ [])
+    by true = omega arith
+    by false = omega arith
+
+-- a directory is added
+pub directory_added : {is_none : Bool} {encoding : Encoding} {e : LineEncoding} {keys : List FileKey} {items : List BuiltItem} (ds : List LineText) (t : LineText)
+    → IsProgram is_none encoding e ds keys items → is_none ≡ false → (encoding.version ≤ 4 → IsNotEmpty t) → IsProgram is_none encoding e (with_directory ds t) keys items
+directory_added ds t so is not_empty = record {
+  lines = so.lines;
+  address_size = so.address_size;
+  working_dir = λ h. longer ds t (so.working_dir is);
+  source_file = so.source_file;
+  directories_not_empty = λ old. not_empty_pushed ds t (so.working_dir is) (so.directories_not_empty old) (not_empty old);
+  paths_not_empty = so.paths_not_empty;
+  items_built = so.items_built;
+}
+
+paths_pushed : (files : List File) (k : FileKey) (given : Option Details) → All (λ l. IsNotEmpty l.0) (keys_of files) → IsNotEmpty k.0 → All (λ l. IsNotEmpty l.0) (keys_of (with_file files k given))
+paths_pushed files k given all h = rw (keys-with_file files k given) (by (has_file files k))
+  where
+    by : (b : Bool) → All (λ l. IsNotEmpty l.0) (if b then keys_of files else keys_of files ++ k ∷ [])
+    by true = all
+    by false = All-push (λ l. IsNotEmpty l.0) (keys_of files) k all h
+
+files_longer : (files : List File) (k : FileKey) (given : Option Details) → 0 < length (keys_of files) → 0 < length (keys_of (with_file files k given))
+files_longer files k given some = rw (keys-with_file files k given) (by (has_file files k))
+  where
+    by : (b : Bool) → 0 < length (if b then keys_of files else keys_of files ++ k ∷ [])
+    by true = some
+    by false = omega (arith, some, length-append (keys_of files) (k ∷ []))
+
+-- a file is added
+pub file_added : {is_none : Bool} {encoding : Encoding} {e : LineEncoding} {ds : List LineText} {items : List BuiltItem} (files : List File) (k : FileKey) (given : Option Details)
+    → IsProgram is_none encoding e ds (keys_of files) items → (encoding.version ≤ 4 → IsNotEmpty k.0) → IsProgram is_none encoding e ds (keys_of (with_file files k given)) items
+file_added files k given so not_empty = record {
+  lines = so.lines;
+  address_size = so.address_size;
+  working_dir = so.working_dir;
+  source_file = λ is new. files_longer files k given (so.source_file is new);
+  directories_not_empty = so.directories_not_empty;
+  paths_not_empty = λ old. paths_pushed files k given (so.paths_not_empty old) (not_empty old);
+  items_built = so.items_built;
+}
+
+-- details are written
+pub details_written : {is_none : Bool} {encoding : Encoding} {e : LineEncoding} {ds : List LineText} {items : List BuiltItem} (files : List File) (i : ℕ) (d : Details)
+    → IsProgram is_none encoding e ds (keys_of files) items → IsProgram is_none encoding e ds (keys_of (with_details files i d)) items
+details_written files i d so = rw (keys-with_details files i d) so

@@ -1,0 +1,51 @@
+-- The empty text that stands for the source of a file that has none, and the tables that have it.
+use Rattle.std.proofs.Common.{◌≡◌, ℕ, zero, suc, ◌≤◌, Bool, true, false, ◌&&◌, ◌||◌, slice_get, List, [], ◌∷◌, Option, Some, None, refl, ap, ◌∙◌}
+use Rattle.std.specs.Prelude.{IfSome}
+use Rattle.std.specs.Option.{is_none}
+use Rattle.std.specs.List.{list_any}
+use Rattle.std.proofs.lemmas.Bool.{le-leb}
+use Rattle.std.proofs.lemmas.List.Elements.{All-weaker}
+use Rattle.gimli_build.specs.LineText.{IsWithin}
+use Rattle.gimli_build.specs.Tables.{File}
+use Rattle.gimli_build.specs.Built.{Built}
+use Rattle.gimli_build.specs.Conditions.{CanWrite}
+use Rattle.gimli_build.specs.Version5Tables.{needs_empty, strings_after, line_strings_after}
+use Rattle.gimli_build.proofs.reading.ReadyTexts.{within_after}
+
+-- ---- what is there stays
+
+if-some : {A : Type 0} (P Q : A → Type 0) → ((x : A) → P x → Q x) → (o : Option A) → IfSome o P → IfSome o Q
+if-some P Q f (Some x) p = f x p
+if-some P Q f None p = tt
+
+-- a program that could be written can be written then
+pub can-write-after : (p : Built) (strings line_strings : List (List ℕ)) → CanWrite p strings line_strings → CanWrite p (strings_after p strings) (line_strings_after p line_strings)
+can-write-after p strings line_strings can =
+    let after = strings_after p strings in
+    let line_after = line_strings_after p line_strings in
+    let within = within_after p strings line_strings in
+    record {
+      program = can.program;
+      directories = All-weaker (IsWithin strings line_strings) (IsWithin after line_after) within p.directories can.directories;
+      paths = All-weaker (λ (f : File). IsWithin strings line_strings f.0.0) (λ (f : File). IsWithin after line_after f.0.0) (λ f w. within f.0.0 w) p.files can.paths;
+      sources = All-weaker (λ (f : File). IfSome f.1.source (IsWithin strings line_strings)) (λ (f : File). IfSome f.1.source (IsWithin after line_after)) (λ f w. if-some (IsWithin strings line_strings) (IsWithin after line_after) within f.1.source w) p.files can.sources;
+      sources_end = can.sources_end;
+    }
+
+-- ---- where it is needed
+
+any-at : {A : Type 0} (test : A → Bool) (xs : List A) (i : ℕ) (x : A) → slice_get xs i ≡ Some x → test x ≡ true → list_any test xs ≡ true
+any-at test [] i x at is = absurd cc
+any-at test (y ∷ xs) zero x at is = let same : y ≡ x = cc in ap (λ b. b || list_any test xs) (ap test same ∙ is)
+any-at test (y ∷ xs) (suc i) x at is = ap (λ b. test y || b) (any-at test xs i x at is) ∙ by (test y)
+  where
+    by : (b : Bool) → (b || true) ≡ true
+    by true = refl
+    by false = refl
+
+-- a file has no source
+pub needs-empty : (p : Built) (i : ℕ) (f : File) → 5 ≤ p.encoding.version → slice_get p.files i ≡ Some f → p.file_has_source ≡ true → f.1.source ≡ None → needs_empty p ≡ true
+needs-empty p i f new at has without =
+    let one = le-leb 5 p.encoding.version new in
+    let any = any-at (λ (g : File). is_none g.1.source) p.files i f at (ap is_none without) in
+    λ j. one j && has j && any j

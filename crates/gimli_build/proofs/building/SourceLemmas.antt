@@ -1,0 +1,53 @@
+-- The first source of files, and whether one has none, looked for from the first file on.
+use Rattle.std.proofs.Common.{◌≡◌, ℕ, ◌+◌, Bool, true, false, ◌||◌, List, [], ◌∷◌, drop, slice_get, refl, sym, ap, ◌∙◌, Option, Some, None, option_map}
+use Rattle.std.specs.Option.{is_none}
+use Rattle.std.specs.List.{list_any}
+use Rattle.gimli_build.specs.LineText.{LineText}
+use Rattle.gimli_build.specs.Tables.{File}
+use Rattle.gimli_build.specs.Version5Tables.{text_form, first_form, path_texts, sources}
+use Rattle.gimli_build.proofs.writing.Joined.{next_at}
+
+module _ {A : Type 0} (test : A → Bool) (xs : List A) (i : ℕ) where
+  any_next : (x : A) → slice_get xs i ≡ Some x → list_any test (drop i xs) ≡ list_any test xs → list_any test xs ≡ (test x || list_any test (drop (i + 1) xs))
+  any_next x at so = sym so ∙ ap (list_any test) (next_at xs i x at)
+
+  -- an element has it
+  pub any_found : (x : A) → slice_get xs i ≡ Some x → list_any test (drop i xs) ≡ list_any test xs → test x ≡ true → list_any test xs ≡ true
+  any_found x at so is = any_next x at so ∙ ap (λ (b : Bool). b || list_any test (drop (i + 1) xs)) is
+
+  -- an element hasn't
+  pub any_passed : (x : A) → slice_get xs i ≡ Some x → list_any test (drop i xs) ≡ list_any test xs → test x ≡ false → list_any test (drop (i + 1) xs) ≡ list_any test xs
+  any_passed x at so is = sym (any_next x at so ∙ ap (λ (b : Bool). b || list_any test (drop (i + 1) xs)) is)
+
+module _ (files : List File) (i : ℕ) where
+  found : Option LineText → List LineText → List LineText
+  found (Some t) rest = t ∷ rest
+  found None rest = rest
+
+  sources_next : (f : File) → slice_get files i ≡ Some f → sources (drop i files) ≡ sources files → sources files ≡ found f.1.source (sources (drop (i + 1) files))
+  unfolding found
+  sources_next f at so = sym so ∙ ap sources (next_at files i f at) ∙ by f.1.source
+    where
+      by : (o : Option LineText) → (elim o [ Some t ↦ t ∷ sources (drop (i + 1) files) | None ↦ sources (drop (i + 1) files) ]) ≡ found o (sources (drop (i + 1) files))
+      by (Some t) = refl
+      by None = refl
+
+  -- the first source
+  pub source_found : (f : File) (t : LineText) → slice_get files i ≡ Some f → sources (drop i files) ≡ sources files → f.1.source ≡ Some t → text_form t ≡ first_form (sources files)
+  unfolding found
+  source_found f t at so is = sym (ap first_form (sources_next f at so ∙ ap (λ (o : Option LineText). found o (sources (drop (i + 1) files))) is))
+
+  -- a file without one
+  pub source_passed : (f : File) → slice_get files i ≡ Some f → sources (drop i files) ≡ sources files → f.1.source ≡ None → sources (drop (i + 1) files) ≡ sources files
+  unfolding found
+  source_passed f at so is = sym (sources_next f at so ∙ ap (λ (o : Option LineText). found o (sources (drop (i + 1) files))) is)
+
+-- the first path
+pub first_path : (files : List File) (f : File) → slice_get files 0 ≡ Some f → text_form f.0.0 ≡ first_form (path_texts files)
+first_path [] f at = cc
+first_path (g ∷ files) f at = let same : g ≡ f = cc in ap (λ (h : File). text_form h.0.0) (sym same)
+
+-- whether a text is none, seen by a function
+pub none_seen : {A B : Type 0} (f : A → B) (o : Option A) → is_none (option_map f o) ≡ is_none o
+none_seen f (Some x) = refl
+none_seen f None = refl

@@ -1,0 +1,320 @@
+-- The tables of directories and files, seen as lists.
+use Rattle.std.proofs.Common.{◌≡◌, ◌≢◌, ℕ, zero, suc, ◌+◌, ◌<◌, Bool, true, false, cond, not, ◌||◌, ◌&&◌, List, [], ◌∷◌, ◌++◌, map, length, refl, sym, ap, subst, ◌∙◌, if◌then◌else◌, slice_get, get_or, drop, Option, Some, None, position, nat_lt, option_map, true≢false, arith, length-append}
+use native.Mathlib.Nat.{suc-add as suc_add}
+use Rattle.std.specs.Prelude.{nat_eq, is_some, unwrap_or}
+use Rattle.std.specs.List.{list_any, position_or_len, AllZip}
+use Rattle.std.proofs.lemmas.Cmp.{nat_eq_equiv}
+use Rattle.std.proofs.lemmas.Bool.Decides.{nat_tests}
+use Rattle.std.proofs.lemmas.List.{map-append}
+use Rattle.std.proofs.lemmas.List.Elements.{All-push}
+use Rattle.std.proofs.lemmas.List.Folds.{list_any_at}
+use Rattle.std.proofs.lemmas.List.Quantifiers.{all_pairs_push}
+use Rattle.std.proofs.lemmas.Map.Made.{is_some-lookup}
+use Rattle.std.specs.Map.{lookup}
+use Rattle.std.proofs.lemmas.Slice.Eq.{bytes_eq-Decides}
+use Rattle.indexmap.specs.IndexSet.{insert_key}
+use Rattle.indexmap.specs.IndexMap.{insert_entry, set_value_at}
+use Rattle.gimli_build.specs.declared.built.line_string.LineString.{LineString}
+use Rattle.gimli_build.specs.declared.built.line_string.LineString.TheVariants.{String, StringRef, LineStringRef}
+use Rattle.gimli_build.specs.declared.built.files.FileInfo.{FileInfo}
+use Rattle.gimli_build.specs.contracts.built.line_string.LineStringPartialEq.TheImpl.{ghosts}
+use Rattle.gimli_build.specs.LineText.{LineText, Inline, InStrings, InLineStrings, line_text, line_text_eq, HasNoZero}
+use Rattle.gimli_build.specs.Tables.{with_directory, index_of_directory, FileKey, Details, no_details, File, key_eq, has_file, index_of_file, with_details, with_file, keys_of, Keeps, AreTables, with_indexes}
+use Rattle.gimli_build.specs.TableFields.{details}
+use Rattle.gimli_build.specs.inside.TableFields.{key, directories_of, files_of}
+
+-- ---- texts
+
+-- `==` compares texts
+pub line_eq : (x y : LineString) → ghosts.eq x y ≡ line_text_eq (line_text x) (line_text y)
+line_eq (String a) (String b) = refl
+line_eq (String a) (StringRef b) = refl
+line_eq (String a) (LineStringRef b) = refl
+line_eq (StringRef a) (String b) = refl
+line_eq (StringRef a) (StringRef b) = refl
+line_eq (StringRef a) (LineStringRef b) = refl
+line_eq (LineStringRef a) (String b) = refl
+line_eq (LineStringRef a) (StringRef b) = refl
+line_eq (LineStringRef a) (LineStringRef b) = refl
+
+line_text_eq-self : (t : LineText) → line_text_eq t t ≡ true
+line_text_eq-self (Inline bytes) = (bytes_eq-Decides bytes bytes).1 refl
+line_text_eq-self (InStrings i) = nat_eq_equiv.refl i
+line_text_eq-self (InLineStrings i) = nat_eq_equiv.refl i
+
+line_text_eq-same : (s t : LineText) → s ≡ t → line_text_eq t s ≡ true
+line_text_eq-same s t e = subst (λ (x : LineText). line_text_eq t x ≡ true) (sym e) (line_text_eq-self t)
+
+nat_eq-tells : (i j : ℕ) → nat_eq i j ≡ true → i ≡ j
+nat_eq-tells i j h = grind (arith, nat_tests)
+
+and_true : (a b : Bool) → (a && b) ≡ true → (a ≡ true) × (b ≡ true)
+and_true true b h = (refl, h)
+and_true false b h = absurd (true≢false (sym h))
+
+-- ---- a search in a list
+
+pub any-map : {A B : Type 0} (p : B → Bool) (h : A → B) (ks : List A) → list_any p (map h ks) ≡ list_any (λ k. p (h k)) ks
+any-map p h [] = refl
+any-map p h (k ∷ ks) = ap (λ b. p (h k) || b) (any-map p h ks)
+
+-- what a place that a search gave is
+pub index_found : {A : Type 0} (p : A → Bool) (ks : List A) (i : ℕ) → Some i ≡ position p ks → i ≡ position_or_len p ks
+index_found p ks i e = by (nat_lt (position_or_len p ks) (length ks)) e
+  where
+    by : (b : Bool) → Some i ≡ cond b (Some (position_or_len p ks)) None → i ≡ position_or_len p ks
+    by true h = cc
+    by false h = cc
+
+-- ---- directories
+
+any-directories : (k : LineString) (ks : List LineString) → list_any (ghosts.eq k) ks ≡ list_any (line_text_eq (line_text k)) (directories_of ks)
+any-directories k [] = refl
+any-directories k (x ∷ xs) = λ i. line_eq k x i || any-directories k xs i
+
+pub directories_insert : (ks : List LineString) (k : LineString) → directories_of (insert_key ghosts.eq ks k) ≡ with_directory (directories_of ks) (line_text k)
+directories_insert ks k =
+    by (list_any (ghosts.eq k) ks) ∙ ap (λ b. if b then directories_of ks else directories_of ks ++ line_text k ∷ []) (any-directories k ks)
+  where
+    by : (b : Bool) → directories_of (if b then ks else ks ++ k ∷ []) ≡ (if b then directories_of ks else directories_of ks ++ line_text k ∷ [])
+    by true = refl
+    by false = map-append line_text ks (k ∷ [])
+
+pub index_of_equal_directory : (ks : List LineString) (k : LineString) → position_or_len (ghosts.eq k) ks ≡ index_of_directory (directories_of ks) (line_text k)
+index_of_equal_directory [] k = refl
+index_of_equal_directory (x ∷ xs) k = λ i. cond (not (line_eq k x i)) (1 + index_of_equal_directory xs k i) 0
+
+pub with_directory-AreTables : (ds : List LineText) (ks : List FileKey) (t : LineText) → AreTables ds ks → HasNoZero t → AreTables (with_directory ds t) ks
+with_directory-AreTables ds ks t so clean = by (list_any (line_text_eq t) ds) refl
+  where
+    by : (b : Bool) → list_any (line_text_eq t) ds ≡ b → AreTables (if b then ds else ds ++ t ∷ []) ks
+    by true h = so
+    by false h = record {
+      distinct_directories = all_pairs_push (λ s u. s ≢ u) ds t so.distinct_directories (λ k d short same. true≢false (sym (list_any_at (line_text_eq t) ds k d short (line_text_eq-same (get_or ds k d) t same)) ∙ h));
+      directories_end = All-push HasNoZero ds t so.directories_end clean;
+      distinct_files = so.distinct_files;
+      paths_end = so.paths_end;
+      in_directories = λ k d short. let below = so.in_directories k d short in omega (arith, below, length-append ds (t ∷ []));
+    }
+
+-- ---- files
+
+-- the derived test on a path and a directory
+abbrev pub pair_eq : LineString × ℕ → LineString × ℕ → Bool
+pair_eq x y = ghosts.eq x.0 y.0 && nat_eq x.1 y.1
+
+pub pair_eq-is : (x y : LineString × ℕ) → pair_eq x y ≡ key_eq (key x) (key y)
+pair_eq-is x y = ap (λ b. b && nat_eq x.1 y.1) (line_eq x.0 y.0)
+
+key_eq-same : (k l : FileKey) → k ≡ l → key_eq l k ≡ true
+key_eq-same k l e = subst (λ (x : FileKey). key_eq l x ≡ true) (sym e) (λ i. line_text_eq-self l.0 i && nat_eq_equiv.refl l.1 i)
+
+-- the files after an insertion
+pub files_insert : (es : List ((LineString × ℕ) × FileInfo)) (k : LineString × ℕ) (v : FileInfo) → files_of (insert_entry pair_eq es k v) ≡ with_file (files_of es) (key k) (Some (details v))
+files_insert [] k v = refl
+files_insert (e ∷ es) k v =
+    by (pair_eq k e.0)
+    ∙ (λ i. if pair_eq-is k e.0 i then (key e.0, details v) ∷ files_of es else (key e.0, details e.1) ∷ files_insert es k v i)
+    ∙ joined (key_eq (key k) (key e.0)) (has_file (files_of es) (key k))
+  where
+    by : (b : Bool) → files_of (if b then (e.0, v) ∷ es else e ∷ insert_entry pair_eq es k v) ≡ (if b then (key e.0, details v) ∷ files_of es else (key e.0, details e.1) ∷ files_of (insert_entry pair_eq es k v))
+    by true = refl
+    by false = refl
+
+    one : (n : ℕ) → with_details ((key e.0, details e.1) ∷ files_of es) (1 + n) (details v) ≡ (key e.0, details e.1) ∷ with_details (files_of es) n (details v)
+    one n = let h : 1 + n ≡ suc n = omega arith in ap (λ (m : ℕ). with_details ((key e.0, details e.1) ∷ files_of es) m (details v)) h
+
+    joined : (b there : Bool) → (if b then (key e.0, details v) ∷ files_of es else (key e.0, details e.1) ∷ (if there then with_details (files_of es) (index_of_file (files_of es) (key k)) (details v) else files_of es ++ (key k, details v) ∷ []))
+        ≡ (if b || there then with_details ((key e.0, details e.1) ∷ files_of es) (cond (not b) (1 + index_of_file (files_of es) (key k)) 0) (details v) else (key e.0, details e.1) ∷ files_of es ++ (key k, details v) ∷ [])
+    joined true true = refl
+    joined true false = refl
+    joined false true = sym (one (index_of_file (files_of es) (key k)))
+    joined false false = refl
+
+pub any-files : (k : LineString × ℕ) (es : List ((LineString × ℕ) × FileInfo)) → list_any (pair_eq k) (map (λ e. e.0) es) ≡ has_file (files_of es) (key k)
+any-files k [] = refl
+any-files k (e ∷ es) = λ i. pair_eq-is k e.0 i || any-files k es i
+
+pub index_of_equal_file : (es : List ((LineString × ℕ) × FileInfo)) (k : LineString × ℕ) → position_or_len (pair_eq k) (map (λ e. e.0) es) ≡ index_of_file (files_of es) (key k)
+index_of_equal_file [] k = refl
+index_of_equal_file (e ∷ es) k = λ i. cond (not (pair_eq-is k e.0 i)) (1 + index_of_equal_file es k i) 0
+
+-- a search found a file, or none
+pub file_found : (es : List ((LineString × ℕ) × FileInfo)) (k : LineString × ℕ) (b : Bool) → b ≡ is_some (lookup (pair_eq k) es) → has_file (files_of es) (key k) ≡ b
+file_found es k b e = sym (any-files k es) ∙ sym (is_some-lookup (pair_eq k) es) ∙ sym e
+
+-- a file that is there stays as it is, where nothing is handed of it
+pub with_file-kept : (files : List File) (k : FileKey) → has_file files k ≡ true → with_file files k None ≡ files
+with_file-kept files k h = ap (λ b. if b then files else files ++ (k, no_details) ∷ []) h
+
+-- a new file has no details, where none are handed
+pub with_file-new : (files : List File) (k : FileKey) → has_file files k ≡ false → with_file files k (Some no_details) ≡ with_file files k None
+with_file-new files k h =
+    ap (λ b. if b then with_details files (index_of_file files k) no_details else files ++ (k, no_details) ∷ []) h
+    ∙ ap (λ b. if b then files else files ++ (k, no_details) ∷ []) (sym h)
+
+pub keys-with_details : (files : List File) (i : ℕ) (d : Details) → keys_of (with_details files i d) ≡ keys_of files
+keys-with_details [] i d = refl
+keys-with_details (f ∷ files) zero d = refl
+keys-with_details (f ∷ files) (suc i) d = ap (λ ks. f.0 ∷ ks) (keys-with_details files i d)
+
+pub with_file-AreTables : (ds : List LineText) (files : List File) (k : FileKey) (d : Details) → AreTables ds (keys_of files) → HasNoZero k.0 → k.1 < length ds
+    → AreTables ds (keys_of (with_file files k (Some d)))
+with_file-AreTables ds files k d so clean within = by (has_file files k) refl
+  where
+    absent : has_file files k ≡ false → list_any (key_eq k) (keys_of files) ≡ false
+    absent h = any-map (key_eq k) (λ f. f.0) files ∙ h
+
+    by : (b : Bool) → has_file files k ≡ b → AreTables ds (keys_of (if b then with_details files (index_of_file files k) d else files ++ (k, d) ∷ []))
+    by true h = rw (keys-with_details files (index_of_file files k) d) so
+    by false h = rw (map-append (λ (f : File). f.0) files ((k, d) ∷ [])) (record {
+      distinct_directories = so.distinct_directories;
+      directories_end = so.directories_end;
+      distinct_files = all_pairs_push (λ l m. l ≢ m) (keys_of files) k so.distinct_files (λ i l short same. true≢false (sym (list_any_at (key_eq k) (keys_of files) i l short (key_eq-same (get_or (keys_of files) i l) k same)) ∙ absent h));
+      paths_end = All-push (λ l. HasNoZero l.0) (keys_of files) k so.paths_end clean;
+      in_directories = All-push (λ l. l.1 < length ds) (keys_of files) k so.in_directories within;
+    })
+
+-- ---- details that are written
+
+pub files_with : (es : List ((LineString × ℕ) × FileInfo)) (n : ℕ) (v : FileInfo) → files_of (set_value_at es n v) ≡ with_details (files_of es) n (details v)
+files_with [] n v = refl
+files_with (e ∷ es) zero v = refl
+files_with (e ∷ es) (suc n) v = ap (λ t. (key e.0, details e.1) ∷ t) (files_with es n v)
+
+pub details_at : (es : List ((LineString × ℕ) × FileInfo)) (n : ℕ) (v : FileInfo) → Some v ≡ slice_get (map (λ e. e.1) es) n → option_map (λ f. f.1) (slice_get (files_of es) n) ≡ Some (details v)
+details_at [] n v h = cc
+details_at (e ∷ es) zero v h = let same : v ≡ e.1 = cc in ap (λ (i : FileInfo). Some (details i)) (sym same)
+details_at (e ∷ es) (suc n) v h = details_at es n v h
+
+pub written-AreTables : (ds : List LineText) (es : List ((LineString × ℕ) × FileInfo)) (n : ℕ) (v : FileInfo) → AreTables ds (keys_of (files_of es)) → AreTables ds (keys_of (files_of (set_value_at es n v)))
+written-AreTables ds es n v so = rw (files_with es n v) (rw (keys-with_details (files_of es) n (details v)) so)
+
+-- ---- a walk over the files
+
+pub numbered_more : (es : List ((LineString × ℕ) × FileInfo)) (i j : ℕ) (e : (LineString × ℕ) × FileInfo) → slice_get es i ≡ Some e
+    → with_indexes j (drop i (files_of es)) ≡ (j, line_text e.0.0, e.0.1) ∷ with_indexes (j + 1) (drop (i + 1) (files_of es))
+numbered_more [] i j e h = cc
+numbered_more (x ∷ xs) zero j e h = let s : x ≡ e = cc in ap (λ (k : (LineString × ℕ) × FileInfo). (j, line_text k.0.0, k.0.1) ∷ with_indexes (j + 1) (files_of xs)) s
+numbered_more (x ∷ xs) (suc n) j e h = rw suc_add (numbered_more xs n j e h)
+
+-- ---- clones
+
+-- clones of directories are the same directories
+pub directories_cloned : (ks ls : List LineString) → AllZip (λ k l. line_text l ≡ line_text k) ks ls → directories_of ls ≡ directories_of ks
+directories_cloned [] [] z = refl
+directories_cloned [] (l ∷ ls) z = absurd z
+directories_cloned (k ∷ ks) [] z = absurd z
+directories_cloned (k ∷ ks) (l ∷ ls) z = λ i. z.0 i ∷ directories_cloned ks ls z.1 i
+
+-- and clones of files the same files
+pub files_cloned : (es fs : List ((LineString × ℕ) × FileInfo)) → AllZip (λ e f. ((line_text f.0.0 ≡ line_text e.0.0) × (f.0.1 ≡ e.0.1)) × (details f.1 ≡ details e.1)) es fs → files_of fs ≡ files_of es
+files_cloned [] [] z = refl
+files_cloned [] (f ∷ fs) z = absurd z
+files_cloned (e ∷ es) [] z = absurd z
+files_cloned (e ∷ es) (f ∷ fs) z = λ i. ((z.0.0.0 i, z.0.0.1 i), z.0.1 i) ∷ files_cloned es fs z.1 i
+
+-- ---- the keys of files
+
+pub keys-with_file : (files : List File) (k : FileKey) (given : Option Details) → keys_of (with_file files k given) ≡ (if has_file files k then keys_of files else keys_of files ++ k ∷ [])
+keys-with_file files k given = by (has_file files k) given
+  where
+    by : (b : Bool) (given : Option Details) → keys_of (if b then (elim given [ Some d ↦ with_details files (index_of_file files k) d | None ↦ files ]) else files ++ (k, unwrap_or given no_details) ∷ []) ≡ (if b then keys_of files else keys_of files ++ k ∷ [])
+    by true (Some d) = keys-with_details files (index_of_file files k) d
+    by true None = refl
+    by false given = map-append (λ (f : File). f.0) files ((k, unwrap_or given no_details) ∷ [])
+
+-- ---- what was added is found
+
+line_text_eq-tells : (s t : LineText) → line_text_eq s t ≡ true → s ≡ t
+line_text_eq-tells (Inline a) (Inline b) h = ap Inline ((bytes_eq-Decides a b).0 h)
+line_text_eq-tells (Inline a) (InStrings j) h = cc
+line_text_eq-tells (Inline a) (InLineStrings j) h = cc
+line_text_eq-tells (InStrings i) (Inline b) h = cc
+line_text_eq-tells (InStrings i) (InStrings j) h = ap InStrings (nat_eq-tells i j h)
+line_text_eq-tells (InStrings i) (InLineStrings j) h = cc
+line_text_eq-tells (InLineStrings i) (Inline b) h = cc
+line_text_eq-tells (InLineStrings i) (InStrings j) h = cc
+line_text_eq-tells (InLineStrings i) (InLineStrings j) h = ap InLineStrings (nat_eq-tells i j h)
+
+key_eq-tells : (k l : FileKey) → key_eq k l ≡ true → k ≡ l
+key_eq-tells k l h =
+    let both = and_true (line_text_eq k.0 l.0) (nat_eq k.1 l.1) h in
+    λ i. (line_text_eq-tells k.0 l.0 both.0 i, nat_eq-tells k.1 l.1 both.1 i)
+
+found_there : {A : Type 0} (eq : A → A → Bool) → ((x y : A) → eq x y ≡ true → x ≡ y) → (xs : List A) (x : A) → list_any (eq x) xs ≡ true → slice_get xs (position_or_len (eq x) xs) ≡ Some x
+found_there eq tells [] x h = cc
+found_there eq tells (y ∷ xs) x h = at (eq x y) refl (found_there eq tells xs x) h
+  where
+    at : (b : Bool) → eq x y ≡ b → (list_any (eq x) xs ≡ true → slice_get xs (position_or_len (eq x) xs) ≡ Some x) → (b || list_any (eq x) xs) ≡ true
+        → slice_get (y ∷ xs) (cond (not b) (1 + position_or_len (eq x) xs) 0) ≡ Some x
+    at true e rest h = ap Some (sym (tells x y e))
+    at false e rest h =
+        let one : 1 + position_or_len (eq x) xs ≡ suc (position_or_len (eq x) xs) = omega arith in
+        ap (slice_get (y ∷ xs)) one ∙ rest h
+
+found_new : {A : Type 0} (eq : A → A → Bool) (xs : List A) (x : A) → list_any (eq x) xs ≡ false → slice_get (xs ++ x ∷ []) (position_or_len (eq x) xs) ≡ Some x
+found_new eq [] x h = refl
+found_new eq (y ∷ xs) x h = at (eq x y) (found_new eq xs x) h
+  where
+    at : (b : Bool) → (list_any (eq x) xs ≡ false → slice_get (xs ++ x ∷ []) (position_or_len (eq x) xs) ≡ Some x) → (b || list_any (eq x) xs) ≡ false
+        → slice_get (y ∷ xs ++ x ∷ []) (cond (not b) (1 + position_or_len (eq x) xs) 0) ≡ Some x
+    at true rest h = cc
+    at false rest h =
+        let one : 1 + position_or_len (eq x) xs ≡ suc (position_or_len (eq x) xs) = omega arith in
+        ap (slice_get (y ∷ xs ++ x ∷ [])) one ∙ rest h
+
+found : {A : Type 0} (eq : A → A → Bool) → ((x y : A) → eq x y ≡ true → x ≡ y) → (xs : List A) (x : A) → slice_get (if list_any (eq x) xs then xs else xs ++ x ∷ []) (position_or_len (eq x) xs) ≡ Some x
+found eq tells xs x = by (list_any (eq x) xs) refl
+  where
+    by : (b : Bool) → list_any (eq x) xs ≡ b → slice_get (if b then xs else xs ++ x ∷ []) (position_or_len (eq x) xs) ≡ Some x
+    by true h = found_there eq tells xs x h
+    by false h = found_new eq xs x h
+
+pub directory_found : (ds : List LineText) (t : LineText) → slice_get (with_directory ds t) (index_of_directory ds t) ≡ Some t
+directory_found ds t = found line_text_eq line_text_eq-tells ds t
+
+index_of_key : (files : List File) (k : FileKey) → index_of_file files k ≡ position_or_len (key_eq k) (keys_of files)
+index_of_key [] k = refl
+index_of_key (f ∷ files) k = ap (λ n. cond (not (key_eq k f.0)) (1 + n) 0) (index_of_key files k)
+
+pub file_found_at : (files : List File) (k : FileKey) (given : Option Details) → slice_get (keys_of (with_file files k given)) (index_of_file files k) ≡ Some k
+file_found_at files k given =
+    rw (keys-with_file files k given, index_of_key files k, ← any-map (key_eq k) (λ (f : File). f.0) files) (found key_eq key_eq-tells (keys_of files) k)
+
+pub some_within : {A : Type 0} (xs : List A) (i : ℕ) (x : A) → slice_get xs i ≡ Some x → i < length xs
+some_within [] i x h = absurd cc
+some_within (y ∷ xs) zero x h = omega arith
+some_within (y ∷ xs) (suc i) x h = let short = some_within xs i x h in omega arith
+
+-- ---- what was there stays
+
+slice_get-kept : {A : Type 0} (xs ys : List A) (i : ℕ) → i < length xs → slice_get (xs ++ ys) i ≡ slice_get xs i
+slice_get-kept [] ys i h = absurd (omega arith)
+slice_get-kept (x ∷ xs) ys zero h = refl
+slice_get-kept (x ∷ xs) ys (suc i) h = slice_get-kept xs ys i (omega arith)
+
+kept : {A : Type 0} (b : Bool) (xs : List A) (x : A) → Keeps xs (if b then xs else xs ++ x ∷ [])
+kept true xs x = record { grows = omega arith; stays = λ i h. refl }
+kept false xs x = record { grows = omega (arith, length-append xs (x ∷ [])); stays = slice_get-kept xs (x ∷ []) }
+
+pub directory_keeps : (ds : List LineText) (t : LineText) → Keeps ds (with_directory ds t)
+directory_keeps ds t = kept (list_any (line_text_eq t) ds) ds t
+
+pub file_keeps : (files : List File) (k : FileKey) (given : Option Details) → Keeps (keys_of files) (keys_of (with_file files k given))
+file_keeps files k given = rw (keys-with_file files k given) (kept (has_file files k) (keys_of files) k)
+
+with_details-others : (files : List File) (n : ℕ) (d : Details) (i : ℕ) → i ≢ n → slice_get (with_details files n d) i ≡ slice_get files i
+with_details-others [] n d i h = refl
+with_details-others (f ∷ files) zero d zero h = absurd (h refl)
+with_details-others (f ∷ files) zero d (suc i) h = refl
+with_details-others (f ∷ files) (suc n) d zero h = refl
+with_details-others (f ∷ files) (suc n) d (suc i) h = with_details-others files n d i (λ e. h (ap suc e))
+
+pub file_others : (files : List File) (k : FileKey) (given : Option Details) (i : ℕ) → i < length files → i ≢ index_of_file files k → slice_get (with_file files k given) i ≡ slice_get files i
+file_others files k given i short other = by (has_file files k) given
+  where
+    by : (b : Bool) (given : Option Details) → slice_get (if b then (elim given [ Some d ↦ with_details files (index_of_file files k) d | None ↦ files ]) else files ++ (k, unwrap_or given no_details) ∷ []) i ≡ slice_get files i
+    by true (Some d) = with_details-others files (index_of_file files k) d i other
+    by true None = refl
+    by false given = slice_get-kept files ((k, unwrap_or given no_details) ∷ []) i short

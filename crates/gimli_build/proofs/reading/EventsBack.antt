@@ -1,0 +1,97 @@
+-- The instructions that a written program is decoded into, and the rows that they give.
+use Rattle.std.proofs.Common.{◌≡◌, ℕ, ◌<◌, ◌≤◌, List, [], ◌∷◌, Ok, refl, sym, ap, ◌∙◌, subst, lit<, map}
+use Rattle.std.specs.Prelude.{None, IsTrue}
+use Rattle.std.proofs.lemmas.List.{append-nil}
+use Rattle.gimli_core.specs.Notation.{Notation}
+use Rattle.gimli_core.specs.Numbers.{is_address_size}
+use Rattle.gimli_core.specs.Production.{Each}
+use Rattle.gimli_core.specs.declared.common.Encoding.{Encoding}
+use Rattle.gimli_core.specs.declared.common.LineEncoding.{LineEncoding}
+use Rattle.gimli_line.specs.header.Header.{Header}
+use Rattle.gimli_line.specs.run.Instruction.{Ins}
+use Rattle.gimli_line.specs.run.InstructionGrammar.{SpellsInstruction, Decodes}
+use Rattle.gimli_line.specs.run.Events.{row, Events, events_after, program_events}
+use Rattle.gimli_line.specs.run.Machine.{run}
+use Rattle.gimli_line.specs.header.Parameters.{Parameters}
+use Rattle.gimli_line.specs.declared.run.row.LineRow.{LineRow as ReadRow}
+use Rattle.gimli_line.proofs.Backwards.{starts}
+use Rattle.gimli_build.specs.declared.built.row.LineRow.{LineRow}
+use Rattle.gimli_build.specs.declared.built.items.BuiltItem.{BuiltItem}
+use Rattle.gimli_build.specs.declared.built.items.BuiltItem.TheVariants.{SetAddress, Row, End}
+use Rattle.gimli_build.specs.Advance.{CanEncode}
+use Rattle.gimli_build.specs.Built.{Built, base_of}
+use Rattle.gimli_build.specs.Conditions.{AreBuilt}
+use Rattle.gimli_build.specs.inside.Conditions.{IsBuilt}
+use Rattle.gimli_build.specs.Items.{items_instructions, items_rows, items_bytes, next_previous, AddressesFit, AreFit}
+use Rattle.gimli_build.specs.Rows.{initial_row}
+use Rattle.gimli_build.specs.SameRow.{built_rules, RowsMatch}
+use Rattle.gimli_build.specs.Unit.{program_bytes}
+use Rattle.gimli_build.proofs.reading.RowRuns.{start-is}
+use Rattle.gimli_build.proofs.reading.ItemRuns.{items-run, start_position}
+use Rattle.gimli_build.proofs.spellings.ItemSpellings.{items-spelled}
+
+-- ---- the decoding
+
+-- bytes that are spellings and nothing else are decoded into these
+cut_whole : (notation : Notation) (h : Header) (bytes : List ℕ) (list : List Ins) → Each (SpellsInstruction notation h) bytes list → Decodes notation h bytes list None
+cut_whole notation h bytes list spelled = record { front = bytes; rest = []; parts = sym (append-nil bytes); spelled = spelled; ended = refl }
+
+-- the items of a unit whose header has this encoding
+spelled_under : (notation : Notation) (h : Header) (encoding : Encoding) (e : LineEncoding) (items : List BuiltItem) (bytes : List ℕ)
+    → h.parameters.encoding ≡ encoding → h.parameters.opcode_base ≡ 13 → 11 < notation.limit → CanEncode e → AreBuilt e (0, 0) items → AreFit encoding.version items
+    → items_bytes notation.big encoding e (initial_row encoding.version e.default_is_stmt) items ≡ Ok bytes
+    → Each (SpellsInstruction notation h) bytes (items_instructions encoding.version e (initial_row encoding.version e.default_is_stmt) items)
+spelled_under notation h encoding e items bytes same base wide can built fit written =
+    subst (λ (x : Encoding). AreFit x.version items
+    → items_bytes notation.big x e (initial_row x.version e.default_is_stmt) items ≡ Ok bytes
+    → Each (SpellsInstruction notation h) bytes (items_instructions x.version e (initial_row x.version e.default_is_stmt) items))
+    same
+    (items-spelled notation h base wide e can (initial_row h.parameters.encoding.version e.default_is_stmt) items bytes (lit< tt) built)
+    fit written
+
+-- the instructions of a written program
+pub cut-back : (notation : Notation) (h : Header) (p : Built) → IsBuilt p → 11 < notation.limit → h.parameters ≡ built_rules p.encoding p.line_encoding → program_bytes notation.big p ≡ Ok h.program
+    → Decodes notation h h.program (items_instructions p.encoding.version p.line_encoding (initial_row p.encoding.version p.line_encoding.default_is_stmt) p.items) None
+cut-back notation h p built wide parameters written =
+    cut_whole notation h h.program (items_instructions p.encoding.version p.line_encoding (initial_row p.encoding.version p.line_encoding.default_is_stmt) p.items)
+    (spelled_under notation h p.encoding p.line_encoding p.items h.program (ap (λ (r : Parameters). r.encoding) parameters) (ap (λ (r : Parameters). r.opcode_base) parameters) wide built.is.lines built.is.items_built built.items_fit written)
+
+-- ---- the rows
+
+-- the rows of items are the built ones
+same_rows : (version : ℕ) (e : LineEncoding) (past : List BuiltItem) (previous : LineRow) (items : List BuiltItem) → RowsMatch version past items (items_rows version e (base_of past) previous items)
+same_rows version e past previous [] = refl
+same_rows version e past previous (SetAddress a ∷ items) = same_rows version e (SetAddress a ∷ past) (next_previous version e.default_is_stmt previous (SetAddress a)) items
+same_rows version e past previous (Row r ∷ items) = (refl, same_rows version e (Row r ∷ past) r items)
+same_rows version e past previous (End offset op_index ∷ items) =
+    (record { address = refl; operation = refl; ends = refl }, same_rows version e (End offset op_index ∷ past) (initial_row version e.default_is_stmt) items)
+
+-- the events of items from a start are their rows
+rows_given : (parameters : Parameters) (encoding : Encoding) (e : LineEncoding) (items : List BuiltItem) → parameters ≡ built_rules encoding e
+    → IsTrue (is_address_size encoding.address_size) → CanEncode e → encoding.version ≤ 5 → AreBuilt e (0, 0) items → AddressesFit encoding.address_size 0 (0, 0) items
+    → map row (items_rows encoding.version e 0 (initial_row encoding.version e.default_is_stmt) items)
+    ≡ program_events parameters (items_instructions encoding.version e (initial_row encoding.version e.default_is_stmt) items) None
+rows_given parameters encoding e items same known can version built held =
+    let first = initial_row encoding.version e.default_is_stmt in
+    let list = items_instructions encoding.version e first items in
+    sym (items-run encoding e known can version 0 first items (start_position e can) (lit< tt) built held)
+    ∙ sym (ap (λ (r : ReadRow). run (built_rules encoding e) r list) (start-is encoding e version))
+    ∙ starts (built_rules encoding e) list
+    ∙ ap (λ (r : Parameters). events_after r [] list) (sym same)
+    ∙ sym (append-nil (events_after parameters [] list))
+
+-- the rows of a written program, where addresses hold its items and none is a tombstone
+pub rows-back : (notation : Notation) (h : Header) (p : Built) → IsBuilt p → p.encoding.version ≤ 5 → 11 < notation.limit → h.parameters ≡ built_rules p.encoding p.line_encoding → program_bytes notation.big p ≡ Ok h.program
+    → AddressesFit p.encoding.address_size 0 (0, 0) p.items
+    → (rows : List ReadRow) × Events notation h h.program (map row rows) × RowsMatch p.encoding.version [] p.items rows
+rows-back notation h p built known wide parameters written held =
+    let first = initial_row p.encoding.version p.line_encoding.default_is_stmt in (
+      items_rows p.encoding.version p.line_encoding 0 first p.items,
+      record {
+        list = items_instructions p.encoding.version p.line_encoding first p.items;
+        end = None;
+        decoding = cut-back notation h p built wide parameters written;
+        given = rows_given h.parameters p.encoding p.line_encoding p.items parameters (built.is.address_size refl) built.is.lines known built.is.items_built held;
+      },
+      same_rows p.encoding.version p.line_encoding [] first p.items,
+    )

@@ -1,0 +1,51 @@
+-- What is read of a written unit: its header, its decoding, and its rows together.
+use Rattle.std.proofs.Common.{◌≡◌, ℕ, ◌<◌, ◌≤◌, ◌^◌, Bool, List, [], ◌∷◌, length, Ok, if◌then◌else◌}
+use Rattle.std.specs.Prelude.{nat_le}
+use Rattle.gimli_core.specs.Notation.{Notation}
+use Rattle.gimli_core.specs.declared.common.Encoding.{Encoding}
+use Rattle.gimli_bytes.specs.Texts.{AreTexts, byte_count}
+use Rattle.gimli_line.specs.header.Header.{UnitEntry}
+use Rattle.gimli_build.specs.Built.{Built}
+use Rattle.gimli_build.specs.Conditions.{CanWrite}
+use Rattle.gimli_build.specs.inside.Conditions.{IsBuilt}
+use Rattle.gimli_build.specs.Texts.{Sections}
+use Rattle.gimli_build.specs.Version5Tables.{strings_after, line_strings_after}
+use Rattle.gimli_build.specs.ReadsBack.{ReadsBack, IsReadWell}
+use Rattle.gimli_build.specs.Unit.{version_bytes, whole_bytes, unit_bytes}
+use Rattle.gimli_build.proofs.writing.WrittenParts.{before_written}
+use Rattle.gimli_build.proofs.spellings.EncodingSpellings.{version-known}
+use Rattle.gimli_build.proofs.spellings.UnitSpellings.{unit_written}
+use Rattle.gimli_build.proofs.reading.UnitHeader.{whole_written, header-back}
+use Rattle.gimli_build.proofs.reading.EventsBack.{cut-back, rows-back}
+
+-- a unit that is written has a known version
+unit_known : (big : Bool) (p : Built) (strings line_strings : List (List ℕ)) (unit : List ℕ) → whole_bytes big p strings line_strings ≡ Ok unit → p.encoding.version ≤ 5
+unit_known big p strings line_strings unit is =
+    let w = unit_written big p strings line_strings unit is in
+    let address : List ℕ = if nat_le p.encoding.version 4 then [] else p.encoding.address_size ∷ 0 ∷ [] in
+    let b = before_written (version_bytes big p.encoding.version) address w.opening w.opening_is in
+    version-known big p.encoding.version b.front b.front_is
+
+pub reads-back : (notation : Notation) (unit_entry : UnitEntry) (sections : Sections) (big : Bool) (unit_encoding : Encoding) (p : Built) (old_strings old_line_strings : List (List ℕ)) (unit : List ℕ)
+    → length unit < 2 ^ 64 → IsBuilt p → CanWrite p old_strings old_line_strings → AreTexts (strings_after p old_strings) → AreTexts (line_strings_after p old_line_strings)
+    → byte_count (strings_after p old_strings) < 2 ^ 64 → byte_count (line_strings_after p old_line_strings) < 2 ^ 64
+    → unit_bytes big unit_encoding p old_strings old_line_strings ≡ Ok unit → IsReadWell notation unit_entry sections big p (strings_after p old_strings) (line_strings_after p old_line_strings) unit
+    → ReadsBack notation unit_entry sections p (strings_after p old_strings) (line_strings_after p old_line_strings) unit
+reads-back notation unit_entry sections big unit_encoding p old_strings old_line_strings unit small built can texts line_texts short line_short is well =
+    let strings = strings_after p old_strings in
+    let line_strings = line_strings_after p old_line_strings in
+    let h = header-back notation unit_entry sections big unit_encoding p old_strings old_line_strings unit small built can texts line_texts short line_short is well in
+    let whole = whole_written big unit_encoding p old_strings old_line_strings unit is in
+    let known = unit_known big p strings line_strings unit whole in
+    let wide = well.instructions_held in
+    record {
+      header = h.header;
+      is_unit = h.is_unit;
+      parameters = h.parameters;
+      counts = h.counts;
+      formats = h.formats;
+      directories = h.directories;
+      files = h.files;
+      decoding = cut-back notation h.header p built wide h.parameters h.program;
+      rows = rows-back notation h.header p built known wide h.parameters h.program;
+    }

@@ -1,0 +1,174 @@
+-- The texts of a program of version 5 can be read back, with the tables as they are once it is written.
+use Rattle.std.proofs.Common.{◌≡◌, ◌≢◌, ℕ, ◌≤◌, Bool, true, false, List, [], ◌∷◌, ◌++◌, length, map, get_or, Option, Some, None, refl, sym, ap, ◌∙◌, arith, ◌||◌, if◌then◌else◌, length-append}
+use Rattle.std.specs.Prelude.{◌&&◌, nat_eq, nat_le, slice_get, unwrap_or, All, IfSome, bytes_eq}
+use Rattle.std.specs.Option.{is_none, option_map_or}
+use Rattle.std.specs.List.{list_any}
+use Rattle.std.proofs.lemmas.Bool.{leb-false, le-leb}
+use Rattle.std.proofs.lemmas.List.Elements.{All-nil, All-cons, All-head, All-tail}
+use Rattle.std.proofs.lemmas.List.Folds.{list_any_at, list_any-append}
+use Rattle.std.proofs.lemmas.Option.{slice_get_within}
+use Rattle.gimli_bytes.specs.Texts.{with_text, index_of_text}
+use Rattle.gimli_bytes.proofs.TextLemmas.{with_text-there, with_text-found}
+use Rattle.gimli_build.specs.LineText.{LineText, Inline, InStrings, InLineStrings, IsWithin, HasNoZero, bytes_in}
+use Rattle.gimli_build.specs.Tables.{File}
+use Rattle.gimli_build.specs.inside.Tables.{FitsFile}
+use Rattle.gimli_build.specs.Built.{Built}
+use Rattle.gimli_build.specs.Conditions.{CanWrite}
+use Rattle.gimli_build.specs.inside.Conditions.{IsBuilt}
+use Rattle.gimli_build.specs.Version5Tables.{first_form, sources, needs_empty, empty_text, strings_after, line_strings_after}
+use Rattle.gimli_build.proofs.spellings.TextForms.{IsReady}
+
+-- ---- tables that gain the empty text
+
+-- the empty text is there once it was added
+added : (texts : List (List ℕ)) → list_any (bytes_eq []) (with_text texts []) ≡ true
+added texts = by (list_any (bytes_eq []) texts) refl
+  where
+    by : (b : Bool) → list_any (bytes_eq []) texts ≡ b → list_any (bytes_eq []) (if b then texts else texts ++ [] ∷ []) ≡ true
+    by true h = h
+    by false h = list_any-append (bytes_eq []) texts ([] ∷ []) ∙ ap (λ (b : Bool). b || true) h
+
+gained : (due : Bool) (texts : List (List ℕ)) → due ≡ true → list_any (bytes_eq []) (if due then with_text texts [] else texts) ≡ true
+gained true texts is = added texts
+gained false texts is = absurd cc
+
+-- no text goes
+longer : (texts : List (List ℕ)) → length texts ≤ length (with_text texts [])
+longer texts = by (list_any (bytes_eq []) texts)
+  where
+    by : (b : Bool) → length texts ≤ length (if b then texts else texts ++ [] ∷ [])
+    by true = omega arith
+    by false = omega (arith, length-append texts ([] ∷ []))
+
+grows : (due : Bool) (texts : List (List ℕ)) → length texts ≤ length (if due then with_text texts [] else texts)
+grows true texts = longer texts
+grows false texts = omega arith
+
+within_more : (strings line_strings more more_lines : List (List ℕ)) → length strings ≤ length more → length line_strings ≤ length more_lines
+    → (t : LineText) → IsWithin strings line_strings t → IsWithin more more_lines t
+within_more strings line_strings more more_lines s l (Inline text) within = tt
+within_more strings line_strings more more_lines s l (InStrings i) within = omega (arith, s, within)
+within_more strings line_strings more more_lines s l (InLineStrings i) within = omega (arith, l, within)
+
+-- a text that was within the tables is within them once a program is written
+pub within_after : (p : Built) (strings line_strings : List (List ℕ)) (t : LineText) → IsWithin strings line_strings t → IsWithin (strings_after p strings) (line_strings_after p line_strings) t
+within_after p strings line_strings t within =
+    within_more strings line_strings (strings_after p strings) (line_strings_after p line_strings)
+    (grows (needs_empty p && nat_eq (first_form (sources p.files)) 0x0e) strings) (grows (needs_empty p && nat_eq (first_form (sources p.files)) 0x1f) line_strings) t within
+
+-- ---- the empty text in a form
+
+record IsEmpty (strings line_strings : List (List ℕ)) (t : LineText) : Type 0 where
+  ready : IsReady strings line_strings t
+  none : bytes_in strings line_strings t ≡ []
+
+empty_there : (texts : List (List ℕ)) → list_any (bytes_eq []) texts ≡ true → slice_get texts (index_of_text texts []) ≡ Some []
+empty_there texts has = ap (λ (l : List (List ℕ)). slice_get l (index_of_text texts [])) (sym (with_text-there texts [] has)) ∙ with_text-found texts []
+
+empty_is : (form : ℕ) (strings line_strings : List (List ℕ)) → (nat_eq form 0x0e ≡ true → list_any (bytes_eq []) strings ≡ true) → (nat_eq form 0x1f ≡ true → list_any (bytes_eq []) line_strings ≡ true)
+    → IsEmpty strings line_strings (empty_text form strings line_strings)
+empty_is form strings line_strings has has_line = by (nat_eq form 0x0e) refl (nat_eq form 0x1f) refl
+  where
+    by : (b : Bool) → nat_eq form 0x0e ≡ b → (c : Bool) → nat_eq form 0x1f ≡ c
+        → IsEmpty strings line_strings (if b then InStrings (index_of_text strings []) else (if c then InLineStrings (index_of_text line_strings []) else Inline []))
+    by true s c l =
+        let found = empty_there strings (has s) in
+        record { ready = record { clean = tt; within = slice_get_within strings (index_of_text strings []) [] found }; none = ap (λ (o : Option (List ℕ)). unwrap_or o []) found }
+    by false s true l =
+        let found = empty_there line_strings (has_line l) in
+        record { ready = record { clean = tt; within = slice_get_within line_strings (index_of_text line_strings []) [] found }; none = ap (λ (o : Option (List ℕ)). unwrap_or o []) found }
+    by false s false l = record { ready = record { clean = All-nil (λ b. b ≢ 0); within = tt }; none = refl }
+
+-- ---- what is read back of a program
+
+-- a source, or the empty text for none
+abbrev pub source_of : Built → List (List ℕ) → List (List ℕ) → File → LineText
+source_of p strings line_strings f = unwrap_or f.1.source (empty_text (first_form (sources p.files)) strings line_strings)
+
+pub record IsFileReady (p : Built) (strings line_strings : List (List ℕ)) (f : File) : Type 0 where
+  pub path : IsReady strings line_strings f.0.0
+  pub fits : FitsFile f
+  pub source : p.file_has_source ≡ true → IsReady strings line_strings (source_of p strings line_strings f)
+  pub source_bytes : p.file_has_source ≡ true → bytes_in strings line_strings (source_of p strings line_strings f) ≡ option_map_or (bytes_in strings line_strings) f.1.source []
+
+pub record AreReady (p : Built) (strings line_strings : List (List ℕ)) : Type 0 where
+  pub directories : All (IsReady strings line_strings) p.directories
+  pub files : All (IsFileReady p strings line_strings) p.files
+
+source_ready : (strings line_strings : List (List ℕ)) (o : Option LineText) (e : LineText) → IfSome o (IsWithin strings line_strings) → IfSome o HasNoZero → (o ≡ None → IsEmpty strings line_strings e)
+    → IsReady strings line_strings (unwrap_or o e)
+source_ready strings line_strings (Some t) e within clean empty = record { clean = clean; within = within }
+source_ready strings line_strings None e within clean empty = (empty refl).ready
+
+source_same : (strings line_strings : List (List ℕ)) (o : Option LineText) (e : LineText) → (o ≡ None → IsEmpty strings line_strings e)
+    → bytes_in strings line_strings (unwrap_or o e) ≡ option_map_or (bytes_in strings line_strings) o []
+source_same strings line_strings (Some t) e empty = refl
+source_same strings line_strings None e empty = (empty refl).none
+
+unmapped : {A B : Type 0} (P : B → Type 0) (f : A → B) (xs : List A) → All P (map f xs) → All (λ x. P (f x)) xs
+unmapped P f [] all = All-nil (λ x. P (f x))
+unmapped P f (x ∷ xs) all = All-cons (λ x. P (f x)) x xs (All-head P (f x) (map f xs) all) (unmapped P f xs (All-tail P (f x) (map f xs) all))
+
+all_three : (a b c : Bool) → a ≡ true → b ≡ true → c ≡ true → (a && b && c) ≡ true
+all_three true true true a b c = refl
+all_three false x y a b c = absurd cc
+all_three true false y a b c = absurd cc
+all_three true true false a b c = absurd cc
+
+both : (a b : Bool) → a ≡ true → b ≡ true → (a && b) ≡ true
+both true true a b = refl
+both false y a b = absurd cc
+both true false a b = absurd cc
+
+some_within : (strings line_strings more more_lines : List (List ℕ)) → length strings ≤ length more → length line_strings ≤ length more_lines
+    → (o : Option LineText) → IfSome o (IsWithin strings line_strings) → IfSome o (IsWithin more more_lines)
+some_within strings line_strings more more_lines s l (Some t) within = within_more strings line_strings more more_lines s l t within
+some_within strings line_strings more more_lines s l None within = tt
+
+module _ (p : Built) (old_strings old_line_strings : List (List ℕ)) (new : nat_le p.encoding.version 4 ≡ false) (built : IsBuilt p) (can : CanWrite p old_strings old_line_strings) where
+  abbrev strings : List (List ℕ)
+  strings = strings_after p old_strings
+
+  abbrev line_strings : List (List ℕ)
+  line_strings = line_strings_after p old_line_strings
+
+  abbrev form : ℕ
+  form = first_form (sources p.files)
+
+  late : 5 ≤ p.encoding.version
+  late = let above = leb-false p.encoding.version 4 new in omega (arith, above)
+
+  more : length old_strings ≤ length strings
+  more = grows (needs_empty p && nat_eq form 0x0e) old_strings
+
+  more_lines : length old_line_strings ≤ length line_strings
+  more_lines = grows (needs_empty p && nat_eq form 0x1f) old_line_strings
+
+  -- where sources are written and a file has none, the empty text is there
+  empty_ready : p.file_has_source ≡ true → list_any (λ f. is_none f.1.source) p.files ≡ true → IsEmpty strings line_strings (empty_text form strings line_strings)
+  empty_ready flag wanting =
+      let needs : needs_empty p ≡ true = all_three (nat_le 5 p.encoding.version) p.file_has_source (list_any (λ f. is_none f.1.source) p.files) (le-leb 5 p.encoding.version late) flag wanting in
+      empty_is form strings line_strings
+      (λ same. gained (needs_empty p && nat_eq form 0x0e) old_strings (both (needs_empty p) (nat_eq form 0x0e) needs same))
+      (λ same. gained (needs_empty p && nat_eq form 0x1f) old_line_strings (both (needs_empty p) (nat_eq form 0x1f) needs same))
+
+  file_ready : (f : File) → HasNoZero f.0.0 → IsWithin old_strings old_line_strings f.0.0 → FitsFile f → IfSome f.1.source (IsWithin old_strings old_line_strings)
+      → (p.file_has_source ≡ true → IfSome f.1.source HasNoZero) → (f.1.source ≡ None → list_any (λ f. is_none f.1.source) p.files ≡ true) → IsFileReady p strings line_strings f
+  file_ready f clean within fits source ends wanting = record {
+    path = record { clean = clean; within = within_more old_strings old_line_strings strings line_strings more more_lines f.0.0 within };
+    fits = fits;
+    source = λ flag. source_ready strings line_strings f.1.source (empty_text form strings line_strings)
+        (some_within old_strings old_line_strings strings line_strings more more_lines f.1.source source) (ends flag) (λ none. empty_ready flag (wanting none));
+    source_bytes = λ flag. source_same strings line_strings f.1.source (empty_text form strings line_strings) (λ none. empty_ready flag (wanting none));
+  }
+
+  pub tables-ready : AreReady p strings line_strings
+  tables-ready = record {
+    directories = λ i d lt. record {
+      clean = built.tables.directories_end i d lt;
+      within = within_more old_strings old_line_strings strings line_strings more more_lines (get_or p.directories i d) (can.directories i d lt);
+    };
+    files = λ i d lt. file_ready (get_or p.files i d) (unmapped (λ k. HasNoZero k.0) (λ f. f.0) p.files built.tables.paths_end i d lt) (can.paths i d lt) (built.files_fit i d lt) (can.sources i d lt)
+        (λ flag. can.sources_end late flag i d lt)
+        (λ none. list_any_at (λ f. is_none f.1.source) p.files i d lt (ap is_none none));
+  }

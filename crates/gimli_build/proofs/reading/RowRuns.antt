@@ -1,0 +1,425 @@
+-- The machine over the instructions of a row, and of an end.
+use Rattle.std.proofs.Common.{◌≡◌, ℕ, ◌+◌, ◌-◌, ◌*◌, ◌/◌, ◌%◌, ◌^◌, ◌<◌, ◌≤◌, Bool, true, false, not, List, [], ◌∷◌, ◌++◌, refl, sym, ap, ◌∙◌, arith, nat_eq, nat_le, if◌then◌else◌, ℤ, pos, negsuc, ◌+ℤ◌, ◌-ℤ◌, ◌<ℤ◌, ◌≤ℤ◌, nat_lt, add-zero, append_assoc, lit<}
+use Rattle.std.specs.Prelude.{unsigned_abs, IsTrue}
+use Rattle.std.specs.Int.Signed.{lt_z, le_z}
+use Rattle.std.proofs.Math.Nat.{mod-eq_of_lt, div-eq_of_lt, div-one, div-mul-le_self, mod-lt, mod-le, pow-le-pow_right, add-mul-div_right, add-mul-mod_self_right, mul-add, mul-le-mul_left}
+use Rattle.std.proofs.lemmas.Nat.{div-add-mod', le-div}
+use Rattle.std.proofs.lemmas.Int.{ints}
+use Rattle.std.proofs.lemmas.Bool.{and_parts, lt-leb, le-leb, le-ltb}
+use Rattle.std.proofs.lemmas.Bool.Decides.{nat_tests}
+use Rattle.gimli_core.specs.Numbers.{is_address_size}
+use Rattle.gimli_core.specs.declared.common.Encoding.{Encoding}
+use Rattle.gimli_core.specs.declared.common.LineEncoding.{LineEncoding}
+use Rattle.gimli_line.specs.declared.run.row.LineRow.{LineRow as ReadRow}
+use Rattle.gimli_line.specs.declared.run.instruction.LineInstruction.TheVariants.{Special, Copy, AdvancePc, AdvanceLine, SetFile, SetColumn, NegateStatement, SetBasicBlock, ConstAddPc, SetPrologueEnd, SetEpilogueBegin, SetIsa, EndSequence, SetAddress, SetDiscriminator}
+use Rattle.gimli_line.specs.header.Parameters.{Parameters}
+use Rattle.gimli_line.specs.run.Instruction.{Ins}
+use Rattle.gimli_line.specs.run.Registers.{advanced_line}
+use Rattle.gimli_line.specs.run.OperationPointer.{OperationPointer, advanced_by, is_too_large, address_limit}
+use Rattle.gimli_line.specs.run.Events.{row}
+use Rattle.gimli_line.specs.run.Machine.{run, initial, reset_row, pointer_of, at_pointer}
+use Rattle.gimli_build.specs.declared.built.row.LineRow.{LineRow}
+use Rattle.gimli_build.specs.Advance.{CanEncode, IsPosition, CanFollow, operations}
+use Rattle.gimli_build.specs.Due.{when}
+use Rattle.gimli_build.specs.Encode.{marks, changes, differ, line_part, line_opcode, is_special_advance, operation_part, row_instructions, row_maker, still_opcode, constant_advance, end_instructions}
+use Rattle.gimli_build.specs.FileNumber.{file_number}
+use Rattle.gimli_build.specs.Rows.{initial_row}
+use Rattle.gimli_build.specs.SameRow.{built_rules, read_row, registers_after_row, read_end}
+use Rattle.gimli_build.proofs.sizes.Steps.{operations_above, whole_steps, taken_apart, special_parts, enough_of, none_of}
+
+-- ---- pointers
+
+-- the pointer n operations further on, with no bound
+abbrev pub ahead : LineEncoding → ℕ → OperationPointer → OperationPointer
+ahead e n p = record {
+  address = p.address + e.minimum_instruction_length * ((p.op_index + n) / e.maximum_operations_per_instruction);
+  op_index = (p.op_index + n) % e.maximum_operations_per_instruction;
+}
+
+abbrev one_operation : LineEncoding → ℕ → OperationPointer → OperationPointer
+one_operation e n p = record { address = p.address + e.minimum_instruction_length * n % 2 ^ 64; op_index = 0 }
+
+abbrev more_operations : LineEncoding → ℕ → OperationPointer → OperationPointer
+more_operations e n p = record {
+  address = p.address + e.minimum_instruction_length * ((p.op_index + n) % 2 ^ 64 / e.maximum_operations_per_instruction) % 2 ^ 64;
+  op_index = (p.op_index + n) % 2 ^ 64 % e.maximum_operations_per_instruction;
+}
+
+-- an address holds the pointer n operations further on
+pub record HasRoom (parameters : Parameters) (p : OperationPointer) (n : ℕ) : Type 0 where
+  pub within : p.op_index < parameters.line_encoding.maximum_operations_per_instruction
+  pub count : p.op_index + n < 2 ^ 64
+  pub address : p.address + parameters.line_encoding.minimum_instruction_length * ((p.op_index + n) / parameters.line_encoding.maximum_operations_per_instruction) < address_limit parameters
+  pub limit : address_limit parameters ≤ 2 ^ 64
+
+-- the machine's pointer is this one there
+pub on-ahead : (parameters : Parameters) (p : OperationPointer) (n : ℕ) → HasRoom parameters p n → advanced_by parameters n p ≡ ahead parameters.line_encoding n p
+on-ahead parameters p n room = by (nat_eq parameters.line_encoding.maximum_operations_per_instruction 1) refl
+  where
+    by : (b : Bool) → nat_eq parameters.line_encoding.maximum_operations_per_instruction 1 ≡ b
+        → (if b then one_operation parameters.line_encoding n p else more_operations parameters.line_encoding n p) ≡ ahead parameters.line_encoding n p
+    by true h =
+        let k = parameters.line_encoding.maximum_operations_per_instruction in
+        let m = parameters.line_encoding.minimum_instruction_length in
+        let single : k ≡ 1 = grind (arith, nat_tests) in
+        let none : p.op_index ≡ 0 = omega (arith, single, room.within) in
+        let q : (p.op_index + n) / k ≡ n = rw single (div-one (p.op_index + n) ∙ omega (arith, none)) in
+        let w : (p.op_index + n) % k ≡ 0 = rw single (omega arith) in
+        let below = rw q at room.address in
+        let a : m * n % 2 ^ 64 ≡ m * ((p.op_index + n) / k) = rw q (mod-eq_of_lt (omega (arith, below, room.limit))) in
+        λ j. record { address = p.address + a j; op_index = sym w j }
+    by false h =
+        let k = parameters.line_encoding.maximum_operations_per_instruction in
+        let m = parameters.line_encoding.minimum_instruction_length in
+        let whole : (p.op_index + n) % 2 ^ 64 ≡ p.op_index + n = mod-eq_of_lt room.count in
+        let a : m * ((p.op_index + n) % 2 ^ 64 / k) % 2 ^ 64 ≡ m * ((p.op_index + n) / k) = rw whole (mod-eq_of_lt (omega (arith, room.address, room.limit))) in
+        λ j. record { address = p.address + a j; op_index = whole j % k }
+
+-- an address holds it
+pub not_exceeding : (parameters : Parameters) (p : OperationPointer) (n : ℕ) → HasRoom parameters p n → is_too_large parameters (ahead parameters.line_encoding n p) ≡ false
+not_exceeding parameters p n room = lt-leb (address_limit parameters) (ahead parameters.line_encoding n p).address room.address
+
+-- one advance after the other
+pub ahead-ahead : (e : LineEncoding) (p : OperationPointer) (q n : ℕ) → 1 ≤ e.maximum_operations_per_instruction → ahead e n (ahead e q p) ≡ ahead e (q + n) p
+ahead-ahead e p q n pk =
+    let k = e.maximum_operations_per_instruction in
+    let m = e.minimum_instruction_length in
+    let x = p.op_index + q in
+    let split : p.op_index + (q + n) ≡ x % k + n + x / k * k = (let h = div-add-mod' x k in omega (arith, h)) in
+    let division : (p.op_index + (q + n)) / k ≡ (x % k + n) / k + x / k = rw split (add-mul-div_right (x % k + n) (x / k) (omega arith)) in
+    let rest : (p.op_index + (q + n)) % k ≡ (x % k + n) % k = rw split (add-mul-mod_self_right (x % k + n) (x / k) k) in
+    let address : p.address + m * (x / k) + m * ((x % k + n) / k) ≡ p.address + m * ((p.op_index + (q + n)) / k) = rw division (let h = mul-add m ((x % k + n) / k) (x / k) in omega (arith, h)) in
+    λ j. record { address = address j; op_index = sym rest j }
+
+-- no operations
+pub ahead-none : (e : LineEncoding) (p : OperationPointer) → p.op_index < e.maximum_operations_per_instruction → ahead e 0 p ≡ p
+ahead-none e p lt =
+    let q : (p.op_index + 0) / e.maximum_operations_per_instruction ≡ 0 = rw add-zero (div-eq_of_lt lt) in
+    let w : (p.op_index + 0) % e.maximum_operations_per_instruction ≡ p.op_index = rw add-zero (mod-eq_of_lt lt) in
+    let a : p.address + e.minimum_instruction_length * ((p.op_index + 0) / e.maximum_operations_per_instruction) ≡ p.address = rw q (omega arith) in
+    λ j. record { address = a j; op_index = w j }
+
+-- fewer operations need no more room
+pub less_room : (parameters : Parameters) (p : OperationPointer) (q n : ℕ) → q ≤ n → HasRoom parameters p n → HasRoom parameters p q
+less_room parameters p q n le room =
+    let k = parameters.line_encoding.maximum_operations_per_instruction in
+    let m = parameters.line_encoding.minimum_instruction_length in
+    let below = div-mul-le_self (p.op_index + q) k in
+    let up : (p.op_index + q) / k ≤ (p.op_index + n) / k = le-div ((p.op_index + q) / k) (p.op_index + n) k (omega (arith, room.within)) (omega (arith, below)) in
+    let wide = mul-le-mul_left m up in
+    record {
+      within = room.within;
+      count = omega (arith, room.count);
+      address = omega (arith, room.address, wide);
+      limit = room.limit;
+    }
+
+-- the rest of the operations has its room
+pub rest_room : (parameters : Parameters) (p : OperationPointer) (q n : ℕ) → q ≤ n → HasRoom parameters p n → HasRoom parameters (ahead parameters.line_encoding q p) (n - q)
+rest_room parameters p q n le room =
+    let k = parameters.line_encoding.maximum_operations_per_instruction in
+    let pk : 1 ≤ k = omega (arith, room.within) in
+    let back : q + (n - q) ≡ n = omega arith in
+    let there : ahead parameters.line_encoding (n - q) (ahead parameters.line_encoding q p) ≡ ahead parameters.line_encoding n p = ahead-ahead parameters.line_encoding p q (n - q) pk ∙ ap (λ (x : ℕ). ahead parameters.line_encoding x p) back in
+    let same = ap (λ (x : OperationPointer). x.address) there in
+    let small = mod-lt (p.op_index + q) pk in
+    let le_sum = mod-le (p.op_index + q) k in
+    record {
+      within = small;
+      count = omega (arith, room.count, le_sum);
+      address = omega (arith, room.address, same);
+      limit = room.limit;
+    }
+
+-- ---- parts of a run
+
+-- the registers n operations further on
+abbrev pub moved_on : LineEncoding → ℕ → ReadRow → ReadRow
+moved_on e n r = at_pointer (ahead e n (pointer_of r)) r
+
+module _ (encoding : Encoding) (e : LineEncoding) where
+  abbrev parameters : Parameters
+  parameters = built_rules encoding e
+
+  -- these instructions lead from registers to others, and make no row
+  abbrev Goes : ReadRow → List Ins → ReadRow → Type 0
+  Goes r is s = (list : List Ins) → run parameters r (is ++ list) ≡ run parameters s list
+
+  -- these instructions make one row, their last
+  abbrev Makes : ReadRow → List Ins → ReadRow → Type 0
+  Makes r is s = (list : List Ins) → run parameters r (is ++ list) ≡ row s ∷ run parameters (reset_row parameters s) list
+
+  goes_then : (r s t : ReadRow) (is js : List Ins) → Goes r is s → Goes s js t → Goes r (is ++ js) t
+  goes_then r s t is js h k list = ap (run parameters r) (append_assoc is js list) ∙ h (js ++ list) ∙ k list
+
+  makes_then : (r s t : ReadRow) (is js : List Ins) → Goes r is s → Makes s js t → Makes r (is ++ js) t
+  makes_then r s t is js h k list = ap (run parameters r) (append_assoc is js list) ∙ h (js ++ list) ∙ k list
+
+  -- an instruction that is due or not
+  keep : (r s : ReadRow) (due : Bool) (i : Ins) → (due ≡ true → Goes r (i ∷ []) s) → (due ≡ false → r ≡ s) → Goes r (when due i) s
+  keep r s true i goes stands list = goes refl list
+  keep r s false i goes stands list = ap (λ (t : ReadRow). run parameters t list) (stands refl)
+
+  same_from_test : (m n : ℕ) → not (nat_eq m n) ≡ false → m ≡ n
+  same_from_test m n h = grind (arith, nat_tests)
+
+  turned : (a b : Bool) → differ a b ≡ true → not b ≡ a
+  turned true b h = h
+  turned false b h = ap not h
+
+  stays : (a b : Bool) → differ a b ≡ false → b ≡ a
+  stays true true h = refl
+  stays true false h = sym h
+  stays false b h = h
+
+  -- what stands for one row alone
+  goes-marks : (r : ReadRow) (built : LineRow) → r.discriminator ≡ 0 → r.basic_block ≡ false → r.prologue_end ≡ false → r.epilogue_begin ≡ false
+      → Goes r (marks built) (record r { discriminator = built.discriminator; basic_block = built.basic_block; prologue_end = built.prologue_end; epilogue_begin = built.epilogue_begin })
+  goes-marks r built d0 b0 p0 e0 =
+      let r1 : ReadRow = record r { discriminator = built.discriminator } in
+      let r2 : ReadRow = record r1 { basic_block = built.basic_block } in
+      let r3 : ReadRow = record r2 { prologue_end = built.prologue_end } in
+      let r4 : ReadRow = record r3 { epilogue_begin = built.epilogue_begin } in
+      let w1 = when (not (nat_eq built.discriminator 0)) (SetDiscriminator built.discriminator) in
+      let w2 = when built.basic_block SetBasicBlock in
+      let w3 = when built.prologue_end SetPrologueEnd in
+      let w4 = when built.epilogue_begin SetEpilogueBegin in
+      let s1 : Goes r w1 r1 = keep r r1 (not (nat_eq built.discriminator 0)) (SetDiscriminator built.discriminator) (λ h list. refl)
+      (λ h. ap (λ (x : ℕ). let s : ReadRow = record r { discriminator = x } in s) (d0 ∙ sym (same_from_test built.discriminator 0 h))) in
+      let s2 : Goes r1 w2 r2 = keep r1 r2 built.basic_block SetBasicBlock
+      (λ h list. ap (λ (x : Bool). run parameters (record r1 { basic_block = x }) list) (sym h))
+      (λ h. ap (λ (x : Bool). let s : ReadRow = record r1 { basic_block = x } in s) (b0 ∙ sym h)) in
+      let s3 : Goes r2 w3 r3 = keep r2 r3 built.prologue_end SetPrologueEnd
+      (λ h list. ap (λ (x : Bool). run parameters (record r2 { prologue_end = x }) list) (sym h))
+      (λ h. ap (λ (x : Bool). let s : ReadRow = record r2 { prologue_end = x } in s) (p0 ∙ sym h)) in
+      let s4 : Goes r3 w4 r4 = keep r3 r4 built.epilogue_begin SetEpilogueBegin
+      (λ h list. ap (λ (x : Bool). run parameters (record r3 { epilogue_begin = x }) list) (sym h))
+      (λ h. ap (λ (x : Bool). let s : ReadRow = record r3 { epilogue_begin = x } in s) (e0 ∙ sym h)) in
+      goes_then r r3 r4 (w1 ++ w2 ++ w3) w4 (goes_then r r2 r3 (w1 ++ w2) w3 (goes_then r r1 r2 w1 w2 s1 s2) s3) s4
+
+  -- what lasts from row to row
+  goes-changes : (r : ReadRow) (version : ℕ) (previous built : LineRow) → r.is_stmt ≡ previous.is_statement → r.file ≡ file_number version previous.file → r.column ≡ previous.column → r.isa ≡ previous.isa
+      → Goes r (changes version previous built) (record r { is_stmt = built.is_statement; file = file_number version built.file; column = built.column; isa = built.isa })
+  goes-changes r version previous built hs hf hc hi =
+      let r1 : ReadRow = record r { is_stmt = built.is_statement } in
+      let r2 : ReadRow = record r1 { file = file_number version built.file } in
+      let r3 : ReadRow = record r2 { column = built.column } in
+      let r4 : ReadRow = record r3 { isa = built.isa } in
+      let w1 = when (differ built.is_statement previous.is_statement) NegateStatement in
+      let w2 = when (not (nat_eq built.file previous.file)) (SetFile (file_number version built.file)) in
+      let w3 = when (not (nat_eq built.column previous.column)) (SetColumn built.column) in
+      let w4 = when (not (nat_eq built.isa previous.isa)) (SetIsa built.isa) in
+      let s1 : Goes r w1 r1 = keep r r1 (differ built.is_statement previous.is_statement) NegateStatement
+      (λ h list. ap (λ (x : Bool). run parameters (record r { is_stmt = x }) list) (ap not hs ∙ turned built.is_statement previous.is_statement h))
+      (λ h. ap (λ (x : Bool). let s : ReadRow = record r { is_stmt = x } in s) (hs ∙ stays built.is_statement previous.is_statement h)) in
+      let s2 : Goes r1 w2 r2 = keep r1 r2 (not (nat_eq built.file previous.file)) (SetFile (file_number version built.file)) (λ h list. refl)
+      (λ h. ap (λ (x : ℕ). let s : ReadRow = record r1 { file = x } in s) (hf ∙ ap (file_number version) (sym (same_from_test built.file previous.file h)))) in
+      let s3 : Goes r2 w3 r3 = keep r2 r3 (not (nat_eq built.column previous.column)) (SetColumn built.column) (λ h list. refl)
+      (λ h. ap (λ (x : ℕ). let s : ReadRow = record r2 { column = x } in s) (hc ∙ sym (same_from_test built.column previous.column h))) in
+      let s4 : Goes r3 w4 r4 = keep r3 r4 (not (nat_eq built.isa previous.isa)) (SetIsa built.isa) (λ h list. refl)
+      (λ h. ap (λ (x : ℕ). let s : ReadRow = record r3 { isa = x } in s) (hi ∙ sym (same_from_test built.isa previous.isa h))) in
+      goes_then r r3 r4 (w1 ++ w2 ++ w3) w4 (goes_then r r2 r3 (w1 ++ w2) w3 (goes_then r r1 r2 w1 w2 s1 s2) s3) s4
+
+  -- ---- advances
+
+  goes-advance : (r : ReadRow) (n : ℕ) → r.tombstone ≡ false → HasRoom parameters (pointer_of r) n → Goes r (AdvancePc n ∷ []) (moved_on e n r)
+  goes-advance r n shown room list = rw (on-ahead parameters (pointer_of r) n room, not_exceeding parameters (pointer_of r) n room, shown) refl
+
+  goes-constant : (r : ReadRow) → r.tombstone ≡ false → HasRoom parameters (pointer_of r) (constant_advance e) → Goes r (ConstAddPc ∷ []) (moved_on e (constant_advance e) r)
+  goes-constant r shown room list = rw (on-ahead parameters (pointer_of r) (constant_advance e) room, not_exceeding parameters (pointer_of r) (constant_advance e) room, shown) refl
+
+  -- a special opcode of this line advance above the base, and of so many operations
+  makes-special : (r : ReadRow) (u n : ℕ) → 1 ≤ e.line_range → u < e.line_range → r.tombstone ≡ false → HasRoom parameters (pointer_of r) n
+      → Makes r (Special (13 + u + n * e.line_range) ∷ []) (record (moved_on e n r) { line = advanced_line (e.line_base +ℤ pos u) r.line })
+  makes-special r u n some lt shown room list =
+      let parts = special_parts e.line_range u n some lt in
+      rw (parts.0, parts.1, on-ahead parameters (pointer_of r) n room, not_exceeding parameters (pointer_of r) n room, shown) refl
+
+  -- the line after the advance to another line
+  advance_to : (l to : ℕ) (z : ℤ) → pos to ≡ pos l +ℤ z → to < 2 ^ 64 → advanced_line z l ≡ to
+  advance_to l to (pos n) h small = let whole : l + n ≡ to = omega (arith, ints) in rw whole (mod-eq_of_lt small)
+  advance_to l to (negsuc n) h small = omega (arith, ints)
+
+  -- the registers that a special opcode of this line advance above the base makes, and so many operations
+  abbrev made : ℕ → ℕ → ReadRow → ReadRow
+  made u n r = record (moved_on e n r) { line = advanced_line (e.line_base +ℤ pos u) r.line }
+
+  makes-copy : (r : ReadRow) → r.tombstone ≡ false → Makes r (Copy ∷ []) r
+  makes-copy r shown list = ap (λ (b : Bool). (if b then [] else row r ∷ []) ++ run parameters (reset_row parameters r) list) shown
+
+  -- the last instruction of a row
+  makes-row : (r : ReadRow) (u n : ℕ) → CanEncode e → u < e.line_range → r.tombstone ≡ false → r.line < 2 ^ 64 → HasRoom parameters (pointer_of r) n
+      → Makes r (row_maker e (13 + u + n * e.line_range) ∷ []) (made u n r)
+  makes-row r u n can lt shown small room list = by (nat_eq (13 + u + n * e.line_range) (still_opcode e)) refl
+    where
+      by : (b : Bool) → nat_eq (13 + u + n * e.line_range) (still_opcode e) ≡ b
+          → run parameters r ((if b then Copy else Special (13 + u + n * e.line_range)) ∷ list) ≡ row (made u n r) ∷ run parameters (reset_row parameters (made u n r)) list
+      by false t = makes-special r u n (omega (arith, lt)) lt shown room list
+      by true t =
+          let g = e.line_range in
+          let same : 13 + u + n * g ≡ still_opcode e = grind (arith, nat_tests) in
+          let idle : n ≡ 0 = none_of n u g (unsigned_abs e.line_base) (omega (arith, same)) (omega (arith, ints, can.base, can.above)) in
+          let product = ap (λ (x : ℕ). x * g) idle in
+          let low : u ≡ unsigned_abs e.line_base = omega (arith, same, product) in
+          let flat : e.line_base +ℤ pos u ≡ pos 0 = omega (arith, ints, low, can.base) in
+          let line : advanced_line (e.line_base +ℤ pos u) r.line ≡ r.line = rw flat (ap (λ (l : ℕ). l % 2 ^ 64) (add-zero r.line) ∙ mod-eq_of_lt small) in
+          let there : ahead e n (pointer_of r) ≡ pointer_of r = ap (λ (x : ℕ). ahead e x (pointer_of r)) idle ∙ ahead-none e (pointer_of r) room.within in
+          let stands : r ≡ made u n r = λ j. record (at_pointer (sym there j) r) { line = sym line j } in
+          makes-copy r shown list ∙ ap (λ (s : ReadRow). row s ∷ run parameters (reset_row parameters s) list) stands
+
+  -- the operations of a row, and the row
+  makes-operations : (r : ReadRow) (u n : ℕ) → CanEncode e → u < e.line_range → r.tombstone ≡ false → r.line < 2 ^ 64 → HasRoom parameters (pointer_of r) n
+      → Makes r (operation_part e (13 + u) n) (made u n r)
+  makes-operations r u n can lt shown small room list =
+      by (nat_le (13 + u + n * e.line_range) 255) refl (nat_le (13 + u + (n - constant_advance e) * e.line_range) 255)
+    where
+      by : (b : Bool) → nat_le (13 + u + n * e.line_range) 255 ≡ b → (c : Bool)
+          → run parameters r ((if b then row_maker e (13 + u + n * e.line_range) ∷ []
+          else (if c then ConstAddPc ∷ row_maker e (13 + u + (n - constant_advance e) * e.line_range) ∷ [] else AdvancePc n ∷ row_maker e (13 + u) ∷ [])) ++ list)
+          ≡ row (made u n r) ∷ run parameters (reset_row parameters (made u n r)) list
+      by true h c = makes-row r u n can lt shown small room list
+      by false h true =
+          let g = e.line_range in
+          let q = constant_advance e in
+          let over : 255 < 13 + u + n * g = grind (arith, nat_tests) in
+          let some : 1 ≤ g = omega (arith, lt) in
+          let enough : q ≤ n = enough_of g u n q some lt over (div-mul-le_self 242 g) in
+          let back : q + (n - q) ≡ n = omega arith in
+          let there : ahead e (n - q) (ahead e q (pointer_of r)) ≡ ahead e n (pointer_of r) = ahead-ahead e (pointer_of r) q (n - q) can.operations ∙ ap (λ (x : ℕ). ahead e x (pointer_of r)) back in
+          let s : ReadRow = moved_on e q r in
+          let same : made u (n - q) s ≡ made u n r = λ j. record (at_pointer (there j) r) { line = advanced_line (e.line_base +ℤ pos u) r.line } in
+          let first = goes-constant r shown (less_room parameters (pointer_of r) q n enough room) (row_maker e (13 + u + (n - q) * g) ∷ list) in
+          let second = makes-row s u (n - q) can lt shown small (rest_room parameters (pointer_of r) q n enough room) list in
+          first ∙ second ∙ ap (λ (x : ReadRow). row x ∷ run parameters (reset_row parameters x) list) same
+      by false h false =
+          let s : ReadRow = moved_on e n r in
+          let keeps_bytes : 13 + u ≡ 13 + u + 0 * e.line_range = omega arith in
+          let none_left : n - n ≡ 0 = omega arith in
+          let rest : HasRoom parameters (ahead e n (pointer_of r)) (n - n) = rest_room parameters (pointer_of r) n n (omega arith) room in
+          let room0 : HasRoom parameters (pointer_of s) 0 = rw none_left at rest in
+          let there : ahead e 0 (ahead e n (pointer_of r)) ≡ ahead e n (pointer_of r) = ahead-none e (ahead e n (pointer_of r)) room0.within in
+          let same : made u 0 s ≡ made u n r = λ j. record (at_pointer (there j) r) { line = advanced_line (e.line_base +ℤ pos u) r.line } in
+          let first = goes-advance r n shown room (row_maker e (13 + u) ∷ list) in
+          let second = makes-row s u 0 can lt shown small room0 list in
+          first ∙ ap (λ (x : ℕ). run parameters s (row_maker e x ∷ list)) keeps_bytes ∙ second ∙ ap (λ (x : ReadRow). row x ∷ run parameters (reset_row parameters x) list) same
+
+  -- the line and the operations of a row, and the row
+  makes-move : (r : ReadRow) (d : ℤ) (n to : ℕ) → CanEncode e → r.tombstone ≡ false → r.line < 2 ^ 64 → to < 2 ^ 64 → pos to ≡ pos r.line +ℤ d → HasRoom parameters (pointer_of r) n
+      → Makes r (line_part e d ++ operation_part e (line_opcode e d) n) (record (moved_on e n r) { line = to })
+  makes-move r d n to can shown small small' there room list = by (is_special_advance e d) refl
+    where
+      by : (b : Bool) → is_special_advance e d ≡ b
+          → run parameters r (((if b then [] else AdvanceLine d ∷ []) ++ operation_part e (if b then 13 + unsigned_abs (d -ℤ e.line_base) else still_opcode e) n) ++ list)
+          ≡ row (record (moved_on e n r) { line = to }) ∷ run parameters (reset_row parameters (record (moved_on e n r) { line = to })) list
+      by true t =
+          let two = and_parts (le_z e.line_base d) (lt_z d (e.line_base +ℤ pos e.line_range)) t in
+          let low : e.line_base ≤ℤ d = grind (arith, ints) in
+          let high : d <ℤ (e.line_base +ℤ pos e.line_range) = grind (arith, ints) in
+          let u = unsigned_abs (d -ℤ e.line_base) in
+          let lt : u < e.line_range = omega (arith, ints, low, high) in
+          let same : e.line_base +ℤ pos u ≡ d = omega (arith, ints, low) in
+          let line : advanced_line (e.line_base +ℤ pos u) r.line ≡ to = rw same (advance_to r.line to d there small') in
+          makes-operations r u n can lt shown small room list
+          ∙ ap (λ (l : ℕ). row (record (moved_on e n r) { line = l }) ∷ run parameters (reset_row parameters (record (moved_on e n r) { line = l })) list) line
+      by false t =
+          let s : ReadRow = record r { line = advanced_line d r.line } in
+          let u = unsigned_abs e.line_base in
+          let reached = advance_to r.line to d there small' in
+          let lt : u < e.line_range = omega (arith, ints, can.base, can.above) in
+          let flat : e.line_base +ℤ pos u ≡ pos 0 = omega (arith, ints, can.base) in
+          let small1 : s.line < 2 ^ 64 = rw reached small' in
+          let line : advanced_line (e.line_base +ℤ pos u) s.line ≡ to = rw (flat, reached) (ap (λ (l : ℕ). l % 2 ^ 64) (add-zero to) ∙ mod-eq_of_lt small') in
+          makes-operations s u n can lt shown small1 room list
+          ∙ ap (λ (l : ℕ). row (record (moved_on e n r) { line = l }) ∷ run parameters (reset_row parameters (record (moved_on e n r) { line = l })) list) line
+
+  -- ---- rows and ends
+
+  -- addresses have at most eight bytes
+  limit_small : IsTrue (is_address_size encoding.address_size) → address_limit parameters ≤ 2 ^ 64
+  limit_small known =
+      let small : encoding.address_size ≤ 8 = grind (arith, nat_tests) in
+      let bits : 8 * encoding.address_size ≤ 64 = omega (arith, small) in
+      pow-le-pow_right {n = 2} (lit< tt) bits
+
+  -- where the operations to a place that can follow lead
+  record Reaches (base p j o i : ℕ) : Type 0 where
+    room : HasRoom parameters (record { address = base + p; op_index = j }) (operations e p j o i)
+    there : ahead e (operations e p j o i) (record { address = base + p; op_index = j }) ≡ record { address = base + o; op_index = i }
+
+  reaches : (base p j o i : ℕ) → IsTrue (is_address_size encoding.address_size) → CanEncode e → IsPosition e p j → CanFollow e p j o i → base + o < 2 ^ (8 * encoding.address_size) → Reaches base p j o i
+  reaches base p j o i known can position follows held =
+      let k = e.maximum_operations_per_instruction in
+      let m = e.minimum_instruction_length in
+      let t = (o - p) / m in
+      let n = operations e p j o i in
+      let above = operations_above m k p j o i can.instruction_length position.divides follows.position.divides follows.after follows.later position.within in
+      let sum : j + n ≡ t * k + i = omega (arith, above) in
+      let apart = taken_apart k t i follows.position.within in
+      let q : (j + n) / k ≡ t = rw sum apart.0 in
+      let w : (j + n) % k ≡ i = rw sum apart.1 in
+      let whole = whole_steps m p o can.instruction_length position.divides follows.position.divides follows.after in
+      let a : base + p + m * ((j + n) / k) ≡ base + o = rw q (omega (arith, whole)) in
+      record {
+        room = record {
+          within = position.within;
+          count = omega (arith, sum, follows.fits);
+          address = rw a held;
+          limit = limit_small known;
+        };
+        there = λ x. record { address = a x; op_index = w x };
+      }
+
+  -- the instructions of a row make the row, from the registers after the row before it
+  pub row-runs : (base : ℕ) (previous built : LineRow) → IsTrue (is_address_size encoding.address_size) → CanEncode e → IsPosition e previous.address_offset previous.op_index
+      → CanFollow e previous.address_offset previous.op_index built.address_offset built.op_index → previous.line < 2 ^ 63 → built.line < 2 ^ 63 → base + built.address_offset < 2 ^ (8 * encoding.address_size)
+      → Makes (registers_after_row encoding.version base previous) (row_instructions encoding.version e previous built) (read_row encoding.version base built)
+  row-runs base previous built known can position follows from to held =
+      let version = encoding.version in
+      let r0 : ReadRow = registers_after_row version base previous in
+      let d = pos built.line -ℤ pos previous.line in
+      let n = operations e previous.address_offset previous.op_index built.address_offset built.op_index in
+      let r1 : ReadRow = record r0 { discriminator = built.discriminator; basic_block = built.basic_block; prologue_end = built.prologue_end; epilogue_begin = built.epilogue_begin } in
+      let r2 : ReadRow = record r1 { is_stmt = built.is_statement; file = file_number version built.file; column = built.column; isa = built.isa } in
+      let s1 = goes-marks r0 built refl refl refl refl in
+      let s2 = goes-changes r1 version previous built refl refl refl refl in
+      let apart : pos built.line ≡ pos previous.line +ℤ d = omega (arith, ints) in
+      let ends = reaches base previous.address_offset previous.op_index built.address_offset built.op_index known can position follows held in
+      let s3 = makes-move r2 d n built.line can refl (omega arith) (omega arith) apart ends.room in
+      let s4 : Makes r2 (line_part e d ++ operation_part e (line_opcode e d) n) (read_row version base built) =
+      λ list. s3 list ∙ ap (λ (p : OperationPointer). row (record (at_pointer p r2) { line = built.line }) ∷ run parameters (reset_row parameters (record (at_pointer p r2) { line = built.line })) list) ends.there in
+      let s12 = goes_then r0 r1 r2 (marks built) (changes version previous built) s1 s2 in
+      λ list. ap (λ (is : List Ins). run parameters r0 (is ++ list)) (append_assoc (marks built ++ changes version previous built) (line_part e d) (operation_part e (line_opcode e d) n))
+      ∙ makes_then r0 r2 (read_row version base built) (marks built ++ changes version previous built) (line_part e d ++ operation_part e (line_opcode e d) n) s12 s4 list
+
+  -- the instructions of an end make the end
+  pub end-runs : (base : ℕ) (previous : LineRow) (o i : ℕ) → IsTrue (is_address_size encoding.address_size) → CanEncode e → IsPosition e previous.address_offset previous.op_index
+      → CanFollow e previous.address_offset previous.op_index o i → base + o < 2 ^ (8 * encoding.address_size)
+      → Makes (registers_after_row encoding.version base previous) (end_instructions e previous o i) (read_end encoding.version base previous o i)
+  end-runs base previous o i known can position follows held =
+      let r : ReadRow = registers_after_row encoding.version base previous in
+      let n = operations e previous.address_offset previous.op_index o i in
+      let ends = reaches base previous.address_offset previous.op_index o i known can position follows held in
+      let s : ReadRow = at_pointer (record { address = base + o; op_index = i }) r in
+      let first : Goes r (when (not (nat_eq n 0)) (AdvancePc n)) s = keep r s (not (nat_eq n 0)) (AdvancePc n)
+      (λ h list. goes-advance r n refl ends.room list ∙ ap (λ (p : OperationPointer). run parameters (at_pointer p r) list) ends.there)
+      (λ h. let idle : n ≡ 0 = same_from_test n 0 h in
+      let there : pointer_of r ≡ record { address = base + o; op_index = i } = sym (ahead-none e (pointer_of r) position.within) ∙ ap (λ (x : ℕ). ahead e x (pointer_of r)) (sym idle) ∙ ends.there in
+      λ j. at_pointer (there j) r) in
+      makes_then r s (read_end encoding.version base previous o i) (when (not (nat_eq n 0)) (AdvancePc n)) (EndSequence ∷ []) first (λ list. refl)
+
+  -- a set address that doesn't go back moves the registers there
+  pub set-address-runs : (base a : ℕ) (previous : LineRow) → base + previous.address_offset ≤ a → a < 2 ^ (8 * encoding.address_size) - 2
+      → Goes (registers_after_row encoding.version base previous) (SetAddress a ∷ []) (registers_after_row encoding.version a (record previous { address_offset = 0; op_index = 0 }))
+  set-address-runs base a previous le lt list =
+      let low : nat_lt a (base + previous.address_offset) ≡ false = le-ltb a (base + previous.address_offset) le in
+      let high : nat_le (2 ^ (8 * encoding.address_size) - 2) a ≡ false = lt-leb (2 ^ (8 * encoding.address_size) - 2) a lt in
+      let from : a ≡ a + 0 = sym (add-zero a) in
+      rw (low, high) (ap (λ (x : ℕ). run parameters (at_pointer (record { address = x; op_index = 0 }) (registers_after_row encoding.version base previous)) list) from)
+
+  -- a sequence starts after its initial row
+  pub start-is : encoding.version ≤ 5 → initial parameters ≡ registers_after_row encoding.version 0 (initial_row encoding.version e.default_is_stmt)
+  start-is le = by (nat_eq encoding.version 5) refl
+    where
+      by : (b : Bool) → nat_eq encoding.version 5 ≡ b → initial parameters ≡ registers_after_row encoding.version 0 (record (initial_row encoding.version e.default_is_stmt) { file = if b then 1 else 0 })
+      by true h = let over : nat_le encoding.version 4 ≡ false = lt-leb encoding.version 4 (let five : encoding.version ≡ 5 = grind (arith, nat_tests) in omega (arith, five)) in rw over refl
+      by false h = let below : nat_le encoding.version 4 ≡ true = le-leb encoding.version 4 (let other : encoding.version ≤ 4 = grind (arith, nat_tests) in other) in rw below refl

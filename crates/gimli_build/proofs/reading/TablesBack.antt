@@ -1,0 +1,207 @@
+-- The tables of a written unit: their bytes spell them, and what is read of them stands for what was built.
+use Rattle.std.proofs.Common.{◌≡◌, ℕ, ◌<◌, ◌^◌, Bool, true, false, List, [], ◌∷◌, ◌++◌, length, drop, map, option_map, Option, None, slice_get, if◌then◌else◌, Ok, refl, sym, ap, ◌∙◌, arith, length-append}
+use Rattle.std.specs.Prelude.{Result, nat_le, replicate}
+use Rattle.std.specs.Option.{option_to_list}
+use Rattle.std.proofs.lemmas.Bool.{leb-true}
+use Rattle.std.proofs.lemmas.List.{append-nil}
+use Rattle.std.proofs.lemmas.List.Elements.{All-drop}
+use Rattle.gimli_core.specs.Notation.{Notation}
+use Rattle.gimli_core.specs.Values.{Value}
+use Rattle.gimli_core.specs.declared.common.Format.TheVariants.{Dwarf64}
+use Rattle.gimli_core.specs.declared.attribute_value.AttributeValue.TheVariants.{String}
+use Rattle.gimli_bytes.specs.Texts.{AreTexts, table_bytes}
+use Rattle.gimli_bytes.specs.declared.error.Error.{Error}
+use Rattle.gimli_line.specs.header.Header.{UnitEntry}
+use Rattle.gimli_line.specs.header.File.{File as ReadFile}
+use Rattle.gimli_line.specs.header.HeaderGrammar.{path_of, file_of_entry, handed_value, directory_table, file_table}
+use Rattle.gimli_line.specs.declared.header.file_entry.FileEntryFormat.{FileEntryFormat}
+use Rattle.gimli_build.specs.LineText.{LineText, bytes_in, HasNoZero}
+use Rattle.gimli_build.specs.Tables.{File, Details}
+use Rattle.gimli_build.specs.Texts.{Sections, OneByOne}
+use Rattle.gimli_build.specs.Stored.{Stored, stored_details}
+use Rattle.gimli_build.specs.Built.{Built}
+use Rattle.gimli_build.specs.inside.Conditions.{IsBuilt}
+use Rattle.gimli_build.specs.ReadsBack.{IsDirectory, IsFile}
+use Rattle.gimli_build.specs.Joined.{result_append}
+use Rattle.gimli_build.specs.Version4Tables.{directories_bytes, files_bytes}
+use Rattle.gimli_build.specs.Version5Tables.{directory_formats, file_formats, directory_table_bytes, file_table_bytes}
+use Rattle.gimli_build.specs.Unit.{tables_bytes}
+use Rattle.gimli_build.proofs.writing.WrittenParts.{both_written}
+use Rattle.gimli_build.proofs.spellings.TableSpellings.{read_file, directories-spelled, files-spelled}
+use Rattle.gimli_build.proofs.spellings.EncodingSpellings.{first-chosen, second-chosen}
+use Rattle.gimli_build.proofs.spellings.FormatForms.{read_format}
+use Rattle.gimli_build.proofs.reading.ReadyTexts.{AreReady}
+use Rattle.gimli_build.proofs.reading.HeldOffsets.{AreHeld}
+use Rattle.gimli_build.proofs.spellings.Version5TableSpellings.{directory_entry, file_entry, new-directories-spelled, new-files-spelled, new-directories-back, new-files-back}
+
+-- the directories from index 0 on: up to version 4 the one that was handed is the first
+abbrev from_zero : Built → UnitEntry → List Value → List Value
+from_zero p unit_entry directories = if nat_le p.encoding.version 4 then option_to_list (option_map String (handed_value p.encoding unit_entry.directory)) ++ directories else directories
+
+abbrev formats_of_directories : Built → List (ℕ × ℕ)
+formats_of_directories p = directory_formats p
+
+abbrev formats_of_files : Built → List (ℕ × ℕ)
+formats_of_files p = file_formats p
+
+-- what is read of the tables
+pub record TablesBack (notation : Notation) (unit_entry : UnitEntry) (sections : Sections) (p : Built) (strings line_strings : List (List ℕ)) (bytes : List ℕ) : Type 0 where
+  pub directory_formats : List FileEntryFormat
+  pub directories : List Value
+  pub file_formats : List FileEntryFormat
+  pub files : List ReadFile
+  pub directory_bytes : List ℕ
+  pub file_bytes : List ℕ
+  pub whole : bytes ≡ directory_bytes ++ file_bytes
+  pub directory_formats_are : nat_le p.encoding.version 4 ≡ false → directory_formats ≡ map read_format (formats_of_directories p)
+  pub file_formats_are : nat_le p.encoding.version 4 ≡ false → file_formats ≡ map read_format (formats_of_files p)
+  pub directories_spelled : (directory_table notation p.encoding).Spells directory_bytes (directory_formats, directories)
+  pub files_spelled : (file_table notation p.encoding).Spells file_bytes (file_formats, files)
+  pub directories_back : OneByOne (IsDirectory sections strings line_strings) (from_zero p unit_entry directories) p.directories
+  pub files_back : OneByOne (IsFile sections p strings line_strings) files p.files
+
+-- ---- up to version 4
+
+module _ (sections : Sections) (strings line_strings : List (List ℕ)) where
+  abbrev AreDirectories : List Value → List LineText → Type 0
+  AreDirectories values texts = OneByOne (IsDirectory sections strings line_strings) values texts
+
+  texts_back : (ts : List LineText) → AreDirectories (map String (map (bytes_in strings line_strings) ts)) ts
+  texts_back [] = tt
+  texts_back (t ∷ ts) = (refl, texts_back ts)
+
+  -- the first one is handed
+  abbrev with_handed : Option (List ℕ) → List LineText → List Value
+  with_handed handed ds = option_to_list (option_map String handed) ++ map String (map (bytes_in strings line_strings) (drop 1 ds))
+
+  handed_back : (ds : List LineText) → 0 < length ds → AreDirectories (with_handed (option_map (bytes_in strings line_strings) (slice_get ds 0)) ds) ds
+  handed_back [] some = absurd (omega (arith, some))
+  handed_back (d ∷ ds) some = (refl, texts_back ds)
+
+  -- what a file keeps
+  stored_old : (p : Built) (d : Details) → nat_le p.encoding.version 4 ≡ true → stored_details p strings line_strings d ≡ record { timestamp = d.timestamp; size = d.size; md5 = replicate 16 0; source = None }
+  stored_old p d old = rw old refl
+
+  file_back : (p : Built) (f : File) → nat_le p.encoding.version 4 ≡ true → IsFile sections p strings line_strings (read_file strings line_strings f) f
+  file_back p f old =
+      let same = stored_old p f.1 old in
+      record {
+        path = refl;
+        directory = refl;
+        timestamp = sym (ap (λ (s : Stored). s.timestamp) same);
+        size = sym (ap (λ (s : Stored). s.size) same);
+        md5 = sym (ap (λ (s : Stored). s.md5) same);
+        source = rw (ap (λ (s : Stored). s.source) same) tt;
+      }
+
+  files_back : (p : Built) (fs : List File) → nat_le p.encoding.version 4 ≡ true → OneByOne (IsFile sections p strings line_strings) (map (read_file strings line_strings) fs) fs
+  files_back p [] old = tt
+  files_back p (f ∷ fs) old = (file_back p f old, files_back p fs old)
+
+module _ (notation : Notation) (unit_entry : UnitEntry) (sections : Sections) (p : Built) (strings line_strings : List (List ℕ)) (built : IsBuilt p) where
+  module _ (old : nat_le p.encoding.version 4 ≡ true) where
+    old_directories_spelled : (bytes : List ℕ) → directories_bytes p.directories ≡ Ok bytes
+        → (directory_table notation p.encoding).Spells bytes ([], map String (map (bytes_in strings line_strings) (drop 1 p.directories)))
+    old_directories_spelled bytes is =
+        let clean = All-drop HasNoZero 1 p.directories built.tables.directories_end in
+        let spelled = directories-spelled strings line_strings p.directories bytes (built.is.directories_not_empty (leb-true p.encoding.version 4 old)) clean is in
+        first-chosen (nat_le p.encoding.version 4) _ _ bytes _ old (map (bytes_in strings line_strings) (drop 1 p.directories), bytes, [], sym (append-nil bytes), spelled, (refl, refl))
+
+    old_files_spelled : (bytes : List ℕ) → files_bytes p.files ≡ Ok bytes → (file_table notation p.encoding).Spells bytes ([], map (read_file strings line_strings) p.files)
+    old_files_spelled bytes is =
+        let spelled = files-spelled strings line_strings p.files bytes (built.is.paths_not_empty (leb-true p.encoding.version 4 old)) built.tables.paths_end built.files_fit is in
+        first-chosen (nat_le p.encoding.version 4) _ _ bytes _ old (map (read_file strings line_strings) p.files, bytes, [], sym (append-nil bytes), spelled, (refl, refl))
+
+    old_back : unit_entry.directory ≡ option_map (bytes_in strings line_strings) (slice_get p.directories 0)
+        → OneByOne (IsDirectory sections strings line_strings) (from_zero p unit_entry (map String (map (bytes_in strings line_strings) (drop 1 p.directories)))) p.directories
+    old_back known = rw (old, known) (handed_back sections strings line_strings p.directories (built.is.working_dir refl))
+
+    old_tables : (bytes : List ℕ) → unit_entry.directory ≡ option_map (bytes_in strings line_strings) (slice_get p.directories 0)
+        → result_append (directories_bytes p.directories) (files_bytes p.files) ≡ Ok bytes → TablesBack notation unit_entry sections p strings line_strings bytes
+    old_tables bytes known is =
+        let b = both_written (directories_bytes p.directories) (files_bytes p.files) bytes is in
+        record {
+          directory_formats = [];
+          directories = map String (map (bytes_in strings line_strings) (drop 1 p.directories));
+          file_formats = [];
+          files = map (read_file strings line_strings) p.files;
+          directory_bytes = b.first;
+          file_bytes = b.rest;
+          whole = b.whole;
+          directory_formats_are = λ new. absurd cc;
+          file_formats_are = λ new. absurd cc;
+          directories_spelled = old_directories_spelled b.first b.first_is;
+          files_spelled = old_files_spelled b.rest b.rest_is;
+          directories_back = old_back known;
+          files_back = files_back sections strings line_strings p p.files old;
+        }
+
+  -- ---- version 5
+
+  module _ (new : nat_le p.encoding.version 4 ≡ false) (ready : AreReady p strings line_strings) (strings_are : sections.strings ≡ table_bytes strings) (line_strings_are : sections.line_strings ≡ table_bytes line_strings)
+      (texts : AreTexts strings) (line_texts : AreTexts line_strings) (strings_short : length (table_bytes strings) < 2 ^ 64) (line_strings_short : length (table_bytes line_strings) < 2 ^ 64)
+      (held : p.encoding.format ≡ Dwarf64 → AreHeld notation.limit p strings line_strings) where
+    new_directories_spelled : (bytes : List ℕ) → directory_table_bytes notation.big p.encoding.format strings line_strings p ≡ Ok bytes → length bytes < 2 ^ 64
+        → (directory_table notation p.encoding).Spells bytes (map read_format (directory_formats p), map path_of (map (directory_entry strings line_strings) p.directories))
+    new_directories_spelled bytes is small =
+        let entries = map (directory_entry strings line_strings) p.directories in
+        let spelled = new-directories-spelled notation p strings line_strings ready strings_short line_strings_short held bytes is small in
+        second-chosen (nat_le p.encoding.version 4) _ _ bytes _ new ((map read_format (directory_formats p), entries), bytes, [], sym (append-nil bytes), spelled, (refl, refl))
+
+    new_files_spelled : (bytes : List ℕ) → file_table_bytes notation.big p.encoding.format strings line_strings p ≡ Ok bytes → length bytes < 2 ^ 64
+        → (file_table notation p.encoding).Spells bytes (map read_format (file_formats p), map file_of_entry (map (file_entry p strings line_strings) p.files))
+    new_files_spelled bytes is small =
+        let entries = map (file_entry p strings line_strings) p.files in
+        let spelled = new-files-spelled notation p strings line_strings ready strings_short line_strings_short held bytes is small in
+        second-chosen (nat_le p.encoding.version 4) _ _ bytes _ new ((map read_format (file_formats p), entries), bytes, [], sym (append-nil bytes), spelled, (refl, refl))
+
+    new_back : OneByOne (IsDirectory sections strings line_strings) (from_zero p unit_entry (map path_of (map (directory_entry strings line_strings) p.directories))) p.directories
+    new_back = rw new (new-directories-back sections p strings line_strings strings_are line_strings_are texts line_texts p.directories ready.directories)
+
+    new_tables : (bytes : List ℕ) → length bytes < 2 ^ 64
+        → result_append (directory_table_bytes notation.big p.encoding.format strings line_strings p) (file_table_bytes notation.big p.encoding.format strings line_strings p) ≡ Ok bytes
+        → TablesBack notation unit_entry sections p strings line_strings bytes
+    new_tables bytes small is =
+        let b = both_written (directory_table_bytes notation.big p.encoding.format strings line_strings p) (file_table_bytes notation.big p.encoding.format strings line_strings p) bytes is in
+        let whole = ap length b.whole ∙ length-append b.first b.rest in
+        record {
+          directory_formats = map read_format (directory_formats p);
+          directories = map path_of (map (directory_entry strings line_strings) p.directories);
+          file_formats = map read_format (file_formats p);
+          files = map file_of_entry (map (file_entry p strings line_strings) p.files);
+          directory_bytes = b.first;
+          file_bytes = b.rest;
+          whole = b.whole;
+          directory_formats_are = λ _. refl;
+          file_formats_are = λ _. refl;
+          directories_spelled = new_directories_spelled b.first b.first_is (omega (arith, whole, small));
+          files_spelled = new_files_spelled b.rest b.rest_is (omega (arith, whole, small));
+          directories_back = new_back;
+          files_back = new-files-back sections p strings line_strings strings_are line_strings_are texts line_texts p.files new ready.files;
+        }
+
+  -- ---- any version
+
+  -- how the tables have to be read
+  pub record AreReadWell : Type 0 where
+    pub directory : nat_le p.encoding.version 4 ≡ true → unit_entry.directory ≡ option_map (bytes_in strings line_strings) (slice_get p.directories 0)
+    pub ready : nat_le p.encoding.version 4 ≡ false → AreReady p strings line_strings
+    pub strings_are : sections.strings ≡ table_bytes strings
+    pub line_strings_are : sections.line_strings ≡ table_bytes line_strings
+    pub texts : AreTexts strings
+    pub line_texts : AreTexts line_strings
+    pub strings_short : length (table_bytes strings) < 2 ^ 64
+    pub line_strings_short : length (table_bytes line_strings) < 2 ^ 64
+    pub held : nat_le p.encoding.version 4 ≡ false → p.encoding.format ≡ Dwarf64 → AreHeld notation.limit p strings line_strings
+
+  pub tables-back : (bytes : List ℕ) → AreReadWell → length bytes < 2 ^ 64 → tables_bytes notation.big p strings line_strings ≡ Ok bytes → TablesBack notation unit_entry sections p strings line_strings bytes
+  tables-back bytes well small is =
+      by (nat_le p.encoding.version 4) refl (result_append (directories_bytes p.directories) (files_bytes p.files))
+      (result_append (directory_table_bytes notation.big p.encoding.format strings line_strings p) (file_table_bytes notation.big p.encoding.format strings line_strings p)) refl refl is
+    where
+      by : (b : Bool) → nat_le p.encoding.version 4 ≡ b → (r s : Result (List ℕ) Error) → r ≡ result_append (directories_bytes p.directories) (files_bytes p.files)
+          → s ≡ result_append (directory_table_bytes notation.big p.encoding.format strings line_strings p) (file_table_bytes notation.big p.encoding.format strings line_strings p)
+          → (if b then r else s) ≡ Ok bytes → TablesBack notation unit_entry sections p strings line_strings bytes
+      by true old r s first second is = old_tables old bytes (well.directory old) (sym first ∙ is)
+      by false new r s first second is =
+          new_tables new (well.ready new) well.strings_are well.line_strings_are well.texts well.line_texts well.strings_short well.line_strings_short (well.held new) bytes small (sym second ∙ is)

@@ -1,0 +1,107 @@
+-- What is read of the header of a written unit.
+use Rattle.std.proofs.Common.{◌≡◌, ℕ, ◌-◌, ◌<◌, ◌^◌, Bool, true, false, List, length, if◌then◌else◌, Ok, refl, ap, ◌∙◌, arith}
+use Rattle.std.specs.Prelude.{Result, Err, nat_le}
+use Rattle.std.proofs.lemmas.Bool.{leb-true, leb-false}
+use Rattle.gimli_core.specs.Notation.{Notation}
+use Rattle.gimli_core.specs.declared.common.Encoding.{Encoding}
+use Rattle.gimli_core.specs.declared.common.Format.TheVariants.{Dwarf64}
+use Rattle.gimli_bytes.specs.Texts.{AreTexts, byte_count}
+use Rattle.gimli_bytes.proofs.TextLemmas.{length-table_bytes}
+use Rattle.gimli_bytes.specs.declared.error.Error.{Error}
+use Rattle.gimli_bytes.specs.declared.error.Error.TheVariants.{IncompatibleLineProgramEncoding}
+use Rattle.gimli_line.specs.header.Header.{Header, UnitEntry}
+use Rattle.gimli_build.specs.Texts.{Sections, OneByOne}
+use Rattle.gimli_build.specs.Built.{Built}
+use Rattle.gimli_build.specs.Conditions.{CanWrite}
+use Rattle.gimli_build.specs.inside.Conditions.{IsBuilt}
+use Rattle.gimli_build.specs.SameRow.{built_rules}
+use Rattle.gimli_build.specs.Version5Tables.{strings_after, line_strings_after}
+use Rattle.gimli_build.specs.ReadsBack.{AreFormats, IsUnit, directories_from_zero, IsDirectory, IsFile, IsReadWell}
+use Rattle.gimli_build.specs.Unit.{operand_counts, program_bytes, whole_bytes, is_incompatible, unit_bytes}
+use Rattle.gimli_build.proofs.reading.ReadyTexts.{tables-ready}
+use Rattle.gimli_build.proofs.reading.HeldOffsets.{are-held}
+use Rattle.gimli_build.proofs.reading.TablesBack.{AreReadWell, tables-back}
+use Rattle.gimli_build.proofs.spellings.UnitSpellings.{UnitWritten, unit_written, fields_written, inside-short, fields-short, tables-short, header_of, unit-is}
+
+-- the bytes are a unit, and its header is what was built; its program is what was written of the items
+pub record HeaderBack (notation : Notation) (unit_entry : UnitEntry) (sections : Sections) (p : Built) (strings line_strings : List (List ℕ)) (unit : List ℕ) : Type 0 where
+  pub header : Header
+  pub is_unit : IsUnit notation unit_entry unit header
+  pub parameters : header.parameters ≡ built_rules p.encoding p.line_encoding
+  pub counts : header.operand_counts ≡ operand_counts
+  pub formats : nat_le p.encoding.version 4 ≡ false → AreFormats p header
+  pub directories : OneByOne (IsDirectory sections strings line_strings) (directories_from_zero header) p.directories
+  pub files : OneByOne (IsFile sections p strings line_strings) header.files p.files
+  pub program : program_bytes notation.big p ≡ Ok header.program
+
+-- a unit that is written is written whole
+pub whole_written : (big : Bool) (unit_encoding : Encoding) (p : Built) (old_strings old_line_strings : List (List ℕ)) (unit : List ℕ) → unit_bytes big unit_encoding p old_strings old_line_strings ≡ Ok unit
+    → whole_bytes big p (strings_after p old_strings) (line_strings_after p old_line_strings) ≡ Ok unit
+whole_written big unit_encoding p old_strings old_line_strings unit is =
+    by (is_incompatible unit_encoding p.encoding) (whole_bytes big p (strings_after p old_strings) (line_strings_after p old_line_strings)) is
+  where
+    by : (b : Bool) (r : Result (List ℕ) Error) → (let s : Result (List ℕ) Error = if b then Err IncompatibleLineProgramEncoding else r in s) ≡ Ok unit → r ≡ Ok unit
+    by true r is = absurd cc
+    by false r is = is
+
+module _ (notation : Notation) (unit_entry : UnitEntry) (sections : Sections) (p : Built) (built : IsBuilt p) where
+  whole_back : (strings line_strings : List (List ℕ)) (unit : List ℕ) → AreReadWell notation unit_entry sections p strings line_strings built → unit_entry.address_size ≡ p.encoding.address_size
+      → (p.encoding.format ≡ Dwarf64 → length unit - 12 < notation.limit) → length unit < 2 ^ 64 → UnitWritten notation.big p strings line_strings unit → HeaderBack notation unit_entry sections p strings line_strings unit
+  whole_back strings line_strings unit well same holds small w =
+      let v = fields_written notation.big p strings line_strings w.fields w.fields_are in
+      let inside = inside-short notation.big p strings line_strings unit w in
+      let fields = fields-short notation.big p strings line_strings unit w in
+      let tables = tables-short notation.big p strings line_strings w.fields v in
+      let t = tables-back notation unit_entry sections p strings line_strings built v.tables well (omega (arith, inside, fields, tables, small)) v.tables_are in
+      record {
+        header = header_of notation unit_entry sections p strings line_strings built v.tables t (length w.inside) (length w.fields) w.program;
+        is_unit = unit-is notation unit_entry sections p strings line_strings built unit w v t same holds small;
+        parameters = refl;
+        counts = refl;
+        formats = λ new. record { directories = t.directory_formats_are new; files = t.file_formats_are new };
+        directories = t.directories_back;
+        files = t.files_back;
+        program = w.program_is;
+      }
+
+  -- how the unit is read, the tables are
+  read_well : (old_strings old_line_strings : List (List ℕ)) (unit : List ℕ) → CanWrite p old_strings old_line_strings → AreTexts (strings_after p old_strings) → AreTexts (line_strings_after p old_line_strings)
+      → byte_count (strings_after p old_strings) < 2 ^ 64 → byte_count (line_strings_after p old_line_strings) < 2 ^ 64
+      → IsReadWell notation unit_entry sections notation.big p (strings_after p old_strings) (line_strings_after p old_line_strings) unit
+      → AreReadWell notation unit_entry sections p (strings_after p old_strings) (line_strings_after p old_line_strings) built
+  read_well old_strings old_line_strings unit can texts line_texts short line_short well = record {
+    directory = λ old. well.directory (leb-true p.encoding.version 4 old);
+    ready = λ new. tables-ready p old_strings old_line_strings new built can;
+    strings_are = well.strings_are;
+    line_strings_are = well.line_strings_are;
+    texts = texts;
+    line_texts = line_texts;
+    strings_short = rw (length-table_bytes (strings_after p old_strings)) short;
+    line_strings_short = rw (length-table_bytes (line_strings_after p old_line_strings)) line_short;
+    held = λ new wide. are-held notation.limit p (strings_after p old_strings) (line_strings_after p old_line_strings) new
+        (let above = leb-false p.encoding.version 4 new in well.texts_held (omega (arith, above)) wide);
+  }
+
+-- a unit whose length 64 bits hold
+pub header-back : (notation : Notation) (unit_entry : UnitEntry) (sections : Sections) (big : Bool) (unit_encoding : Encoding) (p : Built) (old_strings old_line_strings : List (List ℕ)) (unit : List ℕ)
+    → length unit < 2 ^ 64 → IsBuilt p → CanWrite p old_strings old_line_strings → AreTexts (strings_after p old_strings) → AreTexts (line_strings_after p old_line_strings)
+    → byte_count (strings_after p old_strings) < 2 ^ 64 → byte_count (line_strings_after p old_line_strings) < 2 ^ 64
+    → unit_bytes big unit_encoding p old_strings old_line_strings ≡ Ok unit → IsReadWell notation unit_entry sections big p (strings_after p old_strings) (line_strings_after p old_line_strings) unit
+    → HeaderBack notation unit_entry sections p (strings_after p old_strings) (line_strings_after p old_line_strings) unit
+header-back notation unit_entry sections big unit_encoding p old_strings old_line_strings unit small built can texts line_texts short line_short is well =
+    let strings = strings_after p old_strings in
+    let line_strings = line_strings_after p old_line_strings in
+    let whole : whole_bytes notation.big p strings line_strings ≡ Ok unit =
+    ap (λ (b : Bool). whole_bytes b p strings line_strings) well.order ∙ whole_written big unit_encoding p old_strings old_line_strings unit is in
+    let same : IsReadWell notation unit_entry sections notation.big p strings line_strings unit = record {
+      order = refl;
+      address_size = well.address_size;
+      directory = well.directory;
+      strings_are = well.strings_are;
+      line_strings_are = well.line_strings_are;
+      instructions_held = well.instructions_held;
+      length_held = well.length_held;
+      texts_held = well.texts_held;
+    } in
+    whole_back notation unit_entry sections p built strings line_strings unit (read_well notation unit_entry sections p built old_strings old_line_strings unit can texts line_texts short line_short same)
+    same.address_size same.length_held small (unit_written notation.big p strings line_strings unit whole)

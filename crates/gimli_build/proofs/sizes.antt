@@ -1,0 +1,6 @@
+-- How many bytes what is written has.
+pub mod Steps
+pub mod RowSizes
+pub mod PartSizes
+pub mod TableSizes
+pub mod UnitSizes

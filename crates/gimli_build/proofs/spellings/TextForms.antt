@@ -1,0 +1,110 @@
+-- The texts of a table of version 5 as values: their bytes spell these, and these stand for the texts.
+use Rattle.std.proofs.Common.{◌≡◌, ◌≢◌, ℕ, ◌+◌, ◌<◌, ◌^◌, Bool, true, false, List, [], ◌∷◌, ◌++◌, length, drop, get_or, Some, Ok, refl, sym, ap, ◌∙◌, subst, arith, if◌then◌else◌, length-append}
+use Rattle.std.specs.Prelude.{Result, Err, nat_eq, slice_get, unwrap_or}
+use Rattle.std.proofs.lemmas.Bool.{eqb-true}
+use Rattle.std.proofs.lemmas.List.{append-nil, length-drop}
+use Rattle.std.proofs.lemmas.List.Elements.{recursion_from_All}
+use Rattle.std.proofs.lemmas.Option.{slice_get-get_or}
+use Rattle.gimli_core.specs.Notation.{Notation}
+use Rattle.gimli_core.specs.Values.{Value}
+use Rattle.gimli_core.specs.Form.{form_production}
+use Rattle.gimli_core.specs.inside.Form.{SpellsForm}
+use Rattle.gimli_core.specs.declared.common.Format.{Format}
+use Rattle.gimli_core.specs.declared.common.Format.TheVariants.{Dwarf64}
+use Rattle.gimli_core.specs.declared.attribute_value.AttributeValue.TheVariants.{String, DebugStrRef, DebugLineStrRef}
+use Rattle.gimli_bytes.specs.Texts.{AreTexts, table_bytes, offset_of}
+use Rattle.gimli_bytes.specs.declared.error.Error.{Error}
+use Rattle.gimli_bytes.specs.declared.error.Error.TheVariants.{LineStringFormMismatch}
+use Rattle.gimli_bytes.proofs.TextLemmas.{table_bytes-at}
+use Rattle.gimli_build.specs.LineText.{LineText, Inline, InStrings, InLineStrings, IsWithin, HasNoZero, bytes_in}
+use Rattle.gimli_build.specs.Texts.{Sections, IsTextAt, IsText}
+use Rattle.gimli_build.specs.Version5Tables.{text_form, text_bytes, text_in_form}
+use Rattle.gimli_build.specs.ReadsBack.{IsOffsetHeld}
+use Rattle.gimli_build.proofs.writing.WrittenParts.{same_written}
+use Rattle.gimli_build.proofs.spellings.EncodingSpellings.{offset-spelled, word-long}
+
+-- ---- a text of a table
+
+-- an offset of a text is below the length of its section
+offset_short : (texts : List (List ℕ)) (i : ℕ) → i < length texts → offset_of texts i < length (table_bytes texts)
+offset_short texts i within =
+    let text = get_or texts i [] in
+    let there = ap length (table_bytes-at texts i text (slice_get-get_or texts i [] within)) in
+    let more = length-append text (0 ∷ table_bytes (drop (i + 1) texts)) in
+    let left = length-drop (offset_of texts i) (table_bytes texts) in
+    omega (arith, there, more, left)
+
+-- a text stands in the section of its table
+text_there : (section : List ℕ) (texts : List (List ℕ)) (i : ℕ) → section ≡ table_bytes texts → AreTexts texts → i < length texts → IsTextAt section (offset_of texts i) (unwrap_or (slice_get texts i) [])
+text_there section texts i same are within =
+    let text = get_or texts i [] in
+    let found : slice_get texts i ≡ Some text = slice_get-get_or texts i [] within in
+    rw found (record {
+      rest = table_bytes (drop (i + 1) texts);
+      there = ap (drop (offset_of texts i)) same ∙ table_bytes-at texts i text found;
+      no_zero = are.no_zero i [] within;
+    })
+
+-- ---- texts as values
+
+-- a text is its bytes, or an offset
+abbrev pub read_text : List (List ℕ) → List (List ℕ) → LineText → Value
+read_text strings line_strings (Inline text) = String text
+read_text strings line_strings (InStrings i) = DebugStrRef (record { 0 = offset_of strings i })
+read_text strings line_strings (InLineStrings i) = DebugLineStrRef (record { 0 = offset_of line_strings i })
+
+-- a text can be read back
+pub record IsReady (strings line_strings : List (List ℕ)) (t : LineText) : Type 0 where
+  pub clean : HasNoZero t
+  pub within : IsWithin strings line_strings t
+
+module _ (notation : Notation) (format : Format) (strings line_strings : List (List ℕ))
+    (strings_short : length (table_bytes strings) < 2 ^ 64) (line_strings_short : length (table_bytes line_strings) < 2 ^ 64) where
+  text_spelled : (t : LineText) (bytes : List ℕ) → HasNoZero t → IsWithin strings line_strings t → (format ≡ Dwarf64 → IsOffsetHeld notation.limit strings line_strings t)
+      → text_bytes notation.big format strings line_strings t ≡ Ok bytes → (form_production notation format (text_form t)).Spells bytes (read_text strings line_strings t)
+  text_spelled (Inline text) bytes clean within held is =
+      (text, bytes, [], sym (append-nil bytes), (recursion_from_All (λ b. b ≢ 0) text clean, same_written (text ++ 0 ∷ []) bytes is), (refl, refl))
+  text_spelled (InStrings i) bytes clean within held is =
+      let short = offset_short strings i within in
+      (offset_of strings i, bytes, [], sym (append-nil bytes), offset-spelled notation format (offset_of strings i) bytes held (omega (arith, short, strings_short)) is, (refl, refl))
+  text_spelled (InLineStrings i) bytes clean within held is =
+      let short = offset_short line_strings i within in
+      (offset_of line_strings i, bytes, [], sym (append-nil bytes), offset-spelled notation format (offset_of line_strings i) bytes held (omega (arith, short, line_strings_short)) is, (refl, refl))
+
+  -- a text that has the form of its table
+  pub text-spelled : (form : ℕ) (t : LineText) (bytes : List ℕ) → IsReady strings line_strings t → (format ≡ Dwarf64 → IsOffsetHeld notation.limit strings line_strings t)
+      → text_in_form notation.big format strings line_strings form t ≡ Ok bytes
+      → SpellsForm notation format form bytes (read_text strings line_strings t)
+  text-spelled form t bytes ready held is = by (nat_eq (text_form t) form) refl is
+    where
+      by : (b : Bool) → nat_eq (text_form t) form ≡ b
+          → (let r : Result (List ℕ) Error = if b then text_bytes notation.big format strings line_strings t else Err LineStringFormMismatch in r) ≡ Ok bytes
+          → SpellsForm notation format form bytes (read_text strings line_strings t)
+      by true same is =
+          subst (λ (n : ℕ). SpellsForm notation format n bytes (read_text strings line_strings t)) (eqb-true (text_form t) form same)
+          (text_spelled t bytes ready.clean ready.within held is)
+      by false same is = absurd cc
+
+-- at least one byte is written of a text
+text_long : (big : Bool) (format : Format) (strings line_strings : List (List ℕ)) (t : LineText) (bytes : List ℕ) → text_bytes big format strings line_strings t ≡ Ok bytes → 0 < length bytes
+text_long big format strings line_strings (Inline text) bytes is =
+    let long = ap length (same_written (text ++ 0 ∷ []) bytes is) ∙ length-append text (0 ∷ []) in
+    omega (arith, long)
+text_long big format strings line_strings (InStrings i) bytes is = word-long big format (offset_of strings i) bytes is
+text_long big format strings line_strings (InLineStrings i) bytes is = word-long big format (offset_of line_strings i) bytes is
+
+pub text-long : (big : Bool) (format : Format) (strings line_strings : List (List ℕ)) (form : ℕ) (t : LineText) (bytes : List ℕ) → text_in_form big format strings line_strings form t ≡ Ok bytes → 0 < length bytes
+text-long big format strings line_strings form t bytes is = by (nat_eq (text_form t) form) is
+  where
+    by : (b : Bool) → (let r : Result (List ℕ) Error = if b then text_bytes big format strings line_strings t else Err LineStringFormMismatch in r) ≡ Ok bytes → 0 < length bytes
+    by true is = text_long big format strings line_strings t bytes is
+    by false is = absurd cc
+
+-- ---- back
+
+-- what is read of a text stands for it, with the sections of the tables
+pub text-back : (sections : Sections) (strings line_strings : List (List ℕ)) → sections.strings ≡ table_bytes strings → sections.line_strings ≡ table_bytes line_strings → AreTexts strings → AreTexts line_strings
+    → (t : LineText) → IsWithin strings line_strings t → IsText sections (read_text strings line_strings t) (bytes_in strings line_strings t)
+text-back sections strings line_strings strings_are line_strings_are texts line_texts (Inline text) within = refl
+text-back sections strings line_strings strings_are line_strings_are texts line_texts (InStrings i) within = text_there sections.strings strings i strings_are texts within
+text-back sections strings line_strings strings_are line_strings_are texts line_texts (InLineStrings i) within = text_there sections.line_strings line_strings i line_strings_are line_texts within

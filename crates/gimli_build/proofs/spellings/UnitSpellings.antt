@@ -1,0 +1,268 @@
+-- The bytes of a unit spell a header.
+use Rattle.std.proofs.Common.{◌≡◌, ℕ, ◌+◌, ◌-◌, ◌<◌, ◌≤◌, ◌^◌, Bool, List, [], ◌∷◌, ◌++◌, length, option_map, Ok, if◌then◌else◌, refl, sym, ap, ◌∙◌, arith, append_assoc}
+use Rattle.std.specs.Prelude.{Result, nat_le}
+use Rattle.std.proofs.lemmas.List.{append-nil, length-append}
+use Rattle.gimli_core.specs.Notation.{Notation}
+use Rattle.gimli_core.specs.Numbers.{number_bytes}
+use Rattle.gimli_core.specs.declared.common.Format.{Format}
+use Rattle.gimli_core.specs.declared.common.Format.TheVariants.{Dwarf32, Dwarf64}
+use Rattle.gimli_core.specs.declared.error.Error.TheVariants.{OpcodeBaseZero}
+use Rattle.gimli_bytes.specs.Number.{length_word}
+use Rattle.gimli_bytes.specs.declared.error.Error.{Error}
+use Rattle.gimli_line.specs.header.Header.{Header, UnitEntry, plain_file}
+use Rattle.gimli_line.specs.header.HeaderGrammar.{Opening, handed_value, parameters_production, opening_production, fields_production, header_production}
+use Rattle.gimli_build.specs.Built.{Built}
+use Rattle.gimli_build.specs.inside.Conditions.{IsBuilt}
+use Rattle.gimli_build.specs.Texts.{Sections}
+use Rattle.gimli_build.specs.SameRow.{built_rules}
+use Rattle.gimli_build.specs.ReadsBack.{IsUnit}
+use Rattle.gimli_build.specs.FormatWord.{format_word}
+use Rattle.gimli_build.specs.Joined.{result_append}
+use Rattle.gimli_build.specs.Unit.{version_bytes, opening_bytes, line_encoding_bytes, operand_counts, opcode_bytes, tables_bytes, fields_bytes, header_bytes, program_bytes, inside_bytes, escape_bytes, whole_bytes}
+use Rattle.gimli_build.proofs.writing.Frames.{size_4, size_8}
+use Rattle.gimli_build.proofs.writing.WrittenParts.{same_written, both_written, after_written, before_written, counted_written}
+use Rattle.gimli_build.proofs.spellings.EncodingSpellings.{positive-spelled, encoding-spelled, version-spelled, address-spelled, offset-spelled, length-spelled}
+use Rattle.gimli_build.proofs.reading.TablesBack.{TablesBack}
+
+-- ---- a unit that was written, and its parts
+
+pub record UnitWritten (big : Bool) (p : Built) (strings line_strings : List (List ℕ)) (unit : List ℕ) : Type 0 where
+  pub length_bytes : List ℕ
+  pub opening : List ℕ
+  pub size : List ℕ
+  pub fields : List ℕ
+  pub program : List ℕ
+  pub inside : List ℕ
+  pub length_is : length_word big p.encoding.format (length inside) ≡ Ok length_bytes
+  pub opening_is : opening_bytes big p.encoding ≡ Ok opening
+  pub size_is : format_word big p.encoding.format (length fields) ≡ Ok size
+  pub fields_are : fields_bytes big p strings line_strings ≡ Ok fields
+  pub program_is : program_bytes big p ≡ Ok program
+  pub inside_is : inside ≡ opening ++ ((size ++ fields) ++ program)
+  pub whole : unit ≡ (escape_bytes big p.encoding.format ++ length_bytes) ++ inside
+
+-- a front in two parts
+front_in_two : (whole front rest first second : List ℕ) → whole ≡ front ++ rest → front ≡ first ++ second → whole ≡ (first ++ second) ++ rest
+front_in_two whole front rest first second is parts = is ∙ ap (λ (l : List ℕ). l ++ rest) parts
+
+-- a rest in three parts
+rest_in_three : (whole first rest header size fields last : List ℕ) → whole ≡ first ++ rest → rest ≡ header ++ last → header ≡ size ++ fields → whole ≡ first ++ ((size ++ fields) ++ last)
+rest_in_three whole first rest header size fields last is parts inner = is ∙ ap (λ (l : List ℕ). first ++ l) (parts ∙ ap (λ (l : List ℕ). l ++ last) inner)
+
+pub unit_written : (big : Bool) (p : Built) (strings line_strings : List (List ℕ)) (unit : List ℕ) → whole_bytes big p strings line_strings ≡ Ok unit → UnitWritten big p strings line_strings unit
+unit_written big p strings line_strings unit is =
+    let escape = escape_bytes big p.encoding.format in
+    let word : ℕ → Result (List ℕ) Error = λ n. length_word big p.encoding.format n in
+    let a = counted_written (λ n. result_append (Ok escape) (word n)) (inside_bytes big p strings line_strings) unit is in
+    let b = after_written escape (word (length a.inside)) a.size a.size_is in
+    let c = both_written (opening_bytes big p.encoding) (result_append (header_bytes big p strings line_strings) (program_bytes big p)) a.inside a.inside_is in
+    let d = both_written (header_bytes big p strings line_strings) (program_bytes big p) c.rest c.rest_is in
+    let e = counted_written (λ n. format_word big p.encoding.format n) (fields_bytes big p strings line_strings) d.first d.first_is in
+    record {
+      length_bytes = b.rest;
+      opening = c.first;
+      size = e.size;
+      fields = e.inside;
+      program = d.rest;
+      inside = a.inside;
+      length_is = b.rest_is;
+      opening_is = c.first_is;
+      size_is = e.size_is;
+      fields_are = e.inside_is;
+      program_is = d.rest_is;
+      inside_is = rest_in_three a.inside c.first c.rest d.first e.size e.inside d.rest c.whole d.whole e.whole;
+      whole = front_in_two unit a.size a.inside escape b.rest a.whole b.whole;
+    }
+
+-- the fields, and their parts
+pub record FieldsWritten (big : Bool) (p : Built) (strings line_strings : List (List ℕ)) (fields : List ℕ) : Type 0 where
+  encoding : List ℕ
+  pub tables : List ℕ
+  encoding_is : line_encoding_bytes p.encoding.version p.line_encoding ≡ Ok encoding
+  pub tables_are : tables_bytes big p strings line_strings ≡ Ok tables
+  whole : fields ≡ (encoding ++ 13 ∷ []) ++ (operand_counts ++ tables)
+
+pub fields_written : (big : Bool) (p : Built) (strings line_strings : List (List ℕ)) (fields : List ℕ) → fields_bytes big p strings line_strings ≡ Ok fields → FieldsWritten big p strings line_strings fields
+fields_written big p strings line_strings fields is =
+    let a = both_written (line_encoding_bytes p.encoding.version p.line_encoding) (result_append (Ok opcode_bytes) (tables_bytes big p strings line_strings)) fields is in
+    let b = after_written opcode_bytes (tables_bytes big p strings line_strings) a.rest a.rest_is in
+    record {
+      encoding = a.first;
+      tables = b.rest;
+      encoding_is = a.first_is;
+      tables_are = b.rest_is;
+      whole = a.whole ∙ ap (λ (l : List ℕ). a.first ++ l) b.whole ∙ sym (append_assoc a.first (13 ∷ []) (operand_counts ++ b.rest));
+    }
+
+-- what is written of a unit is no longer than the unit
+pub inside-short : (big : Bool) (p : Built) (strings line_strings : List (List ℕ)) (unit : List ℕ) (w : UnitWritten big p strings line_strings unit) → length w.inside ≤ length unit
+inside-short big p strings line_strings unit w =
+    let whole = ap (λ (l : List ℕ). length l) w.whole in
+    omega (arith, whole, length-append (escape_bytes big p.encoding.format ++ w.length_bytes) w.inside)
+
+-- in the 64-bit format twelve bytes stand before what the unit length counts
+length_wide : (big : Bool) (format : Format) (n : ℕ) (word : List ℕ) → format ≡ Dwarf64 → length_word big format n ≡ Ok word → length (escape_bytes big format ++ word) ≡ 12
+length_wide big Dwarf32 n word wide is = absurd cc
+length_wide big Dwarf64 n word wide is =
+    let whole = length-append (escape_bytes big Dwarf64) word in
+    let escape = size_4 big 0xffff_ffff in
+    let eight = ap length (same_written (number_bytes big 8 n) word is) ∙ size_8 big n in
+    omega (arith, whole, escape, eight)
+
+inside-wide : (big : Bool) (p : Built) (strings line_strings : List (List ℕ)) (unit : List ℕ) (w : UnitWritten big p strings line_strings unit) → p.encoding.format ≡ Dwarf64 → length w.inside + 12 ≡ length unit
+inside-wide big p strings line_strings unit w wide =
+    let whole = ap (λ (l : List ℕ). length l) w.whole in
+    let front = length_wide big p.encoding.format (length w.inside) w.length_bytes wide w.length_is in
+    omega (arith, whole, front, length-append (escape_bytes big p.encoding.format ++ w.length_bytes) w.inside)
+
+pub fields-short : (big : Bool) (p : Built) (strings line_strings : List (List ℕ)) (unit : List ℕ) (w : UnitWritten big p strings line_strings unit) → length w.fields ≤ length w.inside
+fields-short big p strings line_strings unit w =
+    let whole = ap (λ (l : List ℕ). length l) w.inside_is in
+    omega (arith, whole, length-append w.opening ((w.size ++ w.fields) ++ w.program), length-append (w.size ++ w.fields) w.program, length-append w.size w.fields)
+
+-- the tables are no longer than the fields
+pub tables-short : (big : Bool) (p : Built) (strings line_strings : List (List ℕ)) (fields : List ℕ) (w : FieldsWritten big p strings line_strings fields) → length w.tables ≤ length fields
+tables-short big p strings line_strings fields w =
+    let whole = ap (λ (l : List ℕ). length l) w.whole in
+    omega (arith, whole, length-append (w.encoding ++ 13 ∷ []) (operand_counts ++ w.tables), length-append operand_counts w.tables)
+
+-- ---- the header
+
+module _ (notation : Notation) (unit_entry : UnitEntry) (sections : Sections) (p : Built) (strings line_strings : List (List ℕ)) (built : IsBuilt p) where
+  abbrev pub Tables : List ℕ → Type 0
+  Tables bytes = TablesBack notation unit_entry sections p strings line_strings bytes
+
+  abbrev pub header_of : (bytes : List ℕ) → Tables bytes → ℕ → ℕ → List ℕ → Header
+  header_of bytes t unit_size fields_size program = record {
+    parameters = built_rules p.encoding p.line_encoding;
+    unit_length = unit_size;
+    header_length = fields_size;
+    operand_counts = operand_counts;
+    directory_formats = t.directory_formats;
+    directories = t.directories;
+    file_formats = t.file_formats;
+    files = t.files;
+    program = program;
+    comp_dir = handed_value p.encoding unit_entry.directory;
+    comp_file = handed_value p.encoding (option_map (λ path. plain_file path 0 0 0) unit_entry.name);
+  }
+
+  abbrev opening_of : List ℕ → Opening
+  opening_of fields = record { encoding = p.encoding; header_length = length fields; fields = fields }
+
+  rules_spelled : (bytes : List ℕ) → line_encoding_bytes p.encoding.version p.line_encoding ≡ Ok bytes → (parameters_production p.encoding).Spells (bytes ++ 13 ∷ []) (built_rules p.encoding p.line_encoding)
+  rules_spelled bytes is =
+      (p.line_encoding, bytes, 13 ∷ [], refl, encoding-spelled p.encoding.version p.line_encoding bytes built.is.lines is, (13, 13 ∷ [], [], refl, positive-spelled 13 OpcodeBaseZero (omega arith), (refl, refl)))
+
+  fields_spelled : (unit_size : ℕ) (fields program : List ℕ) (w : FieldsWritten notation.big p strings line_strings fields) (t : Tables w.tables)
+      → (fields_production notation unit_entry unit_size (opening_of fields) program).Spells fields (header_of w.tables t unit_size (length fields) program)
+  fields_spelled unit_size fields program w t = (
+    built_rules p.encoding p.line_encoding,
+    w.encoding ++ 13 ∷ [],
+    operand_counts ++ w.tables,
+    w.whole,
+    rules_spelled w.encoding w.encoding_is,
+    (
+      operand_counts,
+      operand_counts,
+      w.tables,
+      refl,
+      (refl, refl),
+      (
+        (t.directory_formats, t.directories),
+        t.directory_bytes,
+        t.file_bytes,
+        t.whole,
+        t.directories_spelled,
+        ((t.file_formats, t.files), t.file_bytes, [], sym (append-nil t.file_bytes), t.files_spelled, (refl, refl)),
+      ),
+    ),
+  )
+
+  -- the fields in front of those, read with the address size of the program
+  opening_spelled : (opening size fields : List ℕ) → unit_entry.address_size ≡ p.encoding.address_size → (p.encoding.format ≡ Dwarf64 → length fields < notation.limit) → length fields < 2 ^ 64
+      → opening_bytes notation.big p.encoding ≡ Ok opening → format_word notation.big p.encoding.format (length fields) ≡ Ok size
+      → (opening_production notation unit_entry.address_size p.encoding.format).Spells (opening ++ (size ++ fields)) (opening_of fields)
+  opening_spelled opening size fields same holds small opening_is size_is =
+      let address : List ℕ = if nat_le p.encoding.version 4 then [] else p.encoding.address_size ∷ 0 ∷ [] in
+      let b = before_written (version_bytes notation.big p.encoding.version) address opening opening_is in (
+        p.encoding.version,
+        b.front,
+        address ++ (size ++ fields),
+        ap (λ (l : List ℕ). l ++ (size ++ fields)) b.whole ∙ append_assoc b.front address (size ++ fields),
+        version-spelled notation.big p.encoding.version b.front b.front_is,
+        (
+          p.encoding.address_size,
+          address,
+          size ++ fields,
+          refl,
+          address-spelled p.encoding.version unit_entry.address_size p.encoding.address_size same (built.is.address_size refl),
+          (
+            length fields,
+            size,
+            fields,
+            refl,
+            offset-spelled notation p.encoding.format (length fields) size holds small size_is,
+            (fields, fields, [], sym (append-nil fields), (refl, refl), (refl, refl)),
+          ),
+        ),
+      )
+
+  module _ (unit : List ℕ) (w : UnitWritten notation.big p strings line_strings unit) (v : FieldsWritten notation.big p strings line_strings w.fields) (t : Tables v.tables)
+      (same : unit_entry.address_size ≡ p.encoding.address_size) (holds : p.encoding.format ≡ Dwarf64 → length unit - 12 < notation.limit) (small : length unit < 2 ^ 64) where
+    abbrev header : Header
+    header = header_of v.tables t (length w.inside) (length w.fields) w.program
+
+    unit_fields : (fields_production notation unit_entry (length w.inside) (opening_of w.fields) w.program).Spells w.fields header
+    unit_fields = fields_spelled (length w.inside) w.fields w.program v t
+
+    unit_spelled : (header_production notation unit_entry).Spells unit header
+    unit_spelled =
+        let inside = inside-short notation.big p strings line_strings unit w in
+        let fields = fields-short notation.big p strings line_strings unit w in
+        let inside_held : p.encoding.format ≡ Dwarf64 → length w.inside < notation.limit = λ wide. (let rest = inside-wide notation.big p strings line_strings unit w wide in let lt = holds wide in omega (arith, rest, lt)) in
+        let fields_held : p.encoding.format ≡ Dwarf64 → length w.fields < notation.limit = λ wide. (let lt = inside_held wide in omega (arith, fields, lt)) in
+        let length_spelled = length-spelled notation p.encoding.format (length w.inside) w.length_bytes inside_held (omega (arith, inside, small)) w.length_is in
+        let opened = opening_spelled w.opening w.size w.fields same fields_held (omega (arith, inside, fields, small)) w.opening_is w.size_is in
+        let parted : w.inside ≡ (w.opening ++ (w.size ++ w.fields)) ++ w.program = w.inside_is ∙ sym (append_assoc w.opening (w.size ++ w.fields) w.program) in (
+          (length w.inside, p.encoding.format),
+          escape_bytes notation.big p.encoding.format ++ w.length_bytes,
+          w.inside,
+          w.whole,
+          length_spelled,
+          (
+            w.inside,
+            w.inside,
+            [],
+            sym (append-nil w.inside),
+            (refl, refl),
+            (
+              (opening_of w.fields, w.program),
+              [],
+              [],
+              refl,
+              (refl, (w.opening ++ (w.size ++ w.fields), parted, opened)),
+              ((header, []), [], [], refl, (refl, (w.fields, sym (append-nil w.fields), unit_fields)), (refl, refl)),
+            ),
+          ),
+        )
+
+    unit_parts : unit ≡ ((escape_bytes notation.big p.encoding.format ++ w.length_bytes) ++ (w.opening ++ w.size)) ++ w.fields ++ w.program
+    unit_parts =
+        let front = escape_bytes notation.big p.encoding.format ++ w.length_bytes in
+        let inner : w.inside ≡ ((w.opening ++ w.size) ++ w.fields) ++ w.program =
+        w.inside_is ∙ sym (append_assoc w.opening (w.size ++ w.fields) w.program) ∙ ap (λ (l : List ℕ). l ++ w.program) (sym (append_assoc w.opening w.size w.fields)) in
+        w.whole
+        ∙ ap (λ (l : List ℕ). front ++ l) inner
+        ∙ sym (append_assoc front ((w.opening ++ w.size) ++ w.fields) w.program)
+        ∙ ap (λ (l : List ℕ). l ++ w.program) (sym (append_assoc front (w.opening ++ w.size) w.fields))
+
+    pub unit-is : IsUnit notation unit_entry unit (header_of v.tables t (length w.inside) (length w.fields) w.program)
+    unit-is = record {
+      spelled = unit_spelled;
+      opening = opening_of w.fields;
+      before = (escape_bytes notation.big p.encoding.format ++ w.length_bytes) ++ (w.opening ++ w.size);
+      parts = unit_parts;
+      whole = refl;
+      no_slack = unit_fields;
+    }

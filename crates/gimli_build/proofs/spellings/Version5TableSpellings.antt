@@ -1,0 +1,206 @@
+-- The bytes of the tables of version 5 spell them, and what is read of them stands for what was built.
+use Rattle.std.proofs.Common.{◌≡◌, ℕ, ◌<◌, ◌≤◌, ◌^◌, Bool, true, false, List, [], ◌∷◌, ◌++◌, length, map, Some, None, Ok, refl, sym, ap, ◌∙◌, subst, append_assoc, arith, if◌then◌else◌, length-append}
+use Rattle.std.specs.Prelude.{Result, nat_le, replicate, All}
+use Rattle.std.specs.Option.{option_map_or}
+use Rattle.std.proofs.lemmas.List.{append-nil}
+use Rattle.std.proofs.lemmas.List.Elements.{All-head, All-tail}
+use Rattle.gimli_core.specs.Notation.{Notation}
+use Rattle.gimli_core.specs.Values.{Value}
+use Rattle.gimli_core.specs.Production.{times}
+use Rattle.gimli_core.specs.declared.common.Format.{Format}
+use Rattle.gimli_core.specs.declared.common.Format.TheVariants.{Dwarf64}
+use Rattle.gimli_bytes.specs.Number.{uleb}
+use Rattle.gimli_bytes.specs.Texts.{AreTexts, table_bytes}
+use Rattle.gimli_bytes.specs.declared.error.Error.{Error}
+use Rattle.gimli_bytes.proofs.ShortestUleb.{uleb_shortest}
+use Rattle.gimli_line.specs.header.File.{File as ReadFile}
+use Rattle.gimli_line.specs.header.HeaderGrammar.{Entry, entry_production, table_production, path_of, file_of_entry}
+use Rattle.gimli_line.specs.inside.header.HeaderGrammar.{SpellsFormats}
+use Rattle.gimli_build.specs.LineText.{LineText, bytes_in}
+use Rattle.gimli_build.specs.Tables.{File, Details}
+use Rattle.gimli_build.specs.Texts.{Sections, IsText, IsOptionalText, OneByOne}
+use Rattle.gimli_build.specs.Stored.{Stored, stored_details}
+use Rattle.gimli_build.specs.Joined.{result_append, result_concat}
+use Rattle.gimli_build.specs.Built.{Built}
+use Rattle.gimli_build.specs.ReadsBack.{IsDirectory, IsFile}
+use Rattle.gimli_build.specs.Version5Tables.{first_form, path_texts, sources, formats_bytes, directory_formats, file_formats, detail_bytes, text_in_form, directory_table_bytes, source_bytes, file_entry_bytes, file_table_bytes}
+use Rattle.gimli_build.proofs.writing.WrittenParts.{same_written, both_written, after_written}
+use Rattle.gimli_build.proofs.spellings.TextForms.{read_text, IsReady, text-spelled, text-long, text-back}
+use Rattle.gimli_build.proofs.spellings.FormatForms.{read_format, formats_of, formats-same, directory-formats, file-formats}
+use Rattle.gimli_build.proofs.spellings.EntryForms.{entry_of, file_with, file-read, IsSpelled, last-spelled, entry-spelled}
+use Rattle.gimli_build.proofs.reading.ReadyTexts.{source_of, IsFileReady, AreReady}
+use Rattle.gimli_build.proofs.reading.HeldOffsets.{IsHeld, IsFileHeld, AreHeld}
+
+-- ---- a table of entries
+
+module _ (notation : Notation) (format : Format) {X : Type 0} (formats : List (ℕ × ℕ)) (P : X → Type 0) (part : X → Result (List ℕ) Error) (entry : X → Entry)
+    (spelled : (x : X) (bytes : List ℕ) → P x → part x ≡ Ok bytes → IsSpelled notation format formats bytes (entry x)) (long : (x : X) (bytes : List ℕ) → part x ≡ Ok bytes → 0 < length bytes) where
+  each_spelled : (xs : List X) (bytes : List ℕ) → All P xs → result_concat part xs ≡ Ok bytes → (times (length xs) (entry_production notation format (map read_format formats))).Spells bytes (map entry xs)
+  each_spelled [] bytes all is = (same_written [] bytes is, refl)
+  each_spelled (x ∷ xs) bytes all is =
+      let b = both_written (part x) (result_concat part xs) bytes is in
+      let rest = each_spelled xs b.rest (All-tail P x xs all) b.rest_is in
+      (entry x, b.first, b.rest, b.whole, spelled x b.first (All-head P x xs all) b.first_is, (map entry xs, b.rest, [], sym (append-nil b.rest), rest, (refl, refl)))
+
+  -- there are no more entries than bytes
+  few : (xs : List X) (bytes : List ℕ) → result_concat part xs ≡ Ok bytes → length xs ≤ length bytes
+  few [] bytes is = omega arith
+  few (x ∷ xs) bytes is =
+      let b = both_written (part x) (result_concat part xs) bytes is in
+      let whole = ap length b.whole ∙ length-append b.first b.rest in
+      let first = long x b.first b.first_is in
+      let rest = few xs b.rest b.rest_is in
+      omega (arith, whole, first, rest)
+
+  table_spelled : (xs : List X) (bytes : List ℕ) → SpellsFormats (formats_bytes formats) (map read_format formats) → All P xs
+      → result_append (Ok (formats_bytes formats ++ uleb (length xs))) (result_concat part xs) ≡ Ok bytes → length bytes < 2 ^ 64
+      → (table_production notation format).Spells bytes (map read_format formats, map entry xs)
+  table_spelled xs bytes formats_spelled all is small =
+      let front = formats_bytes formats in
+      let count = uleb (length xs) in
+      let b = after_written (front ++ count) (result_concat part xs) bytes is in
+      let whole = ap length b.whole ∙ length-append (front ++ count) b.rest in
+      let short = few xs b.rest b.rest_is in
+      let number = (uleb_shortest (length xs) (omega (arith, whole, short, small))).spells in
+      let entries = each_spelled xs b.rest all b.rest_is in (
+        map read_format formats,
+        front,
+        count ++ b.rest,
+        b.whole ∙ append_assoc front count b.rest,
+        formats_spelled,
+        (map entry xs, count ++ b.rest, [], sym (append-nil (count ++ b.rest)), (length xs, count, b.rest, refl, number, entries), (refl, refl)),
+      )
+
+-- ---- the tables of a program
+
+abbrev pub directory_entry : List (List ℕ) → List (List ℕ) → LineText → Entry
+directory_entry strings line_strings t = (0x0001, read_text strings line_strings t) ∷ []
+
+abbrev pub file_entry : Built → List (List ℕ) → List (List ℕ) → File → Entry
+file_entry p strings line_strings f =
+    entry_of p.file_has_timestamp p.file_has_size p.file_has_md5 p.file_has_source
+    (read_text strings line_strings f.0.0) f.0.1 f.1.timestamp f.1.size f.1.md5 (read_text strings line_strings (source_of p strings line_strings f))
+
+module _ (notation : Notation) (p : Built) (strings line_strings : List (List ℕ)) (ready : AreReady p strings line_strings)
+    (strings_short : length (table_bytes strings) < 2 ^ 64) (line_strings_short : length (table_bytes line_strings) < 2 ^ 64)
+    (held : p.encoding.format ≡ Dwarf64 → AreHeld notation.limit p strings line_strings) where
+  -- a text can be read back, by this reader
+  abbrev IsReadable : LineText → Type 0
+  IsReadable t = IsReady strings line_strings t × (p.encoding.format ≡ Dwarf64 → IsHeld notation.limit p strings line_strings t)
+
+  abbrev IsFileReadable : File → Type 0
+  IsFileReadable f = IsFileReady p strings line_strings f × (p.encoding.format ≡ Dwarf64 → IsFileHeld notation.limit p strings line_strings f)
+
+  abbrev text_written : ℕ → LineText → Result (List ℕ) Error
+  text_written form t = text_in_form notation.big p.encoding.format strings line_strings form t
+
+  pub new-directories-spelled : (bytes : List ℕ) → directory_table_bytes notation.big p.encoding.format strings line_strings p ≡ Ok bytes → length bytes < 2 ^ 64
+      → (table_production notation p.encoding.format).Spells bytes (map read_format (directory_formats p), map (directory_entry strings line_strings) p.directories)
+  new-directories-spelled bytes is small =
+      let form = first_form p.directories in
+      table_spelled notation p.encoding.format (directory_formats p) IsReadable (text_written form) (directory_entry strings line_strings)
+      (λ t b own written. last-spelled notation p.encoding.format 0x0001 form b (read_text strings line_strings t)
+      (text-spelled notation p.encoding.format strings line_strings strings_short line_strings_short form t b own.0 own.1 written))
+      (λ t b written. text-long notation.big p.encoding.format strings line_strings form t b written)
+      p.directories bytes (directory-formats p) (λ i d lt. (ready.directories i d lt, λ wide. (held wide).directories i d lt)) is small
+
+  -- the bytes of a source, where it is written
+  source_written : (f : File) (bytes : List ℕ) → source_bytes notation.big p.encoding.format strings line_strings p f ≡ Ok bytes
+      → (p.file_has_source ≡ true → text_written (first_form (sources p.files)) (source_of p strings line_strings f) ≡ Ok bytes) × (p.file_has_source ≡ false → bytes ≡ [])
+  source_written f bytes is = by p.file_has_source (text_written (first_form (sources p.files)) (source_of p strings line_strings f)) is
+    where
+      by : (b : Bool) (r : Result (List ℕ) Error) → (let s : Result (List ℕ) Error = if b then r else Ok [] in s) ≡ Ok bytes → (b ≡ true → r ≡ Ok bytes) × (b ≡ false → bytes ≡ [])
+      by true r is = (λ same. is, λ same. absurd cc)
+      by false r is = (λ same. absurd cc, λ same. same_written [] bytes is)
+
+  file_spelled : (f : File) (bytes : List ℕ) → IsFileReadable f → file_entry_bytes notation.big p.encoding.format strings line_strings p f ≡ Ok bytes
+      → IsSpelled notation p.encoding.format (file_formats p) bytes (file_entry p strings line_strings f)
+  file_spelled f bytes own is =
+      let path_form = first_form (path_texts p.files) in
+      let source_form = first_form (sources p.files) in
+      let source = source_bytes notation.big p.encoding.format strings line_strings p f in
+      let a = both_written (text_written path_form f.0.0) (result_append (Ok (detail_bytes p f)) source) bytes is in
+      let b = after_written (detail_bytes p f) source a.rest a.rest_is in
+      let s = source_written f b.rest b.rest_is in
+      let spell = text-spelled notation p.encoding.format strings line_strings strings_short line_strings_short in
+      let whole : bytes ≡ a.first ++ (detail_bytes p f ++ b.rest) = a.whole ∙ ap (λ (l : List ℕ). a.first ++ l) b.whole in
+      let text = source_of p strings line_strings f in
+      let list = formats_of p.file_has_timestamp p.file_has_size p.file_has_md5 p.file_has_source path_form source_form in
+      let entry = file_entry p strings line_strings f in
+      let spelled : IsSpelled notation p.encoding.format list (a.first ++ (detail_bytes p f ++ b.rest)) entry =
+      entry-spelled notation p.encoding.format p.file_has_timestamp p.file_has_size p.file_has_md5 p.file_has_source path_form source_form
+      (read_text strings line_strings f.0.0) f.0.1 f.1.timestamp f.1.size f.1.md5 (read_text strings line_strings text) a.first b.rest
+      (spell path_form f.0.0 a.first own.0.path (λ wide. (own.1 wide).path) a.first_is) own.0.fits.directory own.0.fits.timestamp own.0.fits.size own.0.fits.md5
+      (λ flag. spell source_form text b.rest (own.0.source flag) (λ wide. (own.1 wide).source flag) (s.0 flag)) s.1 in
+      let same : IsSpelled notation p.encoding.format list bytes entry = subst (λ (l : List ℕ). IsSpelled notation p.encoding.format list l entry) (sym whole) spelled in
+      subst (λ (l : List (ℕ × ℕ)). IsSpelled notation p.encoding.format l bytes entry) (sym (formats-same p)) same
+
+  file_long : (f : File) (bytes : List ℕ) → file_entry_bytes notation.big p.encoding.format strings line_strings p f ≡ Ok bytes → 0 < length bytes
+  file_long f bytes is =
+      let form = first_form (path_texts p.files) in
+      let a = both_written (text_written form f.0.0) (result_append (Ok (detail_bytes p f)) (source_bytes notation.big p.encoding.format strings line_strings p f)) bytes is in
+      let whole = ap length a.whole ∙ length-append a.first a.rest in
+      let long = text-long notation.big p.encoding.format strings line_strings form f.0.0 a.first a.first_is in
+      omega (arith, whole, long)
+
+  pub new-files-spelled : (bytes : List ℕ) → file_table_bytes notation.big p.encoding.format strings line_strings p ≡ Ok bytes → length bytes < 2 ^ 64
+      → (table_production notation p.encoding.format).Spells bytes (map read_format (file_formats p), map (file_entry p strings line_strings) p.files)
+  new-files-spelled bytes is small =
+      table_spelled notation p.encoding.format (file_formats p) IsFileReadable (file_entry_bytes notation.big p.encoding.format strings line_strings p) (file_entry p strings line_strings)
+      file_spelled file_long p.files bytes (file-formats p) (λ i d lt. (ready.files i d lt, λ wide. (held wide).files i d lt)) is small
+
+-- ---- what is read stands for what was built
+
+module _ (sections : Sections) (p : Built) (strings line_strings : List (List ℕ)) (strings_are : sections.strings ≡ table_bytes strings) (line_strings_are : sections.line_strings ≡ table_bytes line_strings)
+    (texts : AreTexts strings) (line_texts : AreTexts line_strings) where
+  text_back : (t : LineText) → IsReady strings line_strings t → IsText sections (read_text strings line_strings t) (bytes_in strings line_strings t)
+  text_back t ready = text-back sections strings line_strings strings_are line_strings_are texts line_texts t ready.within
+
+  pub new-directories-back : (ts : List LineText) → All (IsReady strings line_strings) ts → OneByOne (IsDirectory sections strings line_strings) (map path_of (map (directory_entry strings line_strings) ts)) ts
+  new-directories-back [] all = tt
+  new-directories-back (t ∷ ts) all =
+      (text_back t (All-head (IsReady strings line_strings) t ts all), new-directories-back ts (All-tail (IsReady strings line_strings) t ts all))
+
+  -- what a file keeps in version 5
+  stored_new : (d : Details) → nat_le p.encoding.version 4 ≡ false → stored_details p strings line_strings d ≡ record {
+    timestamp = if p.file_has_timestamp then d.timestamp else 0;
+    size = if p.file_has_size then d.size else 0;
+    md5 = if p.file_has_md5 then d.md5 else replicate 16 0;
+    source = if p.file_has_source then Some (option_map_or (bytes_in strings line_strings) d.source []) else None;
+  }
+  stored_new d new = rw new refl
+
+  source_back : (due : Bool) (v : Value) (text : List ℕ) → (due ≡ true → IsText sections v text) → IsOptionalText sections (if due then Some v else None) (if due then Some text else None)
+  source_back true v text own = own refl
+  source_back false v text own = tt
+
+  abbrev file_seen : File → ReadFile
+  file_seen f =
+      file_with p.file_has_timestamp p.file_has_size p.file_has_md5 p.file_has_source
+      (read_text strings line_strings f.0.0) f.0.1 f.1.timestamp f.1.size f.1.md5 (read_text strings line_strings (source_of p strings line_strings f))
+
+  seen_back : (f : File) → nat_le p.encoding.version 4 ≡ false → IsFileReady p strings line_strings f → IsFile sections p strings line_strings (file_seen f) f
+  seen_back f new own =
+      let same = stored_new f.1 new in
+      record {
+        path = text_back f.0.0 own.path;
+        directory = refl;
+        timestamp = sym (ap (λ (s : Stored). s.timestamp) same);
+        size = sym (ap (λ (s : Stored). s.size) same);
+        md5 = sym (ap (λ (s : Stored). s.md5) same);
+        source = rw (ap (λ (s : Stored). s.source) same) (source_back p.file_has_source (read_text strings line_strings (source_of p strings line_strings f)) (option_map_or (bytes_in strings line_strings) f.1.source [])
+            (λ flag. rw (← own.source_bytes flag) (text_back (source_of p strings line_strings f) (own.source flag))));
+      }
+
+  file_back : (f : File) → nat_le p.encoding.version 4 ≡ false → IsFileReady p strings line_strings f → IsFile sections p strings line_strings (file_of_entry (file_entry p strings line_strings f)) f
+  file_back f new own =
+      subst (λ (r : ReadFile). IsFile sections p strings line_strings r f)
+      (sym (file-read p.file_has_timestamp p.file_has_size p.file_has_md5 p.file_has_source
+      (read_text strings line_strings f.0.0) f.0.1 f.1.timestamp f.1.size f.1.md5 (read_text strings line_strings (source_of p strings line_strings f)) own.fits.md5))
+      (seen_back f new own)
+
+  pub new-files-back : (fs : List File) → nat_le p.encoding.version 4 ≡ false → All (IsFileReady p strings line_strings) fs
+      → OneByOne (IsFile sections p strings line_strings) (map file_of_entry (map (file_entry p strings line_strings) fs)) fs
+  new-files-back [] new all = tt
+  new-files-back (f ∷ fs) new all =
+      (file_back f new (All-head (IsFileReady p strings line_strings) f fs all), new-files-back fs new (All-tail (IsFileReady p strings line_strings) f fs all))

@@ -1,0 +1,9 @@
+-- Calls that append, one after the other.
+pub mod Joins
+pub mod Joined
+pub mod Writes
+pub mod OneCall
+pub mod InstructionsWritten
+pub mod Frames
+pub mod ItemsWritten
+mod WrittenParts

@@ -1,0 +1,133 @@
+-- A length that is written once what it counts is there.
+use Rattle.std.proofs.Common.{◌≡◌, ℕ, ◌+◌, ◌-◌, ◌<◌, ◌^◌, Bool, true, false, List, [], ◌++◌, length, take, drop, refl, sym, ap, ◌∙◌, arith, append_assoc, length-append, nat_lt, if◌then◌else◌, Ok, Err, inl, inr}
+use Rattle.std.proofs.lemmas.Bool.{le-ltb, lt-ltb}
+use Rattle.std.proofs.lemmas.List.{take_at, drop_at}
+use Rattle.std.specs.Prelude.{Result}
+use Rattle.gimli_core.specs.Numbers.{number_bytes, word_size}
+use Rattle.gimli_core.specs.declared.common.Format.{Format}
+use Rattle.gimli_core.specs.declared.common.Format.TheVariants.{Dwarf32, Dwarf64}
+use Rattle.gimli_bytes.specs.Written.{Appends, overwrite_of, patch}
+use Rattle.gimli_bytes.specs.Number.{udata, open_length, escape_size, length_word}
+use Rattle.gimli_bytes.specs.declared.error.Error.{Error}
+use Rattle.gimli_bytes.specs.declared.error.Error.TheVariants.{ValueTooLarge, InitialLengthOverflow}
+use Rattle.gimli_build.specs.FormatWord.{format_word}
+use Rattle.gimli_build.specs.Joined.{result_append, after_length}
+use Rattle.gimli_build.specs.inside.Joined.{RefusesFor}
+use Rattle.gimli_build.specs.Unit.{escape_bytes}
+
+-- other bytes in the middle, as long as those that stand there
+patched_middle : (a b other c : List ℕ) (at : ℕ) → length other ≡ length b → length a ≡ at → overwrite_of (a ++ b ++ c) at other ≡ Ok (a ++ other ++ c)
+patched_middle a b other c at same position =
+    let whole : length (a ++ b ++ c) ≡ length a + length b + length c = length-append (a ++ b) c ∙ ap (λ (x : ℕ). x + length c) (length-append a b) in
+    let first : nat_lt (length (a ++ b ++ c)) at ≡ false = le-ltb (length (a ++ b ++ c)) at (omega (arith, whole, position)) in
+    let second : nat_lt (length (a ++ b ++ c)) (at + length other) ≡ false = le-ltb (length (a ++ b ++ c)) (at + length other) (omega (arith, whole, position, same)) in
+    let front : take at (a ++ b ++ c) ≡ a = ap (take at) (append_assoc a b c) ∙ take_at a (b ++ c) at position in
+    let back : drop (at + length other) (a ++ b ++ c) ≡ c = drop_at (a ++ b) c (at + length other) (let l = length-append a b in omega (arith, l, same, position)) in
+    rw (first, second, front, back) refl
+
+same_ok : (xs ys : List ℕ) → (let r : Result (List ℕ) Error = Ok xs in r) ≡ Ok ys → xs ≡ ys
+same_ok xs ys h = cc
+
+-- the word of a length, which stands after `escape` and is blank at first, once more
+module _ (full length_of : ℕ → Result (List ℕ) Error) (escape blank old c1 c2 new : List ℕ) (position n : ℕ) (body : Result (List ℕ) Error)
+    (is_full : (n : ℕ) → full n ≡ result_append (Ok escape) (length_of n))
+    (opened : c1 ≡ old ++ escape ++ blank) (at : position ≡ length old + length escape) (written : Appends body c1 c2) (counted : n ≡ length c2 - length c1)
+    (as_long : (word : List ℕ) → length_of n ≡ Ok word → length word ≡ length blank) where
+  whole : (bytes : List ℕ) → body ≡ Ok bytes → c2 ≡ (old ++ escape) ++ blank ++ bytes
+  whole bytes is =
+      let written : c2 ≡ c1 ++ bytes = rw is at written in
+      written ∙ ap (λ (l : List ℕ). l ++ bytes) opened
+
+  count : (bytes : List ℕ) → body ≡ Ok bytes → n ≡ length bytes
+  count bytes is =
+      let written : c2 ≡ c1 ++ bytes = rw is at written in
+      let l = ap length written ∙ length-append c1 bytes in
+      omega (arith, l, counted)
+
+  known : (bytes : List ℕ) → body ≡ Ok bytes → after_length full body ≡ result_append (result_append (Ok escape) (length_of n)) (Ok bytes)
+  known bytes is =
+      ap (after_length full) is ∙ ap (λ (r : Result (List ℕ) Error). result_append r (Ok bytes)) (ap full (sym (count bytes is)) ∙ is_full n)
+
+  put : (bytes word : List ℕ) → body ≡ Ok bytes → length_of n ≡ Ok word → overwrite_of c2 position word ≡ Ok ((old ++ escape) ++ word ++ bytes)
+  put bytes word is so =
+      ap (λ (l : List ℕ). overwrite_of l position word) (whole bytes is)
+      ∙ patched_middle (old ++ escape) blank word bytes position (as_long word so) (length-append old escape ∙ sym at)
+
+  pub framed : patch (length_of n) c2 position ≡ Ok new → Appends (after_length full body) old new
+  framed h = by body refl (length_of n) refl h
+    where
+      by : (b : Result (List ℕ) Error) → body ≡ b → (w : Result (List ℕ) Error) → length_of n ≡ w → patch w c2 position ≡ Ok new → Appends (after_length full body) old new
+      by (Err e) is w so h = absurd (rw is at written)
+      by (Ok bytes) is (Err e) so h = cc
+      by (Ok bytes) is (Ok word) so h =
+          let shape : after_length full body ≡ Ok ((escape ++ word) ++ bytes) = known bytes is ∙ ap (λ (r : Result (List ℕ) Error). result_append (result_append (Ok escape) r) (Ok bytes)) so in
+          let same : new ≡ (old ++ escape) ++ word ++ bytes = sym (same_ok ((old ++ escape) ++ word ++ bytes) new (sym (put bytes word is so) ∙ h)) in
+          rw shape (same ∙ ap (λ (l : List ℕ). l ++ bytes) (append_assoc old escape word) ∙ append_assoc old (escape ++ word) bytes)
+
+  pub frame_refused : (e : Error) → patch (length_of n) c2 position ≡ Err e → after_length full body ≡ Err e
+  frame_refused e h = by body refl (length_of n) refl h
+    where
+      by : (b : Result (List ℕ) Error) → body ≡ b → (w : Result (List ℕ) Error) → length_of n ≡ w → patch w c2 position ≡ Err e → after_length full body ≡ Err e
+      by (Err d) is w so h = absurd (rw is at written)
+      by (Ok bytes) is (Err d) so h = known bytes is ∙ ap (λ (r : Result (List ℕ) Error). result_append (result_append (Ok escape) r) (Ok bytes)) so ∙ h
+      by (Ok bytes) is (Ok word) so h = absurd (let never = sym (put bytes word is so) ∙ h in cc)
+
+-- a refused body refuses the whole
+pub body_refused : (full : ℕ → Result (List ℕ) Error) (body : Result (List ℕ) Error) (e : Error) → RefusesFor body e → RefusesFor (after_length full body) e
+body_refused full body e (inl memory) = inl memory
+body_refused full body e (inr is) = inr (ap (after_length full) is)
+
+-- ---- words
+
+pub size_4 : (big : Bool) (n : ℕ) → length (number_bytes big 4 n) ≡ 4
+size_4 true n = refl
+size_4 false n = refl
+
+pub size_8 : (big : Bool) (n : ℕ) → length (number_bytes big 8 n) ≡ 8
+size_8 true n = refl
+size_8 false n = refl
+
+abbrev pub open_word : Bool → Format → List ℕ
+open_word big Dwarf32 = number_bytes big 4 0
+open_word big Dwarf64 = number_bytes big 8 0
+
+pub escape_is : (big : Bool) (format : Format) → open_length big format ≡ escape_bytes big format ++ open_word big format
+escape_is big Dwarf32 = refl
+escape_is big Dwarf64 = refl
+
+pub escape_long : (big : Bool) (format : Format) → length (escape_bytes big format) ≡ escape_size format
+escape_long big Dwarf32 = refl
+escape_long true Dwarf64 = refl
+escape_long false Dwarf64 = refl
+
+ok_if : (b : Bool) (xs ys : List ℕ) (e : Error) → (let r : Result (List ℕ) Error = if b then Ok xs else Err e in r) ≡ Ok ys → ys ≡ xs
+ok_if true xs ys e h = cc
+ok_if false xs ys e h = cc
+
+ok_if_if : (b c : Bool) (xs ys : List ℕ) (d e : Error) → (let r : Result (List ℕ) Error = if b then Ok xs else (if c then Err d else Err e) in r) ≡ Ok ys → ys ≡ xs
+ok_if_if true c xs ys d e h = cc
+ok_if_if false true xs ys d e h = cc
+ok_if_if false false xs ys d e h = cc
+
+pub length_word_long : (big : Bool) (format : Format) (n : ℕ) (word : List ℕ) → length_word big format n ≡ Ok word → length word ≡ length (open_word big format)
+length_word_long big Dwarf32 n word h =
+    ap length (ok_if_if (nat_lt n 0xffff_fff0) (nat_lt n (2 ^ 32)) (number_bytes big 4 n) word InitialLengthOverflow ValueTooLarge h) ∙ size_4 big n ∙ sym (size_4 big 0)
+length_word_long big Dwarf64 n word h = ap length (sym (same_ok (number_bytes big 8 n) word h)) ∙ size_8 big n ∙ sym (size_8 big 0)
+
+pub header_word_long : (big : Bool) (format : Format) (n : ℕ) (word : List ℕ) → format_word big format n ≡ Ok word → length word ≡ length (open_word big format)
+header_word_long big Dwarf32 n word h = ap length (ok_if (nat_lt n (2 ^ 32)) (number_bytes big 4 n) word ValueTooLarge h) ∙ size_4 big n ∙ sym (size_4 big 0)
+header_word_long big Dwarf64 n word h = ap length (sym (same_ok (number_bytes big 8 n) word h)) ∙ size_8 big n ∙ sym (size_8 big 0)
+
+-- where 64 bits hold a number, it is written as a word of the format is
+pub word_is : (big : Bool) (format : Format) (n : ℕ) → n < 2 ^ 64 → udata big n (word_size format) ≡ format_word big format n
+word_is big Dwarf32 n small = refl
+word_is big Dwarf64 n small = rw (lt-ltb n (2 ^ 64) small) refl
+
+-- a word of 0 fits
+pub zero_word : (big : Bool) (format : Format) → udata big 0 (word_size format) ≡ Ok (open_word big format)
+zero_word big Dwarf32 = refl
+zero_word big Dwarf64 = refl
+
+pub no_escape : (r : Result (List ℕ) Error) → r ≡ result_append (Ok []) r
+no_escape (Ok bytes) = refl
+no_escape (Err e) = refl

@@ -1,0 +1,126 @@
+-- Parts written one after the other.
+use Rattle.std.proofs.Common.{◌≡◌, ℕ, ◌+◌, ◌<◌, ◌≤◌, List, [], ◌∷◌, ◌++◌, length, drop, drop-cons, take, map, slice_get, get_or, suc, add-one, Some, Ok, Err, OnOk, IfErr, refl, sym, ap, ◌∙◌, append_assoc, inl, inr, min, arith}
+use Rattle.std.proofs.lemmas.List.{append-nil, drop-map, take-take, length-take}
+use Rattle.std.proofs.lemmas.Option.{slice_get_within, get_or_from_slice_get}
+use Rattle.std.proofs.Math.Seq.{take-length, take-suc}
+use Rattle.std.specs.Prelude.{Result, All}
+use Rattle.std.proofs.lemmas.List.Elements.{All-head, All-drop}
+use Rattle.gimli_bytes.specs.Written.{Begins, Appends}
+use Rattle.gimli_bytes.specs.declared.error.Error.{Error}
+use Rattle.gimli_build.specs.Joined.{result_append, result_concat}
+use Rattle.gimli_build.specs.inside.Joined.{RefusesFor}
+
+pub on_ok : {X : Type 0} (r : Result X Error) {P Q : Type 0} → (P → Q) → OnOk r P → OnOk r Q
+on_ok (Ok x) f p = f p
+on_ok (Err e) f p = tt
+
+pub always_ok : {X : Type 0} (r : Result X Error) {P : Type 0} → P → OnOk r P
+always_ok (Ok x) p = p
+always_ok (Err e) p = tt
+
+pub if_err : {X : Type 0} (r : Result X Error) {P Q : Error → Type 0} → ((e : Error) → P e → Q e) → IfErr r P → IfErr r Q
+if_err (Ok x) f p = tt
+if_err (Err e) f p = f e p
+
+-- ---- two parts
+
+pub appends_joined : (a b : Result (List ℕ) Error) (old new newer : List ℕ) → Appends a old new → Appends b new newer → Appends (result_append a b) old newer
+appends_joined (Ok xs) (Ok ys) old new newer first second = second ∙ ap (λ (l : List ℕ). l ++ ys) first ∙ append_assoc old xs ys
+appends_joined (Ok xs) (Err e) old new newer first second = absurd second
+appends_joined (Err e) b old new newer first second = absurd first
+
+pub first_refused : (a b : Result (List ℕ) Error) (e : Error) → a ≡ Err e → result_append a b ≡ Err e
+first_refused a b e is = ap (λ (r : Result (List ℕ) Error). result_append r b) is
+
+pub second_refused : (a b : Result (List ℕ) Error) (old new : List ℕ) (e : Error) → Appends a old new → b ≡ Err e → result_append a b ≡ Err e
+second_refused (Ok xs) b old new e first is = ap (λ (r : Result (List ℕ) Error). result_append (Ok xs) r) is
+second_refused (Err d) b old new e first is = absurd first
+
+pub refuses_first : (a b : Result (List ℕ) Error) (e : Error) → RefusesFor a e → RefusesFor (result_append a b) e
+refuses_first a b e (inl memory) = inl memory
+refuses_first a b e (inr is) = inr (first_refused a b e is)
+
+pub refuses_second : (a b : Result (List ℕ) Error) (old new : List ℕ) (e : Error) → Appends a old new → RefusesFor b e → RefusesFor (result_append a b) e
+refuses_second a b old new e first (inl memory) = inl memory
+refuses_second a b old new e first (inr is) = inr (second_refused a b old new e first is)
+
+pub appended_bytes : (r : Result (List ℕ) Error) (old new : List ℕ) → Appends r old new → (bytes : List ℕ) × (r ≡ Ok bytes) × (new ≡ old ++ bytes)
+appended_bytes (Ok bytes) old new h = (bytes, refl, h)
+appended_bytes (Err e) old new h = absurd h
+
+-- ---- the parts of a list
+
+-- two parts that are there, and a third
+pub joined-joined : (a b : List ℕ) (r : Result (List ℕ) Error) → result_append (Ok a) (result_append (Ok b) r) ≡ result_append (Ok (a ++ b)) r
+joined-joined a b (Ok c) = ap (λ (l : List ℕ). let s : Result (List ℕ) Error = Ok l in s) (sym (append_assoc a b c))
+joined-joined a b (Err e) = refl
+
+-- the parts so far are written, and those of `left` aren't
+pub record SoFar {A : Type 0} (part : A → Result (List ℕ) Error) (all left : List A) (old new : List ℕ) : Type 0 where
+  pub done : List ℕ
+  pub written : new ≡ old ++ done
+  pub parts : result_concat part all ≡ result_append (Ok done) (result_concat part left)
+
+pub none_so_far : {A : Type 0} (part : A → Result (List ℕ) Error) (all : List A) (old : List ℕ) → SoFar part all all old old
+none_so_far part all old = record { done = []; written = sym (append-nil old); parts = nothing (result_concat part all) }
+  where
+    nothing : (r : Result (List ℕ) Error) → r ≡ result_append (Ok []) r
+    nothing (Ok bytes) = refl
+    nothing (Err d) = refl
+
+pub one_more : {A : Type 0} (part : A → Result (List ℕ) Error) (all left : List A) (x : A) (old new newer : List ℕ) → SoFar part all (x ∷ left) old new → Appends (part x) new newer → SoFar part all left old newer
+one_more part all left x old new newer so more =
+    let a = appended_bytes (part x) new newer more in
+    record {
+      done = so.done ++ a.0;
+      written = a.2 ∙ ap (λ (l : List ℕ). l ++ a.0) so.written ∙ append_assoc old so.done a.0;
+      parts = so.parts ∙ ap (λ (r : Result (List ℕ) Error). result_append (Ok so.done) (result_append r (result_concat part left))) a.1 ∙ joined-joined so.done a.0 (result_concat part left);
+    }
+
+pub one_refused : {A : Type 0} (part : A → Result (List ℕ) Error) (all left : List A) (x : A) (old new : List ℕ) (e : Error) → SoFar part all (x ∷ left) old new → RefusesFor (part x) e → RefusesFor (result_concat part all) e
+one_refused part all left x old new e so (inl memory) = inl memory
+one_refused part all left x old new e so (inr is) =
+    inr (so.parts ∙ ap (λ (r : Result (List ℕ) Error). result_append (Ok so.done) (result_append r (result_concat part left))) is)
+
+pub all_done : {A : Type 0} (part : A → Result (List ℕ) Error) (all : List A) (old new : List ℕ) → SoFar part all [] old new → Appends (result_concat part all) old new
+all_done part all old new so =
+    let is : result_concat part all ≡ Ok so.done = so.parts ∙ ap (λ (l : List ℕ). let s : Result (List ℕ) Error = Ok l in s) (append-nil so.done) in
+    rw is so.written
+
+-- what is left begins with the next element
+pub next_left : {A : Type 0} (xs : List A) (i : ℕ) (x : A) → i < length xs → x ≡ get_or xs i x → drop i xs ≡ x ∷ drop (i + 1) xs
+next_left xs i x lt is = rw add-one (drop-cons xs i x lt ∙ ap (λ y. y ∷ drop (suc i) xs) (sym is))
+
+-- what is left begins with the next element, seen by a function
+pub next_seen : {A B : Type 0} (f : A → B) (xs : List A) (i : ℕ) (x : A) → i < length xs → x ≡ get_or xs i x → drop i (map f xs) ≡ f x ∷ drop (i + 1) (map f xs)
+next_seen {B = B} f xs i x lt is =
+    drop-map f i xs ∙ ap (map f) (next_left xs i x lt is) ∙ ap (λ (l : List B). f x ∷ l) (sym (drop-map f (i + 1) xs))
+
+-- the same by index
+pub next_at : {A : Type 0} (xs : List A) (i : ℕ) (x : A) → slice_get xs i ≡ Some x → drop i xs ≡ x ∷ drop (i + 1) xs
+next_at xs i x is =
+    rw add-one (drop-cons xs i x (slice_get_within xs i x is) ∙ ap (λ y. y ∷ drop (suc i) xs) (get_or_from_slice_get xs i x x is))
+
+pub taken_at : {A : Type 0} (xs : List A) (i : ℕ) (x : A) → slice_get xs i ≡ Some x → take (i + 1) xs ≡ take i xs ++ x ∷ []
+taken_at xs i x is =
+    rw add-one (take-suc xs i x (slice_get_within xs i x is) ∙ ap (λ y. take i xs ++ y ∷ []) (get_or_from_slice_get xs i x x is))
+
+-- what all elements have, the next one has
+pub all_seen : {A B : Type 0} (P : B → Type 0) (f : A → B) (xs : List A) (i : ℕ) (x : A) → i < length xs → x ≡ get_or xs i x → All P (map f xs) → P (f x)
+all_seen P f xs i x lt is all = All-head P (f x) (drop (i + 1) (map f xs)) (rw (next_seen f xs i x lt is) at (All-drop P i (map f xs) all))
+
+-- ---- beginnings
+
+pub begins_self : (bytes : List ℕ) → Begins bytes bytes
+begins_self bytes = take-length bytes
+
+pub begins_then : (a b c : List ℕ) → Begins a b → Begins b c → Begins a c
+begins_then a b c first second =
+    let size : min (length a) (length b) ≡ length a = sym (length-take (length a) b) ∙ ap length first in
+    let le : length a ≤ length b = omega (arith, size) in
+    sym (take-take (length a) (length b) c le) ∙ ap (λ (l : List ℕ). take (length a) l) second ∙ first
+
+-- a beginning stays where bytes after it change
+pub begins_before : (old bytes new : List ℕ) (at : ℕ) → Begins old bytes → length old ≤ at → take at new ≡ take at bytes → Begins old new
+begins_before old bytes new at first le same =
+    sym (take-take (length old) at new le) ∙ ap (take (length old)) same ∙ take-take (length old) at bytes le ∙ first

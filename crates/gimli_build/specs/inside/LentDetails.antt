@@ -1,0 +1,12 @@
+-- What the tables end as, once a `&mut` to the details of a file has ended.
+use Rattle.std.specs.Prelude.{ℕ}
+use Rattle.std.specs.Borrow.{Lends, MutBor, Fml}
+use Rattle.gimli_build.specs.Tables.{Tables, with_details}
+use Rattle.gimli_build.specs.TableFields.{details}
+use Rattle.gimli_build.specs.declared.built.files.FileInfo.{FileInfo}
+use Rattle.gimli_build.specs.contracts.built.files.FileTable.{the_row}
+use Rattle.gimli_build.specs.contracts.built.files.FileInfo.{the_row as info_row}
+
+-- the tables end with the details that were last written through r
+abbrev pub lends_details : MutBor Tables → ℕ → MutBor FileInfo → Fml
+lends_details t i r = Lends the_row info_row t r (λ info. record t.now { files = with_details t.now.files i (details info) })

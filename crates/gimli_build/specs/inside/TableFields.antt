@@ -1,0 +1,16 @@
+-- The fields of the tables of a line program, as lists.
+use Rattle.std.specs.Prelude.{ℕ, List, map}
+use Rattle.gimli_build.specs.LineText.{LineText, line_text}
+use Rattle.gimli_build.specs.Tables.{FileKey, File}
+use Rattle.gimli_build.specs.declared.built.line_string.LineString.{LineString}
+use Rattle.gimli_build.specs.declared.built.files.FileInfo.{FileInfo}
+use Rattle.gimli_build.specs.TableFields.{details}
+
+abbrev pub key : LineString × ℕ → FileKey
+key k = (line_text k.0, k.1)
+
+abbrev pub directories_of : List LineString → List LineText
+directories_of keys = map line_text keys
+
+abbrev pub files_of : List ((LineString × ℕ) × FileInfo) → List File
+files_of entries = map (λ e. (key e.0, details e.1)) entries

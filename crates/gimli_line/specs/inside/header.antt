@@ -1,0 +1,9 @@
+pub mod EntryReading
+pub mod FormReading
+pub mod HeaderGrammar
+pub mod HeaderReading
+pub mod Opening
+pub mod Orders
+pub mod Outcome
+pub mod Parameters
+pub mod TableReading

@@ -1,0 +1,41 @@
+-- What is taken of an entry of version 5, value by value.
+use Rattle.std.specs.Prelude.{ℕ, nat_eq, if◌then◌else◌, List, [], ◌∷◌, Option, Some, None, Ok}
+use Rattle.gimli_core.specs.Notation.{Notation}
+use Rattle.gimli_core.specs.Values.{Value, udata_value}
+use Rattle.gimli_core.specs.Reading.{Read, ◌>>=◌}
+use Rattle.gimli_core.specs.declared.common.Format.{Format}
+use Rattle.gimli_line.specs.header.File.{File}
+use Rattle.gimli_line.specs.header.HeaderGrammar.{Entry, digest}
+use Rattle.gimli_line.specs.inside.header.FormReading.{form_at}
+use Rattle.gimli_line.specs.declared.header.file_entry.FileEntryFormat.{FileEntryFormat}
+
+-- what a value of this content type makes of what stood before
+abbrev pub value_after : {A : Type 0} → ℕ → (Value → Option A) → ℕ → Value → A → A
+value_after wanted pick content value before = elim (if nat_eq content wanted then pick value else None) [ Some x ↦ x | None ↦ before ]
+
+-- the path of a directory
+abbrev pub path_with : Value → ℕ → Value → Value
+path_with path content value = value_after 0x0001 Some content value path
+
+-- a file with one more value
+abbrev pub file_with : File → ℕ → Value → File
+file_with file content value = record {
+  path_name = value_after 0x0001 Some content value file.path_name;
+  directory_index = value_after 0x0002 udata_value content value file.directory_index;
+  timestamp = value_after 0x0003 udata_value content value file.timestamp;
+  size = value_after 0x0004 udata_value content value file.size;
+  md5 = value_after 0x0005 digest content value file.md5;
+  source = value_after 0x2001 (λ v. Some (Some v)) content value file.source;
+}
+
+-- the values of an entry one by one, from what stands at first
+abbrev pub fold_of : {A : Type 0} → (A → ℕ → Value → A) → A → Entry → A
+fold_of step first [] = first
+fold_of step first (v ∷ entry) = fold_of step (step first v.0 v.1) entry
+
+module _ (notation : Notation) (format : Format) where
+  -- the same as they are read
+  abbrev pub folded_at : {A : Type 0} → (A → ℕ → Value → A) → A → List FileEntryFormat → List ℕ → Read A
+  folded_at step first [] bytes = (Ok first, bytes)
+  folded_at step first (f ∷ formats) bytes =
+      form_at notation format f.form.0 bytes >>= λ value rest. folded_at step (step first f.content_type.0 value) formats rest

@@ -1,0 +1,6 @@
+pub mod Execution
+pub mod InstructionReading
+pub mod Rows
+pub mod SequenceSplit
+pub mod StoredRow
+pub mod Unread

@@ -1,0 +1,7 @@
+-- What is taken of instructions, and what is left; and the instructions of a whole program.
+use Rattle.std.specs.Prelude.{Ok}
+use Rattle.gimli_core.specs.Reading.{Read, ◌>>=◌}
+
+-- the values are passed over
+abbrev pub without_value : {A : Type 0} → Read A → Read (Unit {0})
+without_value r = r >>= λ x rest. (Ok tt, rest)

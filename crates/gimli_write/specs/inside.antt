@@ -1,0 +1,4 @@
+-- What no public clause reaches: private functions and proofs alone speak of it.
+pub mod RoundTrip
+pub mod TextReading
+pub mod convert

@@ -1,0 +1,18 @@
+-- The text that a value stands for, as it is read.
+use Rattle.std.specs.Prelude.{ℕ, List, Option, Some, None}
+use Rattle.gimli_core.specs.Values.{Value}
+use Rattle.gimli_line.specs.header.File.{File}
+use Rattle.gimli_build.specs.Texts.{Sections, IsText}
+
+-- a value stands for a text
+abbrev pub HasText : Sections → Value → Type 0
+HasText sections v = (text : List ℕ) × IsText sections v text
+
+abbrev pub HasOptionalText : Sections → Option Value → Type 0
+HasOptionalText sections (Some v) = HasText sections v
+HasOptionalText sections None = Unit {0}
+
+-- the path of a file stands for a text, and so does its source, if it has one
+pub record HasFileTexts (sections : Sections) (f : File) : Type 0 where
+  pub path : HasText sections f.path_name
+  pub source : HasOptionalText sections f.source
