@@ -10,7 +10,7 @@ use gimli_core::{
     DebugLineOffset, Encoding, Endianity, Format, LineEncoding, LittleEndian, SectionId,
 };
 use gimli_write::{
-    Address, DebugLine, EndianVec, Error, LineProgram, LineString, LineStringTable, Result,
+    Address, DebugLine, EndianVec, Error, LineProgram, LineString, LineStringTable, Result, Sink,
     StringTable, Writer,
 };
 use std::alloc::Global;
@@ -36,9 +36,7 @@ fn array_section(len: usize) -> ArraySection
     }
 }
 
-impl Writer for ArraySection {
-    type Endian = LittleEndian;
-
+impl Sink for ArraySection {
     ghost contents = { λ w. take w.len w.bytes };
 
     ghost big = { λ w. false };
@@ -48,6 +46,10 @@ impl Writer for ArraySection {
     ghost fails_for_memory_alone = { false };
 
     ghost all_or_none = { false };
+}
+
+impl Writer for ArraySection {
+    type Endian = LittleEndian;
 
     fn endian(&self) -> LittleEndian {
         LittleEndian
@@ -147,9 +149,7 @@ fn low(number: usize) -> u8 {
     (number & 0xff) as u8
 }
 
-impl Writer for Noting {
-    type Endian = LittleEndian;
-
+impl Sink for Noting {
     ghost contents = { λ w. w.section.bytes };
 
     ghost big = { λ w. false };
@@ -159,6 +159,10 @@ impl Writer for Noting {
     ghost fails_for_memory_alone = { false };
 
     ghost all_or_none = { false };
+}
+
+impl Writer for Noting {
+    type Endian = LittleEndian;
 
     fn endian(&self) -> LittleEndian {
         LittleEndian
@@ -342,9 +346,7 @@ struct Tired<E: Endianity> {
     calls: usize,
 }
 
-impl<E: Endianity> Writer for Tired<E> {
-    type Endian = E;
-
+impl<E: Endianity> Sink for Tired<E> {
     ghost contents = { λ v. v.section.bytes };
 
     ghost big = { λ v. E.big v.section.endian };
@@ -354,6 +356,10 @@ impl<E: Endianity> Writer for Tired<E> {
     ghost fails_for_memory_alone = { false };
 
     ghost all_or_none = { false };
+}
+
+impl<E: Endianity> Writer for Tired<E> {
+    type Endian = E;
 
     fn endian(&self) -> E {
         self.section.endian()

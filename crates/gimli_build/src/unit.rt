@@ -96,7 +96,7 @@ fn write_whole<W: Writer>(
 ) -> Result<()>
     requires can { CanWrite program.now strings.now line_strings.now }
     requires empty { StandsForNone program.now strings.now line_strings.now (line_text empty.now) }
-    ensures writes { Writes W.Writer w.old w.new result
+    ensures writes { Writes W.Sink w.old w.new result
         (whole_bytes (W.big w.old) program.now strings.now line_strings.now) }
     ensures built { OnOk result (IsBuilt program.now) }
     ensures short { OnOk result (length (W.contents w.new) < 2 ^ 64) }
@@ -119,7 +119,7 @@ fn write_inside<W: Writer>(
 ) -> Result<()>
     requires can { CanWrite program.now strings.now line_strings.now }
     requires empty { StandsForNone program.now strings.now line_strings.now (line_text empty.now) }
-    ensures writes { Writes W.Writer w.old w.new result
+    ensures writes { Writes W.Sink w.old w.new result
         (inside_bytes (W.big w.old) program.now strings.now line_strings.now) }
     ensures built { OnOk result (IsBuilt program.now) }
 {
@@ -135,7 +135,7 @@ fn write_inside<W: Writer>(
 
 /// Appends the version, and in version 5 the address size and a segment selector size of 0.
 fn write_opening<W: Writer>(w: &mut W, encoding: Encoding) -> Result<()>
-    ensures { Writes W.Writer w.old w.new result (opening_bytes (W.big w.old) encoding) }
+    ensures { Writes W.Sink w.old w.new result (opening_bytes (W.big w.old) encoding) }
 {
     write_version(w, encoding.version)?;
     if encoding.version <= 4 {
@@ -146,7 +146,7 @@ fn write_opening<W: Writer>(w: &mut W, encoding: Encoding) -> Result<()>
 
 /// Appends the version.
 fn write_version<W: Writer>(w: &mut W, version: u16) -> Result<()>
-    ensures { Writes W.Writer w.old w.new result (version_bytes (W.big w.old) version) }
+    ensures { Writes W.Sink w.old w.new result (version_bytes (W.big w.old) version) }
 {
     if !(2..=5).contains(&version) {
         return Err(Error::UnsupportedVersion(version));

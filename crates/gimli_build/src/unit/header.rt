@@ -27,7 +27,7 @@ pub(crate) fn write_header<W: Writer>(
 ) -> Result<()>
     requires can { CanWrite program.now strings.now line_strings.now }
     requires empty { StandsForNone program.now strings.now line_strings.now (line_text empty.now) }
-    ensures writes { Writes W.Writer w.old w.new result
+    ensures writes { Writes W.Sink w.old w.new result
         (header_bytes (W.big w.old) program.now strings.now line_strings.now) }
     ensures fit { OnOk result (All FitsFile program.now.files) }
 {
@@ -50,7 +50,7 @@ fn write_fields<W: Writer>(
 ) -> Result<()>
     requires can { CanWrite program.now strings.now line_strings.now }
     requires empty { StandsForNone program.now strings.now line_strings.now (line_text empty.now) }
-    ensures writes { Writes W.Writer w.old w.new result
+    ensures writes { Writes W.Sink w.old w.new result
         (fields_bytes (W.big w.old) program.now strings.now line_strings.now) }
     ensures fit { OnOk result (All FitsFile program.now.files) }
 {
@@ -65,7 +65,7 @@ fn write_line_encoding<W: Writer>(
     version: u16,
     line_encoding: LineEncoding,
 ) -> Result<()>
-    ensures { Writes W.Writer w.old w.new result (line_encoding_bytes version line_encoding) }
+    ensures { Writes W.Sink w.old w.new result (line_encoding_bytes version line_encoding) }
 {
     write_byte(w, line_encoding.minimum_instruction_length)?;
     write_operation_count(w, version, line_encoding.maximum_operations_per_instruction)?;
@@ -78,7 +78,7 @@ fn write_line_encoding<W: Writer>(
 
 /// Appends how many operations an instruction has, which before version 4 is one, and isn't said.
 fn write_operation_count<W: Writer>(w: &mut W, version: u16, operations: u8) -> Result<()>
-    ensures { Writes W.Writer w.old w.new result (operations_bytes version operations) }
+    ensures { Writes W.Sink w.old w.new result (operations_bytes version operations) }
 {
     if version >= 4 {
         return write_byte(w, operations);
@@ -99,7 +99,7 @@ fn write_tables<W: Writer>(
 ) -> Result<()>
     requires can { CanWrite program.now strings.now line_strings.now }
     requires empty { StandsForNone program.now strings.now line_strings.now (line_text empty.now) }
-    ensures writes { Writes W.Writer w.old w.new result
+    ensures writes { Writes W.Sink w.old w.new result
         (tables_bytes (W.big w.old) program.now strings.now line_strings.now) }
     ensures fit { OnOk result (All FitsFile program.now.files) }
 {
