@@ -14,7 +14,7 @@ use crate::units::print_units;
 use crate::words::Command;
 use gimli_core::Reader;
 use gimli_line::{CompleteLineProgram, LineSequence};
-use rows_units::{Place, SequenceLine};
+use rows_units::{UnitLocation, SequenceLine};
 use std::alloc::Global;
 use std::io::{Read, Write};
 
@@ -55,13 +55,13 @@ fn perform<F: Read + Drop, O: Write>(
     match Command::parse(words).ok_or(Refusal::Usage)? {
         Command::Demo => print_demo(alloc, out),
         Command::DemoPieces => print_demo_pieces(alloc, out),
-        Command::Rows(place) => {
+        Command::Rows(location) => {
             let section = read_section(alloc, file)?;
-            print_unit(alloc, &section, place, out)
+            print_unit(alloc, &section, location, out)
         }
-        Command::Sequences(place) => {
+        Command::Sequences(location) => {
             let section = read_section(alloc, file)?;
-            print_sequences(alloc, &section, place, out)
+            print_sequences(alloc, &section, location, out)
         }
         Command::Units(numbers) => {
             let section = read_section(alloc, file)?;
@@ -78,12 +78,12 @@ fn perform<F: Read + Drop, O: Write>(
 fn print_unit<O: Write>(
     alloc: Global,
     section: &[u8],
-    place: Place,
+    location: UnitLocation,
     out: &mut O,
 ) -> Result<(), Refusal>
     ensures refusal { IfErr result (λ r. r ≢ Refusal.Usage) }
 {
-    let program = program_at(alloc, section, place)?;
+    let program = program_at(alloc, section, location)?;
     let outcome = print_program(program, out);
     finish(outcome, out)
 }
@@ -92,12 +92,12 @@ fn print_unit<O: Write>(
 fn print_sequences<O: Write>(
     alloc: Global,
     section: &[u8],
-    place: Place,
+    location: UnitLocation,
     out: &mut O,
 ) -> Result<(), Refusal>
     ensures refusal { IfErr result (λ r. r ≢ Refusal.Usage) }
 {
-    let program = program_at(alloc, section, place)?;
+    let program = program_at(alloc, section, location)?;
     let (program, sequences) = program
         .sequences()
         .map_err(|e| Refusal::of_unit(e, Refusal::Rows))?;

@@ -12,7 +12,7 @@ use gimli_write::{
     Address, ConvertError, DebugLine, EndianVec, Error, LineProgram, LineString, LineStringTable,
     PieceVec, RoundTrip, StringTable, Writer, round_trip,
 };
-use rows_units::Place;
+use rows_units::UnitLocation;
 use rows_words::{AddressSize, print_bytes};
 use std::alloc::Global;
 use std::io::Write;
@@ -138,12 +138,12 @@ fn print_each_piece<E: Endianity, const N: usize, O: Write>(
 fn print_demo_rows<O: Write>(alloc: Global, bytes: &[u8], out: &mut O) -> Result<(), Refusal>
     ensures refusal { IfErr result (λ r. r ≢ Refusal.Usage) }
 {
-    let place = Place {
+    let location = UnitLocation {
         order: RunTimeEndian::Little,
         address_size: AddressSize::Four,
         offset: 0,
     };
-    print_program(program_at(alloc, bytes, place)?, out)
+    print_program(program_at(alloc, bytes, location)?, out)
 }
 
 /// The program of the unit: a file, and a sequence of two rows. Refused by `OutOfMemory` alone.

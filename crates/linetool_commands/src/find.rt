@@ -21,7 +21,7 @@ pub(crate) fn print_pair<O: Write>(
 ) -> Result<(), Refusal>
     ensures refusal { IfErr result (λ r. r ≢ Refusal.Usage) }
 {
-    let program = program_at(alloc, section, query.place)?;
+    let program = program_at(alloc, section, query.location)?;
     let outcome = match find_in_run(program, query.address) {
         Ok(Some((first, second))) => print_both(first, second, out),
         Ok(None) => print_line("none", out),

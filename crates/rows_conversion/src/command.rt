@@ -75,10 +75,10 @@ fn outcome_with<'i>(
     sections: Sections<'i>,
     attempts: Attempts,
 ) -> Conversion<'i> {
-    let order = request.place.order;
+    let order = request.location.order;
     let unit = Unit {
         section: sections.lines,
-        place: request.place,
+        location: request.location,
         handed: &request.handed,
     };
     Conversion {
