@@ -4,8 +4,8 @@
 use crate::check::{check, check_equal, check_equal_at};
 use crate::narrow::NarrowReader;
 use crate::units::{
-    DEMO_UNIT, Slice, UNIT_OF_VERSION_4, UNIT_OF_VERSION_5, changed, is_directory, is_text,
-    named_program, program, slice,
+    DEMO_UNIT, Slice, UNIT_OF_VERSION_4, UNIT_OF_VERSION_5, is_directory, is_text, named_program,
+    program, slice, with_changes,
 };
 use gimli_core::Error::{self, UnexpectedEof, UnsupportedOffset};
 use gimli_core::{
@@ -141,7 +141,7 @@ const LEFT: [(&[u8], &[(usize, u8)], u64); 11] = [
 
 fn steps_of_bytes_left_where_more_are_wanting(rt: &impl Abort, alloc: Global) -> Result<()> {
     for (unit, changes, left) in LEFT {
-        let bytes = changed(alloc, unit, changes)?;
+        let bytes = with_changes(alloc, unit, changes)?;
         let refused = Some(UnexpectedEof(ReaderOffsetId(left)));
         assert_eq!(rt; refusal(alloc, slice(&bytes)), refused, "at {changes:?}");
     }
@@ -188,7 +188,7 @@ fn steps_of_indexes_at_the_top_of_their_range(rt: &impl Abort, alloc: Global) ->
         } else {
             DEMO_UNIT
         };
-        let bytes = changed(alloc, unit, &[(4, version)])?;
+        let bytes = with_changes(alloc, unit, &[(4, version)])?;
         let found = is_found_at_top(alloc, slice(&bytes), slice(b"/w"), slice(b"a.c"))?;
         assert_eq!(rt; found, None, "of version {version}");
     }
@@ -240,7 +240,7 @@ fn steps_of_directories_of_files(rt: &impl Abort, alloc: Global) -> Result<()> {
     check_directories(rt, alloc, slice(UNIT_OF_VERSION_4), slice(b"/w"))?;
     let near = program(alloc, slice(UNIT_OF_VERSION_5), 4)?;
     check(rt, is_in_directory(near.header(), 0, b"/w"));
-    let bytes = changed(alloc, UNIT_OF_VERSION_5, &[(47, 127)])?;
+    let bytes = with_changes(alloc, UNIT_OF_VERSION_5, &[(47, 127)])?;
     let far = program(alloc, slice(&bytes), 4)?;
     check(rt, has_no_directory(far.header(), 0));
     Ok(())
@@ -278,7 +278,7 @@ fn check_numbers<R: Reader>(rt: &impl Abort, alloc: Global, unit: R) -> Result<(
 }
 
 fn steps_of_numbers_by_two_names(rt: &impl Abort, alloc: Global) -> Result<()> {
-    let bytes = changed(alloc, DEMO_UNIT, &[(34, 7), (35, 9)])?;
+    let bytes = with_changes(alloc, DEMO_UNIT, &[(34, 7), (35, 9)])?;
     check_numbers(rt, alloc, slice(&bytes))?;
     Ok(())
 }
@@ -321,7 +321,7 @@ fn check_reader(rt: &impl Abort) {
 
 fn steps_of_sections_over_readers_and_vectors(rt: &impl Abort, alloc: Global) -> Result<()> {
     check_reader(rt);
-    let owned = DebugLine::from(changed(alloc, UNIT_OF_VERSION_5, &[])?);
+    let owned = DebugLine::from(with_changes(alloc, UNIT_OF_VERSION_5, &[])?);
     let lent = owned.borrow(|bytes| EndianSlice::new(bytes, LittleEndian));
     check_equal(rt, is_in_w(alloc, &lent), Ok(true));
     Ok(())
@@ -419,7 +419,7 @@ const OTHERS: [(usize, u8); 11] = [
 
 fn steps_of_headers_that_differ_in_one_part(rt: &impl Abort, alloc: Global) -> Result<()> {
     for (place, byte) in OTHERS {
-        let other = changed(alloc, UNIT_OF_VERSION_5, &[(place, byte)])?;
+        let other = with_changes(alloc, UNIT_OF_VERSION_5, &[(place, byte)])?;
         let equal = equalities(alloc, slice(UNIT_OF_VERSION_5), slice(&other))?;
         check_equal_at(rt, equal, [false; 2], place);
     }

@@ -1,7 +1,9 @@
 //! The rows that one run keeps, and a lookup of many rows.
 
 use crate::check::{check, check_at, check_equal, check_equal_at};
-use crate::units::{DEMO_PROGRAM, HEADER, changed, cut_program, file_count, program, slice, unit};
+use crate::units::{
+    DEMO_PROGRAM, HEADER, cut_program, file_count, program, slice, unit, with_changes,
+};
 use gimli_core::{Error, Reader, Result};
 use gimli_line::{CompleteLineProgram, LineRow, LineSequence, ResumedLineRows, RowList};
 use gimli_lookup::Lookup;
@@ -192,7 +194,7 @@ fn unit_of_a_thousand_rows(alloc: Global) -> Result<Vec<u8>> {
     let bytes = program_of_a_thousand_rows(alloc)?;
     let unit = unit(alloc, HEADER, &bytes)?;
     // The unit has 1048 bytes, which one byte doesn't tell.
-    changed(alloc, &unit, &[(0, 0x14), (1, 4)])
+    with_changes(alloc, &unit, &[(0, 0x14), (1, 4)])
 }
 
 /// The addresses of the row at an address and of the one after it.

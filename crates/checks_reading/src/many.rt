@@ -2,7 +2,7 @@
 //! for them is there, so a refusal by `OutOfMemory` would be wrong, which no contract tells.
 
 use crate::check::{check, check_equal, check_equal_at};
-use crate::units::{HEADER, changed, file_count, is_directory, is_text, program, slice, unit};
+use crate::units::{HEADER, file_count, is_directory, is_text, program, slice, unit, with_changes};
 use gimli_core::{Error, Reader, Result};
 use gimli_line::{LineProgramHeader, LineSequence, RowList};
 use std::alloc::{AllocError, Global};
@@ -179,14 +179,14 @@ fn unit_of_many(
         return Err(Error::OutOfMemory);
     };
     let unit = unit(alloc, HEADER, &program)?;
-    changed(alloc, &unit, &[(0, length[0]), (1, length[1])])
+    with_changes(alloc, &unit, &[(0, length[0]), (1, length[1])])
 }
 
 /// What `sequences_with_rows` returns of its sequences.
 type Kept<R> = (Vec<LineSequence<R>>, Vec<RowList>);
 
 /// The sequences of a unit, and their rows.
-fn kept<R: Reader>(alloc: Global, unit: R) -> Result<Kept<R>> {
+fn keep<R: Reader>(alloc: Global, unit: R) -> Result<Kept<R>> {
     let (_, sequences, rows) = program(alloc, unit, 4)?.sequences_with_rows()?;
     Ok((sequences, rows))
 }
@@ -219,7 +219,7 @@ fn steps_of_three_thousand_rows(rt: &impl Abort, alloc: Global) -> Result<()> {
         b"\x02\x01\0\x01\x01",
     );
     let unit = unit_of_many(alloc, program, [0xe4, 0x0b])?;
-    let kept = kept(alloc, slice(&unit))?;
+    let kept = keep(alloc, slice(&unit))?;
     check_kept(rt, &kept, 1, (0x11, 0xbc8), 3000);
     Ok(())
 }
@@ -233,7 +233,7 @@ fn three_thousand_rows(rt: HostRuntime) {
 fn steps_of_three_thousand_sequences(rt: &impl Abort, alloc: Global) -> Result<()> {
     let program = bytes_of_many(alloc, b"", 3000, b"\x01\x02\x01\0\x01\x01", b"");
     let unit = unit_of_many(alloc, program, [0x71, 0x46])?;
-    let kept = kept(alloc, slice(&unit))?;
+    let kept = keep(alloc, slice(&unit))?;
     check_kept(rt, &kept, 3000, (0, 1), 2);
     Ok(())
 }

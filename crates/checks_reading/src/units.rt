@@ -57,7 +57,7 @@ pub const UNIT_OF_VERSION_4: &[u8] =
 
 /// A unit of fewer than 260 bytes: a header, whose unit length is set, and a program.
 pub fn unit(alloc: Global, header: &[u8], program: &[u8]) -> Result<Vec<u8>> {
-    let Ok(mut unit) = joined(alloc, header, program) else {
+    let Ok(mut unit) = join(alloc, header, program) else {
         return Err(Error::OutOfMemory);
     };
     let length = unit.len().saturating_sub(4);
@@ -68,14 +68,14 @@ pub fn unit(alloc: Global, header: &[u8], program: &[u8]) -> Result<Vec<u8>> {
 }
 
 /// Bytes, and those after them.
-fn joined(alloc: Global, first: &[u8], second: &[u8]) -> std::result::Result<Vec<u8>, AllocError> {
+fn join(alloc: Global, first: &[u8], second: &[u8]) -> std::result::Result<Vec<u8>, AllocError> {
     let mut bytes = Vec::from_slice(alloc, first)?;
     bytes.extend_from_slice(second)?;
     Ok(bytes)
 }
 
 /// A unit with other bytes at some places.
-pub fn changed(alloc: Global, unit: &[u8], changes: &[(usize, u8)]) -> Result<Vec<u8>> {
+pub fn with_changes(alloc: Global, unit: &[u8], changes: &[(usize, u8)]) -> Result<Vec<u8>> {
     let mut bytes = match Vec::from_slice(alloc, unit) {
         Ok(bytes) => bytes,
         Err(_) => return Err(Error::OutOfMemory),

@@ -185,7 +185,7 @@ fn build_all<R: Reader>(
 }
 
 /// The program that a conversion of a source with one file has built.
-fn finished<R: Reader>(rt: &impl Abort, conversion: ConvertLineProgram<'_, '_, R>) -> LineProgram
+fn finish<R: Reader>(rt: &impl Abort, conversion: ConvertLineProgram<'_, '_, R>) -> LineProgram
     requires { IsWritable conversion.conversion.tables.program conversion.line_strings.now }
     ensures { CanWrite result (texts_in conversion.exit.1.0.now conversion.exit.0.now) }
 {
@@ -205,7 +205,7 @@ fn built_by_hand<R: Reader>(
 {
     let mut conversion = conversion_of(program, line_strings, strings)?;
     build_all(rt, &mut conversion)?;
-    Ok(finished(rt, conversion))
+    Ok(finish(rt, conversion))
 }
 
 /// The unit that is made of both addresses: a sequence, whose second address stands in the middle.
@@ -285,7 +285,7 @@ fn builder_calls(rt: HostRuntime) {
 }
 
 /// What `convert` makes of what is left of a source with one file.
-fn converted<R: Reader>(
+fn conversion_of<R: Reader>(
     rt: &impl Abort,
     conversion: ConvertLineProgram<'_, '_, R>,
 ) -> ConvertResult<LineProgram>
@@ -307,7 +307,7 @@ fn converted_whole<R: Reader>(
     ensures { IfOk result (λ built. CanWrite built (texts_in strings.new line_strings.new)) }
 {
     let conversion = conversion_of(program, line_strings, strings)?;
-    converted(rt, conversion)
+    conversion_of(rt, conversion)
 }
 
 /// The program of a source of which the first row is built by hand, and the rest converted.
@@ -321,7 +321,7 @@ fn converted_after_a_row<R: Reader>(
 {
     let mut conversion = conversion_of(program, line_strings, strings)?;
     build_first(rt, &mut conversion)?;
-    converted(rt, conversion)
+    conversion_of(rt, conversion)
 }
 
 fn steps_of_convert(

@@ -11,7 +11,7 @@ use gimli_core::{
     DebugLineOffset, Encoding, Endianity, Format, LineEncoding, LittleEndian, SectionId,
 };
 use gimli_write::{
-    Address, DebugLine, EndianVec, Error, LineProgram, LineString, LineStringTable, Result,
+    Address, DebugLine, EndianVec, Error, LineProgram, LineString, LineStringTable, Result, Sink,
     StringTable, Writer,
 };
 use std::alloc::Global;
@@ -37,9 +37,7 @@ fn array_section(len: usize) -> ArraySection
     }
 }
 
-impl Writer for ArraySection {
-    type Endian = LittleEndian;
-
+impl Sink for ArraySection {
     ghost contents = { λ w. take w.len w.bytes };
 
     ghost big = { λ w. false };
@@ -49,6 +47,10 @@ impl Writer for ArraySection {
     ghost fails_for_memory_alone = { false };
 
     ghost all_or_none = { false };
+}
+
+impl Writer for ArraySection {
+    type Endian = LittleEndian;
 
     fn endian(&self) -> LittleEndian {
         LittleEndian
@@ -148,9 +150,7 @@ fn low(number: usize) -> u8 {
     (number & 0xff) as u8
 }
 
-impl Writer for Noting {
-    type Endian = LittleEndian;
-
+impl Sink for Noting {
     ghost contents = { λ w. w.section.bytes };
 
     ghost big = { λ w. false };
@@ -160,6 +160,10 @@ impl Writer for Noting {
     ghost fails_for_memory_alone = { false };
 
     ghost all_or_none = { false };
+}
+
+impl Writer for Noting {
+    type Endian = LittleEndian;
 
     fn endian(&self) -> LittleEndian {
         LittleEndian
@@ -298,11 +302,11 @@ fn references(
     let file = LineString::StringRef(strings.add(b"a.c")?);
     let directory = LineString::LineStringRef(line_strings.add(b"/w")?);
     let program = referring(alloc, strings, line_strings, directory, file)?;
-    noted(alloc, &program, strings, line_strings)
+    note(alloc, &program, strings, line_strings)
 }
 
 /// The section of a program.
-fn noted(
+fn note(
     alloc: Global,
     program: &LineProgram,
     strings: &mut StringTable,
@@ -343,9 +347,7 @@ struct Tired<E: Endianity> {
     calls: usize,
 }
 
-impl<E: Endianity> Writer for Tired<E> {
-    type Endian = E;
-
+impl<E: Endianity> Sink for Tired<E> {
     ghost contents = { λ v. v.section.bytes };
 
     ghost big = { λ v. E.big v.section.endian };
@@ -355,6 +357,10 @@ impl<E: Endianity> Writer for Tired<E> {
     ghost fails_for_memory_alone = { false };
 
     ghost all_or_none = { false };
+}
+
+impl<E: Endianity> Writer for Tired<E> {
+    type Endian = E;
 
     fn endian(&self) -> E {
         self.section.endian()

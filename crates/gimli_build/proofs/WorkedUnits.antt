@@ -23,7 +23,7 @@ use Rattle.gimli_build.specs.declared.built.items.BuiltItem.TheVariants.{SetAddr
 abbrev encoding : ℕ → Format → ℕ → Encoding
 encoding version format address_size = record { address_size = address_size; format = format; version = version }
 
--- an instruction length, operations, a line base and a line range; a place is a statement unless it is said
+-- an instruction length, operations, a line base and a line range; a row is a statement unless it is said
 abbrev lines : ℕ → ℕ → ℤ → ℕ → LineEncoding
 lines length operations base range = record {
   minimum_instruction_length = length;

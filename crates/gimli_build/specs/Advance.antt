@@ -1,4 +1,4 @@
--- Places of rows, and how far one is past another (DWARF 5, sections 6.2.2 and 6.2.5.1). A place is an offset in
+-- Positions of rows, and how far one is past another (DWARF 5, sections 6.2.2 and 6.2.5.1). A position is an offset in
 -- bytes, and which operation of the machine instruction there.
 use Rattle.std.specs.Prelude.{◌≡◌, ℕ, ◌+◌, ◌-◌, ◌*◌, ◌/◌, ◌%◌, ◌^◌, ◌<◌, ◌≤◌, pos, ◌+ℤ◌, ◌≤ℤ◌, ◌<ℤ◌}
 use Rattle.gimli_core.specs.declared.common.LineEncoding.{LineEncoding}

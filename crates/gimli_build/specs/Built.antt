@@ -54,7 +54,7 @@ no_program =
     (record { minimum_instruction_length = 1; maximum_operations_per_instruction = 1; default_is_stmt = true; line_base = negsuc 4; line_range = 14 })
     [] []
 
--- ---- places and addresses
+-- ---- positions and addresses
 
 -- the offset and the operation that an item leaves off at: the sequence begins, or counts anew, after an end and a
 -- set address
@@ -63,7 +63,7 @@ position_after (Row r) = (r.address_offset, r.op_index)
 position_after (SetAddress a) = (0, 0)
 position_after (End offset op_index) = (0, 0)
 
--- the place of the previous row, which the next one is after
+-- the position of the previous row, which the next one is after
 abbrev pub previous_position : List BuiltItem → ℕ × ℕ
 previous_position items = option_map_or position_after (slice_get items (length items - 1)) (0, 0)
 

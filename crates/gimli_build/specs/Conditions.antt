@@ -18,7 +18,7 @@ pub record Accepts (encoding : Encoding) (line_encoding : LineEncoding) : Type 0
 
 -- ---- items
 
--- an item can be built where the previous row is at this place; a line must fit a signed number
+-- an item can be built where the previous row is at this position; a line must fit a signed number
 abbrev pub CanBuild : LineEncoding → ℕ × ℕ → BuiltItem → Type 0
 CanBuild e position (SetAddress a) = Unit {0}
 CanBuild e position (Row r) = CanFollow e position.0 position.1 r.address_offset r.op_index × (r.line < 2 ^ 63)
@@ -30,7 +30,7 @@ CanGenerateRow p = CanBuild p.line_encoding (previous_position p.items) (Row p.r
 abbrev pub CanEndSequence : Built → ℕ → Type 0
 CanEndSequence p offset = CanBuild p.line_encoding (previous_position p.items) (End offset p.row.op_index)
 
--- each of these items could be built, the first with the previous row at this place
+-- each of these items could be built, the first with the previous row at this position
 abbrev pub AreBuilt : LineEncoding → ℕ × ℕ → List BuiltItem → Type 0
 AreBuilt e position [] = Unit {0}
 AreBuilt e position (item ∷ items) = CanBuild e position item × AreBuilt e (position_after item) items

@@ -27,6 +27,6 @@ without_marks r = record r { discriminator = 0; basic_block = false; prologue_en
 abbrev pub at_position : ℕ × ℕ → LineRow → LineRow
 at_position position r = record r { address_offset = position.0; op_index = position.1 }
 
--- the row where an address was set: in a sequence its place is now told from there
+-- the row where an address was set: in a sequence its position is now told from there
 abbrev pub row_after_address : Bool → LineRow → LineRow
 row_after_address in_sequence r = if in_sequence then record r { address_offset = 0; op_index = 0 } else r

@@ -26,7 +26,7 @@ pub record Run : Type 0 where
   -- the row before
   pub previous : LineRow
 
--- ---- from place to place
+-- ---- from position to position
 
 -- at the start of a program
 abbrev pub run_start : Encoding → LineEncoding → Run
@@ -42,7 +42,7 @@ past_address address here = record here { base = address; previous = at_position
 
 -- ---- what can come next
 
--- the place of the row before
+-- the position of the row before
 abbrev pub position_of : Run → ℕ × ℕ
 position_of here = (here.previous.address_offset, here.previous.op_index)
 

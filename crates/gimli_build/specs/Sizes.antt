@@ -17,7 +17,7 @@ pub record HasSpecial (parameters : Parameters) (d : ℤ) (n : ℕ) : Type 0 whe
   pub line : line_advance parameters (Special opcode) ≡ Some d
   pub operations : operation_advance parameters (Special opcode) ≡ Some n
 
--- a row differs from the row before it in its place and its line alone, and nothing stands for it alone
+-- a row differs from the row before it in its position and its line alone, and nothing stands for it alone
 pub record OnlyMoves (previous built : LineRow) : Type 0 where
   pub file : built.file ≡ previous.file
   pub column : built.column ≡ previous.column

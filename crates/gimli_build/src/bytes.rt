@@ -10,14 +10,14 @@ use gimli_core::{Format, SectionId};
 /// Appends a byte, which is the same in either order.
 #[inline(always)]
 pub(crate) fn write_byte<W: Writer>(w: &mut W, byte: u8) -> Result<()>
-    ensures { Writes W.Writer w.old w.new result (Ok (byte ∷ [])) }
+    ensures { Writes W.Sink w.old w.new result (Ok (byte ∷ [])) }
 {
     w.write(&[byte])
 }
 
 /// Appends a text and a zero byte.
 pub(crate) fn write_text<W: Writer>(w: &mut W, text: &[u8]) -> Result<()>
-    ensures { Writes W.Writer w.old w.new result (Ok (text.now ++ 0 ∷ [])) }
+    ensures { Writes W.Sink w.old w.new result (Ok (text.now ++ 0 ∷ [])) }
 {
     w.write(text)?;
     write_byte(w, 0)
@@ -30,7 +30,7 @@ pub(crate) fn write_section_offset<W: Writer>(
     offset: usize,
     section: SectionId,
 ) -> Result<()>
-    ensures { Writes W.Writer w.old w.new result (format_word (W.big w.old) format offset) }
+    ensures { Writes W.Sink w.old w.new result (format_word (W.big w.old) format offset) }
 {
     w.write_offset(offset, section, format.word_size())
 }

@@ -104,7 +104,7 @@ pub fn rows_are_short()
     ensures { (here : Run) (r : LineRow) → length (written_row here r) ≤ 11 }
 {}
 
-/// A row that differs from the one before it in its place and its line alone is one byte, where a special opcode
+/// A row that differs from the one before it in its position and its line alone is one byte, where a special opcode
 /// has both its line advance and its operation advance; and two bytes at most, where a special opcode has them
 /// with the advance of const_add_pc taken off.
 pub fn moving_rows_are_short()

@@ -99,7 +99,7 @@ fn write_whole<W: Writer>(
     requires can { CanWrite program.now (texts_in strings.now line_strings.now) }
     requires empty { StandsForNone program.now (texts_in strings.now line_strings.now)
         (line_text empty.now) }
-    ensures writes { Writes W.Writer w.old w.new result
+    ensures writes { Writes W.Sink w.old w.new result
         (whole_bytes (W.big w.old) program.now (texts_in strings.now line_strings.now)) }
     ensures built { OnOk result (IsBuilt program.now) }
     ensures short { OnOk result (length (W.contents w.new) < 2 ^ 64) }
@@ -123,7 +123,7 @@ fn write_inside<W: Writer>(
     requires can { CanWrite program.now (texts_in strings.now line_strings.now) }
     requires empty { StandsForNone program.now (texts_in strings.now line_strings.now)
         (line_text empty.now) }
-    ensures writes { Writes W.Writer w.old w.new result
+    ensures writes { Writes W.Sink w.old w.new result
         (inside_bytes (W.big w.old) program.now (texts_in strings.now line_strings.now)) }
     ensures built { OnOk result (IsBuilt program.now) }
 {
@@ -139,7 +139,7 @@ fn write_inside<W: Writer>(
 
 /// Appends the version, and in version 5 the address size and a segment selector size of 0.
 fn write_opening<W: Writer>(w: &mut W, encoding: Encoding) -> Result<()>
-    ensures { Writes W.Writer w.old w.new result (opening_bytes (W.big w.old) encoding) }
+    ensures { Writes W.Sink w.old w.new result (opening_bytes (W.big w.old) encoding) }
 {
     write_version(w, encoding.version)?;
     if encoding.version <= 4 {
@@ -150,7 +150,7 @@ fn write_opening<W: Writer>(w: &mut W, encoding: Encoding) -> Result<()>
 
 /// Appends the version.
 fn write_version<W: Writer>(w: &mut W, version: u16) -> Result<()>
-    ensures { Writes W.Writer w.old w.new result (version_bytes (W.big w.old) version) }
+    ensures { Writes W.Sink w.old w.new result (version_bytes (W.big w.old) version) }
 {
     if !(2..=5).contains(&version) {
         return Err(Error::UnsupportedVersion(version));

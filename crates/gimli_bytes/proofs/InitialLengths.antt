@@ -1,10 +1,12 @@
 -- What the calls of an initial length leave.
-use Rattle.std.proofs.Common.{◌≡◌, ℕ, ◌+◌, ◌≤◌, Bool, true, false, List, ◌++◌, length, length-append, length-take, refl, ap, ◌∙◌, append_assoc, arith}
+use Rattle.std.proofs.Common.{◌≡◌, ℕ, ◌+◌, ◌≤◌, Bool, true, false, List, ◌++◌, Ok, length, length-append, length-take, refl, ap, ◌∙◌, append_assoc, arith}
 use Rattle.gimli_core.specs.Numbers.{number_bytes}
 use Rattle.gimli_core.specs.declared.common.Format.{Format}
 use Rattle.gimli_core.specs.declared.common.Format.TheVariants.{Dwarf32, Dwarf64}
-use Rattle.gimli_bytes.specs.Written.{Begins}
+use Rattle.gimli_bytes.specs.Written.{Begins, IsAppend, IsAppendInParts}
 use Rattle.gimli_bytes.specs.Number.{escape_size, open_length}
+use Rattle.gimli_bytes.specs.declared.sink.Sink.{Ghosts}
+use Rattle.gimli_bytes.proofs.Parts.{begins_then}
 
 size_4 : (big : Bool) (n : ℕ) → length (number_bytes big 4 n) ≡ 4
 size_4 true n = refl
@@ -29,9 +31,19 @@ place_64 format big n old mid at long escape is = rw long (omega (arith, ap leng
 
 -- ---- its bytes
 
-pub opened_32 : (format : Format) (big : Bool) (old new : List ℕ) → format ≡ Dwarf32 → new ≡ old ++ number_bytes big 4 0 → new ≡ old ++ open_length big format
-opened_32 format big old new short is = rw short is
+pub opened_32 : {W X Y : Type 0} {sink : Ghosts W} {old new : W} {x : X} {y : Y} (format : Format) → format ≡ Dwarf32 → IsAppend sink old new (Ok x) (Ok (number_bytes (sink.big old) 4 0)) → IsAppendInParts sink old new (Ok y) (Ok (open_length (sink.big old) format))
+opened_32 format short word = rw short (record {
+  keeps = word.keeps;
+  ordered = word.ordered;
+  ok = word.ok;
+  err = λ memory_alone. tt;
+})
 
-pub opened_64 : (format : Format) (big later : Bool) (old mid new : List ℕ) → format ≡ Dwarf64 → later ≡ big → mid ≡ old ++ number_bytes big 4 0xffff_ffff → new ≡ mid ++ number_bytes later 8 0 → new ≡ old ++ open_length big format
-opened_64 format big later old mid new long same escape word =
-    rw long (both old (number_bytes big 4 0xffff_ffff) (number_bytes big 8 0) mid new escape (word ∙ ap (λ (b : Bool). mid ++ number_bytes b 8 0) same))
+pub opened_64 : {W X Y Z : Type 0} {sink : Ghosts W} {old mid new : W} {x : X} {y : Y} {z : Z} (format : Format) → format ≡ Dwarf64 → IsAppend sink old mid (Ok x) (Ok (number_bytes (sink.big old) 4 0xffff_ffff)) → IsAppend sink mid new (Ok y) (Ok (number_bytes (sink.big mid) 8 0)) → IsAppendInParts sink old new (Ok z) (Ok (open_length (sink.big old) format))
+opened_64 {sink = sink} {old = old} {mid = mid} {new = new} format long escape word = rw long (record {
+  keeps = begins_then (sink.contents old) (sink.contents mid) (sink.contents new) escape.keeps word.keeps;
+  ordered = word.ordered ∙ escape.ordered;
+  ok = λ keeps_bytes. both (sink.contents old) (number_bytes (sink.big old) 4 0xffff_ffff) (number_bytes (sink.big old) 8 0) (sink.contents mid) (sink.contents new)
+      (escape.ok keeps_bytes) (word.ok keeps_bytes ∙ ap (λ (b : Bool). sink.contents mid ++ number_bytes b 8 0) escape.ordered);
+  err = λ memory_alone. tt;
+})

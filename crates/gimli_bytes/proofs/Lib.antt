@@ -4,6 +4,7 @@ pub mod ShortestSleb
 pub mod TextLemmas
 pub mod Equality
 pub mod PieceLemmas
+pub mod Parts
 pub mod WrittenAs
 pub mod InitialLengths
 pub mod TablesWritten

@@ -1,19 +1,12 @@
 -- What the loop that writes a table of texts leaves.
-use Rattle.std.proofs.Common.{◌≡◌, ℕ, ◌+◌, ◌<◌, ◌≤◌, min, Bool, true, false, List, [], ◌∷◌, ◌++◌, length, take, get_or, refl, sym, ap, ◌∙◌, append_assoc, arith}
+use Rattle.std.proofs.Common.{◌≡◌, ℕ, ◌+◌, ◌<◌, ◌≤◌, Bool, true, false, List, [], ◌∷◌, ◌++◌, length, take, get_or, refl, sym, ap, ◌∙◌, append_assoc, arith}
 use Rattle.std.specs.declared.vec.Vec.{Vec}
 use Rattle.std.specs.declared.alloc.Global.{Global}
 use Rattle.std.proofs.lemmas.Grind.{common_steps}
-use Rattle.std.proofs.lemmas.List.{take-take, length-take, take_all}
+use Rattle.std.proofs.lemmas.List.{take_all}
 use Rattle.gimli_core.specs.Numbers.{number_bytes}
 use Rattle.gimli_bytes.specs.Texts.{table_bytes}
 use Rattle.gimli_bytes.specs.inside.TextFields.{texts_of}
-use Rattle.gimli_bytes.specs.Written.{Begins}
-
-pub begins_then : (a b c : List ℕ) → Begins a b → Begins b c → Begins a c
-begins_then a b c first second =
-    let size : min (length a) (length b) ≡ length a = sym (length-take (length a) b) ∙ ap length first in
-    let le : length a ≤ length b = omega (arith, size) in
-    sym (take-take (length a) (length b) c le) ∙ ap (λ (l : List ℕ). take (length a) l) second ∙ first
 
 zero_byte : (big : Bool) → number_bytes big 1 0 ≡ 0 ∷ []
 zero_byte true = refl

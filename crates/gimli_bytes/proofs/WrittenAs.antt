@@ -1,27 +1,33 @@
 -- A call that passes its numbers on to another: what is wanted of it is what is wanted of that other.
-use Rattle.std.proofs.Common.{◌≡◌, ◌≢◌, ℕ, List, Ok, Err, OnOk, IfErr, refl, ap, sym, length, of_z, SFits, w64, arith}
+use Rattle.std.proofs.Common.{◌≡◌, ◌≢◌, ℕ, List, Ok, Err, refl, ap, sym, length, of_z, SFits, w64, arith}
 use Rattle.std.proofs.lemmas.Bool.{ne_eqb, lt-ltb}
-use Rattle.std.proofs.lemmas.List.{take_all}
 use Rattle.std.specs.Prelude.{Bool, true, Result, ◌+◌, ◌-◌, ◌^◌, ◌%◌, bit_and, nat_eq, ◌||◌, ℤ, pos, negsuc}
 use Rattle.gimli_core.specs.Numbers.{number_bytes}
 use Rattle.gimli_core.specs.Reading.{result_map}
 use Rattle.gimli_core.specs.declared.constants.DwEhPe.{DwEhPe}
-use Rattle.gimli_bytes.specs.Written.{Begins, Appends, Refuses}
+use Rattle.gimli_bytes.specs.Written.{IsAppend}
 use Rattle.gimli_bytes.specs.Number.{twos_complement, sdata, pointer_data, pointer_at_end, format_of}
 use Rattle.gimli_bytes.specs.declared.address.Address.{Address}
 use Rattle.gimli_bytes.specs.declared.address.Address.TheVariants.{Constant}
 use Rattle.gimli_bytes.specs.declared.error.Error.{Error}
 use Rattle.gimli_bytes.specs.declared.error.Error.TheVariants.{UnsupportedPointerEncoding, UnsupportedWordSize}
+use Rattle.gimli_bytes.specs.declared.sink.Sink.{Ghosts}
+use Rattle.gimli_bytes.proofs.Parts.{begins_self}
 
--- where nothing is written
-pub begins_self : (old : List ℕ) → Begins old old
-begins_self old = take_all (length old) old (omega arith)
+-- what is wanted, said otherwise
+pub append_as : {W X : Type 0} {sink : Ghosts W} {old new : W} {result : Result X Error} {wanted other : Result (List ℕ) Error} → wanted ≡ other → IsAppend sink old new result other → IsAppend sink old new result wanted
+append_as is append = rw is append
 
-pub appends_as : {X : Type 0} {wanted other : Result (List ℕ) Error} → wanted ≡ other → (r : Result X Error) (old new : List ℕ) → OnOk r (Appends other old new) → OnOk r (Appends wanted old new)
-appends_as is r old new h = rw is h
-
-pub refuses_as : {X : Type 0} {wanted other : Result (List ℕ) Error} → wanted ≡ other → (r : Result X Error) → IfErr r (Refuses other) → IfErr r (Refuses wanted)
-refuses_as is r h = rw is h
+-- refused before anything is written
+pub refused_at_once : {W X : Type 0} {sink : Ghosts W} {wanted : Result (List ℕ) Error} {e : Error} (old : W) → wanted ≡ Err e → IsAppend {X = X} sink old old (Err e) wanted
+refused_at_once {sink = sink} old is = rw is (record {
+  keeps = begins_self (sink.contents old);
+  ordered = refl;
+  ok = λ keeps_bytes. tt;
+  err = λ memory_alone. refl;
+  untouched = λ keeps_bytes. refl;
+  none = λ all_or_none. refl;
+})
 
 -- ---- signed numbers
 

@@ -3,6 +3,7 @@
 ghost use Rattle.std.specs.Prelude.{◌≡◌, ◌++◌, [], true, IfOk, IfErr, OnOk, OnErr};
 
 use crate::error::{Error, Result};
+use crate::sink::Sink;
 use crate::writer::Writer;
 use gimli_core::Endianity;
 use std::alloc::{AllocError, Global};
@@ -95,9 +96,7 @@ impl<E: Endianity> Clone for EndianVec<E> {
     }
 }
 
-impl<E: Endianity> Writer for EndianVec<E> {
-    type Endian = E;
-
+impl<E: Endianity> Sink for EndianVec<E> {
     ghost contents = { λ v. v.bytes };
 
     ghost big = { λ v. E.big v.endian };
@@ -107,6 +106,10 @@ impl<E: Endianity> Writer for EndianVec<E> {
     ghost fails_for_memory_alone = { true };
 
     ghost all_or_none = { true };
+}
+
+impl<E: Endianity> Writer for EndianVec<E> {
+    type Endian = E;
 
     fn endian(&self) -> E
         ensures { result ≡ self.now.endian }

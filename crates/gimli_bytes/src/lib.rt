@@ -12,6 +12,7 @@ pub mod laws;
 mod leb128;
 mod piece_vec;
 mod section;
+mod sink;
 mod str;
 mod writer;
 
@@ -21,5 +22,6 @@ pub use error::{Error, Result};
 pub use leb128::Leb128;
 pub use piece_vec::{PieceVec, Pieces};
 pub use section::{DebugLine, DebugLineStr, DebugStr};
+pub use sink::Sink;
 pub use str::{LineStringId, LineStringTable, StringId, StringTable};
 pub use writer::{InitialLengthOffset, Writer};

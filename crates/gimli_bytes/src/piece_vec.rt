@@ -7,6 +7,7 @@ ghost use Rattle.gimli_bytes.specs.Pieces.{ArePieces, NeedsNoPiece};
 ghost use Rattle.gimli_bytes.specs.inside.Pieces.{put_over};
 
 use crate::error::{Error, Result};
+use crate::sink::Sink;
 use crate::writer::Writer;
 use gimli_core::Endianity;
 use std::alloc::Global;
@@ -176,9 +177,7 @@ impl<E: Endianity, const N: usize> PieceVec<E, N> {
     }
 }
 
-impl<E: Endianity, const N: usize> Writer for PieceVec<E, N> {
-    type Endian = E;
-
+impl<E: Endianity, const N: usize> Sink for PieceVec<E, N> {
     ghost contents = { λ v. v.bytes };
 
     ghost big = { λ v. E.big v.endian };
@@ -188,6 +187,10 @@ impl<E: Endianity, const N: usize> Writer for PieceVec<E, N> {
     ghost fails_for_memory_alone = { true };
 
     ghost all_or_none = { true };
+}
+
+impl<E: Endianity, const N: usize> Writer for PieceVec<E, N> {
+    type Endian = E;
 
     fn endian(&self) -> E
         ensures { result ≡ self.now.endian }

@@ -2,7 +2,7 @@
 
 ghost use Rattle.std.specs.Prelude.{◌≡◌, ◌≢◌, ℕ, ◌<◌, ◌^◌, List, [], length, IfOk, IfErr, OnOk, OnErr, Ok, Some, IsOk, IsTrue, All, Contains, slice_get};
 ghost use Rattle.gimli_bytes.specs.Texts.{AreTexts, KeepsTexts, with_text, index_of_text, offset_of, table_bytes, byte_count};
-ghost use Rattle.gimli_bytes.specs.Written.{Begins, Appends, Refuses};
+ghost use Rattle.gimli_bytes.specs.Written.{IsAppendInParts};
 
 use crate::error::{Error, Result};
 use crate::section::{DebugLineStr, DebugStr};
@@ -97,12 +97,8 @@ impl Texts {
     }
 
     fn write<W: Writer>(&self, w: &mut W) -> Result<()>
-        ensures keeps { Begins (W.contents w.old) (W.contents w.new) }
-        ensures ordered { W.big w.new ≡ W.big w.old }
-        ensures ok { IsTrue W.keeps_bytes → OnOk result (Appends
-            (Ok (table_bytes self.now)) (W.contents w.old) (W.contents w.new)) }
-        ensures err { IsTrue W.fails_for_memory_alone →
-            IfErr result (Refuses (Ok (table_bytes self.now))) }
+        ensures appends { IsAppendInParts W.Sink w.old w.new result
+            (Ok (table_bytes self.now)) }
         ensures texts { AreTexts self.now }
     {
         for text in self.strings.as_slice() {
@@ -187,12 +183,8 @@ impl StringTable {
 
     /// Appends each text and a zero byte. Refused as the section's `write`.
     pub fn write<W: Writer>(&self, w: &mut DebugStr<W>) -> Result<()>
-        ensures keeps { Begins (W.contents w.old.0) (W.contents w.new.0) }
-        ensures ordered { W.big w.new.0 ≡ W.big w.old.0 }
-        ensures ok { IsTrue W.keeps_bytes → OnOk result (Appends
-            (Ok (table_bytes self.now)) (W.contents w.old.0) (W.contents w.new.0)) }
-        ensures err { IsTrue W.fails_for_memory_alone →
-            IfErr result (Refuses (Ok (table_bytes self.now))) }
+        ensures appends { IsAppendInParts W.Sink w.old.0 w.new.0 result
+            (Ok (table_bytes self.now)) }
         ensures texts { AreTexts self.now }
     {
         self.texts.write(&mut w.0)
@@ -280,12 +272,8 @@ impl LineStringTable {
 
     /// Appends each text and a zero byte. Refused as the section's `write`.
     pub fn write<W: Writer>(&self, w: &mut DebugLineStr<W>) -> Result<()>
-        ensures keeps { Begins (W.contents w.old.0) (W.contents w.new.0) }
-        ensures ordered { W.big w.new.0 ≡ W.big w.old.0 }
-        ensures ok { IsTrue W.keeps_bytes → OnOk result (Appends
-            (Ok (table_bytes self.now)) (W.contents w.old.0) (W.contents w.new.0)) }
-        ensures err { IsTrue W.fails_for_memory_alone →
-            IfErr result (Refuses (Ok (table_bytes self.now))) }
+        ensures appends { IsAppendInParts W.Sink w.old.0 w.new.0 result
+            (Ok (table_bytes self.now)) }
         ensures texts { AreTexts self.now }
     {
         self.texts.write(&mut w.0)

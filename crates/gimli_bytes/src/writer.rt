@@ -1,85 +1,49 @@
 //! What a writer of a section does: appends, and writes over bytes that are there.
 
-ghost use Rattle.std.specs.Prelude.{◌≡◌, ℕ, ◌+◌, ◌≤◌, Bool, List, IsTrue, IfOk, IfErr, OnOk, OnErr, Ok, Err, length, take};
+ghost use Rattle.std.specs.Prelude.{◌≡◌, ◌+◌, ◌≤◌, IsTrue, IfOk, Ok, Err, length};
 ghost use Rattle.gimli_core.specs.Numbers.{number_bytes, SpellsUleb128, SpellsSleb128, IsShortest};
-ghost use Rattle.gimli_bytes.specs.Written.{Begins, Appends, Refuses, Untouched, Overwrites, RefusesAt};
+ghost use Rattle.gimli_bytes.specs.Written.{IsAppend, IsAppendInParts, IsOverwrite};
 ghost use Rattle.gimli_bytes.specs.Number.{udata, sdata, twos_complement, uleb, sleb, address_bytes, escape_size, open_length, length_word, pointer_data, pointer_at_end};
 
 use crate::address::Address;
 use crate::error::{Error, Result};
 use crate::leb128::{Leb128, has_seven_bits, low_bits};
+use crate::sink::Sink;
 use gimli_core::{DwEhPe, Endianity, Format, SectionId, constants};
 
 /// What a section is written to.
 ///
-/// A writer means the list of its bytes. Calls append to it, but for those whose names end in
-/// `_at`, which write over bytes that are there. Whatever the writer, a refused append leaves the
-/// old bytes as a beginning, a refused `_at` call changes no byte, and no `_at` call changes the
-/// length.
-pub trait Writer {
+/// A writer means the list of its bytes, as its [`Sink`] says. Calls append to it, but for those
+/// whose names end in `_at`, which write over bytes that are there. Whatever the writer, a refused
+/// append leaves the old bytes as a beginning, a refused `_at` call changes no byte, and no `_at`
+/// call changes the length.
+pub trait Writer: Sink {
     /// The order of bytes.
     type Endian: Endianity;
 
-    /// The bytes of the section.
-    ghost contents: { Self → List ℕ };
-
-    /// Whether the most significant byte of a number comes first.
-    ghost big: { Self → Bool };
-
-    /// Whether a writer of this type keeps exactly the bytes given to it.
-    ghost keeps_bytes: { Bool };
-
-    /// Whether a writer of this type refuses a `write` only with `OutOfMemory`, a `write_at` for
-    /// its two bounds alone, and any other call for what is said there, or as the `write` or
-    /// `write_at` under it.
-    ghost fails_for_memory_alone: { Bool };
-
-    /// Whether a writer of this type appends either all bytes of a `write` or none. Then each call
-    /// that makes at most one `write` does so too: all that append but `write_initial_length`.
-    ghost all_or_none: { Bool };
-
     /// The order of bytes.
     fn endian(&self) -> Self::Endian
-        ensures { Self.Endian.big result ≡ big self.now };
+        ensures { Self.Endian.big result ≡ Self.big self.now };
 
     /// The length of the section in bytes, which is also the offset of what is appended next.
     fn len(&self) -> usize
-        ensures { result ≡ length (contents self.now) };
+        ensures { result ≡ length (Self.contents self.now) };
 
     /// Appends bytes. Refused by `OutOfMemory` alone, for a type that `fails_for_memory_alone`.
     fn write(&mut self, bytes: &[u8]) -> Result<()>
-        ensures keeps { Begins (contents self.old) (contents self.new) }
-        ensures ordered { big self.new ≡ big self.old }
-        ensures ok { IsTrue keeps_bytes →
-            OnOk result (Appends (Ok bytes.now) (contents self.old) (contents self.new)) }
-        ensures err { IsTrue fails_for_memory_alone → IfErr result (Refuses (Ok bytes.now)) }
-        ensures none { IsTrue all_or_none → OnErr result (contents self.new ≡ contents self.old) };
+        ensures { IsAppend Self.Sink self.old self.new result (Ok bytes.now) };
 
     /// Writes over the bytes from an offset on. Refused by `OffsetOutOfBounds` where the offset
     /// is past the end of the section, else by `LengthOutOfBounds` where the bytes would pass the
     /// end.
     fn write_at(&mut self, offset: usize, bytes: &[u8]) -> Result<()>
-        ensures len { length (contents self.new) ≡ length (contents self.old) }
-        ensures before { take offset (contents self.new) ≡ take offset (contents self.old) }
-        ensures ordered { big self.new ≡ big self.old }
-        ensures refused { OnErr result (contents self.new ≡ contents self.old) }
-        ensures ok { IsTrue keeps_bytes →
-            OnOk result (Overwrites offset (Ok bytes.now) (contents self.old) (contents self.new)) }
-        ensures err { IsTrue fails_for_memory_alone →
-            IfErr result (RefusesAt offset (Ok bytes.now) (contents self.old)) };
+        ensures { IsOverwrite Self.Sink self.old self.new result offset (Ok bytes.now) };
 
     /// Appends an address of `size` bytes. A symbol is `InvalidAddress`; a constant is refused as
     /// by `write_udata`. A writer that supports relocations has a body of its own.
     fn write_address(&mut self, address: Address, size: u8) -> Result<()>
-        ensures keeps { Begins (contents self.old) (contents self.new) }
-        ensures ordered { big self.new ≡ big self.old }
-        ensures ok { IsTrue keeps_bytes → OnOk result (Appends
-            (address_bytes (big self.old) address size) (contents self.old) (contents self.new)) }
-        ensures err { IsTrue fails_for_memory_alone →
-            IfErr result (Refuses (address_bytes (big self.old) address size)) }
-        ensures untouched { IsTrue keeps_bytes → Untouched
-            (address_bytes (big self.old) address size) (contents self.old) (contents self.new) }
-        ensures none { IsTrue all_or_none → OnErr result (contents self.new ≡ contents self.old) }
+        ensures { IsAppend Self.Sink self.old self.new result
+            (address_bytes (Self.big self.old) address size) }
     {
         match address {
             Address::Constant(val) => self.write_udata(val, size),
@@ -92,15 +56,8 @@ pub trait Writer {
     /// `UnsupportedPointerEncoding`; the number is refused as by `write_eh_pointer_data`. The bit
     /// 0x80 of the encoding, by which the pointer is the place of the address, isn't looked at.
     fn write_eh_pointer(&mut self, address: Address, eh_pe: DwEhPe, size: u8) -> Result<()>
-        ensures keeps { Begins (contents self.old) (contents self.new) }
-        ensures ordered { big self.new ≡ big self.old }
-        ensures ok { IsTrue keeps_bytes → OnOk result (Appends (pointer_at_end (big self.old)
-            (contents self.old) address eh_pe size) (contents self.old) (contents self.new)) }
-        ensures err { IsTrue fails_for_memory_alone → IfErr result (Refuses
-            (pointer_at_end (big self.old) (contents self.old) address eh_pe size)) }
-        ensures untouched { IsTrue keeps_bytes → Untouched (pointer_at_end (big self.old)
-            (contents self.old) address eh_pe size) (contents self.old) (contents self.new) }
-        ensures none { IsTrue all_or_none → OnErr result (contents self.new ≡ contents self.old) }
+        ensures { IsAppend Self.Sink self.old self.new result
+            (pointer_at_end (Self.big self.old) (Self.contents self.old) address eh_pe size) }
     {
         match address {
             Address::Constant(val) => match eh_pe.application() {
@@ -119,15 +76,8 @@ pub trait Writer {
     /// `DW_EH_PE_absptr`. Refused as by `write_udata` and `write_sdata`, and by
     /// `UnsupportedPointerEncoding` for other formats.
     fn write_eh_pointer_data(&mut self, val: u64, format: DwEhPe, size: u8) -> Result<()>
-        ensures keeps { Begins (contents self.old) (contents self.new) }
-        ensures ordered { big self.new ≡ big self.old }
-        ensures ok { IsTrue keeps_bytes → OnOk result (Appends
-            (pointer_data (big self.old) val format size) (contents self.old) (contents self.new)) }
-        ensures err { IsTrue fails_for_memory_alone →
-            IfErr result (Refuses (pointer_data (big self.old) val format size)) }
-        ensures untouched { IsTrue keeps_bytes → Untouched
-            (pointer_data (big self.old) val format size) (contents self.old) (contents self.new) }
-        ensures none { IsTrue all_or_none → OnErr result (contents self.new ≡ contents self.old) }
+        ensures { IsAppend Self.Sink self.old self.new result
+            (pointer_data (Self.big self.old) val format size) }
     {
         match format {
             constants::DW_EH_PE_absptr => self.write_udata(val, size),
@@ -146,15 +96,7 @@ pub trait Writer {
     /// Appends an offset into a section, of `size` bytes. Refused as by `write_udata`. A writer
     /// that supports relocations has a body of its own.
     fn write_offset(&mut self, val: usize, _section: SectionId, size: u8) -> Result<()>
-        ensures keeps { Begins (contents self.old) (contents self.new) }
-        ensures ordered { big self.new ≡ big self.old }
-        ensures ok { IsTrue keeps_bytes → OnOk result (Appends
-            (udata (big self.old) val size) (contents self.old) (contents self.new)) }
-        ensures err { IsTrue fails_for_memory_alone →
-            IfErr result (Refuses (udata (big self.old) val size)) }
-        ensures untouched { IsTrue keeps_bytes → Untouched
-            (udata (big self.old) val size) (contents self.old) (contents self.new) }
-        ensures none { IsTrue all_or_none → OnErr result (contents self.new ≡ contents self.old) }
+        ensures { IsAppend Self.Sink self.old self.new result (udata (Self.big self.old) val size) }
     {
         self.write_udata(val as u64, size)
     }
@@ -168,14 +110,8 @@ pub trait Writer {
         _section: SectionId,
         size: u8,
     ) -> Result<()>
-        ensures len { length (contents self.new) ≡ length (contents self.old) }
-        ensures before { take offset (contents self.new) ≡ take offset (contents self.old) }
-        ensures ordered { big self.new ≡ big self.old }
-        ensures refused { OnErr result (contents self.new ≡ contents self.old) }
-        ensures ok { IsTrue keeps_bytes → OnOk result (Overwrites offset
-            (udata (big self.old) val size) (contents self.old) (contents self.new)) }
-        ensures err { IsTrue fails_for_memory_alone →
-            IfErr result (RefusesAt offset (udata (big self.old) val size) (contents self.old)) }
+        ensures { IsOverwrite Self.Sink self.old self.new result
+            offset (udata (Self.big self.old) val size) }
     {
         self.write_udata_at(offset, val as u64, size)
     }
@@ -183,150 +119,87 @@ pub trait Writer {
     /// Appends a reference to a symbol, of `size` bytes: always `InvalidReference`. A writer that
     /// knows of symbols has a body of its own.
     fn write_reference(&mut self, _symbol: usize, _size: u8) -> Result<()>
-        ensures keeps { Begins (contents self.old) (contents self.new) }
-        ensures ordered { big self.new ≡ big self.old }
-        ensures ok { IsTrue keeps_bytes → OnOk result (Appends
-            (Err Error.InvalidReference) (contents self.old) (contents self.new)) }
-        ensures err { IsTrue fails_for_memory_alone →
-            IfErr result (Refuses (Err Error.InvalidReference)) }
-        ensures untouched { IsTrue keeps_bytes → Untouched
-            (Err Error.InvalidReference) (contents self.old) (contents self.new) }
-        ensures none { IsTrue all_or_none → OnErr result (contents self.new ≡ contents self.old) }
+        ensures { IsAppend Self.Sink self.old self.new result (Err Error.InvalidReference) }
     {
         Err(Error::InvalidReference)
     }
 
     /// Appends a byte. Refused as `write` is.
     fn write_u8(&mut self, val: u8) -> Result<()>
-        ensures keeps { Begins (contents self.old) (contents self.new) }
-        ensures ordered { big self.new ≡ big self.old }
-        ensures ok { IsTrue keeps_bytes → OnOk result (Appends
-            (Ok (number_bytes (big self.old) 1 val)) (contents self.old) (contents self.new)) }
-        ensures err { IsTrue fails_for_memory_alone →
-            IfErr result (Refuses (Ok (number_bytes (big self.old) 1 val))) }
-        ensures none { IsTrue all_or_none → OnErr result (contents self.new ≡ contents self.old) }
+        ensures { IsAppend Self.Sink self.old self.new result
+            (Ok (number_bytes (Self.big self.old) 1 val)) }
     {
         self.write(&[val])
     }
 
     /// Appends a number of two bytes. Refused as `write` is.
     fn write_u16(&mut self, val: u16) -> Result<()>
-        ensures keeps { Begins (contents self.old) (contents self.new) }
-        ensures ordered { big self.new ≡ big self.old }
-        ensures ok { IsTrue keeps_bytes → OnOk result (Appends
-            (Ok (number_bytes (big self.old) 2 val)) (contents self.old) (contents self.new)) }
-        ensures err { IsTrue fails_for_memory_alone →
-            IfErr result (Refuses (Ok (number_bytes (big self.old) 2 val))) }
-        ensures none { IsTrue all_or_none → OnErr result (contents self.new ≡ contents self.old) }
+        ensures { IsAppend Self.Sink self.old self.new result
+            (Ok (number_bytes (Self.big self.old) 2 val)) }
     {
         self.write(&bytes_of_u16(self.endian(), val))
     }
 
     /// Appends a number of four bytes. Refused as `write` is.
     fn write_u32(&mut self, val: u32) -> Result<()>
-        ensures keeps { Begins (contents self.old) (contents self.new) }
-        ensures ordered { big self.new ≡ big self.old }
-        ensures ok { IsTrue keeps_bytes → OnOk result (Appends
-            (Ok (number_bytes (big self.old) 4 val)) (contents self.old) (contents self.new)) }
-        ensures err { IsTrue fails_for_memory_alone →
-            IfErr result (Refuses (Ok (number_bytes (big self.old) 4 val))) }
-        ensures none { IsTrue all_or_none → OnErr result (contents self.new ≡ contents self.old) }
+        ensures { IsAppend Self.Sink self.old self.new result
+            (Ok (number_bytes (Self.big self.old) 4 val)) }
     {
         self.write(&bytes_of_u32(self.endian(), val))
     }
 
     /// Appends a number of eight bytes. Refused as `write` is.
     fn write_u64(&mut self, val: u64) -> Result<()>
-        ensures keeps { Begins (contents self.old) (contents self.new) }
-        ensures ordered { big self.new ≡ big self.old }
-        ensures ok { IsTrue keeps_bytes → OnOk result (Appends
-            (Ok (number_bytes (big self.old) 8 val)) (contents self.old) (contents self.new)) }
-        ensures err { IsTrue fails_for_memory_alone →
-            IfErr result (Refuses (Ok (number_bytes (big self.old) 8 val))) }
-        ensures none { IsTrue all_or_none → OnErr result (contents self.new ≡ contents self.old) }
+        ensures { IsAppend Self.Sink self.old self.new result
+            (Ok (number_bytes (Self.big self.old) 8 val)) }
     {
         self.write(&bytes_of_u64(self.endian(), val))
     }
 
     /// Appends a number of sixteen bytes. Refused as `write` is.
     fn write_u128(&mut self, val: u128) -> Result<()>
-        ensures keeps { Begins (contents self.old) (contents self.new) }
-        ensures ordered { big self.new ≡ big self.old }
-        ensures ok { IsTrue keeps_bytes → OnOk result (Appends
-            (Ok (number_bytes (big self.old) 16 val)) (contents self.old) (contents self.new)) }
-        ensures err { IsTrue fails_for_memory_alone →
-            IfErr result (Refuses (Ok (number_bytes (big self.old) 16 val))) }
-        ensures none { IsTrue all_or_none → OnErr result (contents self.new ≡ contents self.old) }
+        ensures { IsAppend Self.Sink self.old self.new result
+            (Ok (number_bytes (Self.big self.old) 16 val)) }
     {
         self.write(&bytes_of_u128(self.endian(), val))
     }
 
     /// Writes a byte over that at an offset. Refused as by `write_at`.
     fn write_u8_at(&mut self, offset: usize, val: u8) -> Result<()>
-        ensures len { length (contents self.new) ≡ length (contents self.old) }
-        ensures before { take offset (contents self.new) ≡ take offset (contents self.old) }
-        ensures ordered { big self.new ≡ big self.old }
-        ensures refused { OnErr result (contents self.new ≡ contents self.old) }
-        ensures ok { IsTrue keeps_bytes → OnOk result (Overwrites offset
-            (Ok (number_bytes (big self.old) 1 val)) (contents self.old) (contents self.new)) }
-        ensures err { IsTrue fails_for_memory_alone → IfErr result (RefusesAt offset
-            (Ok (number_bytes (big self.old) 1 val)) (contents self.old)) }
+        ensures { IsOverwrite Self.Sink self.old self.new result
+            offset (Ok (number_bytes (Self.big self.old) 1 val)) }
     {
         self.write_at(offset, &[val])
     }
 
     /// Writes a number over the two bytes from an offset on. Refused as by `write_at`.
     fn write_u16_at(&mut self, offset: usize, val: u16) -> Result<()>
-        ensures len { length (contents self.new) ≡ length (contents self.old) }
-        ensures before { take offset (contents self.new) ≡ take offset (contents self.old) }
-        ensures ordered { big self.new ≡ big self.old }
-        ensures refused { OnErr result (contents self.new ≡ contents self.old) }
-        ensures ok { IsTrue keeps_bytes → OnOk result (Overwrites offset
-            (Ok (number_bytes (big self.old) 2 val)) (contents self.old) (contents self.new)) }
-        ensures err { IsTrue fails_for_memory_alone → IfErr result (RefusesAt offset
-            (Ok (number_bytes (big self.old) 2 val)) (contents self.old)) }
+        ensures { IsOverwrite Self.Sink self.old self.new result
+            offset (Ok (number_bytes (Self.big self.old) 2 val)) }
     {
         self.write_at(offset, &bytes_of_u16(self.endian(), val))
     }
 
     /// Writes a number over the four bytes from an offset on. Refused as by `write_at`.
     fn write_u32_at(&mut self, offset: usize, val: u32) -> Result<()>
-        ensures len { length (contents self.new) ≡ length (contents self.old) }
-        ensures before { take offset (contents self.new) ≡ take offset (contents self.old) }
-        ensures ordered { big self.new ≡ big self.old }
-        ensures refused { OnErr result (contents self.new ≡ contents self.old) }
-        ensures ok { IsTrue keeps_bytes → OnOk result (Overwrites offset
-            (Ok (number_bytes (big self.old) 4 val)) (contents self.old) (contents self.new)) }
-        ensures err { IsTrue fails_for_memory_alone → IfErr result (RefusesAt offset
-            (Ok (number_bytes (big self.old) 4 val)) (contents self.old)) }
+        ensures { IsOverwrite Self.Sink self.old self.new result
+            offset (Ok (number_bytes (Self.big self.old) 4 val)) }
     {
         self.write_at(offset, &bytes_of_u32(self.endian(), val))
     }
 
     /// Writes a number over the eight bytes from an offset on. Refused as by `write_at`.
     fn write_u64_at(&mut self, offset: usize, val: u64) -> Result<()>
-        ensures len { length (contents self.new) ≡ length (contents self.old) }
-        ensures before { take offset (contents self.new) ≡ take offset (contents self.old) }
-        ensures ordered { big self.new ≡ big self.old }
-        ensures refused { OnErr result (contents self.new ≡ contents self.old) }
-        ensures ok { IsTrue keeps_bytes → OnOk result (Overwrites offset
-            (Ok (number_bytes (big self.old) 8 val)) (contents self.old) (contents self.new)) }
-        ensures err { IsTrue fails_for_memory_alone → IfErr result (RefusesAt offset
-            (Ok (number_bytes (big self.old) 8 val)) (contents self.old)) }
+        ensures { IsOverwrite Self.Sink self.old self.new result
+            offset (Ok (number_bytes (Self.big self.old) 8 val)) }
     {
         self.write_at(offset, &bytes_of_u64(self.endian(), val))
     }
 
     /// Writes a number over the sixteen bytes from an offset on. Refused as by `write_at`.
     fn write_u128_at(&mut self, offset: usize, val: u128) -> Result<()>
-        ensures len { length (contents self.new) ≡ length (contents self.old) }
-        ensures before { take offset (contents self.new) ≡ take offset (contents self.old) }
-        ensures ordered { big self.new ≡ big self.old }
-        ensures refused { OnErr result (contents self.new ≡ contents self.old) }
-        ensures ok { IsTrue keeps_bytes → OnOk result (Overwrites offset
-            (Ok (number_bytes (big self.old) 16 val)) (contents self.old) (contents self.new)) }
-        ensures err { IsTrue fails_for_memory_alone → IfErr result (RefusesAt offset
-            (Ok (number_bytes (big self.old) 16 val)) (contents self.old)) }
+        ensures { IsOverwrite Self.Sink self.old self.new result
+            offset (Ok (number_bytes (Self.big self.old) 16 val)) }
     {
         self.write_at(offset, &bytes_of_u128(self.endian(), val))
     }
@@ -334,15 +207,7 @@ pub trait Writer {
     /// Appends an unsigned number of `size` bytes. Refused by `UnsupportedWordSize` where the
     /// size isn't 1, 2, 3, 4 or 8, and by `ValueTooLarge` where the number doesn't fit it.
     fn write_udata(&mut self, val: u64, size: u8) -> Result<()>
-        ensures keeps { Begins (contents self.old) (contents self.new) }
-        ensures ordered { big self.new ≡ big self.old }
-        ensures ok { IsTrue keeps_bytes → OnOk result (Appends
-            (udata (big self.old) val size) (contents self.old) (contents self.new)) }
-        ensures err { IsTrue fails_for_memory_alone →
-            IfErr result (Refuses (udata (big self.old) val size)) }
-        ensures untouched { IsTrue keeps_bytes → Untouched
-            (udata (big self.old) val size) (contents self.old) (contents self.new) }
-        ensures none { IsTrue all_or_none → OnErr result (contents self.new ≡ contents self.old) }
+        ensures { IsAppend Self.Sink self.old self.new result (udata (Self.big self.old) val size) }
     {
         match size {
             1 => {
@@ -383,15 +248,7 @@ pub trait Writer {
     /// `UnsupportedWordSize` where the size isn't 1, 2, 4 or 8, and by `ValueTooLarge` where the
     /// number doesn't fit it.
     fn write_sdata(&mut self, val: i64, size: u8) -> Result<()>
-        ensures keeps { Begins (contents self.old) (contents self.new) }
-        ensures ordered { big self.new ≡ big self.old }
-        ensures ok { IsTrue keeps_bytes → OnOk result (Appends
-            (sdata (big self.old) val size) (contents self.old) (contents self.new)) }
-        ensures err { IsTrue fails_for_memory_alone →
-            IfErr result (Refuses (sdata (big self.old) val size)) }
-        ensures untouched { IsTrue keeps_bytes → Untouched
-            (sdata (big self.old) val size) (contents self.old) (contents self.new) }
-        ensures none { IsTrue all_or_none → OnErr result (contents self.new ≡ contents self.old) }
+        ensures { IsAppend Self.Sink self.old self.new result (sdata (Self.big self.old) val size) }
     {
         match size {
             1 => self.write_u8(bits_of_i8(val)?),
@@ -405,14 +262,8 @@ pub trait Writer {
     /// Writes an unsigned number of `size` bytes over the bytes from an offset on. Refused as by
     /// `write_udata`, and then as by `write_at`.
     fn write_udata_at(&mut self, offset: usize, val: u64, size: u8) -> Result<()>
-        ensures len { length (contents self.new) ≡ length (contents self.old) }
-        ensures before { take offset (contents self.new) ≡ take offset (contents self.old) }
-        ensures ordered { big self.new ≡ big self.old }
-        ensures refused { OnErr result (contents self.new ≡ contents self.old) }
-        ensures ok { IsTrue keeps_bytes → OnOk result (Overwrites offset
-            (udata (big self.old) val size) (contents self.old) (contents self.new)) }
-        ensures err { IsTrue fails_for_memory_alone →
-            IfErr result (RefusesAt offset (udata (big self.old) val size) (contents self.old)) }
+        ensures { IsOverwrite Self.Sink self.old self.new result
+            offset (udata (Self.big self.old) val size) }
     {
         match size {
             1 => {
@@ -453,12 +304,7 @@ pub trait Writer {
     #[inline(always)]
     fn write_uleb128(&mut self, val: u64) -> Result<()>
         ensures shortest { IsShortest (SpellsUleb128 64) (uleb val) val }
-        ensures keeps { Begins (contents self.old) (contents self.new) }
-        ensures ordered { big self.new ≡ big self.old }
-        ensures ok { IsTrue keeps_bytes →
-            OnOk result (Appends (Ok (uleb val)) (contents self.old) (contents self.new)) }
-        ensures err { IsTrue fails_for_memory_alone → IfErr result (Refuses (Ok (uleb val))) }
-        ensures none { IsTrue all_or_none → OnErr result (contents self.new ≡ contents self.old) }
+        ensures appends { IsAppend Self.Sink self.old self.new result (Ok (uleb val)) }
     {
         if val < 128 {
             return self.write(&[val as u8]);
@@ -470,12 +316,7 @@ pub trait Writer {
     #[inline(always)]
     fn write_sleb128(&mut self, val: i64) -> Result<()>
         ensures shortest { IsShortest SpellsSleb128 (sleb val) val }
-        ensures keeps { Begins (contents self.old) (contents self.new) }
-        ensures ordered { big self.new ≡ big self.old }
-        ensures ok { IsTrue keeps_bytes →
-            OnOk result (Appends (Ok (sleb val)) (contents self.old) (contents self.new)) }
-        ensures err { IsTrue fails_for_memory_alone → IfErr result (Refuses (Ok (sleb val))) }
-        ensures none { IsTrue all_or_none → OnErr result (contents self.new ≡ contents self.old) }
+        ensures appends { IsAppend Self.Sink self.old self.new result (Ok (sleb val)) }
     {
         if has_seven_bits(val) {
             return self.write(&[low_bits(val)]);
@@ -486,15 +327,11 @@ pub trait Writer {
     /// Appends an initial length of 0, and returns where its word stands, for
     /// `write_initial_length_at`. Refused as `write` is, which it may call twice.
     fn write_initial_length(&mut self, format: Format) -> Result<InitialLengthOffset>
-        ensures keeps { Begins (contents self.old) (contents self.new) }
-        ensures ordered { big self.new ≡ big self.old }
-        ensures after { IfOk result (λ word. length (contents self.old) ≤ word.0) }
-        ensures place { IsTrue keeps_bytes →
-            IfOk result (λ word. word.0 ≡ length (contents self.old) + escape_size format) }
-        ensures ok { IsTrue keeps_bytes → OnOk result (Appends
-            (Ok (open_length (big self.old) format)) (contents self.old) (contents self.new)) }
-        ensures err { IsTrue fails_for_memory_alone →
-            IfErr result (Refuses (Ok (open_length (big self.old) format))) }
+        ensures appends { IsAppendInParts Self.Sink self.old self.new result
+            (Ok (open_length (Self.big self.old) format)) }
+        ensures after { IfOk result (λ word. length (Self.contents self.old) ≤ word.0) }
+        ensures place { IsTrue Self.keeps_bytes →
+            IfOk result (λ word. word.0 ≡ length (Self.contents self.old) + escape_size format) }
     {
         match format {
             Format::Dwarf32 => {
@@ -520,14 +357,8 @@ pub trait Writer {
         val: u64,
         format: Format,
     ) -> Result<()>
-        ensures len { length (contents self.new) ≡ length (contents self.old) }
-        ensures before { take offset.0 (contents self.new) ≡ take offset.0 (contents self.old) }
-        ensures ordered { big self.new ≡ big self.old }
-        ensures refused { OnErr result (contents self.new ≡ contents self.old) }
-        ensures ok { IsTrue keeps_bytes → OnOk result (Overwrites offset.0
-            (length_word (big self.old) format val) (contents self.old) (contents self.new)) }
-        ensures err { IsTrue fails_for_memory_alone → IfErr result (RefusesAt offset.0
-            (length_word (big self.old) format val) (contents self.old)) }
+        ensures { IsOverwrite Self.Sink self.old self.new result
+            offset.0 (length_word (Self.big self.old) format val) }
     {
         if format == Format::Dwarf32 && (0xffff_fff0..=0xffff_ffff).contains(&val) {
             return Err(Error::InitialLengthOverflow);

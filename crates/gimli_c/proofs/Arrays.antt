@@ -64,7 +64,7 @@ written_within n xs old is = at_test (ltb (length old) (length xs)) refl
 
 -- ---- answers to a list, one for each
 
--- these stand in an array that held others, and each is an answer to the one of a list at its place
+-- these stand in an array that held others, and each is an answer to the one of a list at its index
 pub record AreWritten {A B : Type 0} (R : A → B → Type 0) (xs : List A) (old new : List B) : Type 0 where
   pub ys : List B
   pub each : AllZip R xs ys
@@ -73,7 +73,7 @@ pub record AreWritten {A B : Type 0} (R : A → B → Type 0) (xs : List A) (old
 pub none_written : {A B : Type 0} (R : A → B → Type 0) (xs : List A) (old : List B) → AreWritten R (take 0 xs) old old
 none_written R xs old = record { ys = []; each = tt; copied = sym (written_none old) }
 
--- one more answer, after those of the first places
+-- one more answer, after those of the first indices
 pub one_more_written : {B : Type 0} (R : ℕ → B → Type 0) (xs : List ℕ) (old now : List B) (i : ℕ) (y : B) → i < length xs → AreWritten R (take i xs) old now
     → R (get_or xs i 0) y → AreWritten R (take (i + 1) xs) old (set now i y)
 one_more_written R xs old now i y lt w r =

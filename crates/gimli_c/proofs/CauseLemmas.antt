@@ -37,13 +37,13 @@ pub no_directory_at : (version : ℕ) (names : List GimliName) (i : ℕ) → 4 <
 no_directory_at version names i late is = let past = past_end names i is in grind (arith, nat_tests)
 
 -- a fault of the row at an index is one of the rows from there on
-pub row_of_rows : (now old : Built) (files : ℕ) (base : Option ℕ) (place : ℕ × ℕ) (rows : List GimliRow) (i : ℕ) (d : GimliRow) (status : ℕ)
+pub row_of_rows : (now old : Built) (files : ℕ) (base : Option ℕ) (position : ℕ × ℕ) (rows : List GimliRow) (i : ℕ) (d : GimliRow) (status : ℕ)
     → now.line_encoding ≡ old.line_encoding → now.encoding ≡ old.encoding → i < length rows
-    → HasRowFault now.line_encoding now.encoding.version files (base_of base (get_or rows i d)) place (get_or rows i d) status
-    → HasRowsFault old.line_encoding old.encoding.version files base place (drop i rows) status
-row_of_rows now old files base place rows i d status same_lines same within fault =
-    let all : List GimliRow → Type 0 = λ xs. HasRowsFault old.line_encoding old.encoding.version files base place xs status in
-    let one : LineEncoding → Encoding → Type 0 = λ lines encoding. HasRowFault lines encoding.version files (base_of base (get_or rows i d)) place (get_or rows i d) status in
+    → HasRowFault now.line_encoding now.encoding.version files (base_of base (get_or rows i d)) position (get_or rows i d) status
+    → HasRowsFault old.line_encoding old.encoding.version files base position (drop i rows) status
+row_of_rows now old files base position rows i d status same_lines same within fault =
+    let all : List GimliRow → Type 0 = λ xs. HasRowsFault old.line_encoding old.encoding.version files base position xs status in
+    let one : LineEncoding → Encoding → Type 0 = λ lines encoding. HasRowFault lines encoding.version files (base_of base (get_or rows i d)) position (get_or rows i d) status in
     subst all (sym (at_drop_more (λ xs. xs) rows i d within))
     (inl (subst (λ (lines : LineEncoding). one lines old.encoding) same_lines (subst (one now.line_encoding) same fault)))
 
@@ -113,14 +113,14 @@ pub all_more : {X : Type 0} (P : X → Type 0) (xs : List X) (i : ℕ) (d : X) �
 all_more P xs i d within so_far one = rw (take_more xs i d within) (All-push P (take i xs) (get_or xs i d) so_far one)
 
 -- where the row at an index has no fault, a fault of the rows from there on is one of the rows after it
-pub rows_left : (now old : Built) (files : ℕ) (base : Option ℕ) (place : ℕ × ℕ) (rows : List GimliRow) (i : ℕ) (d : GimliRow) (status : ℕ)
+pub rows_left : (now old : Built) (files : ℕ) (base : Option ℕ) (position : ℕ × ℕ) (rows : List GimliRow) (i : ℕ) (d : GimliRow) (status : ℕ)
     → now.line_encoding ≡ old.line_encoding → now.encoding ≡ old.encoding → i < length rows
-    → HasNone (HasRowFault now.line_encoding now.encoding.version files (base_of base (get_or rows i d)) place (get_or rows i d))
-    → HasRowsFault old.line_encoding old.encoding.version files base place (drop i rows) status
+    → HasNone (HasRowFault now.line_encoding now.encoding.version files (base_of base (get_or rows i d)) position (get_or rows i d))
+    → HasRowsFault old.line_encoding old.encoding.version files base position (drop i rows) status
     → HasRowsFault old.line_encoding old.encoding.version files (base_after base (get_or rows i d)) (position_after base (get_or rows i d)) (drop (i + 1) rows) status
-rows_left now old files base place rows i d status same_lines same within well fault =
-    let all : List GimliRow → Type 0 = λ xs. HasRowsFault old.line_encoding old.encoding.version files base place xs status in
-    let one : LineEncoding → Encoding → Type 0 = λ lines encoding. HasNone (HasRowFault lines encoding.version files (base_of base (get_or rows i d)) place (get_or rows i d)) in
+rows_left now old files base position rows i d status same_lines same within well fault =
+    let all : List GimliRow → Type 0 = λ xs. HasRowsFault old.line_encoding old.encoding.version files base position xs status in
+    let one : LineEncoding → Encoding → Type 0 = λ lines encoding. HasNone (HasRowFault lines encoding.version files (base_of base (get_or rows i d)) position (get_or rows i d)) in
     let none = subst (λ (lines : LineEncoding). one lines old.encoding) same_lines (subst (one now.line_encoding) same well) in
     elim (subst all (at_drop_more (λ xs. xs) rows i d within) fault) [ inl first ↦ absurd (none status first) | inr rest ↦ rest ]
 

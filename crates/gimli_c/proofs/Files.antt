@@ -14,14 +14,14 @@ use Rattle.gimli_line.specs.run.Progress.{files_from}
 use Rattle.gimli_line.specs.run.Rows.{files_at_end}
 use Rattle.gimli_line.specs.run.RunState.{RunState}
 use Rattle.gimli_line.specs.run.EventsWithFiles.{FilesAtEnd}
-use Rattle.gimli_c.specs.Place.{Place, notation_at, HasUnit}
+use Rattle.gimli_c.specs.Location.{Location, notation_at, HasUnit}
 use Rattle.gimli_c.specs.FileSeen.{HasFiles, file_seen_by_c, text_here, bytes_here}
 use Rattle.gimli_c.specs.inside.Run.{header_with}
 use Rattle.gimli_c.specs.Written.{slots_with}
 use Rattle.gimli_c.proofs.Arrays.{written_none}
 
 -- a header that is another one but for its files
-pub has_files : (p : Place) (notation : Notation) (h complete : Header) (files : List File) → HasUnit p h → notation ≡ notation_at p
+pub has_files : (p : Location) (notation : Notation) (h complete : Header) (files : List File) → HasUnit p h → notation ≡ notation_at p
     → FilesAtEnd notation true h h.program files → without_files complete ≡ without_files h → complete.files ≡ files → HasFiles p complete
 has_files p notation h complete files unit n at_end same are = record {
   header = h;
@@ -100,7 +100,7 @@ entry_stays true first files more zero f is = is
 entry_stays true first files more (suc k) f is = slice_get-front files more k f is
 entry_stays false first files more index f is = slice_get-front files more index f is
 
--- a header in a run, by the files of its place
+-- a header in a run, by the files of its point
 header_is : (a : RunState) (h : Header) → without_files h ≡ a.fixed → h.files ≡ a.files → h ≡ header_with a a.files
 header_is a h same are = ap (λ (k : Header). record k { files = h.files }) same ∙ ap (λ (fs : List File). header_with a fs) are
 
@@ -140,7 +140,7 @@ directory_is start now h index i l =
     ap (λ (k : Header). directory_of k i) l.header ∙ ap (λ (k : Header). directory_of (record k { files = files_at_end start }) i) l.fixed
 
 -- the header with all files, of a run from its start
-pub has_complete : (p : Place) (notation : Notation) (h : Header) (start : RunState) → HasUnit p h → notation ≡ notation_at p
+pub has_complete : (p : Location) (notation : Notation) (h : Header) (start : RunState) → HasUnit p h → notation ≡ notation_at p
     → FilesAtEnd notation true h h.program (files_at_end start) → start.fixed ≡ without_files h → HasFiles p (complete start)
 has_complete p notation h start unit n at_end fixed =
     has_files p notation h (complete start) (files_at_end start) unit n at_end (ap (λ (k : Header). record k { files = [] }) fixed) refl

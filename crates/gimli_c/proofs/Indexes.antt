@@ -12,15 +12,15 @@ use Rattle.gimli_line.specs.run.RunState.{RunState}
 use Rattle.gimli_lookup.specs.Paths.{Paths, file_path}
 use Rattle.gimli_c.specs.declared.index.kept.SectionIndex.{SectionIndex}
 use Rattle.gimli_lookup.specs.Strings.{Strings}
-use Rattle.gimli_c.specs.Indexed.{section_read, entry_of, strings_in, unit_place, paths_in, AreUnitsIn, AreUnitsOf, HasNoPath, UnitRefused}
+use Rattle.gimli_c.specs.Indexed.{section_read, entry_of, strings_in, unit_location, paths_in, AreUnitsIn, AreUnitsOf, HasNoPath, UnitRefused}
 use Rattle.gimli_c.specs.Status.{error_status}
 use Rattle.gimli_core.specs.declared.error.Error.{Error}
 use Rattle.gimli_core.specs.declared.error.Error.TheVariants.{UnexpectedEof, BadUnsignedLeb128, BadSignedLeb128, UnknownReservedLength, UnknownVersion, UnsupportedAddressSize, UnsupportedSegmentSize, MinimumInstructionLengthZero, MaximumOperationsPerInstructionZero, LineRangeZero, OpcodeBaseZero, MissingFileEntryFormatPath, UnknownForm, AddressOverflow, UnsupportedOffset, ExpectedStringAttributeValue, OutOfMemory}
-use Rattle.gimli_c.specs.Place.{Place, place, HasUnit, HasNoUnit}
+use Rattle.gimli_c.specs.Location.{Location, location, HasUnit, HasNoUnit}
 use Rattle.gimli_c.proofs.Files.{complete, IsLookedUp}
-use Rattle.gimli_c.proofs.Places.{Unit_at, same_unit}
+use Rattle.gimli_c.proofs.Locations.{Unit_at, same_unit}
 
--- the unit of a place below their number
+-- the unit of an index below their number
 pub record UnitThere (units : List KeptUnit) (k : ℕ) : Type 0 where
   pub kept : KeptUnit
   pub there : slice_get units k ≡ Some kept
@@ -44,22 +44,22 @@ same_units section other big other_big size lowest units kept s b offsets each a
     (subst (λ (y : Bool). AreUnitsOf other y size lowest kept) b (record { units = units; offsets = offsets; each = each; kept_are = are }))
 
 -- a refusal, as a fact of its own
-record RefusedAt (p : Place) (status : ℕ) : Type 0 where
+record RefusedAt (p : Location) (status : ℕ) : Type 0 where
   is : HasNoUnit p status
 
 -- the unit of an index, by other names of its bytes, its offset and its header
 pub unit_here : (i : SectionIndex) (kept : KeptUnit) (section : List ℕ) (offset : ℕ) (h own : Header) → section ≡ i.section.items → offset ≡ kept.unit.offset → own ≡ h
-    → HasUnit (place section i.big i.address_size offset) own → Unit_at (unit_place i kept) h
+    → HasUnit (location section i.big i.address_size offset) own → Unit_at (unit_location i kept) h
 unit_here i kept section offset h own s o same unit =
-    subst (λ (k : Header). Unit_at (unit_place i kept) k) same
-    (subst (λ (n : ℕ). Unit_at (place i.section.items i.big i.address_size n) own) o
+    subst (λ (k : Header). Unit_at (unit_location i kept) k) same
+    (subst (λ (n : ℕ). Unit_at (location i.section.items i.big i.address_size n) own) o
     (same_unit i.section.items section i.big i.big i.address_size offset own s refl unit))
 
 pub refused_here : (i : SectionIndex) (unit : ℕ) (kept : KeptUnit) (section : List ℕ) (offset status : ℕ) → slice_get i.units unit ≡ Some kept → section ≡ i.section.items
-    → offset ≡ kept.unit.offset → HasNoUnit (place section i.big i.address_size offset) status → UnitRefused i unit status
+    → offset ≡ kept.unit.offset → HasNoUnit (location section i.big i.address_size offset) status → UnitRefused i unit status
 refused_here i unit kept section offset status is s o refused =
-    let there : RefusedAt (unit_place i kept) status = subst (λ (n : ℕ). RefusedAt (place i.section.items i.big i.address_size n) status) o
-    (subst (λ (x : List ℕ). RefusedAt (place x i.big i.address_size offset) status) s (record { is = refused })) in
+    let there : RefusedAt (unit_location i kept) status = subst (λ (n : ℕ). RefusedAt (location i.section.items i.big i.address_size n) status) o
+    (subst (λ (x : List ℕ). RefusedAt (location x i.big i.address_size offset) status) s (record { is = refused })) in
     record { kept = kept; is_unit = is; refused = there.is }
 
 -- the paths of a header, by other names of the sections of strings
@@ -101,14 +101,14 @@ error_not_ok UnsupportedOffset p = omega (arith, p)
 error_not_ok ExpectedStringAttributeValue p = omega (arith, p)
 error_not_ok OutOfMemory p = omega (arith, p)
 
-pub unit_not_ok : (p : Place) → HasNoUnit p 0 → ⊥
+pub unit_not_ok : (p : Location) → HasNoUnit p 0 → ⊥
 unit_not_ok p (inl q) = let z : 0 ≡ 6 = q.1 in omega (arith, z)
 unit_not_ok p (inr q) = error_not_ok q.1 q.3
 
 pub path_not_ok : (i : SectionIndex) (unit file : ℕ) (comp_dir : List ℕ) → HasNoPath i unit file comp_dir 0 → ⊥
 path_not_ok i unit file comp_dir (inl p) = let z : 0 ≡ 18 = p.0 in omega (arith, z)
 path_not_ok i unit file comp_dir (inr (inl p)) = let z : 0 ≡ 33 = p.0 in omega (arith, z)
-path_not_ok i unit file comp_dir (inr (inr r)) = unit_not_ok (unit_place i r.kept) r.refused
+path_not_ok i unit file comp_dir (inr (inr r)) = unit_not_ok (unit_location i r.kept) r.refused
 
 -- the path of a file that is looked up where it is known
 pub same_path : (i : SectionIndex) (start now : RunState) (h : Header) (index : ℕ) (comp_dir : List ℕ) (f : File) → IsLookedUp start now h index
@@ -117,11 +117,11 @@ same_path i start now h index comp_dir f l =
     ap (λ (k : Header). file_path (paths_in i k comp_dir) f) l.header
     ∙ ap (λ (k : Header). file_path (paths_in i (record k { files = files_at_end start }) comp_dir) f) l.fixed
 
--- what stands at a place, by other names of the bytes of its section and of its offset
-pub place_here : (P : Place → Type 0) (i : SectionIndex) (kept : KeptUnit) (section : List ℕ) (offset : ℕ) → section ≡ i.section.items → offset ≡ kept.unit.offset
-    → P (place section i.big i.address_size offset) → P (unit_place i kept)
-place_here P i kept section offset s o p =
-    subst (λ (n : ℕ). P (place i.section.items i.big i.address_size n)) o (subst (λ (x : List ℕ). P (place x i.big i.address_size offset)) s p)
+-- what stands at a location, by other names of the bytes of its section and of its offset
+pub location_here : (P : Location → Type 0) (i : SectionIndex) (kept : KeptUnit) (section : List ℕ) (offset : ℕ) → section ≡ i.section.items → offset ≡ kept.unit.offset
+    → P (location section i.big i.address_size offset) → P (unit_location i kept)
+location_here P i kept section offset s o p =
+    subst (λ (n : ℕ). P (location i.section.items i.big i.address_size n)) o (subst (λ (x : List ℕ). P (location x i.big i.address_size offset)) s p)
 
 -- the units of an index, by other names of its bytes and its order
 record UnitsOf (section : List ℕ) (big : Bool) (size lowest : ℕ) (units : List KeptUnit) : Type 0 where

@@ -1,4 +1,4 @@
-pub mod Places
+pub mod Locations
 pub mod Arrays
 pub mod Files
 pub mod Runs

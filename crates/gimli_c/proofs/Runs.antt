@@ -17,7 +17,7 @@ use Rattle.gimli_line.specs.run.Progress.{files_from}
 use Rattle.gimli_line.specs.run.Rows.{files_at_end}
 use Rattle.gimli_line.specs.run.RunState.{RunState}
 use Rattle.gimli_c.specs.declared.row.GimliRow.{GimliRow}
-use Rattle.gimli_c.specs.Place.{Place, notation_at, HasUnit}
+use Rattle.gimli_c.specs.Location.{Location, notation_at, HasUnit}
 use Rattle.gimli_c.specs.Run.{rows_of, fault_of, Begun, Copied, HasEvents}
 use Rattle.gimli_c.specs.Seen.{row_seen}
 use Rattle.gimli_c.specs.Written.{slots_with}
@@ -146,8 +146,8 @@ few_rows (t ∷ events) = by t.event (few_rows events)
     by (row r) few = omega (arith, few)
     by (fault e) few = omega arith
 
--- what the unit at a place gives, whatever the name of its notation
-pub has_events : (p : Place) (notation : Notation) (h : Header) (events : List EventWithFiles) → HasUnit p h → notation ≡ notation_at p
+-- what the unit at a location gives, whatever the name of its notation
+pub has_events : (p : Location) (notation : Notation) (h : Header) (events : List EventWithFiles) → HasUnit p h → notation ≡ notation_at p
     → EventsWithFiles notation true h h.program events → HasEvents p h (events_of events)
 has_events p notation h events unit is given = record {
   unit = unit;

@@ -7,13 +7,13 @@ use Rattle.gimli_line.specs.header.File.{File}
 use Rattle.gimli_line.specs.header.Header.{Header}
 use Rattle.gimli_line.specs.run.Events.{Event}
 use Rattle.gimli_c.specs.declared.unit.GimliUnit.{GimliUnit}
-use Rattle.gimli_c.specs.Place.{Place}
+use Rattle.gimli_c.specs.Location.{Location}
 use Rattle.gimli_c.specs.Run.{rows_of, fault_of}
 use Rattle.gimli_c.specs.Status.{fault_status}
 use Rattle.gimli_c.specs.Unit.{unit_seen}
 
 -- what follows a unit that ends within the section has an offset that fits
-pub unit_fits : (p : Place) (h : Header) → offset_after p.offset h ≤ p.offset + length (drop p.offset p.section) → p.offset < 2 ^ 64 → length p.section < 2 ^ 64
+pub unit_fits : (p : Location) (h : Header) → offset_after p.offset h ≤ p.offset + length (drop p.offset p.section) → p.offset < 2 ^ 64 → length p.section < 2 ^ 64
     → offset_after p.offset h < 2 ^ 64
 unit_fits p h ends offset_fits section_fits = omega (arith, length-drop p.offset p.section)
 

@@ -55,27 +55,27 @@ pub data HasTableFault (version : ℕ) (texts : List ℕ) (directories : List Gi
 abbrev pub LacksFile : ℕ → ℕ → ℕ → Type 0
 LacksFile version files number = (number < first_index version) ⊎ (first_index version + files ≤ number)
 
--- a row can stand after a row at this place, in a sequence that begins at the address `base`
-pub record CanStand (e : LineEncoding) (base : ℕ) (place : ℕ × ℕ) (r : GimliRow) : Type 0 where
+-- a row can stand after a row at this position, in a sequence that begins at the address `base`
+pub record CanStand (e : LineEncoding) (base : ℕ) (position : ℕ × ℕ) (r : GimliRow) : Type 0 where
   pub above : base ≤ r.address
-  pub follows : CanFollow e place.0 place.1 (r.address - base) r.op_index
+  pub follows : CanFollow e position.0 position.1 (r.address - base) r.op_index
   pub line_fits : ends r ≡ false → r.line < 2 ^ 63
 
 -- why a row is refused: it can't stand there, or it isn't an end and has a flag that isn't known or the number of no file
-pub data HasRowFault (e : LineEncoding) (version files base : ℕ) (place : ℕ × ℕ) (r : GimliRow) (status : ℕ) : Type 0 where
-  out_of_order : status ≡ ROW_OUT_OF_ORDER → (CanStand e base place r → ⊥) → HasRowFault e version files base place r status
-  unknown_flag : status ≡ UNKNOWN_FLAG → ends r ≡ false → 32 ≤ r.flags → HasRowFault e version files base place r status
-  no_file : status ≡ NO_SUCH_FILE → ends r ≡ false → LacksFile version files r.file → HasRowFault e version files base place r status
+pub data HasRowFault (e : LineEncoding) (version files base : ℕ) (position : ℕ × ℕ) (r : GimliRow) (status : ℕ) : Type 0 where
+  out_of_order : status ≡ ROW_OUT_OF_ORDER → (CanStand e base position r → ⊥) → HasRowFault e version files base position r status
+  unknown_flag : status ≡ UNKNOWN_FLAG → ends r ≡ false → 32 ≤ r.flags → HasRowFault e version files base position r status
+  no_file : status ≡ NO_SUCH_FILE → ends r ≡ false → LacksFile version files r.file → HasRowFault e version files base position r status
 
--- the place that a row leaves off at: its offset in the sequence and its operation; an end leaves off where the next begins
+-- the position that a row leaves off at: its offset in the sequence and its operation; an end leaves off where the next begins
 abbrev pub position_after : Option ℕ → GimliRow → ℕ × ℕ
 position_after base r = if ends r then (0, 0) else (r.address - base_of base r, r.op_index)
 
--- one of these rows is refused; the row before them is at this place, and its sequence, if it goes on, began at the address
+-- one of these rows is refused; the row before them is at this position, and its sequence, if it goes on, began at the address
 abbrev pub HasRowsFault : LineEncoding → ℕ → ℕ → Option ℕ → ℕ × ℕ → List GimliRow → ℕ → Type 0
-HasRowsFault e version files base place [] status = ⊥
-HasRowsFault e version files base place (r ∷ rows) status =
-    HasRowFault e version files (base_of base r) place r status
+HasRowsFault e version files base position [] status = ⊥
+HasRowsFault e version files base position (r ∷ rows) status =
+    HasRowFault e version files (base_of base r) position r status
     ⊎ HasRowsFault e version files (base_after base r) (position_after base r) rows status
 
 -- ---- all

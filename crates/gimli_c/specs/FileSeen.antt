@@ -7,7 +7,7 @@ use Rattle.gimli_line.specs.header.Header.{Header, directory_of, file_of, has_co
 use Rattle.gimli_line.specs.run.EventsWithFiles.{FilesAtEnd}
 use Rattle.gimli_c.specs.declared.file.GimliText.{GimliText}
 use Rattle.gimli_c.specs.declared.file.GimliFile.{GimliFile}
-use Rattle.gimli_c.specs.Place.{Place, notation_at, HasUnit}
+use Rattle.gimli_c.specs.Location.{Location, notation_at, HasUnit}
 use Rattle.gimli_c.specs.Seen.{flag}
 use Rattle.gimli_c.specs.Written.{slots_with}
 
@@ -56,16 +56,16 @@ file_seen_by_c h f = record {
   md5 = f.md5;
 }
 
--- the header of the unit at the place, with the files that its program has at its end
-pub record HasFiles (p : Place) (complete : Header) : Type 0 where
+-- the header of the unit at the location, with the files that its program has at its end
+pub record HasFiles (p : Location) (complete : Header) : Type 0 where
   pub header : Header
   pub unit : HasUnit p header
   pub files : List File
   pub at_end : FilesAtEnd (notation_at p) true header header.program files
   pub complete_is : complete ≡ record header { files = files }
 
--- the file of an index of the unit at the place, and the bytes of its path and directory where they stand there
-pub record GivesFile (p : Place) (index : ℕ) (seen : GimliFile) (path_old path_new directory_old directory_new : List ℕ) : Type 0 where
+-- the file of an index of the unit at the location, and the bytes of its path and directory where they stand there
+pub record GivesFile (p : Location) (index : ℕ) (seen : GimliFile) (path_old path_new directory_old directory_new : List ℕ) : Type 0 where
   pub header : Header
   pub unit : HasFiles p header
   pub file : File
@@ -74,14 +74,14 @@ pub record GivesFile (p : Place) (index : ℕ) (seen : GimliFile) (path_old path
   pub path_is : path_new ≡ slots_with (bytes_here (Some file.path_name)) path_old
   pub directory_is : directory_new ≡ slots_with (bytes_here (directory_of header file.directory_index)) directory_old
 
--- the unit at the place has no file of the index
-pub record GivesNoFile (p : Place) (index : ℕ) : Type 0 where
+-- the unit at the location has no file of the index
+pub record GivesNoFile (p : Location) (index : ℕ) : Type 0 where
   pub header : Header
   pub unit : HasFiles p header
   pub none : file_of header index ≡ None
 
--- the directory of an index of the unit at the place, and its bytes where they stand there
-pub record GivesDirectory (p : Place) (index : ℕ) (seen : GimliText) (bytes_old bytes_new : List ℕ) : Type 0 where
+-- the directory of an index of the unit at the location, and its bytes where they stand there
+pub record GivesDirectory (p : Location) (index : ℕ) (seen : GimliText) (bytes_old bytes_new : List ℕ) : Type 0 where
   pub header : Header
   pub unit : HasUnit p header
   pub directory : Value
@@ -89,8 +89,8 @@ pub record GivesDirectory (p : Place) (index : ℕ) (seen : GimliText) (bytes_ol
   pub seen_is : seen ≡ text_seen directory
   pub bytes_is : bytes_new ≡ slots_with (bytes_here (Some directory)) bytes_old
 
--- the unit at the place has no directory of the index
-pub record GivesNoDirectory (p : Place) (index : ℕ) : Type 0 where
+-- the unit at the location has no directory of the index
+pub record GivesNoDirectory (p : Location) (index : ℕ) : Type 0 where
   pub header : Header
   pub unit : HasUnit p header
   pub none : directory_of header index ≡ None

@@ -7,18 +7,18 @@ use Rattle.gimli_line.specs.run.Sequences.{HasFirstFault}
 use Rattle.gimli_lookup.specs.FirstPair.{HasNoPair, IsFirstPair}
 use Rattle.gimli_lookup.specs.Run.{AreRowsOfSequences}
 use Rattle.gimli_c.specs.declared.row.GimliRow.{GimliRow}
-use Rattle.gimli_c.specs.Place.{Place, notation_at, HasUnit, HasNoUnit}
+use Rattle.gimli_c.specs.Location.{Location, notation_at, HasUnit, HasNoUnit}
 use Rattle.gimli_c.specs.Seen.{row_seen}
 use Rattle.gimli_c.specs.Status.{error_status}
 
--- the program of the unit at the place gives rows and no fault, and these are the rows of each of its sequences
-pub record HasSequences (p : Place) (rows : List (List LineRow)) : Type 0 where
+-- the program of the unit at the location gives rows and no fault, and these are the rows of each of its sequences
+pub record HasSequences (p : Location) (rows : List (List LineRow)) : Type 0 where
   pub header : Header
   pub unit : HasUnit p header
   pub are : AreRowsOfSequences (notation_at p) header rows
 
 -- the first two rows that cover the address
-pub record GivesPair (p : Place) (address : ℕ) (first second : GimliRow) : Type 0 where
+pub record GivesPair (p : Location) (address : ℕ) (first second : GimliRow) : Type 0 where
   pub rows : List (List LineRow)
   pub sequences : HasSequences p rows
   pub x : LineRow
@@ -28,19 +28,19 @@ pub record GivesPair (p : Place) (address : ℕ) (first second : GimliRow) : Typ
   pub second_is : second ≡ row_seen y
 
 -- no rows cover the address
-pub record GivesNoPair (p : Place) (address : ℕ) : Type 0 where
+pub record GivesNoPair (p : Location) (address : ℕ) : Type 0 where
   pub rows : List (List LineRow)
   pub sequences : HasSequences p rows
   pub none : All (HasNoPair address) rows
 
 -- the run of the unit's program has a fault, and this is the number of the first
-pub record HasFault (p : Place) (status : ℕ) : Type 0 where
+pub record HasFault (p : Location) (status : ℕ) : Type 0 where
   pub header : Header
   pub unit : HasUnit p header
   pub fault : Error
   pub first : HasFirstFault (notation_at p) header fault
   pub status_is : status ≡ error_status fault
 
--- nothing can be looked up at the place, since it has no unit, or the run of its program has a fault; this is the number
-abbrev pub HasNoSequences : Place → ℕ → Type 0
+-- nothing can be looked up at the location, since it has no unit, or the run of its program has a fault; this is the number
+abbrev pub HasNoSequences : Location → ℕ → Type 0
 HasNoSequences p status = HasNoUnit p status ⊎ HasFault p status

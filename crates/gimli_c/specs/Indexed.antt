@@ -24,7 +24,7 @@ use Rattle.gimli_c.specs.declared.index.kept.SectionIndex.{SectionIndex}
 use Rattle.gimli_c.specs.declared.row.GimliRow.{GimliRow}
 use Rattle.gimli_c.specs.declared.status.TheConstants.{NOT_FOUND, UNKNOWN_PATH}
 use Rattle.gimli_c.specs.FileSeen.{GivesDirectory, GivesFile, GivesNoDirectory, GivesNoFile, HasFiles}
-use Rattle.gimli_c.specs.Place.{Place, place, HasNoUnit}
+use Rattle.gimli_c.specs.Location.{Location, location, HasNoUnit}
 use Rattle.gimli_c.specs.Seen.{row_seen}
 use Rattle.gimli_c.specs.Status.{fault_status}
 use Rattle.gimli_c.specs.Written.{slots_with}
@@ -103,8 +103,8 @@ WritesAnswers i addresses old new =
     (answers : List GimliPlace) × AllZip (IsAnswer i.units) (take (length old) addresses) answers × (new ≡ slots_with answers old)
 
 -- where the unit of an index stands
-abbrev pub unit_place : SectionIndex → KeptUnit → Place
-unit_place i u = place i.section.items i.big i.address_size u.unit.offset
+abbrev pub unit_location : SectionIndex → KeptUnit → Location
+unit_location i u = location i.section.items i.big i.address_size u.unit.offset
 
 -- what the paths of a header are made of
 abbrev pub paths_in : SectionIndex → Header → List ℕ → Paths
@@ -118,7 +118,7 @@ paths_in i h comp_dir = record {
 pub record IsFileOf (i : SectionIndex) (unit file : ℕ) (h : Header) (entry : File) : Type 0 where
   pub kept : KeptUnit
   pub is_unit : slice_get i.units unit ≡ Some kept
-  pub has_files : HasFiles (unit_place i kept) h
+  pub has_files : HasFiles (unit_location i kept) h
   pub is_file : file_of h file ≡ Some entry
 
 -- the whole path of the file of a unit
@@ -147,29 +147,29 @@ IsUnit i unit kept = slice_get i.units unit ≡ Some kept
 
 -- the index has no such unit, or the unit no such file
 abbrev pub HasNoFile : SectionIndex → ℕ → ℕ → Type 0
-HasNoFile i unit file = (slice_get i.units unit ≡ None) ⊎ ((kept : KeptUnit) × IsUnit i unit kept × GivesNoFile (unit_place i kept) file)
+HasNoFile i unit file = (slice_get i.units unit ≡ None) ⊎ ((kept : KeptUnit) × IsUnit i unit kept × GivesNoFile (unit_location i kept) file)
 
 -- the index has no such unit, or the unit no such directory
 abbrev pub HasNoDirectory : SectionIndex → ℕ → ℕ → Type 0
-HasNoDirectory i unit directory = (slice_get i.units unit ≡ None) ⊎ ((kept : KeptUnit) × IsUnit i unit kept × GivesNoDirectory (unit_place i kept) directory)
+HasNoDirectory i unit directory = (slice_get i.units unit ≡ None) ⊎ ((kept : KeptUnit) × IsUnit i unit kept × GivesNoDirectory (unit_location i kept) directory)
 
 -- the file of an index of a unit, and the bytes of its path and directory where they stand in the section itself
 pub record GivesFileOf (i : SectionIndex) (unit file : ℕ) (seen : GimliFile) (path_old path_new directory_old directory_new : List ℕ) : Type 0 where
   pub kept : KeptUnit
   pub is_unit : IsUnit i unit kept
-  pub gives : GivesFile (unit_place i kept) file seen path_old path_new directory_old directory_new
+  pub gives : GivesFile (unit_location i kept) file seen path_old path_new directory_old directory_new
 
 -- the directory of an index of a unit, and its bytes where they stand in the section itself
 pub record GivesDirectoryOf (i : SectionIndex) (unit directory : ℕ) (seen : GimliText) (bytes_old bytes_new : List ℕ) : Type 0 where
   pub kept : KeptUnit
   pub is_unit : IsUnit i unit kept
-  pub gives : GivesDirectory (unit_place i kept) directory seen bytes_old bytes_new
+  pub gives : GivesDirectory (unit_location i kept) directory seen bytes_old bytes_new
 
 -- a unit can't be read, and this is the number of the refusal
 pub record UnitRefused (i : SectionIndex) (unit status : ℕ) : Type 0 where
   pub kept : KeptUnit
   pub is_unit : IsUnit i unit kept
-  pub refused : HasNoUnit (unit_place i kept) status
+  pub refused : HasNoUnit (unit_location i kept) status
 
 -- why the path of a file isn't answered, memory aside: there is no such file, its path can't be told, or the unit can't be read
 abbrev pub HasNoPath : SectionIndex → ℕ → ℕ → List ℕ → ℕ → Type 0

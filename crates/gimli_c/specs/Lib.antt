@@ -1,6 +1,6 @@
 pub mod Numbers
 pub mod Status
-pub mod Place
+pub mod Location
 pub mod Run
 pub mod Seen
 pub mod Written

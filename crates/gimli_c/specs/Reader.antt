@@ -8,8 +8,8 @@ use Rattle.gimli_c.specs.declared.index.kept.SectionIndex.{SectionIndex}
 use Rattle.gimli_c.specs.declared.row.GimliRow.{GimliRow}
 use Rattle.gimli_c.specs.declared.row_reader.kept.UnitRows.{UnitRows}
 use Rattle.gimli_c.specs.declared.status.TheConstants.{OK, NOT_FOUND}
-use Rattle.gimli_c.specs.Indexed.{unit_place, IsUnit, UnitRefused}
-use Rattle.gimli_c.specs.Place.{Place}
+use Rattle.gimli_c.specs.Indexed.{unit_location, IsUnit, UnitRefused}
+use Rattle.gimli_c.specs.Location.{Location}
 use Rattle.gimli_c.specs.Run.{rows_of, fault_of, HasEvents}
 use Rattle.gimli_c.specs.Seen.{row_seen}
 use Rattle.gimli_c.specs.Status.{fault_status}
@@ -23,8 +23,8 @@ rows_left r = drop r.next r.rows
 abbrev pub after_rows : ℕ → UnitRows → UnitRows
 after_rows count r = record r { next = r.next + count }
 
--- a reader before the first row of the unit at a place: all rows of its program are to come, up to the first fault
-pub record IsAtFirstRow (p : Place) (r : UnitRows) : Type 0 where
+-- a reader before the first row of the unit at a location: all rows of its program are to come, up to the first fault
+pub record IsAtFirstRow (p : Location) (r : UnitRows) : Type 0 where
   pub header : Header
   pub events : List Event
   pub unit : HasEvents p header events
@@ -44,7 +44,7 @@ pub record GivesNextRows (r : UnitRows) (old new : List GimliRow) (count status 
 pub record IsAtFirstRowOfUnit (i : SectionIndex) (unit : ℕ) (r : UnitRows) : Type 0 where
   pub kept : KeptUnit
   pub is_unit : IsUnit i unit kept
-  pub at_first : IsAtFirstRow (unit_place i kept) r
+  pub at_first : IsAtFirstRow (unit_location i kept) r
 
 -- why the rows of a unit aren't answered, memory aside: there is no such unit, or it can't be read
 abbrev pub HasNoRows : SectionIndex → ℕ → ℕ → Type 0

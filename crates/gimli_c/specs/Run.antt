@@ -5,7 +5,7 @@ use Rattle.gimli_line.specs.declared.run.row.LineRow.{LineRow}
 use Rattle.gimli_line.specs.header.Header.{Header}
 use Rattle.gimli_line.specs.run.Events.{Event, row, fault, Events}
 use Rattle.gimli_c.specs.declared.row.GimliRow.{GimliRow}
-use Rattle.gimli_c.specs.Place.{Place, notation_at, HasUnit, HasNoUnit}
+use Rattle.gimli_c.specs.Location.{Location, notation_at, HasUnit, HasNoUnit}
 use Rattle.gimli_c.specs.Seen.{row_seen}
 use Rattle.gimli_c.specs.Status.{fault_status}
 use Rattle.gimli_c.specs.Written.{slots_with}
@@ -37,14 +37,14 @@ pub record Begun (events : List Event) (skip : ℕ) (old new : List GimliRow) : 
   pub parts : rows_of events ≡ met ++ rest
   pub copied : new ≡ slots_with (map row_seen (drop skip met)) old
 
--- the program of the unit at the place gives these events
-pub record HasEvents (p : Place) (h : Header) (events : List Event) : Type 0 where
+-- the program of the unit at the location gives these events
+pub record HasEvents (p : Location) (h : Header) (events : List Event) : Type 0 where
   pub unit : HasUnit p h
   pub given : Events (notation_at p) h h.program events
 
--- the rows of the unit at the place, from the skip-th on, stand in an array of the caller, with their whole number beside
+-- the rows of the unit at the location, from the skip-th on, stand in an array of the caller, with their whole number beside
 -- it; and the status is that of their first fault
-pub record GivesRows (p : Place) (skip : ℕ) (old new : List GimliRow) (count status : ℕ) : Type 0 where
+pub record GivesRows (p : Location) (skip : ℕ) (old new : List GimliRow) (count status : ℕ) : Type 0 where
   pub header : Header
   pub events : List Event
   pub unit : HasEvents p header events
@@ -53,22 +53,22 @@ pub record GivesRows (p : Place) (skip : ℕ) (old new : List GimliRow) (count s
   pub status_is : status ≡ fault_status end
 
 -- no unit stands there, and nothing was written but a number of 0
-pub record GivesNone (p : Place) (old new : List GimliRow) (count status : ℕ) : Type 0 where
+pub record GivesNone (p : Location) (old new : List GimliRow) (count status : ℕ) : Type 0 where
   pub none : HasNoUnit p status
   pub kept : new ≡ old
   pub count_is : count ≡ 0
 
--- the rows of the unit at the place, or none, where no unit stands there
-abbrev pub GivesRowsOrNone : Place → ℕ → List GimliRow → List GimliRow → ℕ → ℕ → Type 0
+-- the rows of the unit at the location, or none, where no unit stands there
+abbrev pub GivesRowsOrNone : Location → ℕ → List GimliRow → List GimliRow → ℕ → ℕ → Type 0
 GivesRowsOrNone p skip old new count status = GivesRows p skip old new count status ⊎ GivesNone p old new count status
 
--- the first rows of the unit at the place, up to some row, stand in an array of the caller
-pub record GivesFirstRows (p : Place) (skip : ℕ) (old new : List GimliRow) : Type 0 where
+-- the first rows of the unit at the location, up to some row, stand in an array of the caller
+pub record GivesFirstRows (p : Location) (skip : ℕ) (old new : List GimliRow) : Type 0 where
   pub header : Header
   pub events : List Event
   pub unit : HasEvents p header events
   pub begun : Begun events skip old new
 
 -- these, or nothing was written
-abbrev pub GivesFirstRowsOrNone : Place → ℕ → List GimliRow → List GimliRow → Type 0
+abbrev pub GivesFirstRowsOrNone : Location → ℕ → List GimliRow → List GimliRow → Type 0
 GivesFirstRowsOrNone p skip old new = GivesFirstRows p skip old new ⊎ (new ≡ old)

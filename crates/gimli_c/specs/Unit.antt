@@ -7,7 +7,7 @@ use Rattle.gimli_line.specs.Units.{offset_after}
 use Rattle.gimli_line.specs.run.Events.{Event}
 use Rattle.gimli_line.specs.run.EventsWithFiles.{FilesAtEnd}
 use Rattle.gimli_c.specs.declared.unit.GimliUnit.{GimliUnit}
-use Rattle.gimli_c.specs.Place.{Place, notation_at}
+use Rattle.gimli_c.specs.Location.{Location, notation_at}
 use Rattle.gimli_c.specs.Run.{HasEvents, rows_of, fault_of}
 use Rattle.gimli_c.specs.Status.{fault_status}
 
@@ -27,8 +27,8 @@ unit_seen offset h events files =
       fault = fault_status (fault_of events);
     }
 
--- the unit at the place
-pub record GivesUnit (p : Place) (unit : GimliUnit) : Type 0 where
+-- the unit at the location
+pub record GivesUnit (p : Location) (unit : GimliUnit) : Type 0 where
   pub header : Header
   pub events : List Event
   pub has_events : HasEvents p header events

@@ -3,10 +3,10 @@
 ghost use Rattle.std.specs.Prelude.{◌≡◌, ◌≢◌, false};
 ghost use Rattle.gimli_core.specs.Numbers.{is_address_size};
 ghost use Rattle.gimli_c.specs.FileSeen.{GivesDirectory, GivesNoDirectory};
-ghost use Rattle.gimli_c.specs.Place.{place, HasNoUnit};
+ghost use Rattle.gimli_c.specs.Location.{location, HasNoUnit};
 
 use crate::file::{GimliText, copy_bytes, text_here};
-use crate::place::program_at;
+use crate::location::program_at;
 use crate::status::{NOT_FOUND, OK, OUT_OF_MEMORY, UNSUPPORTED_ADDRESS_SIZE};
 use std::alloc::Global;
 
@@ -25,12 +25,12 @@ pub extern "C" fn gimli_line_directory(
     directory: &mut GimliText,
     bytes: &mut [u8],
 ) -> u32
-    ensures found { result ≡ OK → GivesDirectory (place section.now big address_size offset)
+    ensures found { result ≡ OK → GivesDirectory (location section.now big address_size offset)
         index directory.new bytes.old bytes.new }
     ensures none { result ≡ NOT_FOUND →
-        GivesNoDirectory (place section.now big address_size offset) index }
+        GivesNoDirectory (location section.now big address_size offset) index }
     ensures refused { result ≢ OK → result ≢ NOT_FOUND → result ≢ OUT_OF_MEMORY →
-        HasNoUnit (place section.now big address_size offset) result }
+        HasNoUnit (location section.now big address_size offset) result }
     ensures size { is_address_size address_size ≡ false → result ≡ UNSUPPORTED_ADDRESS_SIZE }
     ensures kept { result ≢ OK → (directory.new ≡ directory.old) × (bytes.new ≡ bytes.old) }
 {

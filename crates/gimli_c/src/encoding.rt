@@ -6,7 +6,7 @@ ghost use Rattle.gimli_c.specs.Causes.{HasEncodingFault};
 ghost use Rattle.gimli_c.specs.Handed.{IsRefusal, encoding_of, line_encoding_of};
 ghost use Rattle.gimli_c.specs.Refused.{encoding_fault, HasBadLines};
 
-use crate::place::is_address_size;
+use crate::location::is_address_size;
 use crate::status::{
     UNKNOWN_VERSION, UNSUPPORTED_ADDRESS_SIZE, UNSUPPORTED_LINE_ENCODING, UNSUPPORTED_OFFSET_SIZE,
 };

@@ -5,10 +5,10 @@ ghost use Rattle.gimli_core.specs.Numbers.{is_address_size};
 ghost use Rattle.gimli_core.specs.Values.{value_seen};
 ghost use Rattle.gimli_line.specs.header.File.{file_seen};
 ghost use Rattle.gimli_c.specs.FileSeen.{details_of, file_seen_by_c, optional_text_seen, text_here, GivesFile, GivesNoFile};
-ghost use Rattle.gimli_c.specs.Place.{place, HasNoUnit};
+ghost use Rattle.gimli_c.specs.Location.{location, HasNoUnit};
 ghost use Rattle.gimli_c.specs.Written.{slots_with};
 
-use crate::place::program_at;
+use crate::location::program_at;
 use crate::row::flag;
 use crate::run::run_to_file;
 use crate::status::{NOT_FOUND, OK, OUT_OF_MEMORY, UNSUPPORTED_ADDRESS_SIZE, error_status};
@@ -88,12 +88,12 @@ pub extern "C" fn gimli_line_file(
     path: &mut [u8],
     directory: &mut [u8],
 ) -> u32
-    ensures found { result ≡ OK → GivesFile (place section.now big address_size offset)
+    ensures found { result ≡ OK → GivesFile (location section.now big address_size offset)
         index file.new path.old path.new directory.old directory.new }
     ensures none { result ≡ NOT_FOUND →
-        GivesNoFile (place section.now big address_size offset) index }
+        GivesNoFile (location section.now big address_size offset) index }
     ensures refused { result ≢ OK → result ≢ NOT_FOUND → result ≢ OUT_OF_MEMORY →
-        HasNoUnit (place section.now big address_size offset) result }
+        HasNoUnit (location section.now big address_size offset) result }
     ensures size { is_address_size address_size ≡ false → result ≡ UNSUPPORTED_ADDRESS_SIZE }
     ensures kept { result ≢ OK →
         (file.new ≡ file.old) × (path.new ≡ path.old) × (directory.new ≡ directory.old) }
@@ -188,14 +188,14 @@ pub(crate) fn text_here<R: Reader>(value: Option<AttributeValue<R>>) -> Option<R
     }
 }
 
-/// Puts bytes into a place, as far as there is room.
+/// Puts bytes into an array, as far as there is room.
 pub(crate) fn copy_bytes(bytes: &[u8], room: &mut [u8])
     ensures { room.new ≡ slots_with bytes.now room.old }
 {
-    for (place, byte) in bytes.iter().enumerate() {
-        if place >= room.len() {
+    for (slot, byte) in bytes.iter().enumerate() {
+        if slot >= room.len() {
             return;
         }
-        room[place] = *byte;
+        room[slot] = *byte;
     }
 }

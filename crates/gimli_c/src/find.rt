@@ -3,9 +3,9 @@
 ghost use Rattle.std.specs.Prelude.{◌≡◌, ◌≢◌, false};
 ghost use Rattle.gimli_core.specs.Numbers.{is_address_size};
 ghost use Rattle.gimli_c.specs.Found.{GivesNoPair, GivesPair, HasNoSequences};
-ghost use Rattle.gimli_c.specs.Place.{place};
+ghost use Rattle.gimli_c.specs.Location.{location};
 
-use crate::place::program_at;
+use crate::location::program_at;
 use crate::row::GimliRow;
 use crate::status::{NOT_FOUND, OK, OUT_OF_MEMORY, UNSUPPORTED_ADDRESS_SIZE, error_status};
 use gimli_lookup::find_in_run;
@@ -28,11 +28,11 @@ pub extern "C" fn gimli_line_find(
     second: &mut GimliRow,
 ) -> u32
     ensures found { result ≡ OK →
-        GivesPair (place section.now big address_size offset) address first.new second.new }
+        GivesPair (location section.now big address_size offset) address first.new second.new }
     ensures none { result ≡ NOT_FOUND →
-        GivesNoPair (place section.now big address_size offset) address }
+        GivesNoPair (location section.now big address_size offset) address }
     ensures refused { result ≢ OK → result ≢ NOT_FOUND → result ≢ OUT_OF_MEMORY →
-        HasNoSequences (place section.now big address_size offset) result }
+        HasNoSequences (location section.now big address_size offset) result }
     ensures size { is_address_size address_size ≡ false → result ≡ UNSUPPORTED_ADDRESS_SIZE }
     ensures kept { result ≢ OK → (first.new ≡ first.old) × (second.new ≡ second.old) }
 {

@@ -60,7 +60,7 @@ fn add_row(
         (HasRowFault program.old.line_encoding program.old.encoding.version (length ids.now)
         (base_of base row.now) (previous_position program.old.items) row.now)) }
     ensures err { IfErr result IsRefusal }
-    ensures place { OnOk result (previous_position program.new.items ≡ position_after base row.now) }
+    ensures position { OnOk result (previous_position program.new.items ≡ position_after base row.now) }
     ensures cause { (base ≡ None → previous_position program.old.items ≡ (0, 0)) →
         IfErr result (λ s. s ≢ OUT_OF_MEMORY →
         HasRowFault program.old.line_encoding program.old.encoding.version (length ids.now)
@@ -88,7 +88,7 @@ fn begin(program: &mut LineProgram, base: Option<u64>, address: u64) -> Result<u
     ensures ok { OnOk result (AddsItems program.old program.new (items_of_start base address)) }
     ensures err { IfErr result IsRefusal }
     ensures memory { IfErr result (λ s. s ≡ OUT_OF_MEMORY) }
-    ensures place { (base ≡ None → previous_position program.old.items ≡ (0, 0)) →
+    ensures position { (base ≡ None → previous_position program.old.items ≡ (0, 0)) →
         OnOk result (previous_position program.new.items ≡ previous_position program.old.items) }
 {
     match base {

@@ -23,7 +23,7 @@ pub struct GimliRow {
     pub column: u64,
     /// The instruction set, by the machine's own numbers.
     pub isa: u64,
-    /// Tells blocks of one source place apart.
+    /// Tells blocks of the same file, line and column apart.
     pub discriminator: u64,
     /// The sum of `IS_STMT`, `BASIC_BLOCK`, `END_SEQUENCE`, `PROLOGUE_END` and `EPILOGUE_BEGIN`, each where it holds.
     pub flags: u64,

@@ -2,10 +2,10 @@
 
 ghost use Rattle.std.specs.Prelude.{◌≡◌, ◌≢◌, false};
 ghost use Rattle.gimli_core.specs.Numbers.{is_address_size};
-ghost use Rattle.gimli_c.specs.Place.{place};
+ghost use Rattle.gimli_c.specs.Location.{location};
 ghost use Rattle.gimli_c.specs.Run.{GivesFirstRowsOrNone, GivesRowsOrNone};
 
-use crate::place::program_at;
+use crate::location::program_at;
 use crate::row::GimliRow;
 use crate::run::{copy_rows, fault_status, rows_fit};
 use crate::status::{OUT_OF_MEMORY, UNSUPPORTED_ADDRESS_SIZE, error_status};
@@ -27,9 +27,9 @@ pub extern "C" fn gimli_line_rows(
     count: &mut u64,
 ) -> u32
     ensures rows { result ≢ OUT_OF_MEMORY → GivesRowsOrNone
-        (place section.now big address_size offset) skip rows.old rows.new count.new result }
+        (location section.now big address_size offset) skip rows.old rows.new count.new result }
     ensures first_rows { result ≡ OUT_OF_MEMORY → GivesFirstRowsOrNone
-        (place section.now big address_size offset) skip rows.old rows.new }
+        (location section.now big address_size offset) skip rows.old rows.new }
     ensures no_count { result ≡ OUT_OF_MEMORY → count.new ≡ 0 }
     ensures size { is_address_size address_size ≡ false → result ≡ UNSUPPORTED_ADDRESS_SIZE }
 {

@@ -93,9 +93,9 @@ fn put_row(room: &mut [GimliRow], skip: u64, number: u64, row: &LineRow)
     if number < skip {
         return;
     }
-    let place = number - skip;
-    if place < room.len() as u64 {
-        room[place as usize] = GimliRow::new(row);
+    let slot = number - skip;
+    if slot < room.len() as u64 {
+        room[slot as usize] = GimliRow::new(row);
     }
 }
 

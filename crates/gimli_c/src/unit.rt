@@ -2,12 +2,12 @@
 
 ghost use Rattle.std.specs.Prelude.{◌≡◌, ◌≢◌, ◌≤◌, ◌<◌, ◌+◌, ◌^◌, false, IfErr, IfOk};
 ghost use Rattle.gimli_core.specs.Numbers.{is_address_size};
-ghost use Rattle.gimli_c.specs.Place.{place, HasNoUnit};
+ghost use Rattle.gimli_c.specs.Location.{location, HasNoUnit};
 ghost use Rattle.gimli_line.specs.Units.{offset_after};
 ghost use Rattle.gimli_c.specs.Unit.{GivesUnit};
 ghost use Rattle.gimli_c.specs.inside.Unit.{IsReadUnit};
 
-use crate::place::program_at;
+use crate::location::program_at;
 use crate::run::{copy_rows, fault_status, rows_fit, run_on};
 use crate::status::{OK, OUT_OF_MEMORY, UNSUPPORTED_ADDRESS_SIZE, error_status};
 use gimli_core::{Error, Reader, ReaderOffset, Result};
@@ -51,9 +51,9 @@ pub extern "C" fn gimli_line_unit(
     offset: usize,
     unit: &mut GimliUnit,
 ) -> u32
-    ensures ok { result ≡ OK → GivesUnit (place section.now big address_size offset) unit.new }
+    ensures ok { result ≡ OK → GivesUnit (location section.now big address_size offset) unit.new }
     ensures refused { result ≢ OK → result ≢ OUT_OF_MEMORY →
-        HasNoUnit (place section.now big address_size offset) result }
+        HasNoUnit (location section.now big address_size offset) result }
     ensures size { is_address_size address_size ≡ false → result ≡ UNSUPPORTED_ADDRESS_SIZE }
     ensures kept { result ≢ OK → unit.new ≡ unit.old }
 {

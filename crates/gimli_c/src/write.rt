@@ -16,7 +16,7 @@ ghost use Rattle.gimli_c.specs.Handing.{GivesUnitOf, IsBuiltOf, NeedsRoom, hande
 use crate::encoding::{GimliEncoding, encodings};
 use crate::file::{HAS_MD5, HAS_SIZE, HAS_TIMESTAMP, copy_bytes};
 use crate::items::add_rows;
-use crate::place::order;
+use crate::location::order;
 use crate::row::{GimliRow, has_flag};
 use crate::status::{
     NEED_VERSION_4, NO_ROOM, OK, OUT_OF_MEMORY, UNIT_TOO_LONG, UNKNOWN_VERSION,

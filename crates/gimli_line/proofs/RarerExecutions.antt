@@ -1,15 +1,19 @@
 -- The instructions that are met now and then, executed from their bytes.
-use Rattle.std.proofs.Common.{◌≡◌, ◌<◌, ℕ, arith, Bool, false, true, List, refl, subst, ◌∙◌, Ok}
+use Rattle.std.proofs.Common.{◌≡◌, ◌<◌, ℕ, arith, Bool, false, true, List, Some, refl, subst, ◌∙◌, Ok}
 use Rattle.std.proofs.lemmas.Bool.{lt-leb}
 use Rattle.std.specs.Prelude.{nat_le}
 use Rattle.gimli_core.specs.Notation.{Notation}
-use Rattle.gimli_core.specs.Reading.{◌>>=◌, byte_at, number_at, split_at, unsigned_at, within_at}
+use Rattle.gimli_core.specs.Reading.{◌>>=◌, byte_at, number_at, split_at, text_at, unsigned_at, within_at}
 use Rattle.gimli_line.specs.declared.run.row.LineRow.{LineRow}
-use Rattle.gimli_line.specs.declared.run.instruction.LineInstruction.TheVariants.{AdvancePc, ConstAddPc, EndSequence, SetAddress, SetDiscriminator}
+use Rattle.gimli_line.specs.declared.run.instruction.LineInstruction.TheVariants.{AdvancePc, ConstAddPc, DefineFile, EndSequence, SetAddress, SetDiscriminator}
+use Rattle.gimli_line.specs.header.File.{File}
 use Rattle.gimli_line.specs.header.FormReading.{offset_at}
 use Rattle.gimli_line.specs.header.Header.{Header}
+use Rattle.gimli_line.specs.header.HeaderReading.{plain_file_at}
 use Rattle.gimli_line.specs.header.Parameters.{Parameters}
+use Rattle.gimli_line.specs.header.Productions.{among}
 use Rattle.gimli_line.specs.run.Instruction.{Ins, defines_file}
+use Rattle.gimli_line.specs.run.InstructionGrammar.{file, extended_opcodes}
 use Rattle.gimli_line.specs.run.InstructionReading.{standard_at, extended_at, extended_operands_at, ins_at}
 use Rattle.gimli_line.specs.run.Machine.{step_of, is_refused}
 use Rattle.gimli_line.specs.inside.run.Execution.{Executed, ExecutedWell}
@@ -53,6 +57,17 @@ module _ (notation : Notation) (h : Header) (bytes after inside rest : List ℕ)
 pub extended_first : (notation : Notation) (h : Header) (whole bytes : List ℕ) (opcode : ℕ) → opcode ≡ 0 → (Ok opcode, bytes) ≡ byte_at whole → ins_at notation h whole ≡ extended_at notation h bytes
 unfolding ins_at
 extended_first notation h whole bytes opcode is read = rw (← read, is) refl
+
+-- files are defined up to version 4
+file_opcode : (version : ℕ) → nat_le version 4 ≡ true → among 3 (extended_opcodes version) ≡ Some (file DefineFile)
+file_opcode version old = rw old refl
+
+module _ (notation : Notation) (h : Header) (inside operands rest : List ℕ) (opcode : ℕ) (read : (Ok opcode, operands) ≡ byte_at inside) where
+  pub defines : opcode ≡ 3 → nat_le h.parameters.encoding.version 4 ≡ true → (path left : List ℕ) → (Ok path, left) ≡ text_at operands → (f : File) (after : List ℕ) → (Ok f, after) ≡ plain_file_at path left
+      → (within_at inside byte_at rest >>= λ opened left. extended_operands_at notation h opened.0 opened.1 left) ≡ (Ok (DefineFile f), rest)
+  unfolding extended_operands_at
+  defines is old path left text f after found =
+      rw (← read, is) (rw (extended_operands_at, file_opcode h.parameters.encoding.version old) (rw (← text) (rw (← found) refl)))
 
 module _ (notation : Notation) (h : Header) (inside operands rest : List ℕ) (opcode : ℕ) (read : (Ok opcode, operands) ≡ byte_at inside) (r : LineRow) where
   pub ends : opcode ≡ 1

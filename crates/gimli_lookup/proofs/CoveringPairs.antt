@@ -40,7 +40,7 @@ covering_has_pair a (r ∷ rows) is none =
     let within = and_parts (leb r.address a) (ltb a (last_address r rows)) (and_parts (never_go_down (r ∷ rows)) (is_between a (range (r ∷ rows))) is).1 in
     has_pair a r rows (leb-true r.address a within.0) (ltb-true a (last_address r rows) within.1) none
 
--- the last row's address, by its place
+-- the last row's address, by its index
 pub at_last : (r : LineRow) (rows : List LineRow) (d : LineRow) → (slice_index_or (r ∷ rows) (length rows) d).address ≡ last_address r rows
 at_last r [] d = refl
 at_last r (next ∷ rows) d = at_last next rows d
@@ -77,7 +77,7 @@ covering_append a first (x ∷ xs) ys =
     by_test (covers a x) first (covering_index a (first + 1) (xs ++ ys)) (covering_index a (first + 1) xs) (covering_index a (first + suc (length xs)) ys)
     (covering_append a (first + 1) xs ys ∙ ap (λ (n : ℕ). option_or (covering_index a (first + 1) xs) (covering_index a n ys)) same)
 
--- the sequence at a place covers the address, and none before it does
+-- the sequence at an index covers the address, and none before it does
 pub record IsFirstCovering (a first : ℕ) (sequences : List (List LineRow)) (index : ℕ) : Type 0 where
   pub at_least : first ≤ index
   pub within : index - first < length sequences

@@ -3,7 +3,7 @@ use Rattle.std.proofs.Common.{◌≡◌, ℕ, List, [], ◌∷◌, map, refl, ap
 use Rattle.gimli_line.specs.declared.run.row.LineRow.{LineRow}
 use Rattle.gimli_lookup.specs.Section.{ListedUnit, KeptUnit, without_header, unit_without_header, with_sequences, AreAdjacent}
 
--- they have the places that they had
+-- they have the indices that they had
 pub headless_adjacent : (from : ℕ) (units : List ListedUnit) (end : ℕ) → AreAdjacent from units end → AreAdjacent from (map without_header units) end
 headless_adjacent from [] end p = p
 headless_adjacent from (u ∷ units) end p = (p.0, p.1, headless_adjacent u.end units end p.2)

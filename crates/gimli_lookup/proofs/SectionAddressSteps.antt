@@ -6,7 +6,7 @@ use Rattle.gimli_lookup.specs.Section.{KeptUnit}
 use Rattle.gimli_lookup.specs.SectionAddresses.{unit_addresses, addresses_of_path}
 use Rattle.gimli_lookup.specs.Strings.{Strings}
 
--- a list that has a place has an element
+-- a list that has an index has an element
 pub some_unit : (units : List KeptUnit) (i : ℕ) → i < length units → KeptUnit
 some_unit [] i inside = absurd (omega arith)
 some_unit (u ∷ units) i inside = u

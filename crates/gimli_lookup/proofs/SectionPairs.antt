@@ -69,7 +69,7 @@ first_of_unit a s units k index d x y are lt from before f =
         let within : index ≤ length s = omega (arith, slice_get_within s index f.rows f.there) in
         subst (λ (w : KeptUnit). All (HasNoPair a) w.sequences) (sym is) (none_in_part a s index v.first v.end within ends f.none_earlier)
 
--- ---- what an index finds, and the unit of its place
+-- ---- what an index finds, and the unit of its index
 
 pub index_within : (a : ℕ) (sequences s : List (List LineRow)) (units us : List ListedUnit) (index : ℕ) (x y : LineRow) → AreAdjacent 0 units (length sequences) → s ≡ sequences → us ≡ units
     → IsFirstPairIn a s index x y → (end : ℕ) × AreAdjacent 0 us end × (index < end)

@@ -10,14 +10,14 @@ pub listed_are : (sequences : List (List LineRow)) (units : List ListedUnit) →
 listed_are sequences [] = refl
 listed_are sequences (u ∷ units) = ap (λ us. u ∷ us) (listed_are sequences units)
 
--- ---- places
+-- ---- indices
 
--- the last place is no less than the first
+-- the last index is no less than the first
 pub up_to_end : (from : ℕ) (units : List ListedUnit) (end : ℕ) → AreAdjacent from units end → from ≤ end
 up_to_end from [] end are = omega arith
 up_to_end from (u ∷ units) end are = omega (arith, up_to_end u.end units end are.2)
 
--- the places of a unit
+-- the indices of a unit
 pub record HasPlaces (from end : ℕ) (u : ListedUnit) : Type 0 where
   pub starts : from ≤ u.first
   pub order : u.first ≤ u.end
@@ -31,7 +31,7 @@ has_indexes from (u ∷ units) end (suc k) d are lt =
     let later : HasPlaces u.end end (slice_index_or units k d) = has_indexes u.end units end k d are.2 (omega arith) in
     record { starts = omega (arith, are.0, are.1, later.starts); order = later.order; ends = later.ends }
 
--- the sequences of the unit at a place
+-- the sequences of the unit at an index
 pub part_is : (sequences : List (List LineRow)) (units : List ListedUnit) (k : ℕ) (u : ListedUnit) (d : KeptUnit) (kept : List KeptUnit)
     → map (with_sequences sequences) units ≡ kept → k < length units → u ≡ slice_index_or units k u
     → take (u.end - u.first) (drop u.first sequences) ≡ (slice_index_or kept k d).sequences

@@ -15,16 +15,16 @@ use Rattle.gimli_lookup.specs.Steps.{step_at, indexes_out_of_order}
 use Rattle.gimli_lookup.specs.inside.Steps.{HaveNoUnorderedPair, IsFirstUnorderedPair}
 use Rattle.gimli_lookup.proofs.CoveringPairs.{IsFirstCovering, cases_covering, uncovered_has_none}
 
--- what holds of each sequence before a place
+-- what holds of each sequence before an index
 all_taken : (P : List LineRow → Type 0) (sequences : List (List LineRow)) (n : ℕ) → n ≤ length sequences
     → ((k : ℕ) (d : List LineRow) → k < n → P (slice_index_or sequences k d)) → All P (take n sequences)
 all_taken P sequences n within each k d lt =
     let before : k < n = omega (arith, lt, length-take-le n sequences within) in
     subst P (sym (get_or-take n sequences k d before)) (each k d before)
 
--- ---- the places of the sequences whose addresses go down
+-- ---- the indices of the sequences whose addresses go down
 
--- the next of the places
+-- the next of the indices
 pub record IsNextUnordered (first : ℕ) (sequences : List (List LineRow)) (index : ℕ) (indexes : List ℕ) : Type 0 where
   pub at_least : first ≤ index
   pub within : index - first < length sequences
@@ -105,7 +105,7 @@ pub down_some : (rows : List LineRow) → never_go_down rows ≡ false → 0 < l
 down_some [] goes_down = absurd (true≢false goes_down)
 down_some (r ∷ rows) goes_down = omega arith
 
--- ---- a scan on its way: the sequences before a place are looked at
+-- ---- a scan on its way: the sequences before an index are looked at
 
 pub record Scanned (a : ℕ) (sequences : List (List LineRow)) (left : List ℕ) (at_start now : ℕ) : Type 0 where
   pub from : ℕ
@@ -141,7 +141,7 @@ module _ (a : ℕ) (sequences : List (List LineRow)) (index : ℕ) (others : Lis
       ∙ ap never_go_down (sym (get_or-drop scanned.from sequences (index - scanned.from) d))
       ∙ next.down d
 
-  -- those before the place have no pair, if their addresses go down
+  -- those before the index have no pair, if their addresses go down
   pub none_before : (k : ℕ) (d : List LineRow) → k < index → never_go_down (slice_index_or sequences k d) ≡ false → HasNoPair a (slice_index_or sequences k d)
   none_before k d lt goes_down = elim (cases_lt k scanned.from) [
     | inl before ↦ scanned.none k d before goes_down
@@ -162,7 +162,7 @@ module _ (a : ℕ) (sequences : List (List LineRow)) (index : ℕ) (others : Lis
         ap (sum_by scan_probes) (take-take scanned.from index sequences (next.at_least)),
       )
 
-  -- the count can grow by the rows at the place
+  -- the count can grow by the rows at the index
   pub next_fits : (rows : List LineRow) → rows ≡ slice_index_or sequences index rows → at_start + sum_by length sequences < 2 ^ 64 → now + length rows < 2 ^ 64
   next_fits rows item fits =
       omega (
@@ -233,13 +233,13 @@ module _ (a : ℕ) (sequences : List (List LineRow)) (index : ℕ) (others : Lis
     is_first = first;
   }
 
-  -- an end at or before the place
+  -- an end at or before the index
   pub none_before_end : (end : ℕ) → end ≤ index → HaveNoUnorderedPair a (take end sequences)
   none_before_end end le =
       all_taken (λ (r : List LineRow). never_go_down r ≡ false → HasNoPair a r) sequences end (omega (arith, next_within))
       (λ k d lt goes_down. none_before k d (omega arith) goes_down)
 
--- ---- a scan at its end: no place is left
+-- ---- a scan at its end: no index is left
 
 module _ (a : ℕ) (sequences : List (List LineRow)) (at_start now : ℕ) (scanned : Scanned a sequences [] at_start now) where
   ordered_after : (k : ℕ) (d : List LineRow) → k < length (drop scanned.from sequences) → never_go_down (slice_index_or (drop scanned.from sequences) k d) ≡ true

@@ -23,7 +23,7 @@ is_between a (Some ends) = nat_le ends.0 a && nat_lt a ends.1
 abbrev pub covers : ℕ → List LineRow → Bool
 covers a rows = never_go_down rows && is_between a (range rows)
 
--- the place of the first sequence that covers an address, where the first of these has the place `first`
+-- the index of the first sequence that covers an address, where the first of these has the index `first`
 abbrev pub covering_index : ℕ → ℕ → List (List LineRow) → Option ℕ
 covering_index a first [] = None
 covering_index a first (rows ∷ later) = if covers a rows then Some first else covering_index a (first + 1) later

@@ -26,7 +26,7 @@ pub record ListedUnit : Type 0 where
   pub header : Option KeptHeader
   -- why it was refused, or the first fault of its run
   pub fault : Option Error
-  -- the place of its first sequence among those of all units, and the place after its last one
+  -- the index of its first sequence among those of all units, and the index after its last one
   pub first : ℕ
   pub end : ℕ
 
@@ -51,12 +51,12 @@ with_sequences sequences u = record { unit = u; sequences = take (u.end - u.firs
 abbrev pub unit_without_header : KeptUnit → KeptUnit
 unit_without_header u = record u { unit = without_header u.unit }
 
--- the units have the sequences of these places, one unit after the other
+-- the units have the sequences of these indices, one unit after the other
 abbrev pub AreAdjacent : ℕ → List ListedUnit → ℕ → Type 0
 AreAdjacent from [] end = from ≡ end
 AreAdjacent from (u ∷ units) end = (u.first ≡ from) × (u.first ≤ u.end) × AreAdjacent u.end units end
 
--- x and y are the first adjacent rows round an address in the unit at a place, and no unit before it has any
+-- x and y are the first adjacent rows round an address in the unit at an index, and no unit before it has any
 pub record IsFirstPairOfUnit (a : ℕ) (units : List KeptUnit) (index : ℕ) (x y : LineRow) : Type 0 where
   pub unit : KeptUnit
   pub there : slice_get units index ≡ Some unit

@@ -20,7 +20,7 @@ abbrev pub AreInOrder : List Step → Type 0
 AreInOrder steps = (i j : ℕ) (d : Step) → i ≤ j → j < length steps
     → (slice_index_or steps i d).from ≤ (slice_index_or steps j d).from
 
--- the steps say which of these sequences is the first that covers an address, the first of them having the place
+-- the steps say which of these sequences is the first that covers an address, the first of them having the index
 -- `first`; after the last step none does, and a sequence has two steps at most
 pub record AreStepsOf (first : ℕ) (sequences : List (List LineRow)) (steps : List Step) : Type 0 where
   pub in_order : AreInOrder steps
@@ -28,7 +28,7 @@ pub record AreStepsOf (first : ℕ) (sequences : List (List LineRow)) (steps : L
   pub ended : last_step steps ≡ None
   pub few : length steps ≤ 2 * length sequences
 
--- the places of the sequences whose addresses go down, the first of these sequences having the place `first`
+-- the indices of the sequences whose addresses go down, the first of these sequences having the index `first`
 abbrev pub indexes_out_of_order : ℕ → List (List LineRow) → List ℕ
 indexes_out_of_order first [] = []
 indexes_out_of_order first (rows ∷ later) =

@@ -17,7 +17,7 @@ use gimli_core::{Error, Result};
 use gimli_line::LineRow;
 use std::alloc::Global;
 
-/// Rows that cover an address, and the place of their sequence.
+/// Rows that cover an address, and the index of their sequence.
 #[derive(Clone, Copy, Debug)]
 pub(crate) struct Found {
     pub(crate) sequence: usize,
@@ -47,7 +47,7 @@ fn are_countable(sequences: &[KeptRows]) -> bool
     true
 }
 
-/// The places of the sequences whose addresses go down. Fails only with `OutOfMemory`.
+/// The indices of the sequences whose addresses go down. Fails only with `OutOfMemory`.
 fn unordered_indexes(alloc: Global, sequences: &[KeptRows]) -> Result<Vec<usize>>
     ensures ok { IfOk result (λ indexes. indexes.items ≡ indexes_out_of_order 0 sequences.now) }
     ensures err { IfErr result (λ e. e ≡ Error.OutOfMemory) }
@@ -162,7 +162,7 @@ impl Index {
         Ok(Index { steps, unordered })
     }
 
-    /// The first rows that cover `a` of the first of these sequences that has some, with its place; None where no
+    /// The first rows that cover `a` of the first of these sequences that has some, with its index; None where no
     /// sequence has any. And the number of probes: of stored addresses that were looked at, of steps and of rows.
     /// Requires the sequences that the index was made of.
     pub(crate) fn find(&self, sequences: &[KeptRows], a: u64) -> (Option<Found>, u64)

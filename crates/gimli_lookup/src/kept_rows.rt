@@ -66,7 +66,7 @@ impl KeptRows {
         self.rows.len()
     }
 
-    /// The address of the row at a place, which is a probe. Requires a place of a row, and that the count can grow.
+    /// The address of the row at an index, which is a probe. Requires an index of a row, and that the count can grow.
     pub(crate) fn address(&self, index: usize, probes: &mut u64) -> u64
         requires index { index < length self.now }
         requires count { probes.old + 1 < 2 ^ 64 }
@@ -77,7 +77,7 @@ impl KeptRows {
         self.rows.address(index)
     }
 
-    /// The row at a place, which is no probe. Requires a place of a row.
+    /// The row at an index, which is no probe. Requires an index of a row.
     pub(crate) fn row(&self, index: usize) -> LineRow
         requires { index < length self.now }
         ensures { slice_get self.now index ≡ Some result }
@@ -85,7 +85,7 @@ impl KeptRows {
         self.rows.get(index).unwrap()
     }
 
-    /// The row before a place, and the one at it. Requires a place of a row that isn't the first.
+    /// The row before an index, and the one at it. Requires an index of a row that isn't the first.
     pub(crate) fn pair(&self, index: usize) -> (LineRow, LineRow)
         requires first { 0 < index }
         requires index { index < length self.now }

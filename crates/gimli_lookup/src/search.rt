@@ -8,7 +8,7 @@ ghost use Rattle.gimli_lookup.specs.Probes.{never_go_down, binary_digits, most_p
 use crate::kept_rows::KeptRows;
 use gimli_line::LineRow;
 
-/// The place of the first row whose address is above `a`, or the number of rows where there is none. Requires addresses
+/// The index of the first row whose address is above `a`, or the number of rows where there is none. Requires addresses
 /// that never go down.
 fn first_above(rows: &KeptRows, a: u64, probes: &mut u64) -> usize
     requires order { never_go_down rows.now ≡ true }

@@ -10,7 +10,7 @@ ghost use Rattle.gimli_lookup.specs.Strings.{strings};
 use crate::path_files::files_with_path;
 use crate::section_lookup::SectionLookup;
 use crate::section_unit::UnitLookup;
-use crate::statements::{Addresses, addresses_from, joined};
+use crate::statements::{Addresses, addresses_from, join};
 use crate::string_sections::StringSections;
 use gimli_core::{Error, Reader, Result};
 use std::alloc::Global;
@@ -62,7 +62,7 @@ impl<R: Reader> SectionLookup<R> {
     {
         let mut found = None;
         for unit in 0..self.units().len() {
-            found = joined(found, self.unit_addresses(unit, sections, path, line)?)?;
+            found = join(found, self.unit_addresses(unit, sections, path, line)?)?;
         }
         Ok(found)
     }

@@ -20,7 +20,7 @@ use gimli_line::{DebugLine, LineRow};
 use std::alloc::Global;
 use std::marker::Model;
 
-/// The sequences from a place up to another. Requires places in this order, up to the number of sequences.
+/// The sequences from an index up to another. Requires indices in this order, up to the number of sequences.
 fn part(sequences: &[KeptRows], from: usize, end: usize) -> &[KeptRows]
     requires order { from ≤ end }
     requires end { end ≤ length sequences.now }
@@ -29,8 +29,8 @@ fn part(sequences: &[KeptRows], from: usize, end: usize) -> &[KeptRows]
     &sequences[from..end]
 }
 
-/// The index of the unit that has the sequence at a place, found by halves. Requires units that have the sequences up to
-/// some place after it.
+/// The index of the unit that has the sequence at an index, found by halves. Requires units that have the sequences up to
+/// some index after it.
 fn unit_of<R: Reader>(units: &[UnitLookup<R>], sequence: usize) -> usize
     requires { (end : ℕ) × AreAdjacent 0 units.now end × (sequence < end) }
     ensures unit { result < length units.now }

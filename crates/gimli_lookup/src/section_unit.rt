@@ -19,9 +19,9 @@ pub struct UnitLookup<R: Reader> {
     /// The run of the program, at its first fault or its end. None where the unit was refused.
     run: Option<OneShotLineRows<R>>,
     fault: Option<Error>,
-    /// The place of the first sequence among those of all units.
+    /// The index of the first sequence among those of all units.
     first: usize,
-    /// The place after the last one.
+    /// The index after the last one.
     end: usize,
 }
 
@@ -105,7 +105,7 @@ impl<R: Reader> UnitLookup<R> {
         }
     }
 
-    /// The places of the sequences among those of all units.
+    /// The indices of the sequences among those of all units.
     pub(crate) fn indexes(&self) -> Range<usize>
         ensures start { result.start ≡ self.now.first }
         ensures end { result.end ≡ self.now.end }

@@ -160,10 +160,7 @@ pub(crate) fn addresses_from(
 }
 
 /// The answer for two parts of a section, one after the other, by the answers for each. Fails only with `OutOfMemory`.
-pub(crate) fn joined(
-    first: Option<Addresses>,
-    second: Option<Addresses>,
-) -> Result<Option<Addresses>>
+pub(crate) fn join(first: Option<Addresses>, second: Option<Addresses>) -> Result<Option<Addresses>>
     ensures ok { (before after : ℕ → List ℕ) (asked : ℕ) → AreAddressesFrom before asked first
         → AreAddressesFrom after asked second
         → IfOk result (AreAddressesFrom (λ line. before line ++ after line) asked) }

@@ -139,7 +139,7 @@ fn steps_of_one(rows: &KeptRows, index: usize) -> Option<(Step, Step)>
     Some((covered, uncovered))
 }
 
-/// The steps of sequences, of which the first has the place `first`, one after the other; None where the steps of one
+/// The steps of sequences, of which the first has the index `first`, one after the other; None where the steps of one
 /// begin below the end of those before it, which takes two sequences. Fails only with `OutOfMemory`.
 fn steps_in_turn(alloc: Global, sequences: &[KeptRows], first: usize) -> Result<Option<Vec<Step>>>
     requires { first + length sequences.now < 2 ^ 64 }
@@ -164,7 +164,7 @@ fn steps_in_turn(alloc: Global, sequences: &[KeptRows], first: usize) -> Result<
     Ok(Some(steps))
 }
 
-/// The steps of sequences, of which the first has the place `first`: one after the other where they stand so, else those
+/// The steps of sequences, of which the first has the index `first`: one after the other where they stand so, else those
 /// of both halves, joined. Fails only with `OutOfMemory`.
 pub(crate) fn steps_of(alloc: Global, sequences: &[KeptRows], first: usize) -> Result<Vec<Step>>
     requires { first + length sequences.now < 2 ^ 64 }

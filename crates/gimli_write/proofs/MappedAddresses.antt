@@ -74,7 +74,7 @@ base_below parameters (i ∷ past) seen =
     let up = rises parameters (is_under_tombstone parameters past) i (pointer_at parameters past) refl in
     omega arith
 
--- nor above that of the row that a place makes
+-- nor above that of the row that a point makes
 pub base_below_row : (parameters : Parameters) (past : List Ins) (i : Ins) → is_under_tombstone parameters past ≡ false → is_end i ≡ false → base_at past ≤ (row_at parameters past i).address
 base_below_row parameters past i seen inner =
     let before = base_below parameters past seen in
@@ -84,16 +84,16 @@ base_below_row parameters past i seen inner =
 
 -- ---- what was built after a past
 
--- how what was built follows a past: `base` is the address from which the builder's offsets count, and `place` the
+-- how what was built follows a past: `base` is the address from which the builder's offsets count, and `position` the
 -- offset that it left off at
-pub record Follows (parameters : Parameters) (past : List Ins) (base place : ℕ) : Type 0 where
-  pub reached : base + place ≤ (pointer_at parameters past).address
+pub record Follows (parameters : Parameters) (past : List Ins) (base position : ℕ) : Type 0 where
+  pub reached : base + position ≤ (pointer_at parameters past).address
   -- where no set address is pending, offsets count from the same address
   pub counted : is_under_tombstone parameters past ≡ false → pending_address past ≡ None → base ≡ base_at past
   -- one that is pending can be set
-  pub ahead : (a : ℕ) → is_under_tombstone parameters past ≡ false → pending_address past ≡ Some a → (base + place ≤ a) × (a < address_limit parameters - 2)
+  pub ahead : (a : ℕ) → is_under_tombstone parameters past ≡ false → pending_address past ≡ Some a → (base + position ≤ a) × (a < address_limit parameters - 2)
   -- after nothing that was built of the sequence, offsets count from 0
-  pub unset : gave_row parameters past ≡ false → base + place ≡ 0
+  pub unset : gave_row parameters past ≡ false → base + position ≡ 0
 
 pub follows_start : (parameters : Parameters) → Follows parameters [] 0 0
 follows_start parameters = record { reached = omega arith; counted = λ seen none. refl; ahead = λ a seen is. absurd cc; unset = λ none. omega arith }
@@ -103,28 +103,28 @@ pub follows_end : (parameters : Parameters) (past : List Ins) (i : Ins) → is_e
 follows_end parameters past EndSequence closes = record { reached = omega arith; counted = λ seen none. refl; ahead = λ a seen is. absurd cc; unset = λ none. omega arith }
 follows_end parameters past i closes = absurd cc
 
--- a place that makes a row and doesn't end a sequence
+-- a point that makes a row and doesn't end a sequence
 record IsRowPoint (parameters : Parameters) (past : List Ins) (i : Ins) : Type 0 where
   tombstone : is_under_tombstone parameters (i ∷ past) ≡ is_under_tombstone parameters past
   none_pending : pending_address (i ∷ past) ≡ None
   gave : gave_row parameters (i ∷ past) ≡ (not (is_under_tombstone parameters past) || gave_row parameters past)
   base : base_at (i ∷ past) ≡ base_at past
 
-row_place : (parameters : Parameters) (past : List Ins) (i : Ins) → makes_row i ≡ true → is_end i ≡ false → IsRowPoint parameters past i
-row_place parameters past EndSequence loud inner = absurd cc
-row_place parameters past (Special o) loud inner = record { tombstone = refl; none_pending = refl; gave = refl; base = refl }
-row_place parameters past Copy loud inner = record { tombstone = refl; none_pending = refl; gave = refl; base = refl }
-row_place parameters past i loud inner = absurd cc
+row_point : (parameters : Parameters) (past : List Ins) (i : Ins) → makes_row i ≡ true → is_end i ≡ false → IsRowPoint parameters past i
+row_point parameters past EndSequence loud inner = absurd cc
+row_point parameters past (Special o) loud inner = record { tombstone = refl; none_pending = refl; gave = refl; base = refl }
+row_point parameters past Copy loud inner = record { tombstone = refl; none_pending = refl; gave = refl; base = refl }
+row_point parameters past i loud inner = absurd cc
 
 not_false : (b : Bool) → not b ≡ false → b ≡ true
 not_false true e = refl
 not_false false e = absurd cc
 
 -- one that is under a tombstone
-quiet_row : (parameters : Parameters) (past : List Ins) (i : Ins) (base place : ℕ) → makes_row i ≡ true → is_end i ≡ false → not (is_under_tombstone parameters past) ≡ false
-    → Follows parameters past base place → Follows parameters (i ∷ past) base place
-quiet_row parameters past i base place loud inner quiet f =
-    let at : IsRowPoint parameters past i = row_place parameters past i loud inner in
+quiet_row : (parameters : Parameters) (past : List Ins) (i : Ins) (base position : ℕ) → makes_row i ≡ true → is_end i ≡ false → not (is_under_tombstone parameters past) ≡ false
+    → Follows parameters past base position → Follows parameters (i ∷ past) base position
+quiet_row parameters past i base position loud inner quiet f =
+    let at : IsRowPoint parameters past i = row_point parameters past i loud inner in
     let is_tombstone : is_under_tombstone parameters past ≡ true = not_false (is_under_tombstone parameters past) quiet in
     let before = f.reached in
     let up = rises parameters (is_under_tombstone parameters past) i (pointer_at parameters past) inner in
@@ -139,7 +139,7 @@ quiet_row parameters past i base place loud inner quiet f =
 pub follows_row : (parameters : Parameters) (past : List Ins) (i : Ins) → makes_row i ≡ true → is_end i ≡ false → is_under_tombstone parameters past ≡ false
     → Follows parameters (i ∷ past) (base_at past) ((pointer_at parameters (i ∷ past)).address - base_at past)
 follows_row parameters past i loud inner seen =
-    let at : IsRowPoint parameters past i = row_place parameters past i loud inner in
+    let at : IsRowPoint parameters past i = row_point parameters past i loud inner in
     let below = base_below parameters past seen in
     let up = rises parameters (is_under_tombstone parameters past) i (pointer_at parameters past) inner in
     record {
@@ -149,14 +149,14 @@ follows_row parameters past i loud inner seen =
       unset = λ none. let gave : gave_row parameters (i ∷ past) ≡ true = at.gave ∙ or_left (not (is_under_tombstone parameters past)) (gave_row parameters past) (not_from_false (is_under_tombstone parameters past) seen) in absurd cc;
     }
 
--- a place that gives nothing
-pub follows_quiet : (parameters : Parameters) (past : List Ins) (i : Ins) (base place : ℕ) → (makes_row i && not (is_under_tombstone parameters past)) ≡ false
+-- a point that gives nothing
+pub follows_quiet : (parameters : Parameters) (past : List Ins) (i : Ins) (base position : ℕ) → (makes_row i && not (is_under_tombstone parameters past)) ≡ false
     → (is_end i ≡ true → is_under_tombstone parameters past ≡ true → gave_row parameters past ≡ false)
-    → Follows parameters past base place → Follows parameters (i ∷ past) base place
-follows_quiet parameters past EndSequence base place quiet ends f =
-    let unset : base + place ≡ 0 = f.unset (ends refl (not_false (is_under_tombstone parameters past) quiet)) in
+    → Follows parameters past base position → Follows parameters (i ∷ past) base position
+follows_quiet parameters past EndSequence base position quiet ends f =
+    let unset : base + position ≡ 0 = f.unset (ends refl (not_false (is_under_tombstone parameters past) quiet)) in
     record { reached = omega arith; counted = λ seen none. omega arith; ahead = λ a seen is. absurd cc; unset = λ none. unset }
-follows_quiet parameters past (SetAddress a) base place quiet ends f =
+follows_quiet parameters past (SetAddress a) base position quiet ends f =
     let before = f.reached in
     let up = rises parameters (is_under_tombstone parameters past) (SetAddress a) (pointer_at parameters past) refl in
     record {
@@ -168,9 +168,9 @@ follows_quiet parameters past (SetAddress a) base place quiet ends f =
           (omega (arith, set.0), omega (arith, set.1));
       unset = f.unset;
     }
-follows_quiet parameters past (Special o) base place quiet ends f = quiet_row parameters past (Special o) base place refl refl quiet f
-follows_quiet parameters past Copy base place quiet ends f = quiet_row parameters past Copy base place refl refl quiet f
-follows_quiet parameters past i base place quiet ends f =
+follows_quiet parameters past (Special o) base position quiet ends f = quiet_row parameters past (Special o) base position refl refl quiet f
+follows_quiet parameters past Copy base position quiet ends f = quiet_row parameters past Copy base position refl refl quiet f
+follows_quiet parameters past i base position quiet ends f =
     let before = f.reached in
     let up = rises parameters (is_under_tombstone parameters past) i (pointer_at parameters past) refl in
     record { reached = omega arith; counted = f.counted; ahead = f.ahead; unset = f.unset }

@@ -25,7 +25,7 @@ use Rattle.gimli_write.specs.convert.Mapped.{IsDirectoryPath}
 use Rattle.gimli_write.specs.convert.Preparation.{SourceFile, first_path, working_directory, first_texts, start_of_tables, first_ids, Handed, encoding_of, needed_from_5}
 use Rattle.gimli_write.proofs.ReadTexts.{text_read}
 use Rattle.gimli_write.proofs.MappedTables.{took, same_ok, sources_table, IsPrepared}
-use Rattle.gimli_write.proofs.MappedTexts.{grown_place, grown_any, own_place, own_any, same_text, IsMade, HasMade, has_itself, has_then, is_made, is_same, table_has, made_apart}
+use Rattle.gimli_write.proofs.MappedTexts.{grown_index, grown_any, own_index, own_any, same_text, IsMade, HasMade, has_itself, has_then, is_made, is_same, table_has, made_apart}
 
 -- ---- texts of a source
 
@@ -101,7 +101,7 @@ grown_cases (z ∷ xs) x y (suc i) is = elim (grown_cases xs x y i is) [ inl so 
 pub record IsDirectoryId (version : ℕ) (line_strings : List (List ℕ)) (directories : List LineText) (path : List ℕ) (id : ℕ) : Type 0 where
   pub made : IsMade version line_strings path
   pub present : list_any (line_text_eq (made_text version line_strings path)) directories ≡ true
-  pub place : id ≡ index_of_directory directories (made_text version line_strings path)
+  pub index : id ≡ index_of_directory directories (made_text version line_strings path)
 
 pub longer_texts : (version : ℕ) (old new : List (List ℕ)) (directories : List LineText) (path : List ℕ) (id : ℕ) → HasMade version old new
     → IsDirectoryId version old directories path id → IsDirectoryId version new directories path id
@@ -110,7 +110,7 @@ longer_texts version old new directories path id has so =
     record {
       made = has.there path so.made;
       present = subst (λ (t : LineText). list_any (line_text_eq t) directories ≡ true) same so.present;
-      place = subst (λ (t : LineText). id ≡ index_of_directory directories t) same so.place;
+      index = subst (λ (t : LineText). id ≡ index_of_directory directories t) same so.index;
     }
 
 more_directories : (version : ℕ) (line_strings : List (List ℕ)) (directories : List LineText) (t : LineText) (path : List ℕ) (id : ℕ)
@@ -120,7 +120,7 @@ more_directories version line_strings directories t path id so =
     record {
       made = so.made;
       present = grown_any test (list_any (line_text_eq t) directories) directories t so.present;
-      place = so.place ∙ sym (grown_place test (list_any (line_text_eq t) directories) directories t so.present);
+      index = so.index ∙ sym (grown_index test (list_any (line_text_eq t) directories) directories t so.present);
     }
 
 -- it is found there
@@ -128,7 +128,7 @@ pub directory_there : (version : ℕ) (line_strings : List (List ℕ)) (director
     → IsDirectoryId version line_strings directories path id → slice_get directories id ≡ Some (made_text version line_strings path)
 directory_there version line_strings directories path id so =
     let t = made_text version line_strings path in
-    ap (slice_get directories) so.place
+    ap (slice_get directories) so.index
     ∙ subst (λ (ds : List LineText). slice_get ds (index_of_directory directories t) ≡ Some t) (ap (λ (b : Bool). if b then directories else directories ++ t ∷ []) so.present) (directory_found directories t)
 
 -- so one id has one path
@@ -168,8 +168,8 @@ module _ (sections : Sections) (h : Header) where
         made = is_made version tables.line_strings path;
         present = subst (λ (x : LineText). list_any (line_text_eq x) (with_directory tables.program.directories text) ≡ true) (sym same)
             (own_any (line_text_eq text) there tables.program.directories text refl (same_text text));
-        place = subst (λ (x : LineText). index_of_directory tables.program.directories text ≡ index_of_directory (with_directory tables.program.directories text) x) (sym same)
-            (sym (own_place (line_text_eq text) there tables.program.directories text refl (same_text text)));
+        index = subst (λ (x : LineText). index_of_directory tables.program.directories text ≡ index_of_directory (with_directory tables.program.directories text) x) (sym same)
+            (sym (own_index (line_text_eq text) there tables.program.directories text refl (same_text text)));
       } in
       let read : IsText sections v path = text_read sections v path (source_path_of version sections v path t.1) in
       subst (λ (l : TablesAndTexts). AreDirectories sections h l × (length l.directory_ids ≡ length tables.directory_ids + 1)) (same_ok (with_path tables path) next t.2) (
@@ -236,7 +236,7 @@ module _ (sections : Sections) (h : Header) where
           record {
             made = is_made encoding.version line_strings directory;
             present = subst (λ (x : LineText). list_any (line_text_eq x) (t ∷ []) ≡ true) same found;
-            place = subst (λ (x : LineText). 0 ≡ index_of_directory (t ∷ []) x) same at;
+            index = subst (λ (x : LineText). 0 ≡ index_of_directory (t ∷ []) x) same at;
           }
 
       with_own : (last : List (List ℕ)) (working : LineText) (own : Option LineText) (old : Bool) → IsDirectoryId encoding.version last (working ∷ []) directory 0

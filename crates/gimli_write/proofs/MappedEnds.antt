@@ -84,8 +84,8 @@ module _ (convert_address : ℕ → Option Address) (c : Outcome) where
       by false so = absurd cc
       by true so = record { next = after_end offset (with_tables tables p); is = so; is_none = refl; encoding = refl; line_encoding = refl }
 
-  place_goes : (version : ℕ) (tables : TablesAndTexts) (r : SourceRow) (rest : Reading) (p : Built) → outcome_of convert_address (row_or_end_offered version tables r rest) p ≡ Ok c → GoesOn rest p
-  place_goes version tables r rest p is = by r.row.end_sequence is
+  point_goes : (version : ℕ) (tables : TablesAndTexts) (r : SourceRow) (rest : Reading) (p : Built) → outcome_of convert_address (row_or_end_offered version tables r rest) p ≡ Ok c → GoesOn rest p
+  point_goes version tables r rest p is = by r.row.end_sequence is
     where
       built : (o : Result LineRow ConvertError) → outcome_of convert_address (row_offered o tables rest) p ≡ Ok c → GoesOn rest p
       built (Ok row) so = item_goes (offer.Row row) tables rest p so
@@ -99,10 +99,10 @@ module _ (convert_address : ℕ → Option Address) (c : Outcome) where
   offered_goes version tables r rest p is = by r.set_address is
     where
       by : (o : Option ℕ) → outcome_of convert_address (address_offered o tables (row_or_end_offered version tables r rest)) p ≡ Ok c → GoesOn rest p
-      by None so = place_goes version tables r rest p so
+      by None so = point_goes version tables r rest p so
       by (Some a) so =
           let first = item_goes (offer.SetAddress a) tables (row_or_end_offered version tables r rest) p so in
-          let second = place_goes version tables r rest first.next first.is in
+          let second = point_goes version tables r rest first.next first.is in
           record { next = second.next; is = second.is; is_none = second.is_none ∙ first.is_none; encoding = second.encoding ∙ first.encoding; line_encoding = second.line_encoding ∙ first.line_encoding }
 
   at_goes : (parameters : Parameters) (tables : TablesAndTexts) (past : List Ins) (i : Ins) (rest : Reading) (p : Built) → outcome_of convert_address (reading_at parameters tables past i rest) p ≡ Ok c → GoesOn rest p

@@ -20,7 +20,7 @@ use Rattle.gimli_write.specs.convert.SourceTables.{TablesAndTexts, version_of, F
 use Rattle.gimli_write.specs.convert.Items.{tables_after_definition, tables_at}
 use Rattle.gimli_write.specs.convert.Preparation.{first_ids}
 use Rattle.gimli_write.proofs.MappedTables.{took, same_ok, sources_table}
-use Rattle.gimli_write.proofs.MappedTexts.{place_stays, place_new, any_stays, any_new, place_none, last_element, same_key, IsMade, HasMade, has_then, is_made, is_same, table_has, made_apart}
+use Rattle.gimli_write.proofs.MappedTexts.{index_stays, index_new, any_stays, any_new, index_none, last_element, same_key, IsMade, HasMade, has_then, is_made, is_same, table_has, made_apart}
 use Rattle.gimli_write.proofs.MappedDirectories.{sources_has}
 
 -- ---- elements one by one
@@ -62,10 +62,10 @@ module _ (q : FileKey → Bool) where
   details_any (f ∷ files) zero d = refl
   details_any (f ∷ files) (suc i) d = ap (λ (b : Bool). q f.0 || b) (details_any files i d)
 
-  details_place : (files : List BuiltFile) (i : ℕ) (d : Details) → position_or_len (λ f. q f.0) (with_details files i d) ≡ position_or_len (λ f. q f.0) files
-  details_place [] i d = refl
-  details_place (f ∷ files) zero d = refl
-  details_place (f ∷ files) (suc i) d = ap (λ (n : ℕ). cond (not (q f.0)) (1 + n) 0) (details_place files i d)
+  details_index : (files : List BuiltFile) (i : ℕ) (d : Details) → position_or_len (λ f. q f.0) (with_details files i d) ≡ position_or_len (λ f. q f.0) files
+  details_index [] i d = refl
+  details_index (f ∷ files) zero d = refl
+  details_index (f ∷ files) (suc i) d = ap (λ (n : ℕ). cond (not (q f.0)) (1 + n) 0) (details_index files i d)
 
 details_at : (files : List BuiltFile) (i : ℕ) (d : Details) → slice_get (with_details files i d) i ≡ option_map (λ f. (f.0, d)) (slice_get files i)
 details_at [] i d = refl
@@ -73,7 +73,7 @@ details_at (f ∷ files) zero d = refl
 details_at (f ∷ files) (suc i) d = details_at files i d
 
 module _ (files : List BuiltFile) (k : FileKey) (d : Details) where
-  -- a file that was there keeps its place
+  -- a file that was there keeps its index
   old_any : (l : FileKey) → has_file files l ≡ true → has_file (with_file files k (Some d)) l ≡ true
   old_any l is = by (has_file files k)
     where
@@ -81,14 +81,14 @@ module _ (files : List BuiltFile) (k : FileKey) (d : Details) where
       by true = details_any (key_eq l) files (index_of_file files k) d ∙ is
       by false = any_stays (λ f. key_eq l f.0) files ((k, d) ∷ []) is
 
-  old_place : (l : FileKey) → has_file files l ≡ true → index_of_file (with_file files k (Some d)) l ≡ index_of_file files l
-  old_place l is = by (has_file files k)
+  old_index : (l : FileKey) → has_file files l ≡ true → index_of_file (with_file files k (Some d)) l ≡ index_of_file files l
+  old_index l is = by (has_file files k)
     where
       by : (b : Bool) → index_of_file (if b then with_details files (index_of_file files k) d else files ++ (k, d) ∷ []) l ≡ index_of_file files l
-      by true = details_place (key_eq l) files (index_of_file files k) d
-      by false = place_stays (λ f. key_eq l f.0) files ((k, d) ∷ []) is
+      by true = details_index (key_eq l) files (index_of_file files k) d
+      by false = index_stays (λ f. key_eq l f.0) files ((k, d) ∷ []) is
 
-  -- the one that is added is there, at its place
+  -- the one that is added is there, at its index
   new_any : has_file (with_file files k (Some d)) k ≡ true
   new_any = by (has_file files k) refl
     where
@@ -96,12 +96,12 @@ module _ (files : List BuiltFile) (k : FileKey) (d : Details) where
       by true is = details_any (key_eq k) files (index_of_file files k) d ∙ is
       by false is = any_new (λ f. key_eq k f.0) files (k, d) (same_key k)
 
-  new_place : index_of_file (with_file files k (Some d)) k ≡ index_of_file files k
-  new_place = by (has_file files k) refl
+  new_index : index_of_file (with_file files k (Some d)) k ≡ index_of_file files k
+  new_index = by (has_file files k) refl
     where
       by : (b : Bool) → has_file files k ≡ b → index_of_file (if b then with_details files (index_of_file files k) d else files ++ (k, d) ∷ []) k ≡ index_of_file files k
-      by true is = details_place (key_eq k) files (index_of_file files k) d
-      by false is = place_new (λ f. key_eq k f.0) files (k, d) (same_key k) is
+      by true is = details_index (key_eq k) files (index_of_file files k) d
+      by false is = index_new (λ f. key_eq k f.0) files (k, d) (same_key k) is
 
   -- with the details that are handed
   new_entry : slice_get (with_file files k (Some d)) (index_of_file files k) ≡ Some (k, d)
@@ -117,7 +117,7 @@ module _ (files : List BuiltFile) (k : FileKey) (d : Details) where
           let n = index_of_file files k in
           details_at files n d
           ∙ there (slice_get files n) (ap (option_map (λ f. f.0)) (sym (details_at files n d)) ∙ sym (slice_get-map (λ (f : BuiltFile). f.0) (with_details files n d) n) ∙ found)
-      by false is found = last_element files (k, d) (index_of_file files k) (place_none (λ f. key_eq k f.0) files is)
+      by false is found = last_element files (k, d) (index_of_file files k) (index_none (λ f. key_eq k f.0) files is)
 
   -- another file keeps its details
   other_entry : (l : FileKey) (e : Details) (i : ℕ) → slice_get files i ≡ Some (l, e) → l ≢ k → slice_get (with_file files k (Some d)) i ≡ Some (l, e)
@@ -169,7 +169,7 @@ pub record IsFileOf (sections : Sections) (version : ℕ) (line_strings : List (
   pub parts_are : HasParts sections version directory_ids parts f
   pub made : IsMade version line_strings parts.path
   pub present : has_file files (made_text version line_strings parts.path, parts.directory) ≡ true
-  pub place : id ≡ index_of_file files (made_text version line_strings parts.path, parts.directory)
+  pub index : id ≡ index_of_file files (made_text version line_strings parts.path, parts.directory)
   pub details : Details
   pub entry : slice_get files id ≡ Some ((made_text version line_strings parts.path, parts.directory), details)
   pub last : File
@@ -246,7 +246,7 @@ module _ (sections : Sections) (tables : TablesAndTexts) (g : File) (added : Fil
         parts_are = added_are;
         made = own_made;
         present = subst (λ (t : LineText). has_file files_after_it (to t) ≡ true) (sym own_same) (new_any tables.program.files key_of details_of);
-        place = subst (λ (t : LineText). index_of_file tables.program.files key_of ≡ index_of_file files_after_it (to t)) (sym own_same) (sym (new_place tables.program.files key_of details_of));
+        index = subst (λ (t : LineText). index_of_file tables.program.files key_of ≡ index_of_file files_after_it (to t)) (sym own_same) (sym (new_index tables.program.files key_of details_of));
         details = details_of;
         entry = subst (λ (t : LineText). slice_get files_after_it (index_of_file tables.program.files key_of) ≡ Some (to t, details_of)) (sym own_same) (new_entry tables.program.files key_of details_of);
         last = g;
@@ -273,10 +273,10 @@ module _ (sections : Sections) (tables : TablesAndTexts) (g : File) (added : Fil
           subst (λ (t : LineText). has_file files_after_it (t, so.parts.directory) ≡ true) (sym text_same)
           (old_any tables.program.files key_of details_of (made_text (version_of tables) tables.line_strings so.parts.path, so.parts.directory) so.present)
 
-      place : id ≡ index_of_file files_after_it (made_text (version_of tables) texts_after so.parts.path, so.parts.directory)
-      place =
+      index : id ≡ index_of_file files_after_it (made_text (version_of tables) texts_after so.parts.path, so.parts.directory)
+      index =
           subst (λ (t : LineText). id ≡ index_of_file files_after_it (t, so.parts.directory)) (sym text_same)
-          (so.place ∙ sym (old_place tables.program.files key_of details_of (made_text (version_of tables) tables.line_strings so.parts.path, so.parts.directory) so.present))
+          (so.index ∙ sym (old_index tables.program.files key_of details_of (made_text (version_of tables) tables.line_strings so.parts.path, so.parts.directory) so.present))
 
       -- the added file has its paths
       taken : SamePaths added so.parts → IsFileOf sections (version_of tables) texts_after tables.directory_ids files_after_it (source ++ g ∷ []) f id
@@ -286,13 +286,13 @@ module _ (sections : Sections) (tables : TablesAndTexts) (g : File) (added : Fil
           ap (λ (t : LineText). let k : FileKey = (t, added.directory) in k) (text ∙ sym text_same) ∙ ap (λ (n : ℕ). let k : FileKey = (made_text (version_of tables) texts_after so.parts.path, n) in k) same.1 in
           let old_key : key_of ≡ (made_text (version_of tables) tables.line_strings so.parts.path, so.parts.directory) =
           ap (λ (t : LineText). let k : FileKey = (t, added.directory) in k) text ∙ ap (λ (n : ℕ). let k : FileKey = (made_text (version_of tables) tables.line_strings so.parts.path, n) in k) same.1 in
-          let at : index_of_file tables.program.files key_of ≡ id = ap (index_of_file tables.program.files) old_key ∙ sym so.place in
+          let at : index_of_file tables.program.files key_of ≡ id = ap (index_of_file tables.program.files) old_key ∙ sym so.index in
           record {
             parts = so.parts;
             parts_are = so.parts_are;
             made = texts_stay.there so.parts.path so.made;
             present = present;
-            place = place;
+            index = index;
             details = details_of;
             entry =
                 subst (λ (n : ℕ). slice_get files_after_it n ≡ Some ((made_text (version_of tables) texts_after so.parts.path, so.parts.directory), details_of)) at
@@ -319,7 +319,7 @@ module _ (sections : Sections) (tables : TablesAndTexts) (g : File) (added : Fil
             parts_are = so.parts_are;
             made = texts_stay.there so.parts.path so.made;
             present = present;
-            place = place;
+            index = index;
             details = so.details;
             entry =
                 subst (λ (t : LineText). slice_get files_after_it id ≡ Some ((t, so.parts.directory), so.details)) (sym text_same)

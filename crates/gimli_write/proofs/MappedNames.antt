@@ -93,7 +93,7 @@ module _ (sections : Sections) (h : Header) (strings : List (List ℕ)) (tables 
       let same : there.0 ≡ directory = one_directory sections (directory_of h g.directory_index) there.0 directory there.1 has.of_directory in
       let moved : IsDirectoryId (version_of tables) tables.line_strings tables.program.directories directory own.directory =
       subst (λ (path : List ℕ). IsDirectoryId (version_of tables) tables.line_strings tables.program.directories path own.directory) same there.2 in
-      (one_text sections g.path_name own.path parts.path read.path has.own, moved.place ∙ sym at.place)
+      (one_text sections g.path_name own.path parts.path read.path has.own, moved.index ∙ sym at.index)
 
   others_after : (parts : FileParts) (directory : List ℕ) → IsDirectoryId (version_of tables) tables.line_strings tables.program.directories directory parts.directory
       → (later : List File) → AllByRecursion (HasOthers sections (version_of tables) tables.directory_ids parts) later

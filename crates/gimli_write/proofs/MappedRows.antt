@@ -53,7 +53,7 @@ ids_stay sections tables next i is n id there =
     let same : tables ≡ next = cc in
     subst (λ (l : TablesAndTexts). slice_get l.file_ids n ≡ Some id) same there
 
--- ---- one place
+-- ---- one point
 
 file_id-is : (version : ℕ) (tables : TablesAndTexts) (n id : ℕ) → file_id version tables n ≡ Ok id → IsFileId version tables.file_ids n id
 file_id-is version tables n id is = by (nat_le version 4 && nat_eq n 0) refl is
@@ -78,13 +78,13 @@ row_parts r address seen at inner =
 -- ---- what comes of the rest of a program
 
 -- what comes of these instructions and this end after a past, from a program on
-pub record Rest (sections : Sections) (parameters : Parameters) (first : TablesAndTexts) (size : ℕ) (c : Outcome) (past list : List Ins) (end : Option Error) (base : ℕ) (place : ℕ × ℕ) (p : Built) : Type 0 where
+pub record Rest (sections : Sections) (parameters : Parameters) (first : TablesAndTexts) (size : ℕ) (c : Outcome) (past list : List Ins) (end : Option Error) (base : ℕ) (position : ℕ × ℕ) (p : Built) : Type 0 where
   pub rows : List ReadRow
   pub events : events_after parameters past list ++ end_events end ≡ map row rows
   pub items : List BuiltItem
   pub built : c.program.items ≡ p.items ++ items
   pub mapped : RowsMapped parameters.encoding.version c.file_ids base items rows
-  pub fit : AddressesFit size base place items
+  pub fit : AddressesFit size base position items
   pub constants : AllByRecursion SetsConstant items
   pub tables : TablesAndTexts
   pub there : tables_at sections first past ≡ Ok tables
@@ -93,18 +93,18 @@ pub record Rest (sections : Sections) (parameters : Parameters) (first : TablesA
 module _ (sections : Sections) (parameters : Parameters) (first : TablesAndTexts) (convert_address : ℕ → Option Address) (itself : MapsToItself convert_address)
     (size : ℕ) (wide : address_limit parameters ≤ 2 ^ (8 * size)) (c : Outcome) where
   -- nothing follows
-  none_left : (past : List Ins) (end : Option Error) (base : ℕ) (place : ℕ × ℕ) (p : Built)
-      → outcome_of convert_address (reading_after sections parameters first past [] end) p ≡ Ok c → Rest sections parameters first size c past [] end base place p
-  none_left past end base place p is = by (tables_at sections first past) refl end is
+  none_left : (past : List Ins) (end : Option Error) (base : ℕ) (position : ℕ × ℕ) (p : Built)
+      → outcome_of convert_address (reading_after sections parameters first past [] end) p ≡ Ok c → Rest sections parameters first size c past [] end base position p
+  none_left past end base position p is = by (tables_at sections first past) refl end is
     where
       closed : (tables : TablesAndTexts) → tables_at sections first past ≡ Ok tables → (b : Bool)
           → (if b then Err MissingLineEndSequence else Ok (record { program = with_tables tables p; file_ids = tables.file_ids; line_strings = tables.line_strings })) ≡ Ok c
-          → Rest sections parameters first size c past [] None base place p
+          → Rest sections parameters first size c past [] None base position p
       closed tables there true so = absurd cc
       closed tables there false so =
           let done : Outcome = record { program = with_tables tables p; file_ids = tables.file_ids; line_strings = tables.line_strings } in
           let same : done ≡ c = cc in
-          subst (λ (c : Outcome). Rest sections parameters first size c past [] None base place p) same (record {
+          subst (λ (c : Outcome). Rest sections parameters first size c past [] None base position p) same (record {
             rows = [];
             events = refl;
             items = [];
@@ -118,7 +118,7 @@ module _ (sections : Sections) (parameters : Parameters) (first : TablesAndTexts
           })
 
       by : (there : Result TablesAndTexts ConvertError) → tables_at sections first past ≡ there → (end : Option Error)
-          → outcome_of convert_address (reading_with there (end_reading end)) p ≡ Ok c → Rest sections parameters first size c past [] end base place p
+          → outcome_of convert_address (reading_with there (end_reading end)) p ≡ Ok c → Rest sections parameters first size c past [] end base position p
       by (Err e) there end so = absurd cc
       by (Ok tables) there (Some e) so = absurd cc
       by (Ok tables) there None so = closed tables there p.in_sequence so
@@ -127,10 +127,10 @@ module _ (sections : Sections) (parameters : Parameters) (first : TablesAndTexts
     stays : (next : TablesAndTexts) → tables_at sections first (i ∷ past) ≡ Ok next → (n id : ℕ) → slice_get tables.file_ids n ≡ Some id → slice_get next.file_ids n ≡ Some id
     stays next there = ids_stay sections tables next i (sym (ap (λ (r : Result TablesAndTexts ConvertError). r >>= λ l. tables_after_definition sections l i) at) ∙ there)
 
-    -- a place gives nothing
-    passed : (base : ℕ) (place : ℕ × ℕ) (p : Built) → events_at parameters past i ≡ []
-        → Rest sections parameters first size c (i ∷ past) list end base place p → Rest sections parameters first size c past (i ∷ list) end base place p
-    passed base place p none r = record {
+    -- a point gives nothing
+    passed : (base : ℕ) (position : ℕ × ℕ) (p : Built) → events_at parameters past i ≡ []
+        → Rest sections parameters first size c (i ∷ past) list end base position p → Rest sections parameters first size c past (i ∷ list) end base position p
+    passed base position p none r = record {
       rows = r.rows;
       events = ap (λ (here : List Event). (here ++ events_after parameters (i ∷ past) list) ++ end_events end) none ∙ r.events;
       items = r.items;
@@ -143,13 +143,13 @@ module _ (sections : Sections) (parameters : Parameters) (first : TablesAndTexts
       stay = λ n id is. r.stay n id (stays r.tables r.there n id is);
     }
 
-    -- a place gives a row, and an item is built of it
-    taken : (base later : ℕ) (place after_it : ℕ × ℕ) (p next : Built) (read : ReadRow) (built : BuiltItem) → events_at parameters past i ≡ row read ∷ []
+    -- a point gives a row, and an item is built of it
+    taken : (base later : ℕ) (position after_it : ℕ × ℕ) (p next : Built) (read : ReadRow) (built : BuiltItem) → events_at parameters past i ≡ row read ∷ []
         → next.items ≡ p.items ++ built ∷ [] → SetsConstant built
         → ((items : List BuiltItem) (rows : List ReadRow) → RowsMapped parameters.encoding.version c.file_ids later items rows → RowsMapped parameters.encoding.version c.file_ids base (built ∷ items) (read ∷ rows))
-        → ((items : List BuiltItem) → AddressesFit size later after_it items → AddressesFit size base place (built ∷ items))
-        → Rest sections parameters first size c (i ∷ past) list end later after_it next → Rest sections parameters first size c past (i ∷ list) end base place p
-    taken base later place after_it p next read built one pushed constant mapped fit r = record {
+        → ((items : List BuiltItem) → AddressesFit size later after_it items → AddressesFit size base position (built ∷ items))
+        → Rest sections parameters first size c (i ∷ past) list end later after_it next → Rest sections parameters first size c past (i ∷ list) end base position p
+    taken base later position after_it p next read built one pushed constant mapped fit r = record {
       rows = read ∷ r.rows;
       events = ap (λ (here : List Event). (here ++ events_after parameters (i ∷ past) list) ++ end_events end) one ∙ ap (λ (events : List Event). row read ∷ events) r.events;
       items = built ∷ r.items;
@@ -162,10 +162,10 @@ module _ (sections : Sections) (parameters : Parameters) (first : TablesAndTexts
       stay = λ n id is. r.stay n id (stays r.tables r.there n id is);
     }
 
-    -- an address is set before what a place gives
-    address_taken : (base : ℕ) (place : ℕ × ℕ) (p : Built) (a : ℕ) → base + place.0 ≤ a → a < address_limit parameters - 2
-        → Rest sections parameters first size c past (i ∷ list) end a (0, 0) (after_address (Constant a) (with_tables tables p)) → Rest sections parameters first size c past (i ∷ list) end base place p
-    address_taken base place p a ahead below r = record {
+    -- an address is set before what a point gives
+    address_taken : (base : ℕ) (position : ℕ × ℕ) (p : Built) (a : ℕ) → base + position.0 ≤ a → a < address_limit parameters - 2
+        → Rest sections parameters first size c past (i ∷ list) end a (0, 0) (after_address (Constant a) (with_tables tables p)) → Rest sections parameters first size c past (i ∷ list) end base position p
+    address_taken base position p a ahead below r = record {
       rows = r.rows;
       events = r.events;
       items = item.SetAddress (Constant a) ∷ r.items;
@@ -178,10 +178,10 @@ module _ (sections : Sections) (parameters : Parameters) (first : TablesAndTexts
       stay = r.stay;
     }
 
-    -- what is read after a place, and what comes of it
+    -- what is read after a point, and what comes of it
     abbrev Follow : Type 0
-    Follow = (base : ℕ) (place : ℕ × ℕ) (p : Built) → Follows parameters (i ∷ past) base place.0
-        → outcome_of convert_address (reading_after sections parameters first (i ∷ past) list end) p ≡ Ok c → Rest sections parameters first size c (i ∷ past) list end base place p
+    Follow = (base : ℕ) (position : ℕ × ℕ) (p : Built) → Follows parameters (i ∷ past) base position.0
+        → outcome_of convert_address (reading_after sections parameters first (i ∷ past) list end) p ≡ Ok c → Rest sections parameters first size c (i ∷ past) list end base position p
 
     -- an item that was built within the builder's conditions
     was_built : (b : Bool) (next : Built) (rest : Reading) → ((if b then Ok next else Err UnsupportedLineInstruction) >>= λ n. outcome_of convert_address rest n) ≡ Ok c
@@ -190,10 +190,10 @@ module _ (sections : Sections) (parameters : Parameters) (first : TablesAndTexts
     was_built false next rest is = absurd cc
 
     -- an end
-    end_placed : (base : ℕ) (place : ℕ × ℕ) (p : Built) → events_at parameters past i ≡ row (row_at parameters past i) ∷ [] → is_end i ≡ true → is_under_tombstone parameters past ≡ false → base ≡ base_at past
+    end_point_gives : (base : ℕ) (position : ℕ × ℕ) (p : Built) → events_at parameters past i ≡ row (row_at parameters past i) ∷ [] → is_end i ≡ true → is_under_tombstone parameters past ≡ false → base ≡ base_at past
         → outcome_of convert_address (offers (offer.EndSequence ((row_at parameters past i).address - base_at past)) tables (reading_after sections parameters first (i ∷ past) list end)) p ≡ Ok c
-        → Follow → Rest sections parameters first size c past (i ∷ list) end base place p
-    end_placed base place p one closes seen same is follow =
+        → Follow → Rest sections parameters first size c past (i ∷ list) end base position p
+    end_point_gives base position p one closes seen same is follow =
         let q : Built = with_tables tables p in
         let offset = (row_at parameters past i).address - base_at past in
         let built : BuiltItem = item.End offset q.row.op_index in
@@ -201,18 +201,18 @@ module _ (sections : Sections) (parameters : Parameters) (first : TablesAndTexts
         let address : (row_at parameters past i).address ≡ (pointer_at parameters past).address = rw closes refl in
         let below : base_at past ≤ (pointer_at parameters past).address = base_below parameters past seen in
         let within : (pointer_at parameters past).address < address_limit parameters = address_within parameters past in
-        taken base 0 place (0, 0) p next (row_at parameters past i) built one refl tt
+        taken base 0 position (0, 0) p next (row_at parameters past i) built one refl tt
         (λ items rows mapped. (record { address = omega arith; ends = closes }, mapped))
         (λ items fit. (omega (arith, wide), fit))
         (follow 0 (0, 0) next (follows_end parameters past i closes)
         (was_built (can_build q.line_encoding (previous_position q.items) built) next (reading_after sections parameters first (i ∷ past) list end) is))
 
     -- a row of a file that is there
-    row_placed : (base : ℕ) (place : ℕ × ℕ) (p : Built) (file : ℕ) → events_at parameters past i ≡ row (row_at parameters past i) ∷ [] → makes_row i ≡ true → is_end i ≡ false → is_under_tombstone parameters past ≡ false → base ≡ base_at past
+    row_point_gives : (base : ℕ) (position : ℕ × ℕ) (p : Built) (file : ℕ) → events_at parameters past i ≡ row (row_at parameters past i) ∷ [] → makes_row i ≡ true → is_end i ≡ false → is_under_tombstone parameters past ≡ false → base ≡ base_at past
         → file_id parameters.encoding.version tables (row_at parameters past i).file ≡ Ok file
         → outcome_of convert_address (offers (offer.Row (row_in (source_row parameters past i) file)) tables (reading_after sections parameters first (i ∷ past) list end)) p ≡ Ok c
-        → Follow → Rest sections parameters first size c past (i ∷ list) end base place p
-    row_placed base place p file one loud inner seen same known is follow =
+        → Follow → Rest sections parameters first size c past (i ∷ list) end base position p
+    row_point_gives base position p file one loud inner seen same known is follow =
         let q : Built = with_tables tables p in
         let r : LineRow = row_in (source_row parameters past i) file in
         let built : BuiltItem = item.Row r in
@@ -226,7 +226,7 @@ module _ (sections : Sections) (parameters : Parameters) (first : TablesAndTexts
         (was_built (can_build q.line_encoding (previous_position q.items) built) next (reading_after sections parameters first (i ∷ past) list end) is) in
         let number : IsFileId parameters.encoding.version tables.file_ids (row_at parameters past i).file file = file_id-is parameters.encoding.version tables (row_at parameters past i).file file known in
         let later : slice_get c.file_ids (row_at parameters past i).file ≡ Some file = rest.stay (row_at parameters past i).file file (stays rest.tables rest.there (row_at parameters past i).file file number.there) in
-        taken base (base_at past) place (r.address_offset, r.op_index) p next (row_at parameters past i) built one refl tt
+        taken base (base_at past) position (r.address_offset, r.op_index) p next (row_at parameters past i) built one refl tt
         (λ items rows mapped. (
           record { file = record { from_one = number.from_one; there = later }; others = row_parts (row_at parameters past i) (base + ((row_at parameters past i).address - base_at past)) refl sum inner },
           subst (λ (b : ℕ). RowsMapped parameters.encoding.version c.file_ids b items rows) (sym same) mapped,
@@ -235,49 +235,49 @@ module _ (sections : Sections) (parameters : Parameters) (first : TablesAndTexts
         rest
 
     -- a row, or an end
-    placed : (base : ℕ) (place : ℕ × ℕ) (p : Built) → events_at parameters past i ≡ row (row_at parameters past i) ∷ [] → makes_row i ≡ true → is_under_tombstone parameters past ≡ false → base ≡ base_at past
+    any_point_gives : (base : ℕ) (position : ℕ × ℕ) (p : Built) → events_at parameters past i ≡ row (row_at parameters past i) ∷ [] → makes_row i ≡ true → is_under_tombstone parameters past ≡ false → base ≡ base_at past
         → outcome_of convert_address (row_or_end_offered parameters.encoding.version tables (source_row parameters past i) (reading_after sections parameters first (i ∷ past) list end)) p ≡ Ok c
-        → Follow → Rest sections parameters first size c past (i ∷ list) end base place p
-    placed base place p one loud seen same is follow = by (is_end i) refl is
+        → Follow → Rest sections parameters first size c past (i ∷ list) end base position p
+    any_point_gives base position p one loud seen same is follow = by (is_end i) refl is
       where
         rest : Reading
         rest = reading_after sections parameters first (i ∷ past) list end
 
         known : (r : Result ℕ ConvertError) → file_id parameters.encoding.version tables (row_at parameters past i).file ≡ r → is_end i ≡ false
-            → outcome_of convert_address (row_offered (r >>= λ file. Ok (row_in (source_row parameters past i) file)) tables rest) p ≡ Ok c → Rest sections parameters first size c past (i ∷ list) end base place p
+            → outcome_of convert_address (row_offered (r >>= λ file. Ok (row_in (source_row parameters past i) file)) tables rest) p ≡ Ok c → Rest sections parameters first size c past (i ∷ list) end base position p
         known (Err e) at inner so = absurd cc
-        known (Ok file) at inner so = row_placed base place p file one loud inner seen same at so follow
+        known (Ok file) at inner so = row_point_gives base position p file one loud inner seen same at so follow
 
         by : (b : Bool) → is_end i ≡ b
             → outcome_of convert_address (if b then offers (offer.EndSequence ((row_at parameters past i).address - base_at past)) tables rest else row_offered (built_row parameters.encoding.version tables (source_row parameters past i)) tables rest) p ≡ Ok c
-            → Rest sections parameters first size c past (i ∷ list) end base place p
-        by true closes so = end_placed base place p one closes seen same so follow
+            → Rest sections parameters first size c past (i ∷ list) end base position p
+        by true closes so = end_point_gives base position p one closes seen same so follow
         by false inner so = known (file_id parameters.encoding.version tables (row_at parameters past i).file) refl inner so
 
     -- the same after an address that may be pending
-    place_taken : (base : ℕ) (place : ℕ × ℕ) (p : Built) → events_at parameters past i ≡ row (row_at parameters past i) ∷ [] → makes_row i ≡ true → is_under_tombstone parameters past ≡ false → Follows parameters past base place.0
+    point_gives : (base : ℕ) (position : ℕ × ℕ) (p : Built) → events_at parameters past i ≡ row (row_at parameters past i) ∷ [] → makes_row i ≡ true → is_under_tombstone parameters past ≡ false → Follows parameters past base position.0
         → outcome_of convert_address (source_row_offered parameters.encoding.version tables (source_row parameters past i) (reading_after sections parameters first (i ∷ past) list end)) p ≡ Ok c
-        → Follow → Rest sections parameters first size c past (i ∷ list) end base place p
-    place_taken base place p one loud seen f is follow = by (pending_address past) refl is
+        → Follow → Rest sections parameters first size c past (i ∷ list) end base position p
+    point_gives base position p one loud seen f is follow = by (pending_address past) refl is
       where
         here : Reading
         here = row_or_end_offered parameters.encoding.version tables (source_row parameters past i) (reading_after sections parameters first (i ∷ past) list end)
 
-        by : (o : Option ℕ) → pending_address past ≡ o → outcome_of convert_address (address_offered o tables here) p ≡ Ok c → Rest sections parameters first size c past (i ∷ list) end base place p
-        by None at so = placed base place p one loud seen (f.counted seen at) so follow
+        by : (o : Option ℕ) → pending_address past ≡ o → outcome_of convert_address (address_offered o tables here) p ≡ Ok c → Rest sections parameters first size c past (i ∷ list) end base position p
+        by None at so = any_point_gives base position p one loud seen (f.counted seen at) so follow
         by (Some a) at so =
             let ahead = f.ahead a seen at in
             let next : Built = after_address (Constant a) (with_tables tables p) in
             let mapped : outcome_of convert_address here next ≡ Ok c =
             sym (ap (λ (o : Option Address). (ok_or o InvalidAddress >>= λ m. Ok (after_address m (with_tables tables p))) >>= λ n. outcome_of convert_address here n) (itself a)) ∙ so in
-            address_taken base place p a ahead.0 ahead.1 (placed a (0, 0) next one loud seen (sym (pending_is_base past a at)) mapped follow)
+            address_taken base position p a ahead.0 ahead.1 (any_point_gives a (0, 0) next one loud seen (sym (pending_is_base past a at)) mapped follow)
 
-    -- any place
-    place_passed : (base : ℕ) (place : ℕ × ℕ) (p : Built) → Follows parameters past base place.0
+    -- any point
+    point_passes : (base : ℕ) (position : ℕ × ℕ) (p : Built) → Follows parameters past base position.0
         → (is_end i ≡ true → is_under_tombstone parameters past ≡ true → gave_row parameters past ≡ false)
         → outcome_of convert_address (reading_at parameters tables past i (reading_after sections parameters first (i ∷ past) list end)) p ≡ Ok c
-        → Follow → Rest sections parameters first size c past (i ∷ list) end base place p
-    place_passed base place p f no_end_under_tombstone is follow = by (overflows parameters past i) (makes_row i) (is_under_tombstone parameters past) refl refl refl is
+        → Follow → Rest sections parameters first size c past (i ∷ list) end base position p
+    point_passes base position p f no_end_under_tombstone is follow = by (overflows parameters past i) (makes_row i) (is_under_tombstone parameters past) refl refl refl is
       where
         rest : Reading
         rest = reading_after sections parameters first (i ∷ past) list end
@@ -291,27 +291,27 @@ module _ (sections : Sections) (parameters : Parameters) (first : TablesAndTexts
 
         by : (o m tombstone : Bool) → overflows parameters past i ≡ o → makes_row i ≡ m → is_under_tombstone parameters past ≡ tombstone
             → outcome_of convert_address (if o then stops (Read AddressOverflow) else (if m && not tombstone then source_row_offered parameters.encoding.version tables (source_row parameters past i) rest else rest)) p ≡ Ok c
-            → Rest sections parameters first size c past (i ∷ list) end base place p
+            → Rest sections parameters first size c past (i ∷ list) end base position p
         by true m tombstone at made seen so = absurd cc
-        by false true false at made seen so = place_taken base place p (gives false true false at made seen) made seen f so follow
+        by false true false at made seen so = point_gives base position p (gives false true false at made seen) made seen f so follow
         by false true true at made seen so =
-            passed base place p (gives false true true at made seen) (follow base place p (follows_quiet parameters past i base place.0 (quiet true true made seen refl) no_end_under_tombstone f) so)
+            passed base position p (gives false true true at made seen) (follow base position p (follows_quiet parameters past i base position.0 (quiet true true made seen refl) no_end_under_tombstone f) so)
         by false false tombstone at made seen so =
-            passed base place p (gives false false tombstone at made seen) (follow base place p (follows_quiet parameters past i base place.0 (quiet false tombstone made seen refl) no_end_under_tombstone f) so)
+            passed base position p (gives false false tombstone at made seen) (follow base position p (follows_quiet parameters past i base position.0 (quiet false tombstone made seen refl) no_end_under_tombstone f) so)
 
   -- what comes of the rest of a program
-  pub rest_mapped : (past list : List Ins) (end : Option Error) (base : ℕ) (place : ℕ × ℕ) (p : Built) → Follows parameters past base place.0 → NoneEndsUnderTombstone parameters past list
-      → outcome_of convert_address (reading_after sections parameters first past list end) p ≡ Ok c → Rest sections parameters first size c past list end base place p
-  rest_mapped past [] end base place p f seen is = none_left past end base place p is
-  rest_mapped past (i ∷ list) end base place p f seen is =
-      by (λ base place p f so. rest_mapped (i ∷ past) list end base place p f seen.1 so) (tables_at sections first past) refl is
+  pub rest_mapped : (past list : List Ins) (end : Option Error) (base : ℕ) (position : ℕ × ℕ) (p : Built) → Follows parameters past base position.0 → NoneEndsUnderTombstone parameters past list
+      → outcome_of convert_address (reading_after sections parameters first past list end) p ≡ Ok c → Rest sections parameters first size c past list end base position p
+  rest_mapped past [] end base position p f seen is = none_left past end base position p is
+  rest_mapped past (i ∷ list) end base position p f seen is =
+      by (λ base position p f so. rest_mapped (i ∷ past) list end base position p f seen.1 so) (tables_at sections first past) refl is
     where
-      by : ((base : ℕ) (place : ℕ × ℕ) (p : Built) → Follows parameters (i ∷ past) base place.0
-          → outcome_of convert_address (reading_after sections parameters first (i ∷ past) list end) p ≡ Ok c → Rest sections parameters first size c (i ∷ past) list end base place p)
+      by : ((base : ℕ) (position : ℕ × ℕ) (p : Built) → Follows parameters (i ∷ past) base position.0
+          → outcome_of convert_address (reading_after sections parameters first (i ∷ past) list end) p ≡ Ok c → Rest sections parameters first size c (i ∷ past) list end base position p)
           → (there : Result TablesAndTexts ConvertError) → tables_at sections first past ≡ there
           → outcome_of convert_address (reading_with there (λ tables. reading_at parameters tables past i (with_definition i (reading_after sections parameters first (i ∷ past) list end)))) p ≡ Ok c
-          → Rest sections parameters first size c past (i ∷ list) end base place p
+          → Rest sections parameters first size c past (i ∷ list) end base position p
       by follow (Err e) at so = absurd cc
       by follow (Ok tables) at so =
-          place_passed past i list end tables at base place p f seen.0
+          point_passes past i list end tables at base position p f seen.0
           (sym (definition_passed convert_address parameters tables past i (reading_after sections parameters first (i ∷ past) list end) p) ∙ so) follow

@@ -83,12 +83,12 @@ module _ (P : TablesAndTexts → Type 0) where
 
 -- ---- texts are there
 
--- a text that was there is there in a table that has each place of the old one
-module _ (strings old new : List (List ℕ)) (places : (i : ℕ) → i < length old → i < length new) where
+-- a text that was there is there in a table that has each index of the old one
+module _ (strings old new : List (List ℕ)) (indices : (i : ℕ) → i < length old → i < length new) where
   pub within_where : (t : LineText) → IsWithin (texts_in strings old) t → IsWithin (texts_in strings new) t
   within_where (Inline bytes) so = tt
   within_where (InStrings i) so = so
-  within_where (InLineStrings i) so = places i so
+  within_where (InLineStrings i) so = indices i so
 
   pub if_some_where : (t : Option LineText) → IfSome t (IsWithin (texts_in strings old)) → IfSome t (IsWithin (texts_in strings new))
   if_some_where (Some t) so = within_where t so

@@ -10,27 +10,27 @@ use Rattle.gimli_bytes.proofs.TextLemmas.{with_text-found, with_text-there}
 use Rattle.gimli_build.specs.LineText.{LineText, Inline, InStrings, InLineStrings, line_text_eq, bytes_in, made_text, made_table}
 use Rattle.gimli_build.specs.Tables.{FileKey, key_eq}
 
--- ---- the first place that passes a test, in a list that grows at its end
+-- ---- the first index that passes a test, in a list that grows at its end
 
 -- the list after an element is added that may be there
 abbrev pub grown : {A : Type 0} → Bool → List A → A → List A
 grown there xs x = if there then xs else xs ++ x ∷ []
 
 module _ {A : Type 0} (p : A → Bool) where
-  pub place_stays : (xs ys : List A) → list_any p xs ≡ true → position_or_len p (xs ++ ys) ≡ position_or_len p xs
-  place_stays [] ys any = absurd cc
-  place_stays (x ∷ xs) ys any = by (p x) (place_stays xs ys) any
+  pub index_stays : (xs ys : List A) → list_any p xs ≡ true → position_or_len p (xs ++ ys) ≡ position_or_len p xs
+  index_stays [] ys any = absurd cc
+  index_stays (x ∷ xs) ys any = by (p x) (index_stays xs ys) any
     where
       by : (b : Bool) → (list_any p xs ≡ true → position_or_len p (xs ++ ys) ≡ position_or_len p xs) → (b || list_any p xs) ≡ true
           → cond (not b) (1 + position_or_len p (xs ++ ys)) 0 ≡ cond (not b) (1 + position_or_len p xs) 0
       by true rest any = refl
       by false rest any = ap (λ n. 1 + n) (rest any)
 
-  pub place_new : (xs : List A) (x : A) → p x ≡ true → list_any p xs ≡ false → position_or_len p (xs ++ x ∷ []) ≡ position_or_len p xs
-  place_new [] x passes none = rw passes refl
-  place_new (y ∷ xs) x passes none =
+  pub index_new : (xs : List A) (x : A) → p x ≡ true → list_any p xs ≡ false → position_or_len p (xs ++ x ∷ []) ≡ position_or_len p xs
+  index_new [] x passes none = rw passes refl
+  index_new (y ∷ xs) x passes none =
       let parts = or_parts (p y) (list_any p xs) none in
-      rw parts.0 (ap (λ n. 1 + n) (place_new xs x passes parts.1))
+      rw parts.0 (ap (λ n. 1 + n) (index_new xs x passes parts.1))
 
   pub any_stays : (xs ys : List A) → list_any p xs ≡ true → list_any p (xs ++ ys) ≡ true
   any_stays xs ys any = list_any-append p xs ys ∙ or_left (list_any p xs) (list_any p ys) any
@@ -39,29 +39,29 @@ module _ {A : Type 0} (p : A → Bool) where
   any_new xs x passes = list_any-append p xs (x ∷ []) ∙ or_right (list_any p xs) (list_any p (x ∷ [])) (or_left (p x) false passes)
 
   -- another element was there before this one came
-  pub grown_place : (there : Bool) (xs : List A) (x : A) → list_any p xs ≡ true → position_or_len p (grown there xs x) ≡ position_or_len p xs
-  grown_place true xs x any = refl
-  grown_place false xs x any = place_stays xs (x ∷ []) any
+  pub grown_index : (there : Bool) (xs : List A) (x : A) → list_any p xs ≡ true → position_or_len p (grown there xs x) ≡ position_or_len p xs
+  grown_index true xs x any = refl
+  grown_index false xs x any = index_stays xs (x ∷ []) any
 
   pub grown_any : (there : Bool) (xs : List A) (x : A) → list_any p xs ≡ true → list_any p (grown there xs x) ≡ true
   grown_any true xs x any = any
   grown_any false xs x any = any_stays xs (x ∷ []) any
 
   -- this one came, or was there
-  pub own_place : (there : Bool) (xs : List A) (x : A) → list_any p xs ≡ there → p x ≡ true → position_or_len p (grown there xs x) ≡ position_or_len p xs
-  own_place true xs x is passes = refl
-  own_place false xs x is passes = place_new xs x passes is
+  pub own_index : (there : Bool) (xs : List A) (x : A) → list_any p xs ≡ there → p x ≡ true → position_or_len p (grown there xs x) ≡ position_or_len p xs
+  own_index true xs x is passes = refl
+  own_index false xs x is passes = index_new xs x passes is
 
   pub own_any : (there : Bool) (xs : List A) (x : A) → list_any p xs ≡ there → p x ≡ true → list_any p (grown there xs x) ≡ true
   own_any true xs x is passes = is
   own_any false xs x is passes = any_new xs x passes
 
-  -- where none passes, the place is the end
-  pub place_none : (xs : List A) → list_any p xs ≡ false → position_or_len p xs ≡ length xs
-  place_none [] none = refl
-  place_none (x ∷ xs) none =
+  -- where none passes, the index is the end
+  pub index_none : (xs : List A) → list_any p xs ≡ false → position_or_len p xs ≡ length xs
+  index_none [] none = refl
+  index_none (x ∷ xs) none =
       let parts = or_parts (p x) (list_any p xs) none in
-      let rest = place_none xs parts.1 in
+      let rest = index_none xs parts.1 in
       rw parts.0 (omega arith)
 
 pub last_element : {A : Type 0} (xs : List A) (x : A) (i : ℕ) → i ≡ length xs → slice_get (xs ++ x ∷ []) i ≡ Some x
@@ -89,7 +89,7 @@ same_key k = rw (same_text k.0, eq-eqb k.1 k.1 refl) refl
 pub record IsMade (version : ℕ) (line_strings : List (List ℕ)) (text : List ℕ) : Type 0 where
   pub any : nat_le version 4 ≡ false → list_any (bytes_eq text) line_strings ≡ true
 
--- a table has the texts of another, at their places
+-- a table has the texts of another, at their indices
 pub record HasMade (version : ℕ) (old new : List (List ℕ)) : Type 0 where
   pub there : (text : List ℕ) → IsMade version old text → IsMade version new text
   pub same : (text : List ℕ) → IsMade version old text → made_text version new text ≡ made_text version old text
@@ -115,9 +115,9 @@ module _ (version : ℕ) (line_strings : List (List ℕ)) (text : List ℕ) wher
   made_same : (old : Bool) → (if old then Inline text else InLineStrings (index_of_text (if old then line_strings else with_text line_strings text) text))
       ≡ (if old then Inline text else InLineStrings (index_of_text line_strings text))
   made_same true = refl
-  made_same false = ap InLineStrings (own_place (bytes_eq text) (list_any (bytes_eq text) line_strings) line_strings text refl (same_bytes text))
+  made_same false = ap InLineStrings (own_index (bytes_eq text) (list_any (bytes_eq text) line_strings) line_strings text refl (same_bytes text))
 
-  -- at the place at which it was made
+  -- at the index at which it was made
   pub is_same : made_text version (made_table version line_strings text) text ≡ made_text version line_strings text
   is_same = made_same (nat_le version 4)
 
@@ -130,7 +130,7 @@ module _ (version : ℕ) (line_strings : List (List ℕ)) (text : List ℕ) wher
       → (if old then Inline other else InLineStrings (index_of_text (if old then line_strings else with_text line_strings text) other))
       ≡ (if old then Inline other else InLineStrings (index_of_text line_strings other))
   others_same other true any = refl
-  others_same other false any = ap InLineStrings (grown_place (bytes_eq other) (list_any (bytes_eq text) line_strings) line_strings text (any refl))
+  others_same other false any = ap InLineStrings (grown_index (bytes_eq other) (list_any (bytes_eq text) line_strings) line_strings text (any refl))
 
   pub table_has : HasMade version line_strings (made_table version line_strings text)
   table_has = record {

@@ -27,13 +27,13 @@ later_tested o p j i later = by (nat_eq o p) refl
     by true is = le-leb j i (later (eqb-true o p is))
     by false is = refl
 
-pub can_follow-tells : (e : LineEncoding) (place : ℕ × ℕ) (o i : ℕ) → Decides (can_follow e place o i) (CanFollow e place.0 place.1 o i)
-can_follow-tells e place o i =
+pub can_follow-tells : (e : LineEncoding) (position : ℕ × ℕ) (o i : ℕ) → Decides (can_follow e position o i) (CanFollow e position.0 position.1 o i)
+can_follow-tells e position o i =
     let divides = nat_eq (o % e.minimum_instruction_length) 0 in
     let within = nat_lt i e.maximum_operations_per_instruction in
-    let after = nat_le place.0 o in
-    let later = not (nat_eq o place.0) || nat_le place.1 i in
-    let fits = nat_lt ((o - place.0) / e.minimum_instruction_length * e.maximum_operations_per_instruction + i) (2 ^ 64) in (
+    let after = nat_le position.0 o in
+    let later = not (nat_eq o position.0) || nat_le position.1 i in
+    let fits = nat_lt ((o - position.0) / e.minimum_instruction_length * e.maximum_operations_per_instruction + i) (2 ^ 64) in (
       λ is.
           let d = and_parts (divides && within && after && later) fits is in
           let c = and_parts (divides && within && after) later d.0 in
@@ -41,27 +41,27 @@ can_follow-tells e place o i =
           let a = and_parts divides within b.0 in
           record {
             position = record { divides = eqb-true (o % e.minimum_instruction_length) 0 a.0; within = ltb-true i e.maximum_operations_per_instruction a.1 };
-            after = leb-true place.0 o b.1;
-            later = later_test o place.0 place.1 i c.1;
-            fits = ltb-true ((o - place.0) / e.minimum_instruction_length * e.maximum_operations_per_instruction + i) (2 ^ 64) d.1;
+            after = leb-true position.0 o b.1;
+            later = later_test o position.0 position.1 i c.1;
+            fits = ltb-true ((o - position.0) / e.minimum_instruction_length * e.maximum_operations_per_instruction + i) (2 ^ 64) d.1;
           },
       λ can.
           and_from (divides && within && after && later) fits
           (and_from (divides && within && after) later
           (and_from (divides && within) after
           (and_from divides within (eq-eqb (o % e.minimum_instruction_length) 0 can.position.divides) (lt-ltb i e.maximum_operations_per_instruction can.position.within))
-          (le-leb place.0 o can.after))
-          (later_tested o place.0 place.1 i can.later))
-          (lt-ltb ((o - place.0) / e.minimum_instruction_length * e.maximum_operations_per_instruction + i) (2 ^ 64) can.fits),
+          (le-leb position.0 o can.after))
+          (later_tested o position.0 position.1 i can.later))
+          (lt-ltb ((o - position.0) / e.minimum_instruction_length * e.maximum_operations_per_instruction + i) (2 ^ 64) can.fits),
     )
 
-pub can_build-tells : (e : LineEncoding) (place : ℕ × ℕ) (item : BuiltItem) → Decides (can_build e place item) (CanBuild e place item)
-can_build-tells e place (SetAddress a) = (λ is. tt, λ can. refl)
-can_build-tells e place (Row r) =
-    let follow = can_follow-tells e place r.address_offset r.op_index in (
+pub can_build-tells : (e : LineEncoding) (position : ℕ × ℕ) (item : BuiltItem) → Decides (can_build e position item) (CanBuild e position item)
+can_build-tells e position (SetAddress a) = (λ is. tt, λ can. refl)
+can_build-tells e position (Row r) =
+    let follow = can_follow-tells e position r.address_offset r.op_index in (
       λ is.
-          let a = and_parts (can_follow e place r.address_offset r.op_index) (nat_lt r.line (2 ^ 63)) is in
+          let a = and_parts (can_follow e position r.address_offset r.op_index) (nat_lt r.line (2 ^ 63)) is in
           (follow.0 a.0, ltb-true r.line (2 ^ 63) a.1),
-      λ can. and_from (can_follow e place r.address_offset r.op_index) (nat_lt r.line (2 ^ 63)) (follow.1 can.0) (lt-ltb r.line (2 ^ 63) can.1),
+      λ can. and_from (can_follow e position r.address_offset r.op_index) (nat_lt r.line (2 ^ 63)) (follow.1 can.0) (lt-ltb r.line (2 ^ 63) can.1),
     )
-can_build-tells e place (End offset op_index) = can_follow-tells e place offset op_index
+can_build-tells e position (End offset op_index) = can_follow-tells e position offset op_index

@@ -50,7 +50,7 @@ module _ (m : ℕ → Option Address) where
   converted_after (stops e) p = refl
   converted_after (offers item tables rest) p = refl
 
-  -- nor does one at a place
+  -- nor does one at a point
   pub definition_passed : (parameters : Parameters) (tables : TablesAndTexts) (past : List Ins) (i : Ins) (rest : Reading) (p : Built)
       → outcome_of m (reading_at parameters tables past i (with_definition i rest)) p ≡ outcome_of m (reading_at parameters tables past i rest) p
   definition_passed parameters tables past (DefineFile f) rest p = by (overflows parameters past (DefineFile f))

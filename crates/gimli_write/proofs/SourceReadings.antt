@@ -44,7 +44,7 @@ state_is h u past i =
     ap (λ (b : ℕ). let s : SourceRun = record { header = h; row = registers_after h.parameters (i ∷ past); base = b; pending = pending_after i (pending_address past); unread = u } in s) (base_is i past)
     ∙ ap (λ (p : Option ℕ). let s : SourceRun = record { header = h; row = registers_after h.parameters (i ∷ past); base = base_at (i ∷ past); pending = p; unread = u } in s) (pending_is i past)
 
--- ---- one place
+-- ---- one point
 
 row_same : (h : Header) (u : Unread) (past : List Ins) (i : Ins) → makes_row i ≡ true → is_under_tombstone h.parameters past ≡ false → row_made (state_at h past u) i ≡ source_row h.parameters past i
 row_same h u past i loud seen =
@@ -58,13 +58,13 @@ module _ (give : SourceRow → Reading) (stop rest : Reading) where
   same_parts true false false r d same = ap give (same refl refl)
   same_parts false false tombstone r d same = refl
 
-  same_place : (made refused over is_tombstone tombstone : Bool) (r d : SourceRow) → refused ≡ over → is_tombstone ≡ tombstone → (made ≡ true → tombstone ≡ false → r ≡ d)
+  same_point : (made refused over is_tombstone tombstone : Bool) (r d : SourceRow) → refused ≡ over → is_tombstone ≡ tombstone → (made ≡ true → tombstone ≡ false → r ≡ d)
       → (if refused then stop else (if made && not is_tombstone then give r else rest)) ≡ (if over then stop else (if made && not tombstone then give d else rest))
-  same_place made refused over is_tombstone tombstone r d e f same = rw (e, f) (same_parts made over tombstone r d same)
+  same_point made refused over is_tombstone tombstone r d e f same = rw (e, f) (same_parts made over tombstone r d same)
 
-place_is : (h : Header) (u : Unread) (past : List Ins) (tables : TablesAndTexts) (i : Ins) (rest : Reading) → instruction_reading (state_at h past u) tables i rest ≡ reading_at h.parameters tables past i rest
-place_is h u past tables i rest =
-    same_place (λ (r : SourceRow). source_row_offered h.parameters.encoding.version tables r rest) (stops (Read AddressOverflow)) rest (makes_row i)
+point_is : (h : Header) (u : Unread) (past : List Ins) (tables : TablesAndTexts) (i : Ins) (rest : Reading) → instruction_reading (state_at h past u) tables i rest ≡ reading_at h.parameters tables past i rest
+point_is h u past tables i rest =
+    same_point (λ (r : SourceRow). source_row_offered h.parameters.encoding.version tables r rest) (stops (Read AddressOverflow)) rest (makes_row i)
     (is_refused h.parameters i (registers_after h.parameters past)) (overflows h.parameters past i) (registers_after h.parameters past).tombstone (is_under_tombstone h.parameters past)
     (row_made (state_at h past u) i) (source_row h.parameters past i)
     (refused_after h.parameters past i) (tombstone_after h.parameters past) (row_same h u past i)
@@ -87,7 +87,7 @@ module _ (sections : Sections) (h : Header) (first : TablesAndTexts) (u : Unread
           ∙ ap (λ (there : Result TablesAndTexts ConvertError). reading_from sections (state_at h (i ∷ past) u) there list end) (sym next)
           ∙ others in
           ap (λ (there : Result TablesAndTexts ConvertError). reading_with there (λ l. instruction_reading (state_at h past u) l i (with_definition i (reading_from sections (state_after i (state_at h past u)) (tables_after_definition sections l i) list end)))) is
-          ∙ place_is h u past tables i (with_definition i (reading_from sections (state_after i (state_at h past u)) (tables_after_definition sections tables i) list end))
+          ∙ point_is h u past tables i (with_definition i (reading_from sections (state_after i (state_at h past u)) (tables_after_definition sections tables i) list end))
           ∙ ap (λ (r : Reading). reading_at h.parameters tables past i (with_definition i r)) rest
           ∙ ap (λ (there : Result TablesAndTexts ConvertError). reading_with there (λ l. reading_at h.parameters l past i (with_definition i (reading_after sections h.parameters first (i ∷ past) list end)))) (sym is)
 

@@ -22,8 +22,8 @@ use crate::convert_error::ConvertError;
 
 /// A conversion asks of each row and end what the builder's own calls ask.
 pub fn conversions_ask_what_the_builder_asks()
-    ensures { (e : LineEncoding) (place : ℕ × ℕ) (item : BuiltItem)
-        → Decides (can_build e place item) (CanBuild e place item) }
+    ensures { (e : LineEncoding) (position : ℕ × ℕ) (item : BuiltItem)
+        → Decides (can_build e position item) (CanBuild e position item) }
 {}
 
 /// A converted program meets what `write` asks, whatever its addresses are mapped to. `write` may refuse it for a cause.

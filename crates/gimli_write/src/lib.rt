@@ -19,6 +19,6 @@ pub use gimli_build::{
 };
 pub use gimli_bytes::{
     Address, DebugLine, DebugLineStr, DebugStr, EndianVec, Error, InitialLengthOffset, Leb128,
-    LineStringId, LineStringTable, PieceVec, Pieces, Result, StringId, StringTable, Writer,
+    LineStringId, LineStringTable, PieceVec, Pieces, Result, Sink, StringId, StringTable, Writer,
 };
 pub use read_back::{RoundTrip, RoundTripFile, round_trip};

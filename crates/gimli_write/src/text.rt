@@ -41,7 +41,7 @@ pub(crate) fn text<R: Reader>(
         × (text_of sections.now (value_seen R.bytes R.Offset.number value) ≡ Err fault))) }
 {
     match find_text(value, sections) {
-        Ok(text) => copied(alloc, text),
+        Ok(text) => copy_of(alloc, text),
         Err(e) => Err(from_read(e)),
     }
 }
@@ -71,7 +71,7 @@ fn text_from<R: Reader>(section: R, offset: R::Offset) -> gimli_core::Result<R>
 }
 
 /// The bytes of a text. Refused by `OutOfMemory` alone.
-pub(crate) fn copied<R: Reader>(alloc: Global, text: R) -> ConvertResult<Vec<u8>>
+pub(crate) fn copy_of<R: Reader>(alloc: Global, text: R) -> ConvertResult<Vec<u8>>
     ensures ok { IfOk result (λ copy. copy.items ≡ R.bytes text) }
     ensures err { IfErr result (λ e. e ≡ ConvertError.OutOfMemory) }
 {

@@ -3,7 +3,7 @@
 use crate::input::Input;
 use crate::path_text::PathText;
 use crate::progress::{Printing, Progress};
-use crate::report::{UnitPlace, Verdict, out_of_memory};
+use crate::report::{UnitLocation, Verdict, out_of_memory};
 use crate::request::UnitChoice;
 use crate::row_count::RowCount;
 use crate::row_list::tell_no_unit;
@@ -34,11 +34,11 @@ pub(crate) fn print_files<O: Write, E: Write>(
         let Some(unit) = next_unit(&mut units)? else {
             break;
         };
-        let place = input.place(unit.offset.0);
-        progress.show(place.offset, err);
-        if choice.includes(place.offset) {
+        let location = input.location(unit.offset.0);
+        progress.show(location.offset, err);
+        if choice.includes(location.offset) {
             is_found = true;
-            verdict = verdict.and(print_unit(alloc, input, unit, place, out, err)?);
+            verdict = verdict.and(print_unit(alloc, input, unit, location, out, err)?);
         }
     }
     progress.clear(err);
@@ -55,16 +55,16 @@ fn print_unit<'i, O: Write, E: Write>(
     alloc: Global,
     input: &Input<'i>,
     unit: LineUnit<Slice<'i>>,
-    place: UnitPlace<'_>,
+    location: UnitLocation<'_>,
     out: &mut O,
     err: &mut E,
 ) -> io::Result<Verdict> {
     let program = match unit.program {
         Ok(program) => program,
-        Err(e) => return Ok(place.tell(err, fault(e)?)),
+        Err(e) => return Ok(location.tell(err, fault(e)?)),
     };
-    print_heading(input.screen, place.offset, program.header().version(), out)?;
-    print_program(alloc, program, place, input.strings, out, err)
+    print_heading(input.screen, location.offset, program.header().version(), out)?;
+    print_program(alloc, program, location, input.strings, out, err)
 }
 
 /// Prints the heading of a unit.
@@ -84,7 +84,7 @@ pub(crate) fn print_heading<O: Write>(
 fn print_program<'i, O: Write, E: Write>(
     alloc: Global,
     program: IncompleteLineProgram<Slice<'i>>,
-    place: UnitPlace<'_>,
+    location: UnitLocation<'_>,
     strings: StringSections<Slice<'i>>,
     out: &mut O,
     err: &mut E,
@@ -98,20 +98,20 @@ fn print_program<'i, O: Write, E: Write>(
             Err(e) => {
                 let count = RowCount(count);
                 let fault = fault(e)?;
-                verdict = place.tell(err, format_args!("after {count}: {fault}"));
+                verdict = location.tell(err, format_args!("after {count}: {fault}"));
                 break;
             }
         }
     }
     let header = rows.header();
-    verdict = verdict.and(print_directories(header, place, strings, out, err)?);
-    Ok(verdict.and(print_each_file(alloc, header, place, strings, out, err)?))
+    verdict = verdict.and(print_directories(header, location, strings, out, err)?);
+    Ok(verdict.and(print_each_file(alloc, header, location, strings, out, err)?))
 }
 
 /// Prints the directories of a header, as they are written.
 fn print_directories<'i, O: Write, E: Write>(
     header: &LineProgramHeader<Slice<'i>>,
-    place: UnitPlace<'_>,
+    location: UnitLocation<'_>,
     strings: StringSections<Slice<'i>>,
     out: &mut O,
     err: &mut E,
@@ -129,7 +129,7 @@ fn print_directories<'i, O: Write, E: Write>(
             }
             Err(e) => {
                 writeln!(out, "directory {index}  ??")?;
-                verdict = place.tell(err, format_args!("directory {index}: {e}"));
+                verdict = location.tell(err, format_args!("directory {index}: {e}"));
             }
         }
     }
@@ -140,7 +140,7 @@ fn print_directories<'i, O: Write, E: Write>(
 fn print_each_file<'i, O: Write, E: Write>(
     alloc: Global,
     header: &LineProgramHeader<Slice<'i>>,
-    place: UnitPlace<'_>,
+    location: UnitLocation<'_>,
     strings: StringSections<Slice<'i>>,
     out: &mut O,
     err: &mut E,
@@ -161,7 +161,7 @@ fn print_each_file<'i, O: Write, E: Write>(
             Err(PathError::OutOfMemory) => return Err(out_of_memory()),
             Err(e) => {
                 writeln!(out, "file {index}  ??{details}")?;
-                verdict = place.tell(err, format_args!("file {index}: {e}"));
+                verdict = location.tell(err, format_args!("file {index}: {e}"));
             }
         }
     }
@@ -186,8 +186,8 @@ impl<'d> Details<'d> {
         strings: StringSections<Slice<'i>>,
     ) -> Details<'d> {
         Details {
-            time: known(file.timestamp()),
-            size: known(file.size()),
+            time: known_number(file.timestamp()),
+            size: known_number(file.size()),
             md5: if header.file_has_md5() {
                 Some(file.md5())
             } else {
@@ -209,7 +209,7 @@ fn source_length<'i>(
 }
 
 /// A number that isn't 0.
-fn known(number: u64) -> Option<u64> {
+fn known_number(number: u64) -> Option<u64> {
     match number {
         0 => None,
         _ => Some(number),

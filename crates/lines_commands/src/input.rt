@@ -6,7 +6,7 @@ ghost use Rattle.elf_sections.specs.Elf.{file_of};
 ghost use Rattle.lines_commands.specs.Lines.{HasLines};
 
 use crate::input_error::InputError;
-use crate::report::FilePlace;
+use crate::report::InputFile;
 use crate::screen::Screen;
 use elf_sections::{Elf, ElfError};
 use gimli_core::{EndianSlice, RunTimeEndian};
@@ -48,7 +48,7 @@ pub struct Files<'i> {
 #[derive(Clone, Copy)]
 pub(crate) struct Input<'i> {
     /// The file, as faults name it.
-    pub(crate) file: FilePlace<'i>,
+    pub(crate) file: InputFile<'i>,
     /// What the outputs are shown on.
     pub(crate) screen: Screen,
     /// The length of the section of line programs in bytes.
@@ -66,7 +66,7 @@ pub(crate) struct Input<'i> {
 impl<'i> Input<'i> {
     /// The sections of files. Refused as `InputError` says.
     pub(crate) fn new(
-        file: FilePlace<'i>,
+        file: InputFile<'i>,
         screen: Screen,
         kind: Kind,
         files: Files<'i>,
@@ -90,7 +90,7 @@ impl<'i> Input<'i> {
     }
 
     /// The sections by their bytes.
-    fn of_program(file: FilePlace<'i>, screen: Screen, program: Program<'i>) -> Input<'i> {
+    fn of_program(file: InputFile<'i>, screen: Screen, program: Program<'i>) -> Input<'i> {
         let Program {
             notation,
             sections,

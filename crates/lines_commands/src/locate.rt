@@ -8,7 +8,7 @@ use crate::json_text::JsonText;
 use crate::numbers::parse_address;
 use crate::path_text::PathText;
 use crate::progress::{Printing, Progress};
-use crate::report::{UnitPlace, Verdict, out_of_memory};
+use crate::report::{UnitLocation, Verdict, out_of_memory};
 use crate::request::Form;
 use gimli_line::{ColumnType, LineRow};
 use gimli_lookup::{CoveringRows, PathError, Paths, SectionLookup};
@@ -130,9 +130,9 @@ impl<'i> Places<'i> {
                 self.print_found(address, &found, Some(&path), out)?;
                 Ok(Verdict::Clean)
             }
-            Err((place, fault)) => {
+            Err((location, fault)) => {
                 self.print_found(address, &found, None, out)?;
-                Ok(place.tell(err, format_args!("at address 0x{address:x}: {fault}")))
+                Ok(location.tell(err, format_args!("at address 0x{address:x}: {fault}")))
             }
         }
     }
@@ -142,19 +142,19 @@ impl<'i> Places<'i> {
         &self,
         alloc: Global,
         found: &CoveringRows,
-    ) -> io::Result<Result<Vec<u8>, (UnitPlace<'i>, PathError)>> {
+    ) -> io::Result<Result<Vec<u8>, (UnitLocation<'i>, PathError)>> {
         let Some(unit) = self.lookup.units().get(found.unit) else {
             return Err(out_of_memory());
         };
-        let place = self.input.place(unit.offset().0);
+        let location = self.input.location(unit.offset().0);
         let file = found.row.file_index();
         let Some(header) = unit.header() else {
-            return Ok(Err((place, PathError::InvalidFileIndex(file))));
+            return Ok(Err((location, PathError::InvalidFileIndex(file))));
         };
         match Paths::new(header, self.input.strings, None).of_row(alloc, &found.row) {
             Ok(path) => Ok(Ok(path)),
             Err(PathError::OutOfMemory) => Err(out_of_memory()),
-            Err(e) => Ok(Err((place, e))),
+            Err(e) => Ok(Err((location, e))),
         }
     }
 
@@ -200,12 +200,12 @@ pub(crate) fn tell_faults<E: Write>(
 ) -> Verdict {
     let mut verdict = Verdict::Clean;
     for unit in lookup.units() {
-        let place = input.place(unit.offset().0);
+        let location = input.location(unit.offset().0);
         match (unit.header(), unit.fault()) {
             (_, None) => {}
-            (None, Some(fault)) => verdict = place.tell(err, fault),
+            (None, Some(fault)) => verdict = location.tell(err, fault),
             (Some(_), Some(fault)) => {
-                verdict = place.tell(err, format_args!("in its rows: {fault}"));
+                verdict = location.tell(err, format_args!("in its rows: {fault}"));
             }
         }
     }
@@ -228,7 +228,7 @@ struct JsonPlace<'p>(Place<'p>);
 impl fmt::Display for Place<'_> {
     fn fmt<W: fmt::Write>(&self, f: &mut fmt::Formatter<W>) -> fmt::Result {
         let path = PathText(self.path.unwrap_or(b"??"));
-        let (line, column) = shown(self.found);
+        let (line, column) = line_and_column(self.found);
         write!(f, "{path}:{line}:{column}")
     }
 }
@@ -239,7 +239,7 @@ impl fmt::Display for JsonPlace<'_> {
         let row = &place.found.row;
         let address = place.address;
         let path = JsonPath(place.path);
-        let (line, column) = shown(place.found);
+        let (line, column) = line_and_column(place.found);
         let start = row.address();
         let end = place.found.next.address();
         let discriminator = row.discriminator();
@@ -266,7 +266,7 @@ impl fmt::Display for JsonPath<'_> {
 
 /// The line and the column that are shown: those of the row that covers the address, which is the
 /// first of the two.
-fn shown(found: &CoveringRows) -> (u64, u64)
+fn line_and_column(found: &CoveringRows) -> (u64, u64)
     ensures { result ≡ (found.now.row.line, found.now.row.column) }
 {
     (line_of(&found.row), column_of(&found.row))

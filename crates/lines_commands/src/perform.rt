@@ -9,7 +9,7 @@ use crate::check::print_check;
 use crate::file_list::print_files;
 use crate::input::{Files, Input, Kind};
 use crate::locate::Places;
-use crate::report::{FilePlace, Verdict};
+use crate::report::{InputFile, Verdict};
 use crate::request::{Command, Form, Request};
 use crate::row_list::print_rows;
 use crate::screen::Screen;
@@ -50,7 +50,7 @@ pub fn run_on<I: BufRead, O: Write, E: Write>(
     ensures status { IfOk result (λ status. status ≤ 1) }
     ensures no_lines { request.now.kind ≡ Kind.Elf → (HasLines files.entry.file.now → ⊥) → result ≡ Ok 1 }
 {
-    let file = FilePlace {
+    let file = InputFile {
         name: request.file,
         style: screen.fault(),
     };

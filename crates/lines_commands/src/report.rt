@@ -51,14 +51,14 @@ impl Verdict {
 
 /// A file, as faults name it.
 #[derive(Clone, Copy)]
-pub(crate) struct FilePlace<'n> {
+pub(crate) struct InputFile<'n> {
     /// The name of the file.
     pub(crate) name: &'n str,
     /// How faults are set off.
     pub(crate) style: Style,
 }
 
-impl FilePlace<'_> {
+impl InputFile<'_> {
     /// Tells a sentence on the file. Where standard error takes nothing, the status still tells.
     pub(crate) fn tell<E: Write>(self, err: &mut E, sentence: impl fmt::Display + Drop) -> Verdict
         ensures { result ≡ Verdict.Faulty }
@@ -71,16 +71,16 @@ impl FilePlace<'_> {
     }
 }
 
-/// The place of a fault: a unit of a file, by its offset.
+/// The location of a fault: a unit of a file, by its offset.
 #[derive(Clone, Copy)]
-pub(crate) struct UnitPlace<'n> {
+pub(crate) struct UnitLocation<'n> {
     /// The file.
-    pub(crate) file: FilePlace<'n>,
+    pub(crate) file: InputFile<'n>,
     /// The offset of the unit in its section.
     pub(crate) offset: u64,
 }
 
-impl UnitPlace<'_> {
+impl UnitLocation<'_> {
     /// Tells a sentence on the unit.
     pub(crate) fn tell<E: Write>(self, err: &mut E, sentence: impl fmt::Display + Drop) -> Verdict
         ensures { result ≡ Verdict.Faulty }

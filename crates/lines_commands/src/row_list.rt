@@ -6,7 +6,7 @@ use crate::input::Input;
 use crate::locate::{JsonPath, column_of, line_of};
 use crate::path_text::{PathText, last_part};
 use crate::progress::{Printing, Progress};
-use crate::report::{FilePlace, UnitPlace, Verdict, out_of_memory};
+use crate::report::{InputFile, UnitLocation, Verdict, out_of_memory};
 use crate::request::{Form, UnitChoice};
 use crate::row_count::RowCount;
 use crate::screen::Screen;
@@ -35,11 +35,11 @@ pub(crate) fn print_rows<O: Write, E: Write>(
         let Some(unit) = next_unit(&mut units)? else {
             break;
         };
-        let place = input.place(unit.offset.0);
-        progress.show(place.offset, err);
-        if choice.includes(place.offset) {
+        let location = input.location(unit.offset.0);
+        progress.show(location.offset, err);
+        if choice.includes(location.offset) {
             is_found = true;
-            verdict = verdict.and(print_unit(alloc, input, unit, place, form, out, err)?);
+            verdict = verdict.and(print_unit(alloc, input, unit, location, form, out, err)?);
         }
     }
     progress.clear(err);
@@ -52,7 +52,7 @@ pub(crate) fn print_rows<O: Write, E: Write>(
 
 /// Tells that no unit begins at the chosen offset.
 pub(crate) fn tell_no_unit<E: Write>(
-    file: FilePlace<'_>,
+    file: InputFile<'_>,
     choice: UnitChoice,
     err: &mut E,
 ) -> Verdict {
@@ -70,21 +70,21 @@ fn print_unit<'i, O: Write, E: Write>(
     alloc: Global,
     input: &Input<'i>,
     unit: LineUnit<Slice<'i>>,
-    place: UnitPlace<'_>,
+    location: UnitLocation<'_>,
     form: Form,
     out: &mut O,
     err: &mut E,
 ) -> io::Result<Verdict> {
     let program = match unit.program {
         Ok(program) => program,
-        Err(e) => return Ok(place.tell(err, fault(e)?)),
+        Err(e) => return Ok(location.tell(err, fault(e)?)),
     };
     if form != Form::Json {
-        print_heading(input.screen, place.offset, program.header().version(), out)?;
+        print_heading(input.screen, location.offset, program.header().version(), out)?;
         print_columns(input.screen, out)?;
     }
     let printer = RowPrinter {
-        offset: place.offset,
+        offset: location.offset,
         form,
         strings: input.strings,
         file: 0,
@@ -92,7 +92,7 @@ fn print_unit<'i, O: Write, E: Write>(
         is_known: false,
         rows: 0,
     };
-    print_program(alloc, program, printer, place, out, err)
+    print_program(alloc, program, printer, location, out, err)
 }
 
 /// Prints the headings of rows.
@@ -111,7 +111,7 @@ fn print_program<'i, O: Write, E: Write>(
     alloc: Global,
     program: IncompleteLineProgram<Slice<'i>>,
     mut printer: RowPrinter<'i>,
-    place: UnitPlace<'_>,
+    location: UnitLocation<'_>,
     out: &mut O,
     err: &mut E,
 ) -> io::Result<Verdict> {
@@ -121,14 +121,14 @@ fn print_program<'i, O: Write, E: Write>(
         match rows.next_row() {
             Ok(Some((header, row))) => {
                 let row = *row;
-                verdict = verdict.and(printer.look_up(alloc, header, &row, place, err)?);
+                verdict = verdict.and(printer.look_up(alloc, header, &row, location, err)?);
                 printer.print(&row, out)?;
             }
             Ok(None) => break,
             Err(e) => {
                 let count = RowCount(printer.rows);
                 let fault = fault(e)?;
-                return Ok(place.tell(err, format_args!("after {count}: {fault}")));
+                return Ok(location.tell(err, format_args!("after {count}: {fault}")));
             }
         }
     }
@@ -157,7 +157,7 @@ impl<'i> RowPrinter<'i> {
         alloc: Global,
         header: &LineProgramHeader<Slice<'i>>,
         row: &LineRow,
-        place: UnitPlace<'_>,
+        location: UnitLocation<'_>,
         err: &mut E,
     ) -> io::Result<Verdict> {
         if self.is_known && self.file == row.file_index() {
@@ -171,7 +171,7 @@ impl<'i> RowPrinter<'i> {
             Err(PathError::OutOfMemory) => Err(out_of_memory()),
             Err(e) => {
                 let count = RowCount(self.rows);
-                Ok(place.tell(err, format_args!("after {count}: {e}")))
+                Ok(location.tell(err, format_args!("after {count}: {e}")))
             }
         }
     }

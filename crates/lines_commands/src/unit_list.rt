@@ -2,7 +2,7 @@
 
 use crate::input::Input;
 use crate::progress::{Printing, Progress};
-use crate::report::{UnitPlace, Verdict};
+use crate::report::{UnitLocation, Verdict};
 use crate::row_count::RowCount;
 use crate::walk::{fault, next_unit};
 use gimli_core::{Error, Format};
@@ -34,9 +34,9 @@ pub(crate) fn print_units<O: Write, E: Write>(
         let Some(unit) = next_unit(&mut units)? else {
             break;
         };
-        let place = input.place(unit.offset.0);
-        progress.show(place.offset, err);
-        verdict = verdict.and(print_unit(unit, place, out, err)?);
+        let location = input.location(unit.offset.0);
+        progress.show(location.offset, err);
+        verdict = verdict.and(print_unit(unit, location, out, err)?);
     }
     progress.clear(err);
     Ok(verdict)
@@ -45,21 +45,21 @@ pub(crate) fn print_units<O: Write, E: Write>(
 /// Prints the line of a unit whose header can be read, and tells its fault.
 fn print_unit<O: Write, E: Write>(
     unit: LineUnit<Slice<'_>>,
-    place: UnitPlace<'_>,
+    location: UnitLocation<'_>,
     out: &mut O,
     err: &mut E,
 ) -> io::Result<Verdict> {
     let program = match unit.program {
         Ok(program) => program,
-        Err(e) => return Ok(place.tell(err, fault(e)?)),
+        Err(e) => return Ok(location.tell(err, fault(e)?)),
     };
-    let mut line = UnitLine::new(place.offset, program.header());
+    let mut line = UnitLine::new(location.offset, program.header());
     let fault = line.count(program)?;
     writeln!(out, "{line}")?;
     match fault {
         Some(fault) => {
             let rows = RowCount(line.rows);
-            Ok(place.tell(err, format_args!("after {rows}: {fault}")))
+            Ok(location.tell(err, format_args!("after {rows}: {fault}")))
         }
         None => Ok(Verdict::Clean),
     }

@@ -1,7 +1,7 @@
 //! The units of a section, one after the other.
 
 use crate::input::Input;
-use crate::report::{UnitPlace, out_of_memory};
+use crate::report::{UnitLocation, out_of_memory};
 use gimli_core::Error;
 use gimli_line::{LineUnit, LineUnits};
 use rows_units::Slice;
@@ -14,9 +14,9 @@ impl<'i> Input<'i> {
         self.lines.units(alloc, self.address_size.bytes())
     }
 
-    /// The place of a unit.
-    pub(crate) fn place(&self, offset: usize) -> UnitPlace<'i> {
-        UnitPlace {
+    /// The location of a unit.
+    pub(crate) fn location(&self, offset: usize) -> UnitLocation<'i> {
+        UnitLocation {
             file: self.file,
             offset: offset as u64,
         }

@@ -6,7 +6,7 @@ use Rattle.gimli_core.specs.declared.endianity.RunTimeEndian.{RunTimeEndian}
 use Rattle.gimli_core.specs.declared.endianity.RunTimeEndian.TheVariants.{Little, Big}
 use Rattle.rows_words.specs.declared.order_and_size.AddressSize.{AddressSize}
 use Rattle.rows_words.specs.declared.order_and_size.AddressSize.TheVariants.{One, Two, Four, Eight}
-use Rattle.rows_units.specs.declared.request.Place.{Place}
+use Rattle.rows_units.specs.declared.request.UnitLocation.{UnitLocation}
 use Rattle.linetool_commands.specs.declared.words.Numbers.{Numbers}
 use Rattle.linetool_commands.specs.declared.words.Query.{Query}
 use Rattle.linetool_commands.specs.declared.words.Command.{Command}
@@ -24,13 +24,13 @@ size_word Two = codes "2"
 size_word Four = codes "4"
 size_word Eight = codes "8"
 
--- these three words name a place: an order, a size and decimal digits
-pub record NamesPlace (order size offset : List ℕ) (place : Place) : Type 0 where
-  pub order_named : order ≡ order_word place.order
-  pub size_named : size ≡ size_word place.address_size
+-- these three words name a location: an order, a size and decimal digits
+pub record NamesLocation (order size offset : List ℕ) (location : UnitLocation) : Type 0 where
+  pub order_named : order ≡ order_word location.order
+  pub size_named : size ≡ size_word location.address_size
   pub is_numeral : IsNumeral 10 offset
-  pub offset_named : place.offset ≡ digits_value 10 offset
-  pub offset_fits : place.offset < 2 ^ 64
+  pub offset_named : location.offset ≡ digits_value 10 offset
+  pub offset_fits : location.offset < 2 ^ 64
 
 -- these two words say how numbers are read: an order and a size
 pub record NamesNumbers (order size : List ℕ) (numbers : Numbers) : Type 0 where
@@ -49,19 +49,19 @@ pub record NamesAddress (word : List ℕ) (address : ℕ) : Type 0 where
   pub address_named : address ≡ digits_value 16 word
   pub address_fits : address < 2 ^ 64
 
--- these four words name a place and an address
+-- these four words name a location and an address
 pub record NamesQuery (order size offset address : List ℕ) (query : Query) : Type 0 where
-  pub place_named : NamesPlace order size offset query.place
+  pub location_named : NamesLocation order size offset query.location
   pub address_named : NamesAddress address query.address
 
 -- these words are a command
 abbrev pub IsCommand : List (List ℕ) → Command → Type 0
 IsCommand words Demo = words ≡ codes "demo" ∷ []
 IsCommand words DemoPieces = words ≡ codes "demo" ∷ codes "pieces" ∷ []
-IsCommand words (Rows place) = (file order size offset : List ℕ)
-    × (words ≡ codes "rows" ∷ file ∷ order ∷ size ∷ offset ∷ []) × NamesPlace order size offset place
-IsCommand words (Sequences place) = (file order size offset : List ℕ)
-    × (words ≡ codes "sequences" ∷ file ∷ order ∷ size ∷ offset ∷ []) × NamesPlace order size offset place
+IsCommand words (Rows location) = (file order size offset : List ℕ)
+    × (words ≡ codes "rows" ∷ file ∷ order ∷ size ∷ offset ∷ []) × NamesLocation order size offset location
+IsCommand words (Sequences location) = (file order size offset : List ℕ)
+    × (words ≡ codes "sequences" ∷ file ∷ order ∷ size ∷ offset ∷ []) × NamesLocation order size offset location
 IsCommand words (Find query) = (file order size offset address : List ℕ)
     × (words ≡ codes "find" ∷ file ∷ order ∷ size ∷ offset ∷ address ∷ []) × NamesQuery order size offset address query
 IsCommand words (Units numbers) = (file order size : List ℕ)

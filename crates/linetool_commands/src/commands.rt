@@ -4,16 +4,17 @@
 ghost use Rattle.std.specs.Prelude.{◌≡◌, ◌≢◌, ◌≤◌, Err, IfErr, IsNone, map};
 ghost use Rattle.linetool_commands.specs.Words.{IsCommand, ReadsFile};
 
+use crate::count::count_rows;
 use crate::demo::{print_demo, print_demo_pieces};
 use crate::find::print_pair;
-use crate::print::{finished, print_line, print_program, print_rows};
+use crate::print::{finish, print_line, print_program, print_rows};
 use crate::refusal::Refusal;
 use crate::section::{program_at, read_section};
 use crate::units::print_units;
 use crate::words::Command;
 use gimli_core::Reader;
-use gimli_line::{CompleteLineProgram, LineProgram, LineRows, LineSequence};
-use rows_units::{Place, SequenceLine};
+use gimli_line::{CompleteLineProgram, LineSequence};
+use rows_units::{UnitLocation, SequenceLine};
 use std::alloc::Global;
 use std::io::{Read, Write};
 
@@ -54,13 +55,13 @@ fn perform<F: Read + Drop, O: Write>(
     match Command::parse(words).ok_or(Refusal::Usage)? {
         Command::Demo => print_demo(alloc, out),
         Command::DemoPieces => print_demo_pieces(alloc, out),
-        Command::Rows(place) => {
+        Command::Rows(location) => {
             let section = read_section(alloc, file)?;
-            print_unit(alloc, &section, place, out)
+            print_unit(alloc, &section, location, out)
         }
-        Command::Sequences(place) => {
+        Command::Sequences(location) => {
             let section = read_section(alloc, file)?;
-            print_sequences(alloc, &section, place, out)
+            print_sequences(alloc, &section, location, out)
         }
         Command::Units(numbers) => {
             let section = read_section(alloc, file)?;
@@ -77,31 +78,31 @@ fn perform<F: Read + Drop, O: Write>(
 fn print_unit<O: Write>(
     alloc: Global,
     section: &[u8],
-    place: Place,
+    location: UnitLocation,
     out: &mut O,
 ) -> Result<(), Refusal>
     ensures refusal { IfErr result (λ r. r ≢ Refusal.Usage) }
 {
-    let program = program_at(alloc, section, place)?;
+    let program = program_at(alloc, section, location)?;
     let outcome = print_program(program, out);
-    finished(outcome, out)
+    finish(outcome, out)
 }
 
 /// Prints the sequences of a unit. Nothing is printed where it can't be cut.
 fn print_sequences<O: Write>(
     alloc: Global,
     section: &[u8],
-    place: Place,
+    location: UnitLocation,
     out: &mut O,
 ) -> Result<(), Refusal>
     ensures refusal { IfErr result (λ r. r ≢ Refusal.Usage) }
 {
-    let program = program_at(alloc, section, place)?;
+    let program = program_at(alloc, section, location)?;
     let (program, sequences) = program
         .sequences()
         .map_err(|e| Refusal::of_unit(e, Refusal::Rows))?;
     let outcome = print_each(&program, &sequences, out);
-    finished(outcome, out)
+    finish(outcome, out)
 }
 
 /// Prints sequences one after the other, each with its rows.
@@ -116,22 +117,10 @@ fn print_each<R: Reader, O: Write>(
         let line = SequenceLine {
             start: sequence.start,
             end: sequence.end,
-            rows: count_of_rows(program.resume_from(sequence)),
+            rows: count_rows(program.resume_from(sequence))?,
         };
         print_line(line, out)?;
         print_rows(program.resume_from(sequence), out)?;
     }
     Ok(())
-}
-
-/// How many rows are still to come.
-fn count_of_rows<R: Reader, P: LineProgram<R> + Drop>(rows: LineRows<R, P>) -> u64 {
-    let mut rows = rows;
-    for count in 0..u64::MAX {
-        match rows.next_row() {
-            Ok(Some(_)) => {}
-            Ok(None) | Err(_) => return count,
-        }
-    }
-    u64::MAX
 }

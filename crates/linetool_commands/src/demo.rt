@@ -5,7 +5,7 @@ ghost use Rattle.gimli_write.specs.StringTables.{no_texts};
 ghost use Rattle.gimli_write.specs.Conditions.{CanWrite};
 ghost use Rattle.linetool_commands.specs.Demo.{IsAtStart};
 
-use crate::print::{finished, print_program, print_row};
+use crate::print::{finish, print_program, print_row};
 use crate::refusal::Refusal;
 use crate::section::program_at;
 use gimli_core::{Encoding, Endianity, Format, LineEncoding, LittleEndian, RunTimeEndian};
@@ -13,7 +13,7 @@ use gimli_write::{
     Address, ConvertError, DebugLine, EndianVec, Error, LineProgram, LineString, LineStringTable,
     PieceVec, RoundTrip, StringTable, Writer, round_trip,
 };
-use rows_units::Place;
+use rows_units::UnitLocation;
 use rows_words::{AddressSize, print_bytes};
 use std::alloc::Global;
 use std::io::Write;
@@ -25,7 +25,7 @@ pub fn print_demo<O: Write>(alloc: Global, out: &mut O) -> Result<(), Refusal>
     let mut section = DebugLine::from(EndianVec::new(alloc, LittleEndian));
     let answer = write_demo(alloc, &mut section)?;
     let outcome = print_unit(section.0.slice(), &answer, out);
-    finished(outcome, out)
+    finish(outcome, out)
 }
 
 /// Writes the unit, and reads it again.
@@ -64,7 +64,7 @@ pub fn print_demo_pieces<O: Write>(alloc: Global, out: &mut O) -> Result<(), Ref
 {
     let section = write_demo_pieces(alloc)?;
     let outcome = print_pieces(alloc, section, out);
-    finished(outcome, out)
+    finish(outcome, out)
 }
 
 /// Writes the unit in pieces.
@@ -139,12 +139,12 @@ fn print_each_piece<E: Endianity, const N: usize, O: Write>(
 fn print_demo_rows<O: Write>(alloc: Global, bytes: &[u8], out: &mut O) -> Result<(), Refusal>
     ensures refusal { IfErr result (λ r. r ≢ Refusal.Usage) }
 {
-    let place = Place {
+    let location = UnitLocation {
         order: RunTimeEndian::Little,
         address_size: AddressSize::Four,
         offset: 0,
     };
-    print_program(program_at(alloc, bytes, place)?, out)
+    print_program(program_at(alloc, bytes, location)?, out)
 }
 
 /// The program of the unit: a file, and a sequence of two rows. Refused by `OutOfMemory` alone.

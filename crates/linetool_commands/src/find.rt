@@ -2,7 +2,7 @@
 
 ghost use Rattle.std.specs.Prelude.{◌≢◌, IfErr};
 
-use crate::print::{finished, print_line, print_row};
+use crate::print::{finish, print_line, print_row};
 use crate::refusal::Refusal;
 use crate::section::program_at;
 use crate::words::Query;
@@ -21,13 +21,13 @@ pub(crate) fn print_pair<O: Write>(
 ) -> Result<(), Refusal>
     ensures refusal { IfErr result (λ r. r ≢ Refusal.Usage) }
 {
-    let program = program_at(alloc, section, query.place)?;
+    let program = program_at(alloc, section, query.location)?;
     let outcome = match find_in_run(program, query.address) {
         Ok(Some((first, second))) => print_both(first, second, out),
         Ok(None) => print_line("none", out),
         Err(e) => return Err(Refusal::of_unit(e, Refusal::Rows)),
     };
-    finished(outcome, out)
+    finish(outcome, out)
 }
 
 /// Prints two rows.

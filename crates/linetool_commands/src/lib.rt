@@ -2,6 +2,7 @@
 #![tactic(auto)]
 
 mod commands;
+mod count;
 mod demo;
 mod find;
 mod print;

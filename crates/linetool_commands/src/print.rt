@@ -68,7 +68,7 @@ pub(crate) fn write_line<O: Write>(bytes: &[u8], out: &mut O) -> Result<(), Refu
 }
 
 /// What became of a command whose output is complete.
-pub(crate) fn finished<O: Write>(outcome: Result<(), Refusal>, out: &mut O) -> Result<(), Refusal>
+pub(crate) fn finish<O: Write>(outcome: Result<(), Refusal>, out: &mut O) -> Result<(), Refusal>
     requires { IfErr outcome (λ r. r ≢ Refusal.Usage) }
     ensures refusal { IfErr result (λ r. r ≢ Refusal.Usage) }
 {

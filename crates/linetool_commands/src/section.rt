@@ -5,7 +5,7 @@ ghost use Rattle.std.specs.Prelude.{◌≡◌, ◌≢◌, Err, IfErr, IsNone};
 use crate::refusal::Refusal;
 use gimli_core::{DebugLineOffset, EndianSlice, Reader, RunTimeEndian};
 use gimli_line::{DebugLine, IncompleteLineProgram};
-use rows_units::Place;
+use rows_units::UnitLocation;
 use rows_words::AddressSize;
 use std::alloc::Global;
 use std::io::Read;
@@ -29,13 +29,13 @@ pub(crate) fn read_section<F: Read + Drop>(
 pub(crate) fn program_at<'i>(
     alloc: Global,
     section: &'i [u8],
-    place: Place,
+    location: UnitLocation,
 ) -> Result<IncompleteLineProgram<EndianSlice<'i, RunTimeEndian>>, Refusal>
     ensures refusal { IfErr result (λ r. r ≢ Refusal.Usage) }
 {
-    let section = DebugLine::new(section, place.order);
-    let offset = DebugLineOffset(place.offset);
-    program_of(alloc, &section, offset, place.address_size)
+    let section = DebugLine::new(section, location.order);
+    let offset = DebugLineOffset(location.offset);
+    program_of(alloc, &section, offset, location.address_size)
 }
 
 /// The same of any reader.

@@ -3,11 +3,12 @@
 ghost use Rattle.std.specs.Prelude.{◌≡◌, ◌≢◌, ◌≤◌, ◌++◌, IfErr, codes, length};
 ghost use Rattle.std.specs.Fmt.{decimal};
 
-use crate::print::{finished, write_line};
+use crate::count::count_rows;
+use crate::print::{finish, write_line};
 use crate::refusal::Refusal;
 use crate::words::Numbers;
 use gimli_core::{Reader, ReaderOffset};
-use gimli_line::{DebugLine, LineProgram, LineRows, LineUnit, LineUnits};
+use gimli_line::{DebugLine, LineUnit, LineUnits};
 use rows_words::ShortLine;
 use std::alloc::Global;
 use std::io::Write;
@@ -59,7 +60,7 @@ pub(crate) fn print_units<O: Write>(
     let section = DebugLine::new(section, numbers.order);
     let units = section.units(alloc, numbers.address_size.bytes());
     let outcome = print_each(units, out);
-    finished(outcome, out)
+    finish(outcome, out)
 }
 
 /// The same of units of any reader, without what stands in the writer's own memory.
@@ -92,19 +93,4 @@ fn unit_line<R: Reader>(unit: LineUnit<R>) -> Result<UnitLine, Refusal>
         version,
         rows,
     })
-}
-
-/// How many rows are still to come, to the first fault.
-fn count_rows<R: Reader, P: LineProgram<R> + Drop>(rows: LineRows<R, P>) -> Result<u64, Refusal>
-    ensures refusal { IfErr result (λ r. r ≢ Refusal.Usage) }
-{
-    let mut rows = rows;
-    for count in 0..u64::MAX {
-        match rows.next_row() {
-            Ok(Some(_)) => {}
-            Ok(None) => return Ok(count),
-            Err(e) => return Err(Refusal::of_unit(e, Refusal::Rows)),
-        }
-    }
-    Ok(u64::MAX)
 }

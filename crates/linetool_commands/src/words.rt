@@ -3,10 +3,10 @@
 ghost use Rattle.std.specs.Prelude.{◌≡◌, ◌<◌, ◌^◌, ℕ, IfSome, IsSome, Some};
 ghost use Rattle.std.specs.Str.Parse.{IsNumeral, digits_value};
 ghost use Rattle.std.specs.List.{list_any};
-ghost use Rattle.linetool_commands.specs.Words.{is_capital, NamesAddress, NamesPlace};
+ghost use Rattle.linetool_commands.specs.Words.{is_capital, NamesAddress, NamesLocation};
 
 use gimli_core::RunTimeEndian;
-use rows_units::Place;
+use rows_units::UnitLocation;
 use rows_words::{AddressSize, parse_digits, parse_order, parse_size};
 
 /// A command, with what its words say.
@@ -17,9 +17,9 @@ pub enum Command {
     /// Prints the pieces of that unit, and its rows.
     DemoPieces,
     /// Prints the rows of a unit.
-    Rows(Place),
+    Rows(UnitLocation),
     /// Prints the sequences of a unit, each with its rows.
-    Sequences(Place),
+    Sequences(UnitLocation),
     /// Prints a line for each unit of a section.
     Units(Numbers),
     /// Prints the two rows of a unit that cover an address.
@@ -30,7 +30,7 @@ pub enum Command {
 #[derive(Clone, Copy, Debug, PartialEq, Eq)]
 pub struct Query {
     /// Where the unit stands.
-    pub place: Place,
+    pub location: UnitLocation,
     /// The address.
     pub address: u64,
 }
@@ -58,10 +58,10 @@ impl Command {
             ["demo"] => Some(Command::Demo),
             ["demo", "pieces"] => Some(Command::DemoPieces),
             ["rows", _file, order, size, offset] => {
-                Some(Command::Rows(parse_place(order, size, offset)?))
+                Some(Command::Rows(parse_location(order, size, offset)?))
             }
             ["sequences", _file, order, size, offset] => {
-                Some(Command::Sequences(parse_place(order, size, offset)?))
+                Some(Command::Sequences(parse_location(order, size, offset)?))
             }
             ["units", _file, order, size] => { Some(Command::Units(Numbers::parse(order, size)?)) }
             ["find", _file, order, size, offset, address] => {
@@ -98,21 +98,21 @@ impl Query {
         ensures only { (query : Query) → NamesQuery order.now size.now offset.now address.now query
             → result ≡ Some query }
     {
-        let place = parse_place(order, size, offset)?;
+        let location = parse_location(order, size, offset)?;
         let address = parse_address(address)?;
-        Some(Query { place, address })
+        Some(Query { location, address })
     }
 }
 
-/// The place that three words name.
-fn parse_place(order: &str, size: &str, offset: &str) -> Option<Place>
-    ensures named { IfSome result (NamesPlace order.now size.now offset.now) }
-    ensures only { (place : Place) → NamesPlace order.now size.now offset.now place → result ≡ Some place }
+/// The location that three words name.
+fn parse_location(order: &str, size: &str, offset: &str) -> Option<UnitLocation>
+    ensures named { IfSome result (NamesLocation order.now size.now offset.now) }
+    ensures only { (location : UnitLocation) → NamesLocation order.now size.now offset.now location → result ≡ Some location }
 {
     let order = parse_order(order)?;
     let address_size = parse_size(size)?;
     let offset = parse_offset(offset)?;
-    Some(Place {
+    Some(UnitLocation {
         order,
         address_size,
         offset,

@@ -4,7 +4,7 @@ ghost use Rattle.std.specs.Prelude.{◌≤◌, length, take, false};
 ghost use Rattle.gimli_core.specs.Order.{is_big};
 
 use gimli_core::RunTimeEndian;
-use gimli_write::{Error, Result, Writer};
+use gimli_write::{Error, Result, Sink, Writer};
 use std::alloc::{AllocError, Global};
 
 /// A section in an array, which takes no memory: what passes its end is `LengthOutOfBounds`. That it keeps the bytes
@@ -39,9 +39,7 @@ impl ArraySection {
     }
 }
 
-impl Writer for ArraySection {
-    type Endian = RunTimeEndian;
-
+impl Sink for ArraySection {
     ghost contents = { λ w. take w.len w.bytes.items };
 
     ghost big = { λ w. is_big w.endian };
@@ -51,6 +49,10 @@ impl Writer for ArraySection {
     ghost fails_for_memory_alone = { false };
 
     ghost all_or_none = { false };
+}
+
+impl Writer for ArraySection {
+    type Endian = RunTimeEndian;
 
     fn endian(&self) -> RunTimeEndian {
         self.endian

@@ -91,7 +91,7 @@ impl Script {
     }
 
     /// The script, whose end is this line.
-    fn ended(self, number: u64) -> Result<Script, Fault> {
+    fn finish(self, number: u64) -> Result<Script, Fault> {
         if !self.has_program {
             return Err(Fault::Script);
         }
@@ -114,12 +114,12 @@ pub(crate) fn parse_scripts(alloc: Global, input: &str) -> Result<Vec<Script>, F
             [] => {}
             ["next"] => {
                 let whole = mem::replace(&mut script, Script::new(alloc));
-                scripts.push(whole.ended(number)?)?;
+                scripts.push(whole.finish(number)?)?;
             }
             words => script.take(alloc, number, words)?,
         }
     }
-    scripts.push(script.ended(number.saturating_add(1))?)?;
+    scripts.push(script.finish(number.saturating_add(1))?)?;
     Ok(scripts)
 }
 

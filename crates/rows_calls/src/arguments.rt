@@ -53,7 +53,7 @@ impl<'a> Arguments<'a> {
     }
 
     /// What a word says; where it doesn't, the line is bad.
-    fn said<T: Copy>(&mut self, said: Option<T>, instead: T) -> T {
+    fn value_or<T: Copy>(&mut self, said: Option<T>, instead: T) -> T {
         match said {
             Some(said) => said,
             None => {
@@ -87,43 +87,43 @@ impl<'a> Arguments<'a> {
     /// An unsigned number of 64 bits.
     pub fn u64(&mut self) -> u64 {
         let number = parse_number(self.word());
-        self.said(number, 0)
+        self.value_or(number, 0)
     }
 
     /// A signed number of 64 bits.
     pub fn i64(&mut self) -> i64 {
         let number = parse_signed(self.word());
-        self.said(number, 0)
+        self.value_or(number, 0)
     }
 
     /// A number of 8 bits.
     pub fn u8(&mut self) -> u8 {
         let number = u8::try_from(self.u64());
-        self.said(number.ok(), 0)
+        self.value_or(number.ok(), 0)
     }
 
     /// A number of 16 bits.
     pub fn u16(&mut self) -> u16 {
         let number = u16::try_from(self.u64());
-        self.said(number.ok(), 0)
+        self.value_or(number.ok(), 0)
     }
 
     /// A number of 32 bits.
     pub fn u32(&mut self) -> u32 {
         let number = u32::try_from(self.u64());
-        self.said(number.ok(), 0)
+        self.value_or(number.ok(), 0)
     }
 
     /// A number of 128 bits.
     pub fn u128(&mut self) -> u128 {
         let number = parse_wide(self.word());
-        self.said(number, 0)
+        self.value_or(number, 0)
     }
 
     /// A number of bytes.
     pub fn usize(&mut self) -> usize {
         let number = usize::try_from(self.u64());
-        self.said(number.ok(), 0)
+        self.value_or(number.ok(), 0)
     }
 
     /// A format, by its number of bits.
@@ -133,7 +133,7 @@ impl<'a> Arguments<'a> {
             "64" => Some(Format::Dwarf64),
             _ => None,
         };
-        self.said(format, Format::Dwarf32)
+        self.value_or(format, Format::Dwarf32)
     }
 
     /// An address, or `symbol`.
@@ -145,7 +145,7 @@ impl<'a> Arguments<'a> {
             }),
             word => parse_number(word).map(Address::Constant),
         };
-        self.said(address, Address::Constant(0))
+        self.value_or(address, Address::Constant(0))
     }
 
     /// A section, by its name.
@@ -157,7 +157,7 @@ impl<'a> Arguments<'a> {
             "debug_line_str" => Some(SectionId::DebugLineStr),
             _ => None,
         };
-        self.said(section, SectionId::DebugInfo)
+        self.value_or(section, SectionId::DebugInfo)
     }
 
     /// A pointer encoding.

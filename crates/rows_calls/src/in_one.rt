@@ -29,7 +29,7 @@ impl Section for InOne {
         EndianVec::new(alloc, order)
     }
 
-    fn joined(&self, alloc: Global) -> Result<Vec<u8>, AllocError> {
+    fn to_bytes(&self, alloc: Global) -> Result<Vec<u8>, AllocError> {
         Vec::from_slice(alloc, self.slice())
     }
 

@@ -28,7 +28,7 @@ impl Section for InPieces {
         PieceVec::new(alloc, order)
     }
 
-    fn joined(&self, alloc: Global) -> Result<Vec<u8>, AllocError> {
+    fn to_bytes(&self, alloc: Global) -> Result<Vec<u8>, AllocError> {
         let mut bytes = Vec::new(alloc);
         for piece in self.pieces() {
             bytes.extend_from_slice(piece)?;

@@ -54,13 +54,13 @@ fn value(
         }
         "truncate" => reader.truncate(words.usize()).map(of_unit),
         "skip" => reader.skip(words.usize()).map(of_unit),
-        _ => return fixed(reader, name, words),
+        _ => return read_fixed(reader, name, words),
     };
     Ok(Answer::of(answer))
 }
 
 /// What a call returns that takes a number of a fixed size.
-fn fixed(
+fn read_fixed(
     reader: &mut Slice<'_>,
     name: &str,
     words: &mut Arguments<'_>,

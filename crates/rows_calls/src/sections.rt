@@ -18,7 +18,7 @@ pub trait Section: Writer + Drop {
     fn empty(alloc: Global, order: RunTimeEndian) -> Self;
 
     /// A copy of the bytes.
-    fn joined(&self, alloc: Global) -> Result<Vec<u8>, AllocError>;
+    fn to_bytes(&self, alloc: Global) -> Result<Vec<u8>, AllocError>;
 
     /// Makes a call that other sections don't have, and prints what it answers.
     fn call_own(&mut self, alloc: Global, name: &str, out: &mut Vec<u8>) -> Result<(), Stop>;
@@ -72,7 +72,7 @@ impl<W: Section> Sections<W> {
 
     /// Prints the bytes.
     fn print_bytes(&self, out: &mut Vec<u8>) -> Result<(), Stop> {
-        let bytes = self.section.joined(self.alloc)?;
+        let bytes = self.section.to_bytes(self.alloc)?;
         print_line(out, BytesAfter("bytes", bytes.as_slice()))
     }
 
@@ -86,7 +86,7 @@ impl<W: Section> Sections<W> {
     /// Makes a call that other sections don't have.
     fn call_own(&mut self, name: &str, out: &mut Vec<u8>) -> Result<(), Stop> {
         self.section.call_own(self.alloc, name, out)?;
-        self.before = self.section.joined(self.alloc)?;
+        self.before = self.section.to_bytes(self.alloc)?;
         Ok(())
     }
 
@@ -154,7 +154,7 @@ impl<W: Section> Sections<W> {
     /// Looks whether the bytes of before a refused call are still a beginning, or after a refused `write` all there are,
     /// and makes the section anew with them.
     fn restore(&mut self, number: u64, name: &str, out: &mut Vec<u8>) -> Result<(), Stop> {
-        let now = self.section.joined(self.alloc)?;
+        let now = self.section.to_bytes(self.alloc)?;
         if !stands(name, self.before.as_slice(), now.as_slice()) {
             print_line(out, Told("state", number))?;
         }
@@ -167,7 +167,7 @@ impl<W: Section> Sections<W> {
 
     /// Prints what a call returns that writes, and what it changed.
     fn print_written(&mut self, answer: writers::Answer, out: &mut Vec<u8>) -> Result<(), Stop> {
-        let now = self.section.joined(self.alloc)?;
+        let now = self.section.to_bytes(self.alloc)?;
         let written = Written {
             answer,
             before: self.before.as_slice(),

@@ -38,7 +38,7 @@ pub fn convert(
     };
     let mut text = String::new(alloc);
     outcome_with(alloc, &request, sections, attempts).print_items(&mut text)?;
-    printed(text.as_str(), out)
+    print_text(text.as_str(), out)
 }
 
 /// Prints what a conversion reads, sequence by sequence. The words and the status are those of `convert`.
@@ -57,11 +57,11 @@ pub fn convert_sequences(
     };
     let mut text = String::new(alloc);
     outcome_with(alloc, &request, sections, attempts).print_sequences(&mut text)?;
-    printed(text.as_str(), out)
+    print_text(text.as_str(), out)
 }
 
 /// Adds a text to the output of a command, whose status is then 0.
-fn printed(text: &str, out: &mut Vec<u8>) -> Result<u8, AllocError>
+fn print_text(text: &str, out: &mut Vec<u8>) -> Result<u8, AllocError>
     ensures { IfOk result (λ status. status ≡ 0) }
 {
     out.extend_from_slice(text.as_bytes())?;
@@ -75,10 +75,10 @@ fn outcome_with<'i>(
     sections: Sections<'i>,
     attempts: Attempts,
 ) -> Conversion<'i> {
-    let order = request.place.order;
+    let order = request.location.order;
     let unit = Unit {
         section: sections.lines,
-        place: request.place,
+        location: request.location,
         handed: &request.handed,
     };
     Conversion {

@@ -144,7 +144,7 @@ impl<'i> Conversion<'i> {
         match self.built(&mut tables) {
             Ok((program, files)) => {
                 print_files(files.as_slice(), text)?;
-                let order = self.unit.place.order;
+                let order = self.unit.location.order;
                 print_program(self.alloc, program, tables, order, self.attempts, text)
             }
             Err(error) => print_refusal(error, text),

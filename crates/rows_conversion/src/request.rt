@@ -3,14 +3,14 @@
 use gimli_core::{Encoding, LineEncoding};
 use gimli_write::LineProgram;
 use rows_builder::{Fault, parse_encoding, parse_line_encoding};
-use rows_units::{Handed, Place, Word};
+use rows_units::{Handed, UnitLocation, Word};
 use std::alloc::{AllocError, Global};
 
 /// A conversion that is asked for.
 #[derive(Drop)]
 pub(crate) struct Request {
     /// Where the unit stands.
-    pub place: Place,
+    pub location: UnitLocation,
     /// What is handed to the reader.
     pub handed: Handed,
     /// The name of the unit, where there is one.
@@ -27,7 +27,7 @@ impl Request {
         let [order, size, offset, directory, name, unit_name, target] = words else {
             return Ok(None);
         };
-        let Some(place) = Place::parse(order, size, offset) else {
+        let Some(location) = UnitLocation::parse(order, size, offset) else {
             return Ok(None);
         };
         let Some(handed) = Handed::parse(alloc, directory, name)? else {
@@ -40,7 +40,7 @@ impl Request {
         };
         match Target::parse(alloc, target) {
             Ok(target) => Ok(Some(Request {
-                place,
+                location,
                 handed,
                 name,
                 target,

@@ -3,7 +3,7 @@
 use gimli_core::{DebugLineOffset, EndianSlice, Error, RunTimeEndian};
 use gimli_line::{DebugLine, LineProgramHeader};
 use gimli_lookup::{PathError, Paths, StringSections};
-use rows_units::{ErrorText, Handed, Place};
+use rows_units::{ErrorText, Handed, UnitLocation};
 use rows_words::{Text, print_line};
 use std::alloc::{AllocError, Global};
 
@@ -24,7 +24,7 @@ pub fn paths(
     let [order, size, offset, directory, comp_dir] = words else {
         return Ok(2);
     };
-    let Some(place) = Place::parse(order, size, offset) else {
+    let Some(location) = UnitLocation::parse(order, size, offset) else {
         return Ok(2);
     };
     let Some(handed) = Handed::parse(alloc, directory, comp_dir)? else {
@@ -34,7 +34,7 @@ pub fn paths(
         section,
         debug_str,
         debug_line_str,
-        place,
+        location,
         handed: &handed,
     };
     unit.print(alloc, out)?;
@@ -47,14 +47,14 @@ struct Unit<'i> {
     section: &'i [u8],
     debug_str: &'i [u8],
     debug_line_str: &'i [u8],
-    place: Place,
+    location: UnitLocation,
     handed: &'i Handed,
 }
 
 impl<'i> Unit<'i> {
     /// A reader over bytes.
     fn reader(self, bytes: &'i [u8]) -> Slice<'i> {
-        EndianSlice::new(bytes, self.place.order)
+        EndianSlice::new(bytes, self.location.order)
     }
 
     /// The directory that is handed to the reader.
@@ -67,10 +67,10 @@ impl<'i> Unit<'i> {
 
     /// Prints the path of each file, or why the unit is refused.
     fn print(self, alloc: Global, out: &mut Vec<u8>) -> Result<(), AllocError> {
-        let program = DebugLine::new(self.section, self.place.order).program(
+        let program = DebugLine::new(self.section, self.location.order).program(
             alloc,
-            DebugLineOffset(self.place.offset),
-            self.place.address_size.bytes(),
+            DebugLineOffset(self.location.offset),
+            self.location.address_size.bytes(),
             self.directory(),
             None,
         );

@@ -28,8 +28,8 @@ pub fn addresses<'i>(
         return Ok(2);
     };
     let sections = StringSections {
-        debug_line_str: EndianSlice::new(debug_line_str, request.place.order),
-        debug_str: EndianSlice::new(debug_str, request.place.order),
+        debug_line_str: EndianSlice::new(debug_line_str, request.location.order),
+        debug_str: EndianSlice::new(debug_str, request.location.order),
     };
     let lookup = request.lookup(alloc, section)?;
     match lookup.addresses_of(&sections, &path, line) {

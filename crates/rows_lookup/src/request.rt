@@ -3,7 +3,7 @@
 use gimli_core::{EndianSlice, RunTimeEndian};
 use gimli_line::DebugLine;
 use gimli_lookup::SectionLookup;
-use rows_units::Place;
+use rows_units::UnitLocation;
 use rows_words::parse_number;
 use std::alloc::{AllocError, Global};
 
@@ -11,7 +11,7 @@ use std::alloc::{AllocError, Global};
 #[derive(Clone, Copy)]
 pub(crate) struct Request {
     /// The order of bytes and the size of an address.
-    pub(crate) place: Place,
+    pub(crate) location: UnitLocation,
     lowest: u64,
 }
 
@@ -19,7 +19,7 @@ impl Request {
     /// What three words say; None where they are no such words.
     pub(crate) fn parse(order: &str, size: &str, lowest: &str) -> Option<Request> {
         Some(Request {
-            place: Place::parse(order, size, "0")?,
+            location: UnitLocation::parse(order, size, "0")?,
             lowest: parse_number(lowest)?,
         })
     }
@@ -30,8 +30,8 @@ impl Request {
         alloc: Global,
         section: &'i [u8],
     ) -> Result<SectionLookup<EndianSlice<'i, RunTimeEndian>>, AllocError> {
-        let section = DebugLine::new(section, self.place.order);
-        let size = self.place.address_size.bytes();
+        let section = DebugLine::new(section, self.location.order);
+        let size = self.location.address_size.bytes();
         match SectionLookup::new(&section, alloc, size, self.lowest) {
             Ok(lookup) => Ok(lookup),
             Err(_) => Err(AllocError),

@@ -2,7 +2,7 @@
 
 use gimli_core::{EndianSlice, RunTimeEndian};
 use gimli_line::{DebugLine, LineUnit};
-use rows_units::{ErrorText, Place};
+use rows_units::{ErrorText, UnitLocation};
 use rows_words::print_line;
 use std::alloc::{AllocError, Global};
 
@@ -17,11 +17,11 @@ pub fn walk(
     let [order, size] = words else {
         return Ok(2);
     };
-    let Some(place) = Place::parse(order, size, "0") else {
+    let Some(location) = UnitLocation::parse(order, size, "0") else {
         return Ok(2);
     };
-    let section = DebugLine::new(section, place.order);
-    let mut units = section.units(alloc, place.address_size.bytes());
+    let section = DebugLine::new(section, location.order);
+    let mut units = section.units(alloc, location.address_size.bytes());
     for _ in 0..u64::MAX {
         match units.next() {
             Ok(Some(unit)) => print_unit(&unit, out)?,

@@ -5,7 +5,7 @@ ghost use Rattle.std.specs.Prelude.{◌≡◌, ◌⊎◌, IfOk, Ok};
 use crate::header_text::print_header;
 use crate::instruction_text::print_instructions;
 use crate::lines::Lines;
-use crate::request::{Handed, Place};
+use crate::request::{Handed, UnitLocation};
 use crate::value_text::{Lender, Slice};
 use gimli_core::{DebugLineOffset, EndianSlice, Error};
 use gimli_line::{DebugLine, IncompleteLineProgram, LineProgramHeader};
@@ -27,7 +27,7 @@ pub fn header(
     let [order, size, offset, directory, name] = words else {
         return Ok(2);
     };
-    let Some(place) = Place::parse(order, size, offset) else {
+    let Some(location) = UnitLocation::parse(order, size, offset) else {
         return Ok(2);
     };
     let Some(handed) = Handed::parse(alloc, directory, name)? else {
@@ -35,7 +35,7 @@ pub fn header(
     };
     let unit = Unit {
         section,
-        place,
+        location,
         handed: &handed,
     };
     unit.print(alloc, Part::Header, attempts, out)?;
@@ -57,13 +57,13 @@ pub fn instructions(
     let [order, size, offset] = words else {
         return Ok(2);
     };
-    let Some(place) = Place::parse(order, size, offset) else {
+    let Some(location) = UnitLocation::parse(order, size, offset) else {
         return Ok(2);
     };
     let handed = Handed::nothing();
     let unit = Unit {
         section,
-        place,
+        location,
         handed: &handed,
     };
     unit.print(alloc, Part::Instructions, attempts, out)?;
@@ -105,7 +105,7 @@ pub struct Unit<'i> {
     /// The bytes of the section.
     pub section: &'i [u8],
     /// Where the unit stands.
-    pub place: Place,
+    pub location: UnitLocation,
     /// What is handed in.
     pub handed: &'i Handed,
 }
@@ -138,11 +138,11 @@ impl<'i> Unit<'i> {
 
     /// The program of the unit.
     fn parse(self, alloc: Global) -> gimli_core::Result<IncompleteLineProgram<Slice<'i>>> {
-        let section = DebugLine::new(self.section, self.place.order);
+        let section = DebugLine::new(self.section, self.location.order);
         section.program(
             alloc,
-            DebugLineOffset(self.place.offset),
-            self.place.address_size.bytes(),
+            DebugLineOffset(self.location.offset),
+            self.location.address_size.bytes(),
             self.reader(&self.handed.directory),
             self.reader(&self.handed.name),
         )
@@ -151,7 +151,7 @@ impl<'i> Unit<'i> {
     /// A reader over a text that is handed in.
     pub fn reader(self, text: &'i Option<Vec<u8>>) -> Option<Slice<'i>> {
         match text {
-            Some(text) => Some(EndianSlice::new(text, self.place.order)),
+            Some(text) => Some(EndianSlice::new(text, self.location.order)),
             None => None,
         }
     }

@@ -11,12 +11,12 @@ use std::fmt;
 pub fn print_header<R: Lender>(header: &LineProgramHeader<R>, lines: &mut Lines<'_>) {
     print_lengths(header, lines);
     print_line_encoding(header, lines);
-    let lengths = header.standard_opcode_lengths().lent();
+    let lengths = header.standard_opcode_lengths().lent_bytes();
     lines.put_word("standard_opcode_lengths", Held::Bytes(lengths));
     print_tables(header, lines);
     print_kinds(header, lines);
     let program = header.raw_program_buf();
-    lines.put_word("program", Held::Bytes(program.lent()));
+    lines.put_word("program", Held::Bytes(program.lent_bytes()));
 }
 
 /// Prints where a header stands, its lengths, and what its numbers are encoded by.

@@ -60,7 +60,7 @@ impl<'a> Operands<'a> {
 
     /// An opcode, and the bytes after it.
     fn bytes<R: Lender>(opcode: u8, operands: &'a R) -> Operands<'a> {
-        Operands::Two(opcode, Held::Bytes(operands.lent()))
+        Operands::Two(opcode, Held::Bytes(operands.lent_bytes()))
     }
 }
 

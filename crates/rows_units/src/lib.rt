@@ -44,6 +44,6 @@ mod row_line;
 mod value_text;
 
 pub use command::{Unit, header, instructions};
-pub use request::{Handed, Place, Word};
+pub use request::{Handed, UnitLocation, Word};
 pub use row_line::{Letters, RowLine, SequenceLine};
 pub use value_text::{ErrorText, Slice};

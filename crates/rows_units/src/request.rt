@@ -6,7 +6,7 @@ use std::alloc::{AllocError, Global};
 
 /// Where a unit stands in a section, and how its numbers are read.
 #[derive(Clone, Copy, Debug, PartialEq, Eq)]
-pub struct Place {
+pub struct UnitLocation {
     /// The order of bytes.
     pub order: RunTimeEndian,
     /// How wide an address is.
@@ -35,13 +35,13 @@ pub enum Word {
     Bad,
 }
 
-impl Place {
-    /// The place that three words name.
-    pub fn parse(order: &str, size: &str, offset: &str) -> Option<Place> {
+impl UnitLocation {
+    /// The location that three words name.
+    pub fn parse(order: &str, size: &str, offset: &str) -> Option<UnitLocation> {
         let order = parse_order(order)?;
         let address_size = parse_size(size)?;
         let offset = parse_number(offset)?;
-        Some(Place {
+        Some(UnitLocation {
             order,
             address_size,
             offset: offset as usize,

@@ -10,11 +10,11 @@ pub type Slice<'i> = EndianSlice<'i, RunTimeEndian>;
 /// A reader that lends the bytes left.
 pub trait Lender: Reader {
     /// The bytes left.
-    fn lent(&self) -> &[u8];
+    fn lent_bytes(&self) -> &[u8];
 }
 
 impl Lender for Slice<'_> {
-    fn lent(&self) -> &[u8] {
+    fn lent_bytes(&self) -> &[u8] {
         self.slice()
     }
 }
@@ -61,7 +61,7 @@ impl<'a> Value<'a> {
     /// The value, as it is printed.
     pub fn new<R: Lender>(value: &'a AttributeValue<R>) -> Value<'a> {
         let (variant, held) = match value {
-            AttributeValue::Block(bytes) => ("Block", Held::Bytes(bytes.lent())),
+            AttributeValue::Block(bytes) => ("Block", Held::Bytes(bytes.lent_bytes())),
             AttributeValue::Data1(n) => ("Data1", Held::Number(u64::from(*n))),
             AttributeValue::Data2(n) => ("Data2", Held::Number(u64::from(*n))),
             AttributeValue::Data4(n) => ("Data4", Held::Number(u64::from(*n))),
@@ -70,7 +70,7 @@ impl<'a> Value<'a> {
             AttributeValue::Sdata(n) => ("Sdata", Held::Signed(*n)),
             AttributeValue::Flag(holds) => ("Flag", Held::Flag(*holds)),
             AttributeValue::SecOffset(offset) => ("SecOffset", Held::offset(*offset)),
-            AttributeValue::String(bytes) => ("String", Held::Bytes(bytes.lent())),
+            AttributeValue::String(bytes) => ("String", Held::Bytes(bytes.lent_bytes())),
             AttributeValue::DebugStrRef(offset) => ("DebugStrRef", Held::offset(offset.0)),
             AttributeValue::DebugStrRefSup(offset) => ("DebugStrRefSup", Held::offset(offset.0)),
             AttributeValue::DebugLineStrRef(offset) => ("DebugLineStrRef", Held::offset(offset.0)),

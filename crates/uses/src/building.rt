@@ -78,7 +78,7 @@ pub fn add_sequence(
 
 /// The bytes of a unit whose texts all stand in the program. Refused by the first cause that the program has, or by
 /// `OutOfMemory`.
-pub fn written(alloc: Global, program: &LineProgram) -> Result<EndianVec<LittleEndian>>
+pub fn write_unit(alloc: Global, program: &LineProgram) -> Result<EndianVec<LittleEndian>>
     requires can { CanWrite program.now no_texts }
     ensures unit { IfOk result
         (λ section. Appends (unit_bytes false program.now.encoding program.now no_texts) [] section.bytes) }

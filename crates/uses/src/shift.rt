@@ -70,7 +70,7 @@ pub fn shift<'i>(alloc: Global, unit: Unit<'i>, by: u64) -> ConvertResult<RoundT
     let no_texts = EndianSlice::new(b"", LittleEndian);
     let mut strings = StringTable::default(alloc);
     let mut line_strings = LineStringTable::default(alloc);
-    let program = moved(source, name, no_texts, by, &mut line_strings, &mut strings)?;
+    let program = shifted_program(source, name, no_texts, by, &mut line_strings, &mut strings)?;
     let mut lines = gimli_write::DebugLine::from(EndianVec::new(alloc, LittleEndian));
     let encoding = program.encoding();
     round_trip(
@@ -84,7 +84,7 @@ pub fn shift<'i>(alloc: Global, unit: Unit<'i>, by: u64) -> ConvertResult<RoundT
 
 /// A program in version 5, with each address moved. `no_texts` is a reader of no bytes: up to
 /// version 4 all texts stand in the header.
-fn moved<R: Reader>(
+fn shifted_program<R: Reader>(
     source: IncompleteLineProgram<R>,
     name: Option<R>,
     no_texts: R,
@@ -108,11 +108,11 @@ fn moved<R: Reader>(
         line_strings,
         strings,
     )?;
-    converted(conversion, by)
+    conversion_of(conversion, by)
 }
 
 /// What a conversion builds, with each address moved.
-fn converted<R: Reader>(
+fn conversion_of<R: Reader>(
     conversion: ConvertLineProgram<'_, '_, R>,
     by: u64,
 ) -> ConvertResult<LineProgram>

@@ -2,7 +2,7 @@
 
 use gimli_core::{DebugLineOffset, EndianSlice, Error, Reader, RunTimeEndian};
 use gimli_line::{DebugLine, IncompleteLineProgram, LineProgram, LineRows};
-use rows_units::Place;
+use rows_units::UnitLocation;
 use rows_words::print_line;
 use std::alloc::{AllocError, Global};
 
@@ -11,10 +11,10 @@ use std::alloc::{AllocError, Global};
 pub fn watch_rows(
     alloc: Global,
     section: &[u8],
-    place: Place,
+    location: UnitLocation,
     out: &mut Vec<u8>,
 ) -> Result<(), AllocError> {
-    let Some(program) = program_at(alloc, section, place) else {
+    let Some(program) = program_at(alloc, section, location) else {
         return Ok(());
     };
     match refused_call(program.rows()) {
@@ -27,11 +27,11 @@ pub fn watch_rows(
 fn program_at<'i>(
     alloc: Global,
     section: &'i [u8],
-    place: Place,
+    location: UnitLocation,
 ) -> Option<IncompleteLineProgram<EndianSlice<'i, RunTimeEndian>>> {
-    let section = DebugLine::new(section, place.order);
-    let offset = DebugLineOffset(place.offset);
-    let size = place.address_size.bytes();
+    let section = DebugLine::new(section, location.order);
+    let offset = DebugLineOffset(location.offset);
+    let size = location.address_size.bytes();
     match section.program(alloc, offset, size, None, None) {
         Err(Error::OutOfMemory) => section.program(alloc, offset, size, None, None).ok(),
         answer => answer.ok(),

@@ -119,7 +119,7 @@ impl<'t> Draft<'t> {
 
 /// What the next line of a file is a part of.
 #[derive(Clone, Copy)]
-enum Place {
+enum RowPart {
     /// What stands before a command: parts, and where rows come from.
     Head,
     /// The commands after the first one, and their input.
@@ -146,27 +146,27 @@ impl<'t> RowsReader<'t> {
         if let Some(part) = line.strip_prefix(":= ") {
             return self.take_part(part.trim());
         }
-        match self.place() {
-            Place::Head => self.take_head(line.trim()),
-            Place::Input => self.take_input(line),
-            Place::Output => self.take_output(line),
+        match self.part() {
+            RowPart::Head => self.take_head(line.trim()),
+            RowPart::Input => self.take_input(line),
+            RowPart::Output => self.take_output(line),
         }
     }
 
     /// Takes a line that defines a part. False in an output, whose lines are all that a command gives.
     fn take_part(&mut self, part: &'t str) -> Result<bool, AllocError> {
-        match self.place() {
-            Place::Head | Place::Input => self.parts.define(self.alloc, part),
-            Place::Output => Ok(false),
+        match self.part() {
+            RowPart::Head | RowPart::Input => self.parts.define(self.alloc, part),
+            RowPart::Output => Ok(false),
         }
     }
 
     /// What the next line is a part of.
-    fn place(&self) -> Place {
+    fn part(&self) -> RowPart {
         match &self.draft {
-            Some(draft) if !draft.commands.is_empty() => Place::Output,
-            Some(draft) if !draft.words.is_empty() => Place::Input,
-            _ => Place::Head,
+            Some(draft) if !draft.commands.is_empty() => RowPart::Output,
+            Some(draft) if !draft.words.is_empty() => RowPart::Input,
+            _ => RowPart::Head,
         }
     }
 

@@ -166,10 +166,10 @@ fn run_linetool(
             err.clear();
             status = linetool_commands::run(alloc, words, Some(section), out, &mut err);
         }
-        if let Some(linetool_commands::Command::Rows(place)) = linetool_commands::Command::parse(
+        if let Some(linetool_commands::Command::Rows(location)) = linetool_commands::Command::parse(
             words,
         ) {
-            watch_rows(alloc, section, place, out)?;
+            watch_rows(alloc, section, location, out)?;
         }
     }
     // A vector takes no more output only where memory is refused.

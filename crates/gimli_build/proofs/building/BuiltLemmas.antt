@@ -18,7 +18,7 @@ use Rattle.gimli_build.proofs.building.TableLemmas.{keys-with_file, keys-with_de
 
 -- ---- items
 
--- where items leave off, from a place on
+-- where items leave off, from a position on
 reached : ℕ × ℕ → List BuiltItem → ℕ × ℕ
 reached position [] = position
 reached position (item ∷ items) = reached (position_after item) items

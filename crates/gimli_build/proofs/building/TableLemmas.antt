@@ -58,7 +58,7 @@ pub any-map : {A B : Type 0} (p : B → Bool) (h : A → B) (ks : List A) → li
 any-map p h [] = refl
 any-map p h (k ∷ ks) = ap (λ b. p (h k) || b) (any-map p h ks)
 
--- what a place that a search gave is
+-- what an index that a search gave is
 pub index_found : {A : Type 0} (p : A → Bool) (ks : List A) (i : ℕ) → Some i ≡ position p ks → i ≡ position_or_len p ks
 index_found p ks i e = by (nat_lt (position_or_len p ks) (length ks)) e
   where

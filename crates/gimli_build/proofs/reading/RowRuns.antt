@@ -341,7 +341,7 @@ module _ (encoding : Encoding) (e : LineEncoding) where
       let bits : 8 * encoding.address_size ≤ 64 = omega (arith, small) in
       pow-le-pow_right {n = 2} (lit< tt) bits
 
-  -- where the operations to a place that can follow lead
+  -- where the operations to a position that can follow lead
   record Reaches (base p j o i : ℕ) : Type 0 where
     room : HasRoom parameters (record { address = base + p; op_index = j }) (operations e p j o i)
     there : ahead e (operations e p j o i) (record { address = base + p; op_index = j }) ≡ record { address = base + o; op_index = i }

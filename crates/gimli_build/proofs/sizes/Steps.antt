@@ -1,4 +1,4 @@
--- How many operations one place is after another.
+-- How many operations one position is after another.
 use Rattle.std.proofs.Common.{◌≡◌, ℕ, zero, suc, ◌+◌, ◌-◌, ◌*◌, ◌/◌, ◌%◌, ◌<◌, ◌≤◌, arith, ap, ◌∙◌, inl, inr, refl}
 use Rattle.std.proofs.Math.Nat.{mul-le-mul_right, mod-eq_of_lt, div-eq_of_lt, mul-div_cancel, add-mul-div_right, add-mul-mod_self_right, add-mul, mul_comm, div-mul-le_self}
 use Rattle.std.proofs.lemmas.Nat.{div-add-mod', le-div}
@@ -14,7 +14,7 @@ apart_by m p o hp ho lt =
       | inr above ↦ (let h : o / m * m ≤ p / m * m = mul-le-mul_right m above in omega (arith, ep, eo, h))
     ]
 
--- the operations from a place to a later one aren't fewer than those of the first in its own instruction
+-- the operations from a position to a later one aren't fewer than those of the first in its own instruction
 pub operations_above : (m k p j o i : ℕ) → 0 < m → p % m ≡ 0 → o % m ≡ 0 → p ≤ o → (o ≡ p → j ≤ i) → j < k → j ≤ (o - p) / m * k + i
 operations_above m k p j o i pm hp ho le same jk =
     elim (cases_lt p o) [
@@ -25,7 +25,7 @@ operations_above m k p j o i pm hp ho le same jk =
       | inr above ↦ (let h = same (omega arith) in omega (arith, h))
     ]
 
--- whole instructions between two places
+-- whole instructions between two positions
 pub whole_steps : (m p o : ℕ) → 1 ≤ m → p % m ≡ 0 → o % m ≡ 0 → p ≤ o → m * ((o - p) / m) + p ≡ o
 whole_steps m p o pm hp ho le =
     let ep = div-add-mod' p m in

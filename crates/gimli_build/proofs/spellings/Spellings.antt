@@ -215,7 +215,7 @@ all_operations e s n low high fits = by (nat_le (s + n * e.line_range) 255) refl
     by false t true u = let le : s + (n - constant_advance e) * e.line_range ≤ 255 = grind (arith, nat_tests) in (tt, (maker_written e (s + (n - constant_advance e) * e.line_range) (omega arith) le, tt))
     by false t false u = (fits, (maker_written e s low high, tt))
 
--- the operations to a place that can follow are fewer than 2 ^ 64
+-- the operations to a position that can follow are fewer than 2 ^ 64
 operations_fit : (e : LineEncoding) (p j o i : ℕ) → CanFollow e p j o i → operations e p j o i < 2 ^ 64
 operations_fit e p j o i follows = omega (arith, follows.fits)
 

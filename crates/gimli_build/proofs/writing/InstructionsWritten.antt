@@ -3,7 +3,7 @@ use Rattle.std.proofs.Common.{◌≡◌, ◌++◌, List, [], ◌∷◌, ℕ, Ok,
 use Rattle.std.specs.Prelude.{Result}
 use Rattle.gimli_core.specs.Reading.{result_map}
 use Rattle.gimli_bytes.specs.declared.error.Error.{Error}
-use Rattle.gimli_bytes.specs.declared.writer.Writer.{Ghosts}
+use Rattle.gimli_bytes.specs.declared.sink.Sink.{Ghosts}
 use Rattle.gimli_line.specs.run.Instruction.{Ins}
 use Rattle.gimli_build.specs.InstructionBytes.{instructions_bytes}
 use Rattle.gimli_build.specs.Joined.{result_append}
@@ -11,8 +11,8 @@ use Rattle.gimli_build.specs.inside.Writes.{Writes}
 use Rattle.gimli_build.proofs.writing.Joins.{bytes_append}
 
 -- four parts
-pub four_parts : {W E X : Type 0} {writer : Ghosts W E} {old new : W} {r : Result X Error} (f g h k : List Ins)
-    → Writes writer old new r (Ok (instructions_bytes f ++ instructions_bytes g ++ instructions_bytes h ++ instructions_bytes k)) → Writes writer old new r (Ok (instructions_bytes (f ++ g ++ h ++ k)))
+pub four_parts : {W X : Type 0} {sink : Ghosts W} {old new : W} {r : Result X Error} (f g h k : List Ins)
+    → Writes sink old new r (Ok (instructions_bytes f ++ instructions_bytes g ++ instructions_bytes h ++ instructions_bytes k)) → Writes sink old new r (Ok (instructions_bytes (f ++ g ++ h ++ k)))
 four_parts f g h k so = rw (bytes_append (f ++ g ++ h) k, bytes_append (f ++ g) h, bytes_append f g) so
 
 -- the parts of a set address

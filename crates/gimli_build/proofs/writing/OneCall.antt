@@ -2,26 +2,26 @@
 use Rattle.std.proofs.Common.{List, [], ℕ, Ok, Err, refl, sym, inl, inr}
 use Rattle.std.proofs.lemmas.List.{append-nil}
 use Rattle.gimli_bytes.specs.declared.error.Error.{Error}
-use Rattle.gimli_bytes.specs.declared.writer.Writer.{Ghosts}
+use Rattle.gimli_bytes.specs.declared.sink.Sink.{Ghosts}
 use Rattle.gimli_build.specs.inside.Joined.{RefusesFor}
 use Rattle.gimli_build.specs.inside.Writes.{Writes}
 use Rattle.gimli_build.proofs.writing.Joined.{begins_self}
 
 -- where nothing is wanted, nothing is called
-pub none_called : {W E X : Type 0} {writer : Ghosts W E} {w : W} {x : X} → Writes writer w w (Ok x) (Ok [])
-none_called {writer = writer} {w = w} = record {
-  keeps = begins_self (writer.contents w);
+pub none_called : {W X : Type 0} {sink : Ghosts W} {w : W} {x : X} → Writes sink w w (Ok x) (Ok [])
+none_called {sink = sink} {w = w} = record {
+  keeps = begins_self (sink.contents w);
   ordered = refl;
-  ok = λ keeps_bytes. sym (append-nil (writer.contents w));
+  ok = λ keeps_bytes. sym (append-nil (sink.contents w));
   err = λ keeps_bytes fails_for_memory_alone. tt;
 }
 
 -- the same bytes under another answer
-pub answered : {W E X Y : Type 0} {writer : Ghosts W E} {old new : W} {x : X} {y : Y} {xs : List ℕ} → Writes writer old new (Ok x) (Ok xs) → Writes writer old new (Ok y) (Ok xs)
+pub answered : {W X Y : Type 0} {sink : Ghosts W} {old new : W} {x : X} {y : Y} {xs : List ℕ} → Writes sink old new (Ok x) (Ok xs) → Writes sink old new (Ok y) (Ok xs)
 answered so = record { keeps = so.keeps; ordered = so.ordered; ok = so.ok; err = λ keeps_bytes fails_for_memory_alone. tt }
 
 -- where bytes are wanted, a refusal is for memory, whatever they are
-pub refused_alike : {W E X Y : Type 0} {writer : Ghosts W E} {old new : W} {e : Error} {xs : List ℕ} (ys : List ℕ) → Writes {X = X} writer old new (Err e) (Ok xs) → Writes {X = Y} writer old new (Err e) (Ok ys)
+pub refused_alike : {W X Y : Type 0} {sink : Ghosts W} {old new : W} {e : Error} {xs : List ℕ} (ys : List ℕ) → Writes {X = X} sink old new (Err e) (Ok xs) → Writes {X = Y} sink old new (Err e) (Ok ys)
 refused_alike {e = e} {xs = xs} ys refused = record {
   keeps = refused.keeps;
   ordered = refused.ordered;

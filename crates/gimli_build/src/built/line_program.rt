@@ -495,7 +495,7 @@ fn can_encode(line_encoding: LineEncoding) -> bool
         && line_encoding.maximum_operations_per_instruction >= 1
 }
 
-/// Whether a row or an end at an offset and operation can follow a row at another place.
+/// Whether a row or an end at an offset and operation can follow a row at another position.
 fn can_follow(
     line_encoding: LineEncoding,
     previous_offset: u64,
@@ -523,15 +523,14 @@ fn can_follow(
             <= (u64::MAX - op_index) / operations
 }
 
-/// Whether each byte can begin an instruction, and each instruction is one operation. The two numbers are compared as
-/// one.
+/// Whether each byte can begin an instruction, and each instruction is one operation. Both are asked without a branch
+/// between.
 fn is_plain(line_encoding: LineEncoding) -> bool
     ensures { IsTrue result ↔ (line_encoding.minimum_instruction_length ≡ 1)
         × (line_encoding.maximum_operations_per_instruction ≡ 1) }
 {
-    let length = u16::from(line_encoding.minimum_instruction_length);
-    let operations = u16::from(line_encoding.maximum_operations_per_instruction);
-    length + operations * 0x100 == 0x101
+    (line_encoding.minimum_instruction_length == 1)
+        & (line_encoding.maximum_operations_per_instruction == 1)
 }
 
 /// Whether an offset is a whole number of shortest instructions.

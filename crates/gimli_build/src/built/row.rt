@@ -20,7 +20,7 @@ pub struct LineRow {
     pub line: u64,
     /// The column, from 1 on; 0 is the left edge.
     pub column: u64,
-    /// Tells blocks of one source place apart.
+    /// Tells blocks of the same file, line and column apart.
     pub discriminator: u64,
     /// Whether this is a good place for a breakpoint.
     pub is_statement: bool,

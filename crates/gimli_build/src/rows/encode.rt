@@ -35,7 +35,7 @@ pub(crate) fn write_items<W: Writer>(
 ) -> Result<()>
     requires can { CanEncode line_encoding }
     requires built { AreBuilt line_encoding (0, 0) items.now }
-    ensures writes { Writes W.Writer w.old w.new result
+    ensures writes { Writes W.Sink w.old w.new result
         (items_bytes (W.big w.old) encoding line_encoding
         (initial_row encoding.version line_encoding.default_is_stmt) items.now) }
     ensures fit { OnOk result (AreFit encoding.version items.now) }
@@ -53,7 +53,7 @@ pub(crate) fn write_items<W: Writer>(
     Ok(())
 }
 
-/// The row that the next item follows, but for its place: what was built isn't copied.
+/// The row that the next item follows, but for its position: what was built isn't copied.
 #[inline(always)]
 fn next_row<'a>(initial: &'a LineRow, previous: &'a LineRow, item: &'a BuiltItem) -> &'a LineRow
     ensures { (version : ℕ) (is_stmt : Bool) (position : ℕ × ℕ) → initial.now ≡ initial_row version is_stmt →
@@ -81,7 +81,7 @@ fn write_item<W: Writer>(
     requires stands { IsPosition line_encoding position.0 position.1 }
     requires previous_line { previous.now.line < 2 ^ 63 }
     requires built { CanBuild line_encoding position item.now }
-    ensures writes { Writes W.Writer w.old w.new result
+    ensures writes { Writes W.Sink w.old w.new result
         (item_bytes (W.big w.old) encoding line_encoding (at_position position previous.now) item.now) }
     ensures fit { OnOk result (FitsItem encoding.version item.now) }
 {
@@ -115,7 +115,7 @@ pub(crate) fn write_row<W: Writer>(
         row.now.address_offset row.now.op_index }
     requires previous_line { previous.now.line < 2 ^ 63 }
     requires line { row.now.line < 2 ^ 63 }
-    ensures writes { Writes W.Writer w.old w.new result
+    ensures writes { Writes W.Sink w.old w.new result
         (Ok (instructions_bytes
         (row_instructions encoding.version line_encoding (at_position position previous.now) row.now))) }
     ensures fit { OnOk result (FitsInstructions encoding.version row.now) }
@@ -132,7 +132,7 @@ pub(crate) fn write_row<W: Writer>(
 /// from rows.
 #[inline(never)]
 pub(crate) fn write_end<W: Writer>(w: &mut W, count: u64) -> Result<()>
-    ensures { Writes W.Writer w.old w.new result (Ok (instructions_bytes
+    ensures { Writes W.Sink w.old w.new result (Ok (instructions_bytes
         (when (not (nat_eq count 0)) (AdvancePc count) ++ EndSequence ∷ []))) }
 {
     write_if(w, count != 0, LineInstruction::AdvancePc(count))?;
@@ -141,7 +141,7 @@ pub(crate) fn write_end<W: Writer>(w: &mut W, count: u64) -> Result<()>
 
 /// Appends what stands for the row alone.
 fn write_marks<W: Writer>(w: &mut W, row: &LineRow) -> Result<()>
-    ensures writes { Writes W.Writer w.old w.new result (Ok (instructions_bytes (marks row.now))) }
+    ensures writes { Writes W.Sink w.old w.new result (Ok (instructions_bytes (marks row.now))) }
     ensures fit { OnOk result (row.now.discriminator < 2 ^ 64) }
 {
     let discriminator = LineInstruction::SetDiscriminator(row.discriminator);
@@ -159,7 +159,7 @@ fn write_changes<W: Writer>(
     previous: &LineRow,
     row: &LineRow,
 ) -> Result<()>
-    ensures writes { Writes W.Writer w.old w.new result
+    ensures writes { Writes W.Sink w.old w.new result
         (Ok (instructions_bytes (changes version previous.now row.now))) }
     ensures fit { OnOk result ((file_number version row.now.file < 2 ^ 64)
         × (row.now.column < 2 ^ 64) × (row.now.isa < 2 ^ 64)) }
@@ -188,7 +188,7 @@ fn write_line_advance<W: Writer>(
     advance: i64,
 ) -> Result<u8>
     requires can { CanEncode line_encoding.now }
-    ensures writes { Writes W.Writer w.old w.new result
+    ensures writes { Writes W.Sink w.old w.new result
         (Ok (instructions_bytes (line_part line_encoding.now advance))) }
     ensures opcode { IfOk result (λ s. s ≡ line_opcode line_encoding.now advance) }
 {
@@ -216,7 +216,7 @@ fn write_operation_advance<W: Writer>(
     count: u64,
 ) -> Result<()>
     requires can { CanEncode line_encoding.now }
-    ensures { Writes W.Writer w.old w.new result
+    ensures { Writes W.Sink w.old w.new result
         (Ok (instructions_bytes (operation_part line_encoding.now opcode count))) }
 {
     let range = u64::from(line_encoding.line_range);
@@ -258,7 +258,7 @@ fn maker(line_encoding: &LineEncoding, opcode: u8) -> LineInstruction
     }
 }
 
-/// How many operations an offset and an op_index are after the place of the row before.
+/// How many operations an offset and an op_index are after the position of the row before.
 fn operation_advance(
     line_encoding: &LineEncoding,
     position: (u64, u64),

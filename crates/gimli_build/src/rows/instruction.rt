@@ -34,7 +34,7 @@ pub(crate) enum LineInstruction {
 /// Appends an instruction.
 #[inline(always)]
 pub(crate) fn write_instruction<W: Writer>(w: &mut W, instruction: LineInstruction) -> Result<()>
-    ensures { Writes W.Writer w.old w.new result (Ok (instruction_bytes (read_as instruction))) }
+    ensures { Writes W.Sink w.old w.new result (Ok (instruction_bytes (read_as instruction))) }
 {
     match instruction {
         LineInstruction::Special(opcode) => write_byte(w, opcode),
@@ -57,7 +57,7 @@ pub(crate) fn write_instruction<W: Writer>(w: &mut W, instruction: LineInstructi
 /// Appends an instruction where it is due.
 #[inline(always)]
 pub(crate) fn write_if<W: Writer>(w: &mut W, due: bool, instruction: LineInstruction) -> Result<()>
-    ensures { Writes W.Writer w.old w.new result
+    ensures { Writes W.Sink w.old w.new result
         (Ok (instructions_bytes (when due (read_as instruction)))) }
 {
     if due {
@@ -70,7 +70,7 @@ pub(crate) fn write_if<W: Writer>(w: &mut W, due: bool, instruction: LineInstruc
 /// refusal is handed on.
 #[inline(never)]
 pub(crate) fn write_set_address<W: Writer>(w: &mut W, address: &Address, size: u8) -> Result<()>
-    ensures { Writes W.Writer w.old w.new result (set_address_bytes (W.big w.old) address.now size) }
+    ensures { Writes W.Sink w.old w.new result (set_address_bytes (W.big w.old) address.now size) }
 {
     write_byte(w, 0)?;
     w.write_uleb128(u64::from(size) + 1)?;
@@ -81,7 +81,7 @@ pub(crate) fn write_set_address<W: Writer>(w: &mut W, address: &Address, size: u
 /// Appends a discriminator.
 #[inline(always)]
 fn write_discriminator<W: Writer>(w: &mut W, discriminator: u64) -> Result<()>
-    ensures { Writes W.Writer w.old w.new result
+    ensures { Writes W.Sink w.old w.new result
         (Ok (instruction_bytes (SetDiscriminator discriminator))) }
 {
     let operand = Leb128::unsigned(discriminator);
@@ -94,7 +94,7 @@ fn write_discriminator<W: Writer>(w: &mut W, discriminator: u64) -> Result<()>
 /// Appends a standard opcode and its unsigned operand.
 #[inline(always)]
 fn write_unsigned<W: Writer>(w: &mut W, opcode: DwLns, operand: u64) -> Result<()>
-    ensures { Writes W.Writer w.old w.new result (Ok (opcode.0 ∷ uleb operand)) }
+    ensures { Writes W.Sink w.old w.new result (Ok (opcode.0 ∷ uleb operand)) }
 {
     if operand < 128 {
         return w.write(&[opcode.0, operand as u8]);
@@ -105,7 +105,7 @@ fn write_unsigned<W: Writer>(w: &mut W, opcode: DwLns, operand: u64) -> Result<(
 /// Appends a standard opcode and its unsigned operand, by a call for each.
 #[inline(always)]
 fn write_long_unsigned<W: Writer>(w: &mut W, opcode: DwLns, operand: u64) -> Result<()>
-    ensures { Writes W.Writer w.old w.new result (Ok (opcode.0 ∷ uleb operand)) }
+    ensures { Writes W.Sink w.old w.new result (Ok (opcode.0 ∷ uleb operand)) }
 {
     write_byte(w, opcode.0)?;
     w.write_uleb128(operand)
@@ -114,7 +114,7 @@ fn write_long_unsigned<W: Writer>(w: &mut W, opcode: DwLns, operand: u64) -> Res
 /// Appends a standard opcode and its signed operand.
 #[inline(always)]
 fn write_signed<W: Writer>(w: &mut W, opcode: DwLns, operand: i64) -> Result<()>
-    ensures { Writes W.Writer w.old w.new result (Ok (opcode.0 ∷ sleb operand)) }
+    ensures { Writes W.Sink w.old w.new result (Ok (opcode.0 ∷ sleb operand)) }
 {
     if has_seven_bits(operand) {
         return w.write(&[opcode.0, low_bits(operand)]);

@@ -154,7 +154,7 @@ pub(crate) fn write_version_5_tables<W: Writer>(
     requires empty { StandsForNone program.now (texts_in strings.now line_strings.now)
         (line_text empty.now) }
     requires version { 5 ≤ program.now.encoding.version }
-    ensures writes { Writes W.Writer w.old w.new result
+    ensures writes { Writes W.Sink w.old w.new result
         (let texts = texts_in strings.now line_strings.now in
         let format = program.now.encoding.format in
         result_append (directory_table_bytes (W.big w.old) format texts program.now)
@@ -173,7 +173,7 @@ fn write_directory_table<W: Writer>(
     strings: &StringTable,
 ) -> Result<()>
     requires { All (IsWithin (texts_in strings.now line_strings.now)) program.now.directories }
-    ensures { Writes W.Writer w.old w.new result
+    ensures { Writes W.Sink w.old w.new result
         (directory_table_bytes (W.big w.old) program.now.encoding.format
         (texts_in strings.now line_strings.now) program.now) }
 {
@@ -192,7 +192,7 @@ fn write_directory_table<W: Writer>(
 
 /// Appends the formats of directories, and their number.
 fn write_directory_formats<W: Writer>(w: &mut W, form: DwForm, count: usize) -> Result<()>
-    ensures { Writes W.Writer w.old w.new result
+    ensures { Writes W.Sink w.old w.new result
         (Ok (formats_bytes ((0x0001, form.0) ∷ []) ++ uleb count)) }
 {
     write_byte(w, 1)?;
@@ -202,7 +202,7 @@ fn write_directory_formats<W: Writer>(w: &mut W, form: DwForm, count: usize) -> 
 
 /// Appends a content type and a form.
 fn write_format<W: Writer>(w: &mut W, content: DwLnct, form: DwForm) -> Result<()>
-    ensures { Writes W.Writer w.old w.new result (Ok (uleb content.0 ++ uleb form.0)) }
+    ensures { Writes W.Sink w.old w.new result (Ok (uleb content.0 ++ uleb form.0)) }
 {
     w.write_uleb128(u64::from(content.0))?;
     w.write_uleb128(u64::from(form.0))
@@ -218,7 +218,7 @@ fn write_texts<W: Writer>(
     strings: &StringTable,
 ) -> Result<()>
     requires { All (IsWithin (texts_in strings.now line_strings.now)) (map line_text texts.now) }
-    ensures { Writes W.Writer w.old w.new result
+    ensures { Writes W.Sink w.old w.new result
         (result_concat (text_in_form (W.big w.old) format
         (texts_in strings.now line_strings.now) form.0) (map line_text texts.now)) }
 {
@@ -238,7 +238,7 @@ fn write_line_string<W: Writer>(
     strings: &StringTable,
 ) -> Result<()>
     requires { IsWithin (texts_in strings.now line_strings.now) (line_text text.now) }
-    ensures { Writes W.Writer w.old w.new result
+    ensures { Writes W.Sink w.old w.new result
         (text_in_form (W.big w.old) format
         (texts_in strings.now line_strings.now) form.0 (line_text text.now)) }
 {
@@ -270,7 +270,7 @@ fn write_file_table<W: Writer>(
     requires empty { StandsForNone program.now (texts_in strings.now line_strings.now)
         (line_text empty.now) }
     requires version { 5 ≤ program.now.encoding.version }
-    ensures writes { Writes W.Writer w.old w.new result
+    ensures writes { Writes W.Sink w.old w.new result
         (file_table_bytes (W.big w.old) program.now.encoding.format
         (texts_in strings.now line_strings.now) program.now) }
     ensures fit { OnOk result (All FitsFile program.now.files) }
@@ -287,7 +287,7 @@ fn write_file_formats<W: Writer>(
     source_form: DwForm,
 ) -> Result<()>
     requires { source_form.0 ≡ first_form (sources program.now.files) }
-    ensures { Writes W.Writer w.old w.new result
+    ensures { Writes W.Sink w.old w.new result
         (Ok (formats_bytes (file_formats program.now) ++ uleb (length program.now.files))) }
 {
     write_key_formats(w, program)?;
@@ -303,7 +303,7 @@ fn write_file_formats<W: Writer>(
 
 /// Appends the number of formats of files, and those of the path and the directory.
 fn write_key_formats<W: Writer>(w: &mut W, program: &LineProgram) -> Result<()>
-    ensures { Writes W.Writer w.old w.new result
+    ensures { Writes W.Sink w.old w.new result
         (Ok (length (file_formats program.now)
         ∷ (uleb 0x0001 ++ uleb (first_form (path_texts program.now.files))) ++ uleb 0x0002 ++ uleb 0x0f)) }
 {
@@ -328,7 +328,7 @@ fn format_count(program: &LineProgram) -> u8
 
 /// Appends the formats of what else is stored of files, but for their sources.
 fn write_detail_formats<W: Writer>(w: &mut W, program: &LineProgram) -> Result<()>
-    ensures { Writes W.Writer w.old w.new result
+    ensures { Writes W.Sink w.old w.new result
         (Ok ((if program.now.file_has_timestamp then uleb 0x0003 ++ uleb 0x0f else [])
         ++ (if program.now.file_has_size then uleb 0x0004 ++ uleb 0x0f else [])
         ++ (if program.now.file_has_md5 then uleb 0x0005 ++ uleb 0x1e else []))) }
@@ -347,7 +347,7 @@ fn write_detail_formats<W: Writer>(w: &mut W, program: &LineProgram) -> Result<(
 
 /// Appends a content type and a form, where they are due.
 fn write_format_if<W: Writer>(w: &mut W, due: bool, content: DwLnct, form: DwForm) -> Result<()>
-    ensures { Writes W.Writer w.old w.new result
+    ensures { Writes W.Sink w.old w.new result
         (Ok (if due then uleb content.0 ++ uleb form.0 else [])) }
 {
     if !due {
@@ -370,7 +370,7 @@ fn write_file_entries<W: Writer>(
         (line_text empty.now) }
     requires version { 5 ≤ program.now.encoding.version }
     requires source_form { source_form.0 ≡ first_form (sources program.now.files) }
-    ensures writes { Writes W.Writer w.old w.new result
+    ensures writes { Writes W.Sink w.old w.new result
         (result_concat (file_entry_bytes (W.big w.old) program.now.encoding.format
         (texts_in strings.now line_strings.now) program.now) program.now.files) }
     ensures fit { OnOk result (All FitsFile program.now.files) }
@@ -399,7 +399,7 @@ fn write_file_entry<W: Writer>(
     requires empty { program.now.file_has_source ≡ true → (details file.2.now).source ≡ None
         → IsEmptySource program.now (texts_in strings.now line_strings.now) (line_text empty.now) }
     requires source_form { source_form.0 ≡ first_form (sources program.now.files) }
-    ensures writes { Writes W.Writer w.old w.new result
+    ensures writes { Writes W.Sink w.old w.new result
         (file_entry_bytes (W.big w.old) program.now.encoding.format
         (texts_in strings.now line_strings.now) program.now
         ((line_text file.entry.0.now, file.entry.1), details file.entry.2.now)) }
@@ -426,7 +426,7 @@ fn write_details<W: Writer>(
     directory: DirectoryId,
     info: &FileInfo,
 ) -> Result<()>
-    ensures writes { Writes W.Writer w.old w.new result
+    ensures writes { Writes W.Sink w.old w.new result
         (Ok (uleb directory
         ++ (if program.now.file_has_timestamp then uleb info.now.timestamp else [])
         ++ (if program.now.file_has_size then uleb info.now.size else [])
@@ -441,7 +441,7 @@ fn write_details<W: Writer>(
 
 /// Appends a number as LEB128, where it is due.
 fn write_number_if<W: Writer>(w: &mut W, due: bool, number: u64) -> Result<()>
-    ensures { Writes W.Writer w.old w.new result (Ok (if due then uleb number else [])) }
+    ensures { Writes W.Sink w.old w.new result (Ok (if due then uleb number else [])) }
 {
     if !due {
         return Ok(());
@@ -451,7 +451,7 @@ fn write_number_if<W: Writer>(w: &mut W, due: bool, number: u64) -> Result<()>
 
 /// Appends a digest, where it is due.
 fn write_digest_if<W: Writer>(w: &mut W, due: bool, digest: &[u8; 16]) -> Result<()>
-    ensures { Writes W.Writer w.old w.new result (Ok (if due then digest.now else [])) }
+    ensures { Writes W.Sink w.old w.new result (Ok (if due then digest.now else [])) }
 {
     if !due {
         return Ok(());
@@ -474,7 +474,7 @@ fn write_source<W: Writer>(
     requires empty { program.now.file_has_source ≡ true → (details info.now).source ≡ None
         → IsEmptySource program.now (texts_in strings.now line_strings.now) (line_text empty.now) }
     requires form { form.0 ≡ first_form (sources program.now.files) }
-    ensures { Writes W.Writer w.old w.new result
+    ensures { Writes W.Sink w.old w.new result
         (source_bytes (W.big w.old) program.now.encoding.format
         (texts_in strings.now line_strings.now) program.now ((Inline [], 0), details info.now)) }
 {

@@ -29,7 +29,7 @@ pub(crate) fn write_header<W: Writer>(
     requires can { CanWrite program.now (texts_in strings.now line_strings.now) }
     requires empty { StandsForNone program.now (texts_in strings.now line_strings.now)
         (line_text empty.now) }
-    ensures writes { Writes W.Writer w.old w.new result
+    ensures writes { Writes W.Sink w.old w.new result
         (header_bytes (W.big w.old) program.now (texts_in strings.now line_strings.now)) }
     ensures fit { OnOk result (All FitsFile program.now.files) }
 {
@@ -53,7 +53,7 @@ fn write_fields<W: Writer>(
     requires can { CanWrite program.now (texts_in strings.now line_strings.now) }
     requires empty { StandsForNone program.now (texts_in strings.now line_strings.now)
         (line_text empty.now) }
-    ensures writes { Writes W.Writer w.old w.new result
+    ensures writes { Writes W.Sink w.old w.new result
         (fields_bytes (W.big w.old) program.now (texts_in strings.now line_strings.now)) }
     ensures fit { OnOk result (All FitsFile program.now.files) }
 {
@@ -68,7 +68,7 @@ fn write_line_encoding<W: Writer>(
     version: u16,
     line_encoding: LineEncoding,
 ) -> Result<()>
-    ensures { Writes W.Writer w.old w.new result (line_encoding_bytes version line_encoding) }
+    ensures { Writes W.Sink w.old w.new result (line_encoding_bytes version line_encoding) }
 {
     write_byte(w, line_encoding.minimum_instruction_length)?;
     write_operation_count(w, version, line_encoding.maximum_operations_per_instruction)?;
@@ -81,7 +81,7 @@ fn write_line_encoding<W: Writer>(
 
 /// Appends how many operations an instruction has, which before version 4 is one, and isn't said.
 fn write_operation_count<W: Writer>(w: &mut W, version: u16, operations: u8) -> Result<()>
-    ensures { Writes W.Writer w.old w.new result (operations_bytes version operations) }
+    ensures { Writes W.Sink w.old w.new result (operations_bytes version operations) }
 {
     if version >= 4 {
         return write_byte(w, operations);
@@ -103,7 +103,7 @@ fn write_tables<W: Writer>(
     requires can { CanWrite program.now (texts_in strings.now line_strings.now) }
     requires empty { StandsForNone program.now (texts_in strings.now line_strings.now)
         (line_text empty.now) }
-    ensures writes { Writes W.Writer w.old w.new result
+    ensures writes { Writes W.Sink w.old w.new result
         (tables_bytes (W.big w.old) program.now (texts_in strings.now line_strings.now)) }
     ensures fit { OnOk result (All FitsFile program.now.files) }
 {

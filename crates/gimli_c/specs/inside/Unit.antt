@@ -1,4 +1,4 @@
--- What is read of a unit, whatever place it has.
+-- What is read of a unit, wherever it stands.
 use Rattle.std.specs.Prelude.{◌≡◌, ℕ, true, List}
 use Rattle.gimli_line.specs.header.File.{File}
 use Rattle.gimli_line.specs.header.Header.{Header}
@@ -8,7 +8,7 @@ use Rattle.gimli_line.specs.run.EventsWithFiles.{FilesAtEnd}
 use Rattle.gimli_c.specs.declared.unit.GimliUnit.{GimliUnit}
 use Rattle.gimli_c.specs.Unit.{unit_seen}
 
--- what is read of a program, whatever place it has
+-- what is read of a program, wherever it stands
 pub record IsReadUnit (offset : ℕ) (h : Header) (notation : Notation) (unit : GimliUnit) : Type 0 where
   pub events : List Event
   pub given : Events notation h h.program events

@@ -7,7 +7,7 @@ ghost use Rattle.gimli_c.specs.Indexed.{no_place, GivesPlace, IsAnswer, WritesAn
 
 use crate::index::handle::GimliLineIndex;
 use crate::index::kept::SectionIndex;
-use crate::place::lesser;
+use crate::location::lesser;
 use crate::row::GimliRow;
 use crate::status::{CLOSED, NOT_FOUND, OK};
 use std::alloc::Global;
@@ -102,8 +102,8 @@ fn answer_all(index: &SectionIndex, addresses: &[u64], places: &mut [GimliPlace]
     ensures { WritesAnswers index.now addresses.now places.old places.new }
 {
     let count = lesser(addresses.len(), places.len());
-    for place in 0..count {
-        places[place] = answer_in(index, addresses[place]);
+    for slot in 0..count {
+        places[slot] = answer_in(index, addresses[slot]);
     }
 }
 

@@ -8,7 +8,7 @@ ghost use Rattle.gimli_c.specs.Indexed.{strings_in, AreUnitsIn, GivesAddressesOf
 use crate::index::handle::GimliLineIndex;
 use crate::index::kept::SectionIndex;
 use crate::index::units::copy_addresses;
-use crate::place::{is_address_size, order};
+use crate::location::{is_address_size, order};
 use crate::status::{CLOSED, NOT_FOUND, OK, OUT_OF_MEMORY, UNSUPPORTED_ADDRESS_SIZE};
 use gimli_core::{EndianSlice, RunTimeEndian};
 use gimli_line::DebugLine;

@@ -6,7 +6,7 @@ ghost use Rattle.gimli_c.specs.Indexed.{program, AreUnitsOf, IsIndexOf};
 
 use crate::index::handle::GimliLineIndex;
 use crate::index::kept::SectionIndex;
-use crate::place::{is_address_size, order};
+use crate::location::{is_address_size, order};
 use crate::status::{OK, OUT_OF_MEMORY, UNSUPPORTED_ADDRESS_SIZE};
 use gimli_core::{EndianSlice, RunTimeEndian};
 use gimli_line::DebugLine;

@@ -10,7 +10,7 @@ ghost use Rattle.gimli_c.specs.Indexed.{paths_in, GivesPath, HasNoPath, WritesPa
 use crate::file::copy_bytes;
 use crate::index::handle::GimliLineIndex;
 use crate::index::kept::SectionIndex;
-use crate::place::{order, program_at};
+use crate::location::{order, program_at};
 use crate::run::run_to_file;
 use crate::status::{CLOSED, NOT_FOUND, OK, OUT_OF_MEMORY, UNKNOWN_PATH, error_status};
 use gimli_core::{EndianSlice, RunTimeEndian};

@@ -15,9 +15,9 @@ use std::alloc::Global;
 impl SectionIndex {
     ghost use Rattle.gimli_lookup.specs.Section.{KeptUnit};
 
-    /// The place of a unit, or `NOT_FOUND` where there is none.
+    /// The index of a unit, or `NOT_FOUND` where there is none.
     fn unit_at(&self, unit: u64) -> Result<usize, u32>
-        ensures ok { IfOk result (λ place. (place ≡ unit) × (unit < length self.now.units)) }
+        ensures ok { IfOk result (λ index. (index ≡ unit) × (unit < length self.now.units)) }
         ensures err { IfErr result (λ s. (s ≡ NOT_FOUND) × (slice_get self.now.units unit ≡ None)) }
     {
         if unit < self.units.units().len() as u64 {
@@ -28,13 +28,16 @@ impl SectionIndex {
     }
 
     /// A unit, or `NOT_FOUND` where there is none.
-    fn listed(&self, unit: u64) -> Result<&UnitLookup<EndianSlice<'static, RunTimeEndian>>, u32>
+    fn listed_unit(
+        &self,
+        unit: u64,
+    ) -> Result<&UnitLookup<EndianSlice<'static, RunTimeEndian>>, u32>
         ensures ok { IfOk result (λ found. (kept : KeptUnit) × IsUnit self.now unit kept
             × (found.now ≡ kept.unit)) }
         ensures err { IfErr result (λ s. (s ≡ NOT_FOUND) × (slice_get self.now.units unit ≡ None)) }
     {
-        let place = self.unit_at(unit)?;
-        Ok(&self.units.units()[place])
+        let index = self.unit_at(unit)?;
+        Ok(&self.units.units()[index])
     }
 
     /// The offset of a unit in its section, or `NOT_FOUND` where there is none.
@@ -43,7 +46,7 @@ impl SectionIndex {
             × (offset ≡ kept.unit.offset)) }
         ensures err { IfErr result (λ s. (s ≡ NOT_FOUND) × (slice_get self.now.units unit ≡ None)) }
     {
-        let found = self.listed(unit)?;
+        let found = self.listed_unit(unit)?;
         Ok(found.offset().0)
     }
 }
@@ -82,7 +85,7 @@ fn unit_in(index: &SectionIndex, unit: u64) -> Result<GimliIndexUnit, u32>
     ensures ok { IfOk result (GivesIndexUnit index.now unit) }
     ensures err { IfErr result (λ s. (s ≡ NOT_FOUND) × (slice_get index.now.units unit ≡ None)) }
 {
-    let found = index.listed(unit)?;
+    let found = index.listed_unit(unit)?;
     Ok(GimliIndexUnit {
         offset: found.offset().0 as u64,
         fault: fault_status(found.fault()),
@@ -119,15 +122,15 @@ pub extern "C" fn gimli_line_index_unit(
     }
 }
 
-/// Puts addresses into a place, as far as there is room.
+/// Puts addresses into an array, as far as there is room.
 pub(crate) fn copy_addresses(addresses: &[u64], room: &mut [u64])
     ensures { room.new ≡ slots_with addresses.now room.old }
 {
-    for (place, address) in addresses.iter().enumerate() {
-        if place >= room.len() {
+    for (slot, address) in addresses.iter().enumerate() {
+        if slot >= room.len() {
             return;
         }
-        room[place] = *address;
+        room[slot] = *address;
     }
 }
 
@@ -137,8 +140,8 @@ fn addresses_in(index: &SectionIndex, unit: u64, file: u64, line: u64) -> Result
     ensures err { IfErr result (λ s. (s ≡ OUT_OF_MEMORY)
         ⊎ ((s ≡ NOT_FOUND) × HasNoAddress index.now unit file line)) }
 {
-    let place = index.unit_at(unit)?;
-    let found = match index.units.addresses_of_file(place, file, line) {
+    let unit_index = index.unit_at(unit)?;
+    let found = match index.units.addresses_of_file(unit_index, file, line) {
         Ok(found) => found,
         Err(_) => return Err(OUT_OF_MEMORY),
     };

@@ -6,7 +6,7 @@ ghost use Rattle.gimli_c.specs.Seen.{row_seen};
 ghost use Rattle.gimli_c.specs.Status.{fault_status};
 ghost use Rattle.gimli_c.specs.Written.{slots_with};
 
-use crate::place::lesser;
+use crate::location::lesser;
 use crate::row::GimliRow;
 use crate::row_reader::handle::GimliRowReader;
 use crate::row_reader::kept::UnitRows;
@@ -32,17 +32,17 @@ impl UnitRows {
         GimliRow::new(&self.rows.get(self.next + count).unwrap())
     }
 
-    /// Puts the rows to come into a place, as far as there is room.
+    /// Puts the rows to come into an array, as far as there is room.
     fn copy_to(&self, room: &mut [GimliRow])
         ensures { room.new ≡ slots_with (map row_seen (rows_left self.now)) room.old }
     {
         let count = self.count_within(room.len());
-        for place in 0..count {
-            room[place] = self.row_after(place);
+        for slot in 0..count {
+            room[slot] = self.row_after(slot);
         }
     }
 
-    /// Goes on by the rows that a place has room for, and returns how many these are, and the number that is told with
+    /// Goes on by the rows that an array has room for, and returns how many these are, and the number that is told with
     /// them.
     fn advance(&mut self, room: usize) -> (usize, u32)
         ensures rows { self.new ≡ after_rows result.0 self.old }

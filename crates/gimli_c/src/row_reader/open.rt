@@ -4,12 +4,12 @@ ghost use Rattle.std.specs.Prelude.{◌≡◌, ◌≢◌, ◌++◌, false, Err, 
 ghost use Rattle.gimli_core.specs.Numbers.{is_address_size};
 ghost use Rattle.gimli_line.specs.run.Rows.{events_left};
 ghost use Rattle.gimli_line.specs.run.Sequences.{events_of};
-ghost use Rattle.gimli_c.specs.Place.{place, HasNoUnit};
+ghost use Rattle.gimli_c.specs.Location.{location, HasNoUnit};
 ghost use Rattle.gimli_c.specs.Reader.{HasNoRows, IsAtFirstRow, IsAtFirstRowOfUnit};
 ghost use Rattle.gimli_c.specs.Run.{fault_of, rows_of};
 
 use crate::index::{GimliLineIndex, SectionIndex};
-use crate::place::program_at;
+use crate::location::program_at;
 use crate::row_reader::handle::GimliRowReader;
 use crate::row_reader::kept::UnitRows;
 use crate::run::{advance, is_memory};
@@ -42,7 +42,7 @@ fn keep_rows<R: Reader>(
 }
 
 /// Rows in memory of their own. Refused by `OUT_OF_MEMORY` alone.
-fn boxed(alloc: Global, rows: UnitRows) -> Result<Box<UnitRows>, u32>
+fn box_of(alloc: Global, rows: UnitRows) -> Result<Box<UnitRows>, u32>
     ensures ok { IfOk result (λ kept. kept.value ≡ rows) }
     ensures err { IfErr result (λ s. s ≡ OUT_OF_MEMORY) }
 {
@@ -61,9 +61,9 @@ fn rows_at(
     offset: usize,
 ) -> Result<Box<UnitRows>, u32>
     ensures ok { IfOk result (λ rows.
-        IsAtFirstRow (place section.now big address_size offset) rows.value) }
+        IsAtFirstRow (location section.now big address_size offset) rows.value) }
     ensures refused { IfErr result (λ s. s ≢ OUT_OF_MEMORY →
-        HasNoUnit (place section.now big address_size offset) s) }
+        HasNoUnit (location section.now big address_size offset) s) }
     ensures size { is_address_size address_size ≡ false → result ≡ Err UNSUPPORTED_ADDRESS_SIZE }
     ensures number { IfErr result (λ s. s ≢ OK) }
 {
@@ -81,7 +81,7 @@ fn rows_at(
         next: 0,
         fault,
     };
-    boxed(alloc, kept)
+    box_of(alloc, kept)
 }
 
 /// Runs the program of the unit at an offset, and puts its rows behind the handle; what stood there is given back. Then
@@ -99,10 +99,10 @@ pub extern "C" fn gimli_line_rows_open(
     reader: &mut GimliRowReader,
 ) -> u32
     ensures ok { result ≡ OK → IfSome reader.new.rows
-        (IsAtFirstRow (place section.now big address_size offset)) }
+        (IsAtFirstRow (location section.now big address_size offset)) }
     ensures open { result ≡ OK → IsSome reader.new.rows }
     ensures refused { result ≢ OK → result ≢ OUT_OF_MEMORY →
-        HasNoUnit (place section.now big address_size offset) result }
+        HasNoUnit (location section.now big address_size offset) result }
     ensures size { is_address_size address_size ≡ false → result ≡ UNSUPPORTED_ADDRESS_SIZE }
     ensures kept { result ≢ OK → reader.new.rows ≡ reader.old.rows }
 {

@@ -14,7 +14,7 @@ use gimli_core::{
 };
 
 /// Takes a value in a form. Refused by `UnknownForm` at a form that line programs don't know.
-#[tactic(auto, unfolding(crate::specs::header::FormReading::form_at, crate::specs::header::FormReading::number_form_at))]
+#[tactic(auto, unfolding(crate::specs::inside::header::FormReading::form_at, crate::specs::inside::header::FormReading::number_form_at))]
 pub(crate) fn parse_attribute<R: Reader>(
     input: &mut R,
     format: Format,
@@ -48,7 +48,7 @@ pub(crate) fn parse_attribute<R: Reader>(
 }
 
 /// Takes a value in a form that isn't a block: a number, or what comes after those.
-#[tactic(auto, unfolding(crate::specs::header::FormReading::number_form_at, crate::specs::header::FormReading::word_form_at))]
+#[tactic(auto, unfolding(crate::specs::inside::header::FormReading::number_form_at, crate::specs::inside::header::FormReading::word_form_at))]
 fn parse_number<R: Reader>(input: &mut R, format: Format, form: DwForm) -> Result<AttributeValue<R>>
     ensures read { (result_map (value_seen R.bytes R.Offset.number) result, R.bytes input.new)
         ≡ number_form_at (notation_of (R.big input.old) R.Offset.limit) format form.0 (R.bytes input.old) }
@@ -68,7 +68,7 @@ fn parse_number<R: Reader>(input: &mut R, format: Format, form: DwForm) -> Resul
 }
 
 /// Takes a word of the format, a text, or what comes after those: an index.
-#[tactic(auto, unfolding(crate::specs::header::FormReading::word_form_at, crate::specs::header::FormReading::index_form_at))]
+#[tactic(auto, unfolding(crate::specs::inside::header::FormReading::word_form_at, crate::specs::inside::header::FormReading::index_form_at))]
 fn parse_word_or_text<R: Reader>(
     input: &mut R,
     format: Format,
@@ -102,7 +102,7 @@ fn parse_word_or_text<R: Reader>(
 }
 
 /// Takes an index of a text. Refused by `UnknownForm` at a form that has none.
-#[tactic(auto, unfolding(crate::specs::header::FormReading::index_form_at))]
+#[tactic(auto, unfolding(crate::specs::inside::header::FormReading::index_form_at))]
 fn parse_index<R: Reader>(input: &mut R, format: Format, form: DwForm) -> Result<AttributeValue<R>>
     ensures read { (result_map (value_seen R.bytes R.Offset.number) result, R.bytes input.new)
         ≡ index_form_at (notation_of (R.big input.old) R.Offset.limit) format form.0 (R.bytes input.old) }

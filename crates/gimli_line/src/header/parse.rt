@@ -17,7 +17,7 @@ use gimli_core::{
 use std::alloc::Global;
 
 /// Takes a byte that isn't 0. Refused by `error` where it is.
-#[tactic(auto, unfolding(crate::specs::header::HeaderReading::positive_at))]
+#[tactic(auto, unfolding(crate::specs::inside::header::HeaderReading::positive_at))]
 fn parse_positive<R: Reader>(input: &mut R, error: Error) -> Result<u8>
     ensures read { (result, R.bytes input.new) ≡ positive_at error (R.bytes input.old) }
     ensures order { R.big input.new ≡ R.big input.old }
@@ -32,7 +32,7 @@ fn parse_positive<R: Reader>(input: &mut R, error: Error) -> Result<u8>
 
 /// Takes a version, from 2 to 5: the versions of the line table, which are those of DWARF (DWARF 5, appendix F).
 /// Refused by `UnknownVersion` at any other.
-#[tactic(auto, unfolding(crate::specs::header::HeaderReading::version_at))]
+#[tactic(auto, unfolding(crate::specs::inside::header::HeaderReading::version_at))]
 fn parse_version<R: Reader>(input: &mut R) -> Result<u16>
     ensures read { (result, R.bytes input.new) ≡ version_at (R.big input.old) (R.bytes input.old) }
     ensures order { R.big input.new ≡ R.big input.old }
@@ -46,7 +46,7 @@ fn parse_version<R: Reader>(input: &mut R) -> Result<u16>
 
 /// The address size of a unit: the handed one up to version 4, else the unit's own, after which a segment
 /// selector size of 0 stands.
-#[tactic(auto, unfolding(crate::specs::header::HeaderReading::own_address_size_at))]
+#[tactic(auto, unfolding(crate::specs::inside::header::HeaderReading::own_address_size_at))]
 fn parse_address_size<R: Reader>(input: &mut R, version: u16, handed: u8) -> Result<u8>
     requires { IsTrue (is_address_size handed) }
     ensures read { (result, R.bytes input.new) ≡ size_at version handed (R.bytes input.old) }
@@ -65,7 +65,7 @@ fn parse_address_size<R: Reader>(input: &mut R, version: u16, handed: u8) -> Res
 }
 
 /// Takes what rows are encoded by. Up to version 3 the maximum of operations isn't there, and is 1.
-#[tactic(auto, unfolding(crate::specs::header::HeaderReading::line_encoding_at))]
+#[tactic(auto, unfolding(crate::specs::inside::header::HeaderReading::line_encoding_at))]
 fn parse_line_encoding<R: Reader>(input: &mut R, version: u16) -> Result<LineEncoding>
     ensures read { (result, R.bytes input.new) ≡ line_encoding_at version (R.bytes input.old) }
     ensures order { R.big input.new ≡ R.big input.old }
@@ -99,7 +99,7 @@ fn parse_operations<R: Reader>(input: &mut R, version: u16) -> Result<u8>
 }
 
 /// Takes what instructions are executed by.
-#[tactic(auto, unfolding(crate::specs::header::HeaderReading::parameters_at))]
+#[tactic(auto, unfolding(crate::specs::inside::header::HeaderReading::parameters_at))]
 fn parse_parameters<R: Reader>(input: &mut R, encoding: Encoding) -> Result<Parameters>
     requires { IsTrue (is_address_size encoding.address_size) }
     ensures read { (result, R.bytes input.new) ≡ parameters_at encoding (R.bytes input.old) }
@@ -130,7 +130,7 @@ impl<R: Reader> Opening<R> {
     ghost use Rattle.gimli_line.specs.inside.header.Opening.{opening_seen};
 
     /// Takes a unit up to the end of its header; what is left is its program.
-    #[tactic(auto, unfolding(crate::specs::header::HeaderReading::opening_at))]
+    #[tactic(auto, unfolding(crate::specs::inside::header::HeaderReading::opening_at))]
     fn parse(input: &mut R, handed: u8, format: Format) -> Result<Self>
         requires { IsTrue (is_address_size handed) }
         ensures read { (result_map (opening_seen R.bytes R.Offset.number) result, R.bytes input.new)
@@ -170,7 +170,7 @@ where
 
     /// Takes the header of a unit, and its program. The unit length says where the unit ends, and the header length
     /// where the program begins: what a later version appends to a header is passed over so.
-    #[tactic(auto, unfolding(crate::specs::header::HeaderReading::header_at))]
+    #[tactic(auto, unfolding(crate::specs::inside::header::HeaderReading::header_at))]
     pub(crate) fn parse(
         alloc: Global,
         input: &mut R,
@@ -205,7 +205,7 @@ where
     }
 
     /// Takes the fields of a header within its length.
-    #[tactic(auto, unfolding(crate::specs::header::HeaderReading::fields_at))]
+    #[tactic(auto, unfolding(crate::specs::inside::header::HeaderReading::fields_at))]
     fn parse_fields(
         alloc: Global,
         opening: Opening<R>,

@@ -33,7 +33,7 @@ pub(crate) fn push<T: Drop>(list: &mut Vec<T>, item: T) -> Result<()>
 // ---- formats
 
 /// Takes the formats of a table. Refused by `MissingFileEntryFormatPath` where not exactly one of them is a path.
-#[tactic(auto, unfolding(crate::specs::header::HeaderReading::formats_at))]
+#[tactic(auto, unfolding(crate::specs::inside::header::HeaderReading::formats_at))]
 pub(crate) fn parse_formats<R: Reader>(alloc: Global, input: &mut R) -> Result<Vec<FileEntryFormat>>
     ensures read { IsOutcome (λ formats. formats.items) result (R.bytes input.new) (formats_at (R.bytes input.old)) }
     ensures order { R.big input.new ≡ R.big input.old }
@@ -69,7 +69,7 @@ fn parse_all_formats<R: Reader>(
 }
 
 /// Takes a format. A content type that is too large becomes the greatest one.
-#[tactic(auto, unfolding(crate::specs::header::HeaderReading::format_at))]
+#[tactic(auto, unfolding(crate::specs::inside::header::HeaderReading::format_at))]
 fn parse_format<R: Reader>(input: &mut R) -> Result<FileEntryFormat>
     ensures read { (result, R.bytes input.new) ≡ format_at (R.bytes input.old) }
     ensures order { R.big input.new ≡ R.big input.old }
@@ -172,7 +172,7 @@ fn parse_file_v5<R: Reader>(
 }
 
 /// Takes a count and so many directories.
-#[tactic(auto, unfolding(crate::specs::header::HeaderReading::entries_at))]
+#[tactic(auto, unfolding(crate::specs::inside::header::HeaderReading::entries_at))]
 fn parse_directories_v5<R: Reader>(
     alloc: Global,
     input: &mut R,
@@ -194,7 +194,7 @@ fn parse_directories_v5<R: Reader>(
 }
 
 /// Takes a count and so many files.
-#[tactic(auto, unfolding(crate::specs::header::HeaderReading::entries_at))]
+#[tactic(auto, unfolding(crate::specs::inside::header::HeaderReading::entries_at))]
 fn parse_files_v5<R: Reader>(
     alloc: Global,
     input: &mut R,
@@ -218,7 +218,7 @@ fn parse_files_v5<R: Reader>(
 // ---- tables of a version
 
 /// Takes the directories, with their formats.
-#[tactic(auto, unfolding(crate::specs::header::HeaderReading::directories_at, crate::specs::header::HeaderReading::table_at))]
+#[tactic(auto, unfolding(crate::specs::inside::header::HeaderReading::directories_at, crate::specs::inside::header::HeaderReading::table_at))]
 pub(crate) fn parse_directory_table<R: Reader>(
     alloc: Global,
     input: &mut R,
@@ -239,7 +239,7 @@ pub(crate) fn parse_directory_table<R: Reader>(
 }
 
 /// Takes the files, with their formats.
-#[tactic(auto, unfolding(crate::specs::header::HeaderReading::file_names_at, crate::specs::header::HeaderReading::table_at))]
+#[tactic(auto, unfolding(crate::specs::inside::header::HeaderReading::file_names_at, crate::specs::inside::header::HeaderReading::table_at))]
 pub(crate) fn parse_file_table<R: Reader>(
     alloc: Global,
     input: &mut R,

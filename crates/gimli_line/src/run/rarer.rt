@@ -1,9 +1,14 @@
 //! Instructions that are met now and then, executed from their bytes.
 
 ghost use Rattle.std.specs.Prelude.{◌≡◌, IfSome, Ok};
+ghost use Rattle.gimli_core.specs.Notation.{notation_of};
 ghost use Rattle.gimli_core.specs.Reading.{number_at, unsigned_at};
+ghost use Rattle.gimli_line.specs.declared.run.instruction.LineInstruction.TheVariants.{DefineFile};
+ghost use Rattle.gimli_line.specs.header.File.{file_seen, FileHasOrder};
 ghost use Rattle.gimli_line.specs.header.FormReading.{offset_at};
+ghost use Rattle.gimli_line.specs.run.InstructionReading.{extended_at};
 
+use crate::header::file_entry::FileEntry;
 use crate::header::parameters::Parameters;
 use crate::header::program_header::LineProgramHeader;
 use crate::run::instruction::LineInstructions;
@@ -36,11 +41,45 @@ fn read_set_address<R: Reader>(operands: &mut R, parameters: &Parameters) -> Res
     operands.read_address(parameters.encoding.address_size)
 }
 
+/// Takes a definition of a file, from the bytes after the zero byte. None at another opcode, or where its length is
+/// long or its operands aren't there.
+#[inline(always)]
+fn read_defined_file<R: Reader>(
+    header: &LineProgramHeader<R>,
+    input: &mut R,
+) -> Option<FileEntry<R>>
+    ensures read { IfSome result (λ file.
+        extended_at (notation_of (R.big input.old) R.Offset.limit) header.now.meaning (R.bytes input.old)
+        ≡ (Ok (DefineFile (file_seen R.bytes R.Offset.number file)), R.bytes input.new)) }
+    ensures order { R.big input.new ≡ R.big input.old }
+    ensures file { IfSome result (FileHasOrder R.big (R.big input.old)) }
+{
+    let Some(length) = read_short_offset(input) else {
+        return None;
+    };
+    let Ok(mut inside) = input.split(length) else {
+        return None;
+    };
+    let Ok(opcode) = inside.read_u8() else {
+        return None;
+    };
+    match DwLne(opcode) {
+        constants::DW_LNE_define_file if header.parameters.encoding.version <= 4 => {
+            let Ok(path_name) = inside.read_null_terminated_slice() else {
+                return None;
+            };
+            match FileEntry::parse(&mut inside, path_name) {
+                Ok(file) => Some(file),
+                Err(_) => None,
+            }
+        }
+        _ => None,
+    }
+}
+
 impl LineRow {
     ghost use Rattle.std.specs.Prelude.{IsNone};
-    ghost use Rattle.gimli_core.specs.Notation.{notation_of};
     ghost use Rattle.gimli_line.specs.inside.run.Execution.{ExecutedWell};
-    ghost use Rattle.gimli_line.specs.run.InstructionReading.{extended_at};
 
     /// Executes one of the extended opcodes that are met most, from the bytes after the zero byte,
     /// and says whether it makes a row. None at another opcode, or where its length or its operand is
@@ -93,6 +132,33 @@ impl<R: Reader> LineInstructions<R> {
     ghost use Rattle.std.specs.Prelude.{true, IfOk, IfErr, IsNone};
     ghost use Rattle.gimli_line.specs.inside.run.Execution.{Executed, ExecutedWell};
     ghost use Rattle.gimli_line.specs.run.InstructionReading.{ins_at};
+
+    /// Takes the next instruction where it defines a file. None, and nothing is changed, where it is another
+    /// one, or its length is long, or it isn't there as a whole.
+    #[inline(always)]
+    pub(super) fn next_defined_file(
+        &mut self,
+        header: &LineProgramHeader<R>,
+    ) -> Option<FileEntry<R>>
+        ensures read { IfSome result (λ file. ins_at self.old.notation header.now.meaning self.old.bytes
+            ≡ (Ok (DefineFile (file_seen R.bytes R.Offset.number file)), self.new.bytes)) }
+        ensures none { IsNone result → self.new ≡ self.old }
+        ensures notation { self.new.notation ≡ self.old.notation }
+        ensures order { IfSome result (FileHasOrder R.big self.old.notation.big) }
+    {
+        let mut input = self.input;
+        let Ok(opcode) = input.read_u8() else {
+            return None;
+        };
+        if opcode != 0 {
+            return None;
+        }
+        let Some(file) = read_defined_file(header, &mut input) else {
+            return None;
+        };
+        self.input = input;
+        Some(file)
+    }
 
     /// Executes the next instruction on the registers, from its bytes, where it is one of those
     /// that are met now and then, as `execute_common` does those that are met most.

@@ -246,7 +246,7 @@ impl<R: Reader, P: LineProgram<R>> LineRows<R, P> {
         let header = self.program.header();
         let made = match self.instructions.execute_rarer(header, &mut self.row) {
             Err(e) => return Err(e),
-            Ok(None) => return self.step_any(),
+            Ok(None) => return self.step_define_file(),
             Ok(Some(made)) => made,
         };
         if !made {
@@ -257,6 +257,30 @@ impl<R: Reader, P: LineProgram<R>> LineRows<R, P> {
         }
         self.row.reset(self.program.header());
         Ok(Step::More)
+    }
+
+    /// Executes one instruction: a definition of a file from its bytes, any other as it is parsed.
+    fn step_define_file(&mut self) -> Result<Step>
+        ensures ok { IfOk result (StepIs self.old self.new) }
+        ensures err { IfErr result (FaultIs self.old self.new) }
+        ensures fixed { self.new.fixed ≡ self.old.fixed }
+        ensures appends { self.new.appends ≡ self.old.appends }
+        ensures notation { self.new.notation ≡ self.old.notation }
+        ensures offset { self.new.offset ≡ self.old.offset }
+        ensures order { IsOfOneOrder self.old → IsOfOneOrder self.new }
+        ensures handed { self.new.orders.handed ≡ self.old.orders.handed }
+    {
+        let header = self.program.header();
+        let Some(file) = self.instructions.next_defined_file(header) else {
+            return self.step_any();
+        };
+        match self.program.add_file(file) {
+            Err(e) => {
+                self.instructions.clear();
+                Err(e)
+            }
+            Ok(()) => Ok(Step::More),
+        }
     }
 
     /// Executes one instruction of any kind.

@@ -1,5 +1,5 @@
--- What a conversion reads of a line program: rows and ends, each at its place, found by looking back (DWARF 5, sections
--- 6.2.2 and 6.2.5). The past of a place is the list of the instructions before it, the nearest first.
+-- What a conversion reads of a line program: rows and ends, each at its point, found by looking back (DWARF 5, sections
+-- 6.2.2 and 6.2.5). The past of a point is the list of the instructions before it, the nearest first.
 use Rattle.std.specs.Prelude.{◌≡◌, ℕ, Bool, true, false, ◌-◌, not, ◌&&◌, if◌then◌else◌, nat_eq, nat_le, List, [], ◌∷◌, slice_get, Option, Some, None, ok_or, Result, Ok, Err}
 use Rattle.gimli_core.specs.Notation.{Notation}
 use Rattle.gimli_core.specs.declared.error.Error.{Error}
@@ -28,18 +28,18 @@ abbrev pub address_operand : Ins → Option ℕ
 address_operand (SetAddressIns a) = Some a
 address_operand i = None
 
--- the address that was last set in the sequence of a place, from which offsets count; else 0
+-- the address that was last set in the sequence of a point, from which offsets count; else 0
 abbrev pub base_at : List Ins → ℕ
 base_at past = nearest address_operand 0 (sequence past)
 
--- the address that was last set after the last place that makes a row, if one was
+-- the address that was last set after the last point that makes a row, if one was
 abbrev pub pending_address : List Ins → Option ℕ
 pending_address [] = None
 pending_address (i ∷ past) = if makes_row i then None else (elim (address_operand i) [ Some a ↦ Some a | None ↦ pending_address past ])
 
 -- ---- rows
 
--- the row of a place
+-- the row of a point
 abbrev pub source_row : Parameters → List Ins → Ins → SourceRow
 source_row parameters past i =
     let row = row_at parameters past i in
@@ -79,7 +79,7 @@ pub data Reading : Type 0 where
   stops : ConvertError → Reading
   -- the definition of a file, and what is read after it
   defines : Reading → Reading
-  -- an address, a row or an end, with the tables at its place, and what is read after it
+  -- an address, a row or an end, with the tables at its point, and what is read after it
   offers : ConvertLineRow → TablesAndTexts → Reading → Reading
 
 abbrev pub address_offered : Option ℕ → TablesAndTexts → Reading → Reading
@@ -98,7 +98,7 @@ row_or_end_offered version tables r rest =
 abbrev pub source_row_offered : ℕ → TablesAndTexts → SourceRow → Reading → Reading
 source_row_offered version tables r rest = address_offered r.set_address tables (row_or_end_offered version tables r rest)
 
--- what a place gives, and what is read after it: a refusal where it overflows, else its row where it makes one and
+-- what a point gives, and what is read after it: a refusal where it overflows, else its row where it makes one and
 -- isn't under a tombstone
 abbrev pub reading_at : Parameters → TablesAndTexts → List Ins → Ins → Reading → Reading
 reading_at parameters tables past i rest =
@@ -121,7 +121,7 @@ abbrev pub tables_after_definition : Sections → TablesAndTexts → Ins → Res
 tables_after_definition sections tables (DefineFile f) = file_added sections tables f
 tables_after_definition sections tables i = Ok tables
 
--- the tables at a place: the first ones, and the files that were defined before it, under a tombstone or not
+-- the tables at a point: the first ones, and the files that were defined before it, under a tombstone or not
 abbrev pub tables_at : Sections → TablesAndTexts → List Ins → Result TablesAndTexts ConvertError
 tables_at sections first [] = Ok first
 tables_at sections first (i ∷ past) = tables_at sections first past >>= λ tables. tables_after_definition sections tables i

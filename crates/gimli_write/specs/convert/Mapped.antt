@@ -41,7 +41,7 @@ use Rattle.gimli_write.specs.convert.Conversion.{AnswersAs, outcome_with, Conver
 abbrev pub MapsToItself : (ℕ → Option Address) → Type 0
 MapsToItself convert_address = (a : ℕ) → convert_address a ≡ Some (Constant a)
 
--- a place of the sequence that ends this past made a row that isn't under a tombstone
+-- a point of the sequence that ends this past made a row that isn't under a tombstone
 abbrev pub gave_row : Parameters → List Ins → Bool
 gave_row parameters [] = false
 gave_row parameters (i ∷ past) = if is_end i then false else ((makes_row i && not (is_under_tombstone parameters past)) || gave_row parameters past)

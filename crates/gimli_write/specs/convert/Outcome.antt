@@ -20,16 +20,16 @@ use Rattle.gimli_write.specs.declared.convert.rows.ConvertLineRow.TheVariants as
 
 -- whether a row or an end at the offset o and the operation i can follow a row at p and j; this tests `CanFollow`
 abbrev pub can_follow : LineEncoding → ℕ × ℕ → ℕ → ℕ → Bool
-can_follow e place offset op_index =
+can_follow e position offset op_index =
     nat_eq (offset % e.minimum_instruction_length) 0 && nat_lt op_index e.maximum_operations_per_instruction
-    && nat_le place.0 offset && (not (nat_eq offset place.0) || nat_le place.1 op_index)
-    && nat_lt ((offset - place.0) / e.minimum_instruction_length * e.maximum_operations_per_instruction + op_index) (2 ^ 64)
+    && nat_le position.0 offset && (not (nat_eq offset position.0) || nat_le position.1 op_index)
+    && nat_lt ((offset - position.0) / e.minimum_instruction_length * e.maximum_operations_per_instruction + op_index) (2 ^ 64)
 
--- whether an item can be built where the previous row is at this place; this tests `CanBuild`
+-- whether an item can be built where the previous row is at this position; this tests `CanBuild`
 abbrev pub can_build : LineEncoding → ℕ × ℕ → BuiltItem → Bool
-can_build e place (SetAddress a) = true
-can_build e place (Row r) = can_follow e place r.address_offset r.op_index && nat_lt r.line (2 ^ 63)
-can_build e place (End offset op_index) = can_follow e place offset op_index
+can_build e position (SetAddress a) = true
+can_build e position (Row r) = can_follow e position r.address_offset r.op_index && nat_lt r.line (2 ^ 63)
+can_build e position (End offset op_index) = can_follow e position offset op_index
 
 -- ---- one item
 

@@ -22,7 +22,7 @@ pub record SourceRun : Type 0 where
   pub row : LineRow
   -- the address that was last set in the sequence, else 0
   pub base : ℕ
-  -- the address that was set after the last place that made a row
+  -- the address that was set after the last point that made a row
   pub pending : Option ℕ
   -- the instructions to come
   pub unread : Unread

@@ -161,9 +161,9 @@ impl<R: Reader> Conversion<R> {
     /// A row or an end of the source, as it is handed out. Refused as `InvalidFileIndex` where the source has no file of
     /// the row's number so far.
     fn row_or_end(&self, row: &SourceRow) -> ConvertResult<ConvertLineRow>
-        ensures ok { IfOk result (λ place. (line_strings : List (List ℕ)) (rest : Reading) →
+        ensures ok { IfOk result (λ offered. (line_strings : List (List ℕ)) (rest : Reading) →
             row_or_end_offered (version_of_source self.now) (tables_of self.now line_strings) row.now rest
-            ≡ offers place (tables_of self.now line_strings) rest) }
+            ≡ offers offered (tables_of self.now line_strings) rest) }
         ensures err { IfErr result (λ e. (line_strings : List (List ℕ)) (rest : Reading) →
             row_or_end_offered (version_of_source self.now) (tables_of self.now line_strings) row.now rest ≡ stops e) }
         ensures found { OnOk result ((line_strings : List (List ℕ)) →

@@ -19,7 +19,7 @@ use crate::convert::texts::{
     optional_program_text, program_text, source_path, source_text, without_zero,
 };
 use crate::convert_error::{ConvertError, ConvertResult, from_write};
-use crate::text::{TextSections, copied};
+use crate::text::{TextSections, copy_of};
 use gimli_build::{DirectoryId, FileId, LineProgram};
 use gimli_bytes::LineStringTable;
 use gimli_core::{AttributeValue, Encoding, LineEncoding, Reader, ReaderOffset};
@@ -137,7 +137,7 @@ fn named_source_file<R: Reader>(alloc: Global, name: R) -> ConvertResult<SourceF
     ensures directory { IfOk result (λ found. found.directory ≡ None) }
     ensures path_no_zero { IfOk result (λ found. All (λ b. b ≢ 0) found.path) }
 {
-    let path = without_zero(copied(alloc, name)?)?;
+    let path = without_zero(copy_of(alloc, name)?)?;
     Ok(SourceFile {
         directory: None,
         path,

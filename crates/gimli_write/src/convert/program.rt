@@ -119,7 +119,7 @@ impl<R: Reader> ConvertLineHeader<R> {
 
     /// The second half of `ConvertLineProgram::new`, which is never refused: the conversion of the program after the
     /// header. It holds both tables until it is dropped, and so far they are as they were. The line strings have to be
-    /// the table that `new` was handed, since directories and files name texts by their place there: with another table
+    /// the table that `new` was handed, since directories and files name texts by their index there: with another table
     /// the program that is built has other names.
     pub fn converter<'a, 'b>(
         self,

@@ -94,7 +94,7 @@ pub(crate) struct SourceRun<R: Reader> {
     instructions: LineInstructions<R>,
     /// The address that was last set in the sequence, under a tombstone or not; else 0.
     base: u64,
-    /// The address that was set after the last place that made a row, under a tombstone or not.
+    /// The address that was set after the last point that made a row, under a tombstone or not.
     pending: Option<u64>,
 }
 

@@ -6,8 +6,8 @@ use Rattle.gimli_build.proofs.bytes.write_section_offset.Goals as goal
 
 pub returns : goal.returns
 returns g c =
-    let big = g.W.Writer.big c.args.w.now in
+    let big = g.W.Sink.big c.args.w.now in
     let n = c.args.offset in
     let small : n < 2 ^ 64 = omega arith in
     let put = rw (c.word_size.ensures, word_is big c.args.format n small) at c.write_offset.ensures in
-    writes g.W.Writer c.args.w.now c.write_offset.new.self c.write_offset.result (format_word big c.args.format n) put.keeps put.ordered put.ok put.err
+    writes (format_word big c.args.format n) put

@@ -2,13 +2,13 @@ use Rattle.std.proofs.Common.{◌∙◌, sym, inr, arith}
 use Rattle.gimli_c.proofs.Arrays.{written_none, written_take, copied_more}
 use Rattle.gimli_c.proofs.file.copy_bytes.Goals as goal
 
-pub loop-place-init : goal.loop-place-init
-loop-place-init c = sym (written_none c.args.room.now)
+pub loop-slot-init : goal.loop-slot-init
+loop-slot-init c = sym (written_none c.args.room.now)
 
-pub returns-then-place-room : goal.returns-then-place-room
-returns-then-place-room c =
-    c.loop-place.invariant ∙ written_take c.loop-place.place c.args.bytes.now c.args.room.now (inr (omega arith))
+pub returns-then-slot-room : goal.returns-then-slot-room
+returns-then-slot-room c =
+    c.loop-slot.invariant ∙ written_take c.loop-slot.slot c.args.bytes.now c.args.room.now (inr (omega arith))
 
-pub loop-place-preserved : goal.loop-place-preserved
-loop-place-preserved c =
-    copied_more c.args.bytes.now c.args.room.now c.loop-place.room c.loop-place.place (omega arith) c.loop-place.invariant
+pub loop-slot-preserved : goal.loop-slot-preserved
+loop-slot-preserved c =
+    copied_more c.args.bytes.now c.args.room.now c.loop-slot.room c.loop-slot.slot (omega arith) c.loop-slot.invariant

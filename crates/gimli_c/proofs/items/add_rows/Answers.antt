@@ -12,7 +12,7 @@ returns-in_err-base-clause-cause c = λ start.
     let old = c.args.program.now in
     let so_far = c.loop-row.invariant in
     rw (p.1, p.2) (λ s.
-    subst (λ (place : ℕ × ℕ). HasRowsFault old.line_encoding old.encoding.version (length c.args.ids.now) None place c.args.rows.now c.in_err-base.field-0.0) start
+    subst (λ (position : ℕ × ℕ). HasRowsFault old.line_encoding old.encoding.version (length c.args.ids.now) None position c.args.rows.now c.in_err-base.field-0.0) start
     (so_far.faults _
     (row_of_rows c.loop-row.program old _ _ _ _ _ _ _ (ap (λ (q : Built). q.line_encoding) so_far.others) (ap (λ (q : Built). q.encoding) so_far.others) c.loop-row-test.true
     (c.in_err-base.ensures.cause (so_far.start start) s))))
@@ -29,6 +29,6 @@ loop-row-preserved c =
       well = λ s start fault.
           let left = rows_left c.loop-row.program old _ _ _ c.args.rows.now c.loop-row.row-index _ s (ap (λ (q : Built). q.line_encoding) so_far.others)
           (ap (λ (q : Built). q.encoding) so_far.others) c.loop-row-test.true (c.in_ok-base.ensures.well (so_far.start start)) (so_far.well s start fault) in
-          rw (c.in_ok-base.ensures.after, c.in_ok-base.ensures.place) left;
+          rw (c.in_ok-base.ensures.after, c.in_ok-base.ensures.position) left;
       others = first_of (search rules, grind (arith, common_steps));
     }

@@ -11,11 +11,11 @@ loop-item-init g c =
     let e = c.args.line_encoding in
     let first = initial_row c.args.encoding.version e.default_is_stmt in
     record {
-      keeps = begins_self (g.W.Writer.contents c.args.w.now);
+      keeps = begins_self (g.W.Sink.contents c.args.w.now);
       ordered = refl;
       fit = tt;
       way = rw c.initial-initial.ensures (record { position = start_position e c.requires.can; line = lit< tt; built = c.requires.built });
-      put = λ keeps_bytes. rw c.initial-initial.ensures (standing_start (g.W.Writer.big c.args.w.now) c.args.encoding e (g.W.Writer.contents c.args.w.now) first c.args.items.now);
+      put = λ keeps_bytes. rw c.initial-initial.ensures (standing_start (g.W.Sink.big c.args.w.now) c.args.encoding e (g.W.Sink.contents c.args.w.now) first c.args.items.now);
     }
 
 pub loop-item-preserved : goal.loop-item-preserved
@@ -25,8 +25,8 @@ loop-item-preserved g c =
     let items = c.args.items.now in
     let item = c.item-item.result in
     let i = c.loop-item.item-index in
-    let big = g.W.Writer.big c.args.w.now in
-    let contents = g.W.Writer.contents in
+    let big = g.W.Sink.big c.args.w.now in
+    let contents = g.W.Sink.contents in
     let whole = items_bytes big c.args.encoding e (initial_row version e.default_is_stmt) items in
     let previous = at_position c.loop-item.position c.loop-item.previous.now in
     let lt : i < length items = omega arith in

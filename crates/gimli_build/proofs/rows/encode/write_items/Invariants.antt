@@ -7,14 +7,14 @@ use Rattle.gimli_build.proofs.rows.encode.write_items.Given as goal
 
 abbrev pub invariant-loop-item : goal.invariant-loop-item
 invariant-loop-item g l =
-    let contents = g.W.Writer.contents in
-    let big = g.W.Writer.big l.fn.w in
+    let contents = g.W.Sink.contents in
+    let big = g.W.Sink.big l.fn.w in
     let first = initial_row l.encoding.version l.line_encoding.default_is_stmt in
     let previous = at_position l.position l.previous in
     record {
       keeps : Begins (contents l.fn.w) (contents l.w);
-      ordered : g.W.Writer.big l.w ≡ big;
+      ordered : g.W.Sink.big l.w ≡ big;
       fit : AreFit l.encoding.version (take l.item-index l.items);
       way : OnTheWay l.line_encoding previous (drop l.item-index l.items);
-      put : IsTrue g.W.Writer.keeps_bytes → Standing big l.encoding l.line_encoding (items_bytes big l.encoding l.line_encoding first l.items) (contents l.fn.w) (contents l.w) previous (drop l.item-index l.items);
+      put : IsTrue g.W.Sink.keeps_bytes → Standing big l.encoding l.line_encoding (items_bytes big l.encoding l.line_encoding first l.items) (contents l.fn.w) (contents l.w) previous (drop l.item-index l.items);
     }

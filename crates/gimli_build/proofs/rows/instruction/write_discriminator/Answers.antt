@@ -17,21 +17,21 @@ returns-in_err-write_byte g c =
 pub returns-in_err-write_uleb128 : goal.returns-in_err-write_uleb128
 returns-in_err-write_uleb128 g c =
     let p = err_from_is_err_and c.from_residual-in_err-write_uleb128.result c.from_residual-in_err-write_uleb128.ensures.1 in
-    let put = c.in_err-write_uleb128.ensures in
-    let refused = writes g.W.Writer c.write_byte.new.w c.write_uleb128.new.self (let r : Result (Unit {0}) Error = Err c.in_err-write_uleb128.field-0.0 in r) (Ok (uleb (length c.bytes.result.now + 1))) put.keeps put.ordered put.ok put.err in
+    let put = c.in_err-write_uleb128.ensures.appends in
+    let refused = writes (Ok (uleb (length c.bytes.result.now + 1))) put in
     rw (p.1, p.2) (unwritten (instruction_bytes (SetDiscriminator c.args.discriminator)) c.in_ok-write_byte.ensures refused)
 
 pub returns-in_err-write_byte-2 : goal.returns-in_err-write_byte-2
 returns-in_err-write_byte-2 g c =
     let p = err_from_is_err_and c.from_residual-in_err-write_byte-2.result c.from_residual-in_err-write_byte-2.ensures.1 in
-    let put = c.in_ok-write_uleb128.ensures in
-    let second = writes g.W.Writer c.write_byte.new.w c.write_uleb128.new.self (let r : Result (Unit {0}) Error = Ok tt in r) (Ok (uleb (length c.bytes.result.now + 1))) put.keeps put.ordered put.ok put.err in
+    let put = c.in_ok-write_uleb128.ensures.appends in
+    let second = writes (Ok (uleb (length c.bytes.result.now + 1))) put in
     rw (p.1, p.2) (unwritten (instruction_bytes (SetDiscriminator c.args.discriminator)) (joins c.in_ok-write_byte.ensures second) c.in_err-write_byte-2.ensures)
 
 pub returns : goal.returns
 returns g c =
-    let put = c.in_ok-write_uleb128.ensures in
-    let second = rw (c.bytes.ensures, c.unsigned-operand.ensures) at (writes g.W.Writer c.write_byte.new.w c.write_uleb128.new.self (let r : Result (Unit {0}) Error = Ok tt in r) (Ok (uleb (length c.bytes.result.now + 1))) put.keeps put.ordered put.ok put.err) in
+    let put = c.in_ok-write_uleb128.ensures.appends in
+    let second = rw (c.bytes.ensures, c.unsigned-operand.ensures) at (writes (Ok (uleb (length c.bytes.result.now + 1))) put) in
     let last = c.write.ensures in
-    let fourth = rw (c.bytes-2.ensures, c.unsigned-operand.ensures) at (writes g.W.Writer c.write_byte-2.new.w c.write.new.self c.write.result (Ok c.bytes-2.result.now) last.keeps last.ordered last.ok last.err) in
+    let fourth = rw (c.bytes-2.ensures, c.unsigned-operand.ensures) at (writes (Ok c.bytes-2.result.now) last) in
     joins c.in_ok-write_byte.ensures (joins second (joins c.in_ok-write_byte-2.ensures fourth))

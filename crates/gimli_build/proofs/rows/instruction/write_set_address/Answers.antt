@@ -8,13 +8,13 @@ use Rattle.gimli_build.proofs.rows.instruction.write_set_address.Goals as goal
 
 pub returns : goal.returns
 returns g c =
-    let big = g.W.Writer.big in
+    let big = g.W.Sink.big in
     let size = c.args.size in
     let first = c.in_ok-write_byte.ensures in
-    let put = c.in_ok-write_uleb128.ensures in
-    let second = rw c.from.ensures at (writes g.W.Writer c.write_byte.new.w c.write_uleb128.new.self (let r : Result (Unit {0}) Error = Ok tt in r) (Ok (uleb (c.from.result + 1))) put.keeps put.ordered put.ok put.err) in
+    let put = c.in_ok-write_uleb128.ensures.appends in
+    let second = rw c.from.ensures at (writes (Ok (uleb (c.from.result + 1))) put) in
     let third = c.in_ok-write_byte-2.ensures in
     let last = c.write_address.ensures in
-    let address = writes g.W.Writer c.write_byte-2.new.w c.write_address.new.self c.write_address.result (address_bytes (big c.write_byte-2.new.w) c.args.address.now size) last.keeps last.ordered last.ok last.err in
+    let address = writes (address_bytes (big c.write_byte-2.new.w) c.args.address.now size) last in
     let fourth = rw (third.ordered ∙ put.ordered ∙ first.ordered) at address in
     rw (← address_parts (uleb (size + 1)) (address_bytes (big c.args.w.now) c.args.address.now size)) (joins first (joins second (joins third fourth)))

@@ -11,4 +11,4 @@ returns-then-has_seven_bits g c =
     let one : has_seven_bits c.args.operand ≡ true = ap has_seven_bits (sym back) ∙ sym c.if-has_seven_bits.ensures in
     let low : c.low_bits.result ≡ low_bits c.args.operand = c.low_bits.ensures ∙ ap low_bits back in
     let put = c.write.ensures in
-    rw (sleb_one c.args.operand one, ← low) (writes g.W.Writer c.args.w.now c.write.new.self c.write.result (Ok (c.args.opcode.0 ∷ c.low_bits.result ∷ [])) put.keeps put.ordered put.ok put.err)
+    rw (sleb_one c.args.operand one, ← low) (writes (Ok (c.args.opcode.0 ∷ c.low_bits.result ∷ [])) put)

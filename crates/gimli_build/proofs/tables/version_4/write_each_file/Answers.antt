@@ -12,7 +12,7 @@ use Rattle.gimli_build.proofs.writing.Writes.{none_written, one_written, one_unw
 use Rattle.gimli_build.proofs.tables.version_4.write_each_file.Goals as goal
 
 pub loop-index-init : goal.loop-index-init
-loop-index-init g c = record { so = none_written g.W.Writer file_bytes c.args.tables.now.files c.args.w.now; fit = All-nil FitsFile }
+loop-index-init g c = record { so = none_written g.W.Sink file_bytes c.args.tables.now.files c.args.w.now; fit = All-nil FitsFile }
 
 pub returns-in_err-write_file-clause-writes : goal.returns-in_err-write_file-clause-writes
 returns-in_err-write_file-clause-writes g c =

@@ -6,6 +6,6 @@ use Rattle.gimli_build.proofs.tables.version_4.write_each_file.Given as goal
 
 abbrev pub invariant-loop-index : goal.invariant-loop-index
 invariant-loop-index g l = record {
-  so : WritesSoFar g.W.Writer file_bytes l.tables.files (drop l.index l.tables.files) l.fn.w l.w;
+  so : WritesSoFar g.W.Sink file_bytes l.tables.files (drop l.index l.tables.files) l.fn.w l.w;
   fit : All FitsFile (take l.index l.tables.files);
 }

@@ -14,7 +14,7 @@ returns g c =
     let count = uleb (length p.files) in
     let has = ap (λ (q : Built). q.file_has_source) c.program.view_is in
     let third = rw (has, c.requires) at c.in_ok-write_format_if.ensures in
-    let last = c.write_uleb128.ensures in
-    let fourth = rw (c.file_count.ensures.count, c.tables.ensures.files) at (writes g.W.Writer c.write_format_if.new.w c.write_uleb128.new.self c.write_uleb128.result (Ok (uleb c.file_count.result)) last.keeps last.ordered last.ok last.err) in
+    let last = c.write_uleb128.ensures.appends in
+    let fourth = rw (c.file_count.ensures.count, c.tables.ensures.files) at (writes (Ok (uleb c.file_count.result)) last) in
     rw (← formats-grouped (0x0001, path) (0x0002, 0x0f) (0x0003, 0x0f) (0x0004, 0x0f) (0x0005, 0x1e) (0x2001, source) p.file_has_timestamp p.file_has_size p.file_has_md5 p.file_has_source count)
     (joins c.in_ok-write_key_formats.ensures (joins c.in_ok-write_detail_formats.ensures (joins third fourth)))

@@ -9,6 +9,6 @@ pub returns-clause-writes : goal.returns-clause-writes
 returns-clause-writes g c =
     let first = rw (c.version.ensures, c.line_encoding.ensures) at c.in_ok-write_line_encoding.ensures in
     let put = c.in_ok-write.ensures in
-    let second = writes g.W.Writer c.write_line_encoding.new.w c.write.new.self (let r : Result (Unit {0}) Error = Ok tt in r) (Ok opcode_bytes) put.keeps put.ordered put.ok put.err in
+    let second = writes (Ok opcode_bytes) put in
     let third = rw (put.ordered ∙ first.ordered) at c.write_tables.ensures.writes in
     joins first (joins second third)

@@ -12,8 +12,8 @@ use Rattle.gimli_build.proofs.unit.header.write_header.Goals as goal
 
 pub returns-clause-writes : goal.returns-clause-writes
 returns-clause-writes g c =
-    let contents = g.W.Writer.contents in
-    let big = g.W.Writer.big c.args.w.now in
+    let contents = g.W.Sink.contents in
+    let big = g.W.Sink.big c.args.w.now in
     let format = c.args.program.now.encoding.format in
     let old = contents c.args.w.now in
     let c1 = contents c.write_udata.new.self in
@@ -25,11 +25,11 @@ returns-clause-writes g c =
     let word : ℕ → Result (List ℕ) Error = λ k. format_word big format k in
     let bytes = fields_bytes big c.args.program.now (texts_in c.args.strings.now c.args.line_strings.now) in
     let ordered = fields.ordered ∙ c.in_ok-write_udata.ensures.ordered in
-    let opened : IsTrue g.W.Writer.keeps_bytes → c1 ≡ (old ++ []) ++ open_word big format = λ keeps_bytes.
+    let opened : IsTrue g.W.Sink.keeps_bytes → c1 ≡ (old ++ []) ++ open_word big format = λ keeps_bytes.
     rw (c.word_size-size.ensures, c.format.ensures, zero_word big format) at (c.in_ok-write_udata.ensures.ok keeps_bytes) ∙ ap (λ (l : List ℕ). l ++ open_word big format) (sym (append-nil old)) in
     let at : start ≡ length old + 0 = omega (arith, c.len-length.ensures) in
     let le : length old ≤ start = omega (arith, c.len-length.ensures) in
-    let written : IsTrue g.W.Writer.keeps_bytes → Appends bytes c1 c2 = λ keeps_bytes. rw c.in_ok-write_udata.ensures.ordered at (fields.ok keeps_bytes) in
+    let written : IsTrue g.W.Sink.keeps_bytes → Appends bytes c1 c2 = λ keeps_bytes. rw c.in_ok-write_udata.ensures.ordered at (fields.ok keeps_bytes) in
     let counted : n ≡ length c2 - length c1 = omega (arith, c.len.ensures, c.len-start.ensures) in
     let small : n < 2 ^ 64 = omega arith in
     let known = word_is big format n small in

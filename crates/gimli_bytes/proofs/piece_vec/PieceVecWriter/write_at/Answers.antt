@@ -1,33 +1,35 @@
-use Rattle.std.proofs.Common.{arith, ◌≡◌, ◌∙◌, ◌+◌, ◌≤◌, length, take, List, ℕ, ap, sym}
+use Rattle.std.proofs.Common.{arith, ◌≡◌, ◌∙◌, ◌+◌, ◌≤◌, length, take, List, ℕ, refl, ap, sym}
 use Rattle.std.specs.List.{concat}
 use Rattle.gimli_bytes.proofs.PieceLemmas.{HoldPieces-same, bytes-within, bytes-length, bytes-over, take-before, patched-inside, patched-past}
 use Rattle.gimli_bytes.proofs.piece_vec.PieceVecWriter.write_at.Goals as goal
 
-pub returns-then-bytes-self-clause-err : goal.returns-then-bytes-self-clause-err
-returns-then-bytes-self-clause-err g c =
+pub returns-then-bytes-self : goal.returns-then-bytes-self
+returns-then-bytes-self g c =
     let size = bytes-length _ _ _ c.self.invariant in
-    rw (← c.self.view_is) (λ _. patched-past (take c.self.inside.len (concat c.self.inside.pieces.items)) c.args.offset c.args.bytes.now (omega arith) (omega arith))
+    rw (← c.self.view_is) (record {
+      len = refl;
+      before = refl;
+      ordered = refl;
+      refused = refl;
+      ok = λ _. tt;
+      err = λ _. patched-past (take c.self.inside.len (concat c.self.inside.pieces.items)) c.args.offset c.args.bytes.now (omega arith) (omega arith);
+    })
 
 pub put-requires-clause-fits : goal.put-requires-clause-fits
 put-requires-clause-fits g c = omega (arith, bytes-within _ _ _ c.self.invariant)
 
-pub returns-clause-len : goal.returns-clause-len
-returns-clause-len g c =
+pub returns : goal.returns
+returns g c =
+    let old = take c.self.inside.len (concat c.self.inside.pieces.items) in
+    let size : length old ≡ c.self.inside.len = bytes-length _ _ _ c.self.invariant in
+    let fits : c.args.offset + length c.args.bytes.now ≤ c.self.inside.len = omega arith in
+    let over = bytes-over _ _ c.args.offset _ c.put.new.pieces.items c.args.bytes.now c.self.invariant fits c.put.ensures.bytes in
     let same = HoldPieces-same _ _ _ _ c.self.invariant c.put.ensures.sizes c.put.ensures.count in
-    rw (← c.self.view_is) (bytes-length _ _ _ same ∙ sym (bytes-length _ _ _ c.self.invariant))
-
-pub returns-clause-before : goal.returns-clause-before
-returns-clause-before g c =
-    let old = take c.self.inside.len (concat c.self.inside.pieces.items) in
-    let size : length old ≡ c.self.inside.len = bytes-length _ _ _ c.self.invariant in
-    let fits : c.args.offset + length c.args.bytes.now ≤ c.self.inside.len = omega arith in
-    let over = bytes-over _ _ c.args.offset _ c.put.new.pieces.items c.args.bytes.now c.self.invariant fits c.put.ensures.bytes in
-    rw (← c.self.view_is) (ap (λ (l : List ℕ). take c.args.offset l) over ∙ take-before old c.args.offset c.args.bytes.now (omega arith))
-
-pub returns-clause-ok : goal.returns-clause-ok
-returns-clause-ok g c =
-    let old = take c.self.inside.len (concat c.self.inside.pieces.items) in
-    let size : length old ≡ c.self.inside.len = bytes-length _ _ _ c.self.invariant in
-    let fits : c.args.offset + length c.args.bytes.now ≤ c.self.inside.len = omega arith in
-    let over = bytes-over _ _ c.args.offset _ c.put.new.pieces.items c.args.bytes.now c.self.invariant fits c.put.ensures.bytes in
-    rw (← c.self.view_is) (λ _. patched-inside old c.args.offset c.args.bytes.now (take c.self.inside.len (concat c.put.new.pieces.items)) (omega arith) over)
+    rw (← c.self.view_is) (record {
+      len = bytes-length _ _ _ same ∙ sym (bytes-length _ _ _ c.self.invariant);
+      before = ap (λ (l : List ℕ). take c.args.offset l) over ∙ take-before old c.args.offset c.args.bytes.now (omega arith);
+      ordered = refl;
+      refused = tt;
+      ok = λ _. patched-inside old c.args.offset c.args.bytes.now (take c.self.inside.len (concat c.put.new.pieces.items)) (omega arith) over;
+      err = λ _. tt;
+    })

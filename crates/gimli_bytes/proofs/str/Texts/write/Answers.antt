@@ -1,43 +1,52 @@
 use Rattle.std.proofs.Common.{◌∙◌}
-use Rattle.gimli_bytes.proofs.TablesWritten.{begins_then, text_put, all_put}
+use Rattle.std.proofs.lemmas.Result.{err_from_is_err_and}
+use Rattle.gimli_core.specs.Numbers.{number_bytes}
+use Rattle.gimli_bytes.specs.Texts.{table_bytes}
+use Rattle.gimli_bytes.proofs.Parts.{begins_then, refused_after}
+use Rattle.gimli_bytes.proofs.TablesWritten.{text_put, all_put}
 use Rattle.gimli_bytes.proofs.str.Texts.write.Goals as goal
 
-pub returns-in_err-write-clause-keeps : goal.returns-in_err-write-clause-keeps
-returns-in_err-write-clause-keeps g c =
-    let contents = g.W.Writer.contents in
-    begins_then (contents c.args.w.now) (contents c.loop-text.w) (contents c.write.new.self) c.loop-text.invariant.keeps c.in_err-write.ensures.keeps
+pub returns-in_err-write-clause-appends : goal.returns-in_err-write-clause-appends
+returns-in_err-write-clause-appends g c =
+    let p = err_from_is_err_and c.from_residual.result c.from_residual.ensures.1 in
+    rw (p.1, p.2) (refused_after c.as_slice.result.now (table_bytes c.args.self.now) c.loop-text.invariant.keeps c.loop-text.invariant.ordered c.in_err-write.ensures)
 
 pub returns-in_err-write-clause-texts : goal.returns-in_err-write-clause-texts
 returns-in_err-write-clause-texts g c = rw (← c.self.view_is) c.self.invariant.are_texts
 
-pub returns-in_err-write_u8-clause-keeps : goal.returns-in_err-write_u8-clause-keeps
-returns-in_err-write_u8-clause-keeps g c =
-    let contents = g.W.Writer.contents in
-    begins_then (contents c.args.w.now) (contents c.write.new.self) (contents c.write_u8.new.self)
-    (begins_then (contents c.args.w.now) (contents c.loop-text.w) (contents c.write.new.self) c.loop-text.invariant.keeps c.in_ok-write.ensures.keeps)
-    c.in_err-write_u8.ensures.keeps
+pub returns-in_err-write_u8-clause-appends : goal.returns-in_err-write_u8-clause-appends
+returns-in_err-write_u8-clause-appends g c =
+    let contents = g.W.Sink.contents in
+    let p = err_from_is_err_and c.from_residual-in_err-write_u8.result c.from_residual-in_err-write_u8.ensures.1 in
+    let keeps = begins_then (contents c.args.w.now) (contents c.loop-text.w) (contents c.write.new.self) c.loop-text.invariant.keeps c.in_ok-write.ensures.keeps in
+    rw (p.1, p.2) (refused_after (number_bytes (g.W.Sink.big c.write.new.self) 1 0) (table_bytes c.args.self.now) keeps (c.in_ok-write.ensures.ordered ∙ c.loop-text.invariant.ordered) c.in_err-write_u8.ensures)
 
 pub returns-in_err-write_u8-clause-texts : goal.returns-in_err-write_u8-clause-texts
 returns-in_err-write_u8-clause-texts g c = rw (← c.self.view_is) c.self.invariant.are_texts
 
 pub loop-text-preserved : goal.loop-text-preserved
 loop-text-preserved g c =
-    let contents = g.W.Writer.contents in
+    let contents = g.W.Sink.contents in
     record {
       keeps = begins_then (contents c.args.w.now) (contents c.write.new.self) (contents c.write_u8.new.self)
           (begins_then (contents c.args.w.now) (contents c.loop-text.w) (contents c.write.new.self) c.loop-text.invariant.keeps c.in_ok-write.ensures.keeps)
           c.in_ok-write_u8.ensures.keeps;
       ordered = c.in_ok-write_u8.ensures.ordered ∙ c.in_ok-write.ensures.ordered ∙ c.loop-text.invariant.ordered;
-      put = λ keeps. text_put c.as_slice-text-items.result.now c.loop-text.text-index c.text-item.result (g.W.Writer.big c.write.new.self) c.as_slice.result.now
+      put = λ keeps. text_put c.as_slice-text-items.result.now c.loop-text.text-index c.text-item.result (g.W.Sink.big c.write.new.self) c.as_slice.result.now
           (contents c.args.w.now) (contents c.loop-text.w) (contents c.write.new.self) (contents c.write_u8.new.self)
           c.loop-text-test.true c.text-item.is c.as_slice.ensures.value (c.loop-text.invariant.put keeps) (c.in_ok-write.ensures.ok keeps) (c.in_ok-write_u8.ensures.ok keeps);
     }
 
-pub returns-clause-ok : goal.returns-clause-ok
-returns-clause-ok g c =
-    let contents = g.W.Writer.contents in
-    λ keeps. all_put c.as_slice-text-items.result.now c.self.inside.strings.keys c.loop-text.text-index c.args.self.now
-    (contents c.args.w.now) (contents c.loop-text.w) c.loop-text-test.false c.as_slice-text-items.ensures.keys c.self.view_is (c.loop-text.invariant.put keeps)
+pub returns-clause-appends : goal.returns-clause-appends
+returns-clause-appends g c =
+    let contents = g.W.Sink.contents in
+    record {
+      keeps = c.loop-text.invariant.keeps;
+      ordered = c.loop-text.invariant.ordered;
+      ok = λ keeps. all_put c.as_slice-text-items.result.now c.self.inside.strings.keys c.loop-text.text-index c.args.self.now
+          (contents c.args.w.now) (contents c.loop-text.w) c.loop-text-test.false c.as_slice-text-items.ensures.keys c.self.view_is (c.loop-text.invariant.put keeps);
+      err = λ memory_alone. tt;
+    }
 
 pub returns-clause-texts : goal.returns-clause-texts
 returns-clause-texts g c = rw (← c.self.view_is) c.self.invariant.are_texts

@@ -6,9 +6,9 @@ use Rattle.gimli_bytes.proofs.str.Texts.write.Given as goal
 
 abbrev pub invariant-loop-text : goal.invariant-loop-text
 invariant-loop-text g l =
-    let contents = g.W.Writer.contents in
+    let contents = g.W.Sink.contents in
     record {
       keeps : Begins (contents l.fn.w) (contents l.w);
-      ordered : g.W.Writer.big l.w ≡ g.W.Writer.big l.fn.w;
-      put : IsTrue g.W.Writer.keeps_bytes → contents l.w ≡ contents l.fn.w ++ table_bytes (texts_of (take l.text-index l.text-items));
+      ordered : g.W.Sink.big l.w ≡ g.W.Sink.big l.fn.w;
+      put : IsTrue g.W.Sink.keeps_bytes → contents l.w ≡ contents l.fn.w ++ table_bytes (texts_of (take l.text-index l.text-items));
     }

@@ -6,8 +6,8 @@ use Rattle.gimli_bytes.proofs.writer.Writer.write_uleb128.Goals as goal
 pub returns-then-val-lt128-clause-shortest : goal.returns-then-val-lt128-clause-shortest
 returns-then-val-lt128-clause-shortest g c = uleb_shortest c.args.val (omega arith)
 
-pub returns-then-val-lt128-clause-ok : goal.returns-then-val-lt128-clause-ok
-returns-then-val-lt128-clause-ok g c = rw (uleb_one c.args.val c.if-val-lt128.true) c.write.ensures.ok
+pub returns-then-val-lt128-clause-appends : goal.returns-then-val-lt128-clause-appends
+returns-then-val-lt128-clause-appends g c = rw (uleb_one c.args.val c.if-val-lt128.true) c.write.ensures
 
 pub returns-clause-shortest : goal.returns-clause-shortest
 returns-clause-shortest g c = uleb_shortest c.args.val (omega arith)

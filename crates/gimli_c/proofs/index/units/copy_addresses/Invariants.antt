@@ -2,5 +2,5 @@ use Rattle.std.proofs.Common.{◌≡◌, take}
 use Rattle.gimli_c.specs.Written.{slots_with}
 use Rattle.gimli_c.proofs.index.units.copy_addresses.Given as goal
 
-abbrev pub invariant-loop-place : goal.invariant-loop-place
-invariant-loop-place l = l.room ≡ slots_with (take l.place l.addresses) l.initial.room
+abbrev pub invariant-loop-slot : goal.invariant-loop-slot
+invariant-loop-slot l = l.room ≡ slots_with (take l.slot l.addresses) l.initial.room

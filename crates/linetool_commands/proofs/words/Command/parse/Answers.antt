@@ -34,21 +34,21 @@ four (a ∷ b ∷ c ∷ []) d l m = grind arith
 four (a ∷ b ∷ c ∷ e ∷ []) d l m = refl
 four (a ∷ b ∷ c ∷ e ∷ f ∷ rest) d l m = grind arith
 
-pub returns-in_ok-parse_place-in-rows-clause-command : goal.returns-in_ok-parse_place-in-rows-clause-command
-returns-in_ok-parse_place-in-rows-clause-command c =
+pub returns-in_ok-parse_location-in-rows-clause-command : goal.returns-in_ok-parse_location-in-rows-clause-command
+returns-in_ok-parse_location-in-rows-clause-command c =
     let words = c.args.words.now in
     let d : Bor (List ℕ) = record { ref_ptr = (0, 0); now = [] } in
     let is_rows = c.in-rows.is-rows in
     let whole = five words d c.in-rows.len_at_least c.in-rows.len_below in
-    ((get_or words 1 d).now, (get_or words 2 d).now, (get_or words 3 d).now, (get_or words 4 d).now, cc, c.in_ok-parse_place-in-rows.ensures.named)
+    ((get_or words 1 d).now, (get_or words 2 d).now, (get_or words 3 d).now, (get_or words 4 d).now, cc, c.in_ok-parse_location-in-rows.ensures.named)
 
-pub returns-in_ok-parse_place-in-sequences-clause-command : goal.returns-in_ok-parse_place-in-sequences-clause-command
-returns-in_ok-parse_place-in-sequences-clause-command c =
+pub returns-in_ok-parse_location-in-sequences-clause-command : goal.returns-in_ok-parse_location-in-sequences-clause-command
+returns-in_ok-parse_location-in-sequences-clause-command c =
     let words = c.args.words.now in
     let d : Bor (List ℕ) = record { ref_ptr = (0, 0); now = [] } in
     let is_sequences = c.in-sequences.is-sequences in
     let whole = five words d c.in-sequences.len_at_least c.in-sequences.len_below in
-    ((get_or words 1 d).now, (get_or words 2 d).now, (get_or words 3 d).now, (get_or words 4 d).now, cc, c.in_ok-parse_place-in-sequences.ensures.named)
+    ((get_or words 1 d).now, (get_or words 2 d).now, (get_or words 3 d).now, (get_or words 4 d).now, cc, c.in_ok-parse_location-in-sequences.ensures.named)
 
 pub returns-in_ok-parse-in-units-clause-command : goal.returns-in_ok-parse-in-units-clause-command
 returns-in_ok-parse-in-units-clause-command c =

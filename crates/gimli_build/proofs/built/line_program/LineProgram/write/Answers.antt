@@ -17,8 +17,8 @@ write_whole-requires-clause-can g c =
 
 pub returns-clause-reads_back : goal.returns-clause-reads_back
 returns-clause-reads_back g c = λ keeps_bytes.
-    let contents = g.W.Writer.contents in
-    let big = g.W.Writer.big c.args.w.now.0 in
+    let contents = g.W.Sink.contents in
+    let big = g.W.Sink.big c.args.w.now.0 in
     let p = c.args.self.now in
     let texts = texts_in c.args.strings.now c.args.line_strings.now in
     let same = c.in_ok-empty.ensures.tables.strings in
@@ -42,8 +42,8 @@ returns-clause-reads_back g c = λ keeps_bytes.
 
 pub returns-clause-no_cause : goal.returns-clause-no_cause
 returns-clause-no_cause g c = λ keeps_bytes.
-    let contents = g.W.Writer.contents in
-    let big = g.W.Writer.big c.args.w.now.0 in
+    let contents = g.W.Sink.contents in
+    let big = g.W.Sink.big c.args.w.now.0 in
     let p = c.args.self.now in
     let unit = c.args.encoding in
     let compatible : is_incompatible unit p.encoding ≡ false = search rules in
@@ -53,7 +53,7 @@ returns-clause-no_cause g c = λ keeps_bytes.
 
 pub returns-in_err-write_whole-clause-err : goal.returns-in_err-write_whole-clause-err
 returns-in_err-write_whole-clause-err g c = λ keeps_bytes fails_for_memory_alone.
-    let big = g.W.Writer.big c.args.w.now.0 in
+    let big = g.W.Sink.big c.args.w.now.0 in
     let p = c.args.self.now in
     let unit = c.args.encoding in
     let compatible : is_incompatible unit p.encoding ≡ false = search rules in

@@ -4,5 +4,5 @@ use Rattle.gimli_c.specs.Seen.{row_seen}
 use Rattle.gimli_c.specs.Written.{slots_with}
 use Rattle.gimli_c.proofs.row_reader.kept.UnitRows.copy_to.Given as goal
 
-abbrev pub invariant-loop-place : goal.invariant-loop-place
-invariant-loop-place l = l.room ≡ slots_with (take l.place (map row_seen (rows_left l.self))) l.initial.room
+abbrev pub invariant-loop-slot : goal.invariant-loop-slot
+invariant-loop-slot l = l.room ≡ slots_with (take l.slot (map row_seen (rows_left l.self))) l.initial.room

@@ -1,7 +1,7 @@
 use Rattle.std.proofs.Common.{◌∙◌, ap, sym, inr}
 use Rattle.gimli_c.specs.Status.{error_status}
-use Rattle.gimli_c.proofs.Places.{same_unit, same_fault}
-use Rattle.gimli_c.proofs.place.program_at.Goals as goal
+use Rattle.gimli_c.proofs.Locations.{same_unit, same_fault}
+use Rattle.gimli_c.proofs.location.program_at.Goals as goal
 
 pub returns-in-Ok-clause-unit : goal.returns-in-Ok-clause-unit
 returns-in-Ok-clause-unit c =

@@ -3,7 +3,7 @@
 ghost use Rattle.gimli_core.specs.Order.{is_big};
 ghost use Rattle.gimli_core.specs.Numbers.{is_address_size};
 ghost use Rattle.std.specs.Prelude.{◌≡◌, ◌≢◌, Err, IfErr, IfOk, false, min};
-ghost use Rattle.gimli_c.specs.Place.{place, notation_at, HasUnit, HasNoUnit};
+ghost use Rattle.gimli_c.specs.Location.{location, notation_at, HasUnit, HasNoUnit};
 
 use crate::status::{OUT_OF_MEMORY, UNSUPPORTED_ADDRESS_SIZE, error_status};
 use gimli_core::{DebugLineOffset, EndianSlice, RunTimeEndian};
@@ -19,11 +19,11 @@ pub(crate) fn program_at<'s>(
     offset: usize,
 ) -> Result<IncompleteLineProgram<EndianSlice<'s, RunTimeEndian>>, u32>
     ensures unit { IfOk result (λ program.
-        HasUnit (place section.now big address_size offset) program.meaning) }
+        HasUnit (location section.now big address_size offset) program.meaning) }
     ensures notation { IfOk result (λ program.
-        program.notation ≡ notation_at (place section.now big address_size offset)) }
+        program.notation ≡ notation_at (location section.now big address_size offset)) }
     ensures refused { IfErr result (λ status. status ≢ OUT_OF_MEMORY →
-        HasNoUnit (place section.now big address_size offset) status) }
+        HasNoUnit (location section.now big address_size offset) status) }
     ensures size { is_address_size address_size ≡ false → result ≡ Err UNSUPPORTED_ADDRESS_SIZE }
 {
     if !is_address_size(address_size) {

@@ -10,37 +10,37 @@ use Rattle.gimli_c.specs.Status.{error_status}
 
 -- a section of bytes, whether the most significant byte of a number comes first, the size of addresses up to version 4,
 -- and the offset of a unit
-pub record Place : Type 0 where
+pub record Location : Type 0 where
   pub section : List ℕ
   pub big : Bool
   pub address_size : ℕ
   pub offset : ℕ
 
-abbrev pub place : List ℕ → Bool → ℕ → ℕ → Place
-place section big address_size offset =
+abbrev pub location : List ℕ → Bool → ℕ → ℕ → Location
+location section big address_size offset =
     record { section = section; big = big; address_size = address_size; offset = offset }
 
 -- offsets have 64 bits
-abbrev pub notation_at : Place → Notation
+abbrev pub notation_at : Location → Notation
 notation_at p = notation_of p.big (2 ^ 64)
 
 -- no directory and no name is handed in
-abbrev pub unit_entry_at : Place → UnitEntry
+abbrev pub unit_entry_at : Location → UnitEntry
 unit_entry_at p = record { address_size = p.address_size; directory = None; name = None }
 
 -- addresses can have the size that was handed in, whatever the version of the unit is, and the bytes from the offset on begin
 -- with a unit of this header
-abbrev pub HasUnit : Place → Header → Type 0
+abbrev pub HasUnit : Location → Header → Type 0
 HasUnit p h =
     (is_address_size p.address_size ≡ true) × SpellsUnit (notation_at p) (unit_entry_at p) (drop p.offset p.section) h
 
 -- addresses can have that size, and the bytes begin with no unit; this is the number of the refusal
-abbrev pub HasBadHeader : Place → ℕ → Type 0
+abbrev pub HasBadHeader : Location → ℕ → Type 0
 HasBadHeader p status =
     (is_address_size p.address_size ≡ true)
     × (e : Error) × HasHeaderFault (notation_at p) (unit_entry_at p) (drop p.offset p.section) e × (status ≡ error_status e)
 
--- no unit can be read at the place, and this is the number of the refusal; the size that was handed in comes first
-abbrev pub HasNoUnit : Place → ℕ → Type 0
+-- no unit can be read there, and this is the number of the refusal; the size that was handed in comes first
+abbrev pub HasNoUnit : Location → ℕ → Type 0
 HasNoUnit p status =
     ((is_address_size p.address_size ≡ false) × (status ≡ UNSUPPORTED_ADDRESS_SIZE)) ⊎ HasBadHeader p status

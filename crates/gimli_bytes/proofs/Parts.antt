@@ -1,0 +1,29 @@
+-- Appends one after the other.
+use Rattle.std.proofs.Common.{◌≡◌, ℕ, ◌≤◌, min, List, length, take, Ok, Err, refl, sym, ap, ◌∙◌, arith}
+use Rattle.std.proofs.lemmas.List.{take-take, length-take, take_all}
+use Rattle.gimli_bytes.specs.Written.{Begins, IsAppend, IsAppendInParts}
+use Rattle.gimli_bytes.specs.declared.error.Error.{Error}
+use Rattle.gimli_bytes.specs.declared.sink.Sink.{Ghosts}
+
+-- where nothing is written
+pub begins_self : (old : List ℕ) → Begins old old
+begins_self old = take_all (length old) old (omega arith)
+
+pub begins_then : (a b c : List ℕ) → Begins a b → Begins b c → Begins a c
+begins_then a b c first second =
+    let size : min (length a) (length b) ≡ length a = sym (length-take (length a) b) ∙ ap length first in
+    let le : length a ≤ length b = omega (arith, size) in
+    sym (take-take (length a) (length b) c le) ∙ ap (λ (l : List ℕ). take (length a) l) second ∙ first
+
+-- one that is refused, after what is written so far: for memory, whatever bytes are wanted of it and of the whole
+pub refused_after : {W X Y : Type 0} {sink : Ghosts W} {old mid new : W} {e : Error} (part whole : List ℕ) → Begins (sink.contents old) (sink.contents mid) → sink.big mid ≡ sink.big old → IsAppend {X = X} sink mid new (Err e) (Ok part) → IsAppendInParts {X = Y} sink old new (Err e) (Ok whole)
+refused_after {sink = sink} {old = old} {mid = mid} {new = new} part whole keeps ordered refused = record {
+  keeps = begins_then (sink.contents old) (sink.contents mid) (sink.contents new) keeps refused.keeps;
+  ordered = refused.ordered ∙ ordered;
+  ok = λ keeps_bytes. tt;
+  err = refused.err;
+}
+
+-- the first one refused
+pub refused_first : {W X Y : Type 0} {sink : Ghosts W} {old new : W} {e : Error} (part whole : List ℕ) → IsAppend {X = X} sink old new (Err e) (Ok part) → IsAppendInParts {X = Y} sink old new (Err e) (Ok whole)
+refused_first {sink = sink} {old = old} part whole refused = refused_after part whole (begins_self (sink.contents old)) refl refused

@@ -1,0 +1,27 @@
+//! What a writer means, apart from its calls.
+
+ghost use Rattle.std.specs.Prelude.{ℕ, Bool, List};
+
+/// What a [`Writer`](crate::Writer) means: its bytes, their order, and three facts of its type.
+///
+/// It has no call, and nothing of it is left in a program. It stands apart from `Writer`, so that
+/// the clauses of its calls can name it whole.
+pub trait Sink {
+    /// The bytes of the section.
+    ghost contents: { Self → List ℕ };
+
+    /// Whether the most significant byte of a number comes first.
+    ghost big: { Self → Bool };
+
+    /// Whether a writer of this type keeps exactly the bytes given to it.
+    ghost keeps_bytes: { Bool };
+
+    /// Whether a writer of this type refuses a `write` only with `OutOfMemory`, a `write_at` for
+    /// its two bounds alone, and any other call for what is said there, or as the `write` or
+    /// `write_at` under it.
+    ghost fails_for_memory_alone: { Bool };
+
+    /// Whether a writer of this type appends either all bytes of a `write` or none. Then each call
+    /// that makes at most one `write` does so too: all that append but `write_initial_length`.
+    ghost all_or_none: { Bool };
+}
