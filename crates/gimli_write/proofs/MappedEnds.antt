@@ -181,7 +181,7 @@ module _ (notation : Notation) (sections : Sections) (h : Header) (given : Hande
       let directories : All (IsWithin (texts_in strings c.line_strings)) c.program.directories =
       subst (λ (t : List (List ℕ)). All (IsWithin (texts_in strings t)) c.program.directories) (sym f.line_strings)
       (subst (λ (ds : List LineText). All (IsWithin (texts_in strings f.tables.line_strings)) ds) (sym f.directories) last.directories) in
-      with_kept_files c.program strings c.line_strings (comes.kind.is_none ∙ start.program) directories files
+      with_kept_files c.program (texts_in strings c.line_strings) (comes.kind.is_none ∙ start.program) directories files
 
   -- the files
   files_are : AreFiles sections h first h.files

@@ -5,7 +5,7 @@ use Rattle.std.specs.List.{AllByRecursion}
 use Rattle.std.proofs.lemmas.Bool.{leb-true, le-leb, true≢false}
 use Rattle.gimli_core.specs.Values.{Value}
 use Rattle.gimli_core.specs.declared.error.Error.{Error}
-use Rattle.gimli_bytes.specs.Texts.{texts_in}
+use Rattle.gimli_bytes.specs.Texts.{StringTables, texts_in}
 use Rattle.gimli_line.specs.header.File.{File}
 use Rattle.gimli_line.specs.header.Header.{Header, directory_of, from_one}
 use Rattle.gimli_build.specs.LineText.{LineText, bytes_in, made_text}
@@ -60,16 +60,16 @@ are_read sections version directory_ids parts f is =
     })
 
 -- a source that is known stands for the text of the source
-source_is_text : (sections : Sections) (version : ℕ) (strings line_strings : List (List ℕ)) (o : Option Value) (source : Option (List ℕ))
-    → if_there (source_text sections) o ≡ Ok source → IfSome source (IsMade version line_strings)
-    → IsOptionalText sections o (option_map (bytes_in (texts_in strings line_strings)) (option_map (made_text version line_strings) source))
-source_is_text sections version strings line_strings (Some v) (Some text) is made =
+source_is_text : (sections : Sections) (version : ℕ) (texts : StringTables) (o : Option Value) (source : Option (List ℕ))
+    → if_there (source_text sections) o ≡ Ok source → IfSome source (IsMade version texts.line_strings)
+    → IsOptionalText sections o (option_map (bytes_in texts) (option_map (made_text version texts.line_strings) source))
+source_is_text sections version texts (Some v) (Some text) is made =
     let t = took (source_text sections v) _ (Some text) is in
     let same : t.0 ≡ text = cc in
-    subst (IsText sections v) (same ∙ sym (made_bytes version strings line_strings text made)) (text_read sections v t.0 (source_text_of sections v t.0 t.1))
-source_is_text sections version strings line_strings (Some v) None is made = let t = took (source_text sections v) _ None is in absurd cc
-source_is_text sections version strings line_strings None (Some text) is made = absurd cc
-source_is_text sections version strings line_strings None None is made = tt
+    subst (IsText sections v) (same ∙ sym (made_bytes version texts text made)) (text_read sections v t.0 (source_text_of sections v t.0 t.1))
+source_is_text sections version texts (Some v) None is made = let t = took (source_text sections v) _ None is in absurd cc
+source_is_text sections version texts None (Some text) is made = absurd cc
+source_is_text sections version texts None None is made = tt
 
 -- ---- a file that is mapped
 
@@ -110,8 +110,8 @@ module _ (sections : Sections) (h : Header) (strings : List (List ℕ)) (tables 
       let d = directories.each f.directory_index so.parts.directory read.directory in
       let text = made_text version tables.line_strings so.parts.path in
       let directory = made_text version tables.line_strings d.0 in
-      let path_bytes : so.parts.path ≡ bytes_in (texts_in strings c.line_strings) text = sym (ap (λ (t : List (List ℕ)). bytes_in (texts_in strings t) text) texts_same ∙ made_bytes version strings tables.line_strings so.parts.path so.made) in
-      let directory_bytes : d.0 ≡ bytes_in (texts_in strings c.line_strings) directory = sym (ap (λ (t : List (List ℕ)). bytes_in (texts_in strings t) directory) texts_same ∙ made_bytes version strings tables.line_strings d.0 d.2.made) in
+      let path_bytes : so.parts.path ≡ bytes_in (texts_in strings c.line_strings) text = sym (ap (λ (t : List (List ℕ)). bytes_in (texts_in strings t) text) texts_same ∙ made_bytes version (texts_in strings tables.line_strings) so.parts.path so.made) in
+      let directory_bytes : d.0 ≡ bytes_in (texts_in strings c.line_strings) directory = sym (ap (λ (t : List (List ℕ)). bytes_in (texts_in strings t) directory) texts_same ∙ made_bytes version (texts_in strings tables.line_strings) d.0 d.2.made) in
       let to = λ (P : List ℕ → List ℕ → Type 0) (p : P so.parts.path d.0). subst (λ (x : List ℕ). P x (bytes_in (texts_in strings c.line_strings) directory)) path_bytes (subst (P so.parts.path) directory_bytes p) in
       let last_read = are_read sections version tables.directory_ids so.last_parts so.last so.last_are in
       let at_last : IsDirectoryId version tables.line_strings tables.program.directories d.0 so.last_parts.directory =
@@ -137,7 +137,7 @@ module _ (sections : Sections) (h : Header) (strings : List (List ℕ)) (tables 
         md5 = so.known.md5;
         source = subst (λ (t : List (List ℕ)). IsOptionalText sections so.last.source (option_map (bytes_in (texts_in strings t)) so.details.source)) (sym texts_same)
             (subst (λ (o : Option LineText). IsOptionalText sections so.last.source (option_map (bytes_in (texts_in strings tables.line_strings)) o)) (sym so.known.source_is)
-            (source_is_text sections version strings tables.line_strings so.last.source so.last_parts.source last_read.source so.known.source_made));
+            (source_is_text sections version (texts_in strings tables.line_strings) so.last.source so.last_parts.source last_read.source so.known.source_made));
       }
 
 -- ---- file numbers

@@ -5,7 +5,7 @@ use Rattle.std.specs.List.{list_any, position_or_len}
 use Rattle.std.proofs.lemmas.Bool.{or_left, or_right, or_parts, eq-eqb}
 use Rattle.std.proofs.lemmas.List.Folds.{list_any-append}
 use Rattle.std.proofs.lemmas.Slice.Eq.{bytes_eq-Decides}
-use Rattle.gimli_bytes.specs.Texts.{with_text, index_of_text, texts_in}
+use Rattle.gimli_bytes.specs.Texts.{with_text, index_of_text, StringTables, texts_in}
 use Rattle.gimli_bytes.proofs.TextLemmas.{with_text-found, with_text-there}
 use Rattle.gimli_build.specs.LineText.{LineText, Inline, InStrings, InLineStrings, line_text_eq, bytes_in, made_text, made_table}
 use Rattle.gimli_build.specs.Tables.{FileKey, key_eq}
@@ -139,17 +139,17 @@ module _ (version : ℕ) (line_strings : List (List ℕ)) (text : List ℕ) wher
   }
 
 -- the bytes of a text that is there
-pub made_bytes : (version : ℕ) (strings line_strings : List (List ℕ)) (text : List ℕ) → IsMade version line_strings text → bytes_in (texts_in strings line_strings) (made_text version line_strings text) ≡ text
-made_bytes version strings line_strings text so = by (nat_le version 4) so.any
+pub made_bytes : (version : ℕ) (texts : StringTables) (text : List ℕ) → IsMade version texts.line_strings text → bytes_in texts (made_text version texts.line_strings text) ≡ text
+made_bytes version texts text so = by (nat_le version 4) so.any
   where
-    by : (old : Bool) → (old ≡ false → list_any (bytes_eq text) line_strings ≡ true) → bytes_in (texts_in strings line_strings) (if old then Inline text else InLineStrings (index_of_text line_strings text)) ≡ text
+    by : (old : Bool) → (old ≡ false → list_any (bytes_eq text) texts.line_strings ≡ true) → bytes_in texts (if old then Inline text else InLineStrings (index_of_text texts.line_strings text)) ≡ text
     by true any = refl
     by false any =
-        let found = subst (λ (ts : List (List ℕ)). slice_get ts (index_of_text line_strings text) ≡ Some text) (with_text-there line_strings text (any refl)) (with_text-found line_strings text) in
+        let found = subst (λ (ts : List (List ℕ)). slice_get ts (index_of_text texts.line_strings text) ≡ Some text) (with_text-there texts.line_strings text (any refl)) (with_text-found texts.line_strings text) in
         ap (λ (o : Option (List ℕ)). unwrap_or o []) found
 
 -- so texts that are made the same are the same
 pub made_apart : (version : ℕ) (line_strings : List (List ℕ)) (a b : List ℕ) → IsMade version line_strings a → IsMade version line_strings b
     → made_text version line_strings a ≡ made_text version line_strings b → a ≡ b
 made_apart version line_strings a b x y is =
-    sym (made_bytes version [] line_strings a x) ∙ ap (bytes_in (texts_in [] line_strings)) is ∙ made_bytes version [] line_strings b y
+    sym (made_bytes version (texts_in [] line_strings) a x) ∙ ap (bytes_in (texts_in [] line_strings)) is ∙ made_bytes version (texts_in [] line_strings) b y
