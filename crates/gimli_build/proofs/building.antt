@@ -1,7 +1,7 @@
 -- What builder calls keep, and equality.
 pub mod TableLemmas
-mod BuiltLemmas
+pub mod BuiltLemmas
 pub mod Equality
-mod SourceLemmas
-mod FormatLemmas
+pub mod SourceLemmas
+pub mod FormatLemmas
 pub mod EmptySource

@@ -3,8 +3,8 @@ pub mod RowRuns
 pub mod ItemRuns
 pub mod EventsBack
 pub mod NoFiles
-mod ReadyTexts
-mod HeldOffsets
-mod TablesBack
+pub mod ReadyTexts
+pub mod HeldOffsets
+pub mod TablesBack
 pub mod UnitHeader
 pub mod ReadBack

@@ -1,10 +1,10 @@
 -- The bytes that are written spell what was built.
 pub mod Spellings
 pub mod ItemSpellings
-mod TableSpellings
-mod EncodingSpellings
-mod TextForms
-mod FormatForms
+pub mod TableSpellings
+pub mod EncodingSpellings
+pub mod TextForms
+pub mod FormatForms
 mod EntryForms
-mod Version5TableSpellings
-mod UnitSpellings
+pub mod Version5TableSpellings
+pub mod UnitSpellings

@@ -6,4 +6,4 @@ pub mod OneCall
 pub mod InstructionsWritten
 pub mod Frames
 pub mod ItemsWritten
-mod WrittenParts
+pub mod WrittenParts
