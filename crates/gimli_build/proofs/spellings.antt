@@ -5,6 +5,6 @@ pub mod TableSpellings
 pub mod EncodingSpellings
 pub mod TextForms
 pub mod FormatForms
-mod EntryForms
+pub mod EntryForms
 pub mod Version5TableSpellings
 pub mod UnitSpellings
