@@ -1,5 +1,5 @@
 -- Calls that append, one after the other.
-use Rattle.std.proofs.Common.{◌≡◌, List, [], ◌∷◌, ℕ, Ok, Err, OnOk, IfErr, IsTrue, refl, sym, ap, ◌∙◌, inl, inr}
+use Rattle.std.proofs.Common.{◌≡◌, List, [], ◌∷◌, ℕ, Ok, Err, IsTrue, refl, sym, ap, ◌∙◌, inl, inr}
 use Rattle.std.specs.Prelude.{Result}
 use Rattle.gimli_bytes.specs.Written.{Begins, Refuses, IsAppend}
 use Rattle.gimli_bytes.specs.declared.error.Error.{Error}

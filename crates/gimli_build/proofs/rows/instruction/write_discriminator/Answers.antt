@@ -1,9 +1,7 @@
-use Rattle.std.proofs.Common.{◌+◌, length, Ok, Err}
-use Rattle.std.specs.Prelude.{Result}
+use Rattle.std.proofs.Common.{◌+◌, length, Ok}
 use Rattle.std.proofs.lemmas.Result.{err_from_is_err_and}
 use Rattle.gimli_line.specs.declared.run.instruction.LineInstruction.TheVariants.{SetDiscriminator}
 use Rattle.gimli_bytes.specs.Number.{uleb}
-use Rattle.gimli_bytes.specs.declared.error.Error.{Error}
 use Rattle.gimli_build.specs.InstructionBytes.{instruction_bytes}
 use Rattle.gimli_build.proofs.writing.OneCall.{refused_alike}
 use Rattle.gimli_build.proofs.writing.Writes.{joins, unwritten, writes}

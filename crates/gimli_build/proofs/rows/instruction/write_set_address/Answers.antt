@@ -1,7 +1,5 @@
 use Rattle.std.proofs.Common.{◌+◌, Ok, ◌∙◌}
-use Rattle.std.specs.Prelude.{Result}
 use Rattle.gimli_bytes.specs.Number.{uleb, address_bytes}
-use Rattle.gimli_bytes.specs.declared.error.Error.{Error}
 use Rattle.gimli_build.proofs.writing.InstructionsWritten.{address_parts}
 use Rattle.gimli_build.proofs.writing.Writes.{joins, writes}
 use Rattle.gimli_build.proofs.rows.instruction.write_set_address.Goals as goal

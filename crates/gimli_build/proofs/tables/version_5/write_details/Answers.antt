@@ -1,8 +1,6 @@
-use Rattle.std.proofs.Common.{[], ◌++◌, if◌then◌else◌, Ok, Err}
-use Rattle.std.specs.Prelude.{Result}
+use Rattle.std.proofs.Common.{[], ◌++◌, if◌then◌else◌, Ok}
 use Rattle.std.proofs.lemmas.Result.{err_from_is_err_and}
 use Rattle.gimli_bytes.specs.Number.{uleb}
-use Rattle.gimli_bytes.specs.declared.error.Error.{Error}
 use Rattle.gimli_build.proofs.writing.OneCall.{refused_alike}
 use Rattle.gimli_build.proofs.writing.Writes.{joins, unwritten, writes}
 use Rattle.gimli_build.proofs.tables.version_5.write_details.Goals as goal

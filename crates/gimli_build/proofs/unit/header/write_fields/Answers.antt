@@ -1,6 +1,4 @@
 use Rattle.std.proofs.Common.{Ok, ◌∙◌}
-use Rattle.std.specs.Prelude.{Result}
-use Rattle.gimli_bytes.specs.declared.error.Error.{Error}
 use Rattle.gimli_build.specs.Unit.{opcode_bytes}
 use Rattle.gimli_build.proofs.writing.Writes.{joins, writes}
 use Rattle.gimli_build.proofs.unit.header.write_fields.Goals as goal
