@@ -44,12 +44,12 @@ fn converted_unit(
 ) -> ConvertResult<Vec<u8>> {
     let section = DebugLine::new(section, ConvertOrder);
     let program = section.program(alloc, offset, 8, None, None)?;
-    convert_program(alloc, program, EndianSlice::new(b"", ConvertOrder))
+    convert_and_write(alloc, program, EndianSlice::new(b"", ConvertOrder))
 }
 
 /// A program, as it is written after its conversion. `no_texts` is a reader of no bytes, which stands for both sections of
 /// texts.
-fn convert_program<R: Reader>(
+fn convert_and_write<R: Reader>(
     alloc: Global,
     from_program: IncompleteLineProgram<R>,
     no_texts: R,

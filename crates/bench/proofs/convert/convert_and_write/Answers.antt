@@ -6,7 +6,7 @@ use Rattle.gimli_bytes.specs.declared.address.Address.TheVariants.{Constant}
 use Rattle.gimli_write.specs.convert.Conversion.{outcome_with}
 use Rattle.gimli_write.specs.convert.DoneConversions.{DoneConversion}
 use Rattle.gimli_write.specs.convert.Sources.{Source, source_of}
-use Rattle.bench.proofs.convert.convert_program.Goals as goal
+use Rattle.bench.proofs.convert.convert_and_write.Goals as goal
 
 abbrev itself : ℕ → Option Address
 itself a = Some (Constant a)
