@@ -285,7 +285,7 @@ fn builder_calls(rt: HostRuntime) {
 }
 
 /// What `convert` makes of what is left of a source with one file.
-fn conversion_of<R: Reader>(
+fn convert_rest<R: Reader>(
     rt: &impl Abort,
     conversion: ConvertLineProgram<'_, '_, R>,
 ) -> ConvertResult<LineProgram>
@@ -307,7 +307,7 @@ fn converted_whole<R: Reader>(
     ensures { IfOk result (λ built. CanWrite built (texts_in strings.new line_strings.new)) }
 {
     let conversion = conversion_of(program, line_strings, strings)?;
-    conversion_of(rt, conversion)
+    convert_rest(rt, conversion)
 }
 
 /// The program of a source of which the first row is built by hand, and the rest converted.
@@ -321,7 +321,7 @@ fn converted_after_a_row<R: Reader>(
 {
     let mut conversion = conversion_of(program, line_strings, strings)?;
     build_first(rt, &mut conversion)?;
-    conversion_of(rt, conversion)
+    convert_rest(rt, conversion)
 }
 
 fn steps_of_convert(
