@@ -63,7 +63,12 @@ fn print_unit<'i, O: Write, E: Write>(
         Ok(program) => program,
         Err(e) => return Ok(location.tell(err, fault(e)?)),
     };
-    print_heading(input.screen, location.offset, program.header().version(), out)?;
+    print_heading(
+        input.screen,
+        location.offset,
+        program.header().version(),
+        out,
+    )?;
     print_program(alloc, program, location, input.strings, out, err)
 }
 

@@ -80,7 +80,12 @@ fn print_unit<'i, O: Write, E: Write>(
         Err(e) => return Ok(location.tell(err, fault(e)?)),
     };
     if form != Form::Json {
-        print_heading(input.screen, location.offset, program.header().version(), out)?;
+        print_heading(
+            input.screen,
+            location.offset,
+            program.header().version(),
+            out,
+        )?;
         print_columns(input.screen, out)?;
     }
     let printer = RowPrinter {
