@@ -356,7 +356,7 @@ const EXECUTED: [Executed; 37] = [
     ),
 ];
 
-/// A unit answers so, and leaves these numbers and flags.
+/// A unit returns this, and leaves these numbers and flags.
 fn check_executed<R: Reader>(
     rt: &impl Abort,
     alloc: Global,

@@ -151,7 +151,7 @@ const LARGE_LENGTH: &[u8] = &[0xff, 0xff, 0xff, 0xff, 0, 0, 0, 0, 1, 0, 0, 0, 9]
 
 const LARGE_WORD: &[u8] = &[0, 0, 0, 1, 0, 0, 0, 0, 9];
 
-/// What a reader answers at the large length, and at the large word; one byte is left after either.
+/// What a reader returns at the large length, and at the large word; one byte is left after either.
 fn check_large_words<R: Reader>(
     rt: &impl Abort,
     of_length: R,

@@ -296,7 +296,7 @@ fn check_resumed_copies<R: Reader>(
     Ok(())
 }
 
-/// A copy of a sequence tells the same addresses, and gives the same rows; so does a copy of the program.
+/// A copy of a sequence has the same addresses, and gives the same rows; so does a copy of the program.
 fn check_copied_sequences<R: Reader>(
     rt: &impl Abort,
     alloc: Global,
@@ -322,7 +322,7 @@ fn check_each_copied<R: Reader>(
     Ok(())
 }
 
-/// A copy of the demo unit's sequence tells its addresses, and gives its rows.
+/// A copy of the demo unit's sequence has its addresses, and gives its rows.
 fn check_copied_sequence<R: Reader>(
     rt: &impl Abort,
     program: &CompleteLineProgram<R>,

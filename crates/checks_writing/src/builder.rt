@@ -1,4 +1,4 @@
-//! A builder's calls one by one: what it answers of its tables, its rows and its items, and copies.
+//! A builder's calls one by one: what it returns of its tables, its rows and its items, and copies.
 
 ghost use Rattle.std.specs.Prelude.{◌≡◌, ◌<◌, length, false, IfOk, OnOk};
 ghost use Rattle.gimli_write.specs.LineText.{line_text, HasNoZero, IsNotEmpty};
@@ -512,7 +512,7 @@ fn check_items(rt: &impl Abort, program: &LineProgram) {
     }
 }
 
-/// A row at the set address, and one four bytes after it. A body of `generate_row` that always answers that
+/// A row at the set address, and one four bytes after it. A body of `generate_row` that always returns that
 /// memory is missing fails here.
 fn steps_of_items_in_order(rt: &impl Abort, program: &mut LineProgram) -> Result<()>
     requires { program.old.is_none ≡ false }

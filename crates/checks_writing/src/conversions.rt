@@ -523,7 +523,7 @@ fn reads_of_either_kind(rt: HostRuntime) {
     check_equal(&rt, steps, Ok(()));
 }
 
-/// A file number that isn't there is told by every later read, and by `convert`.
+/// A file number that isn't there refuses every later read, and `convert`.
 fn check_repeated<R: Reader>(
     rt: &impl Abort,
     program: IncompleteLineProgram<R>,
@@ -559,7 +559,7 @@ fn refused_read_is_repeated(rt: HostRuntime) {
     check_equal(&rt, steps, Ok(()));
 }
 
-/// A sequence without an end is told by every later read.
+/// A sequence without an end refuses every later read.
 fn check_open<R: Reader>(
     rt: &impl Abort,
     program: IncompleteLineProgram<R>,

@@ -1,6 +1,5 @@
 //! Sections and vectors: their bytes and their copies, and what stands of them where a unit is refused.
 
-ghost use Rattle.std.specs.Prelude.{[]};
 ghost use Rattle.gimli_write.specs.StringTables.{no_texts};
 ghost use Rattle.gimli_write.specs.Conditions.{CanWrite};
 

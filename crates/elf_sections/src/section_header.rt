@@ -1,6 +1,6 @@
 //! The header of a section, and the bytes that it stands for.
 
-ghost use Rattle.std.specs.Prelude.{◌≡◌, ◌≤◌, length, if◌then◌else◌};
+ghost use Rattle.std.specs.Prelude.{◌≡◌, ◌≤◌, length};
 ghost use Rattle.gimli_core.specs.Reading.{result_map};
 ghost use Rattle.elf_sections.specs.SectionHeader.{section_header_size, section_header, is_active, has_flag, is_code, section_bytes};
 

@@ -1,6 +1,6 @@
 //! The section table of a file.
 
-ghost use Rattle.std.specs.Prelude.{◌≡◌, ◌≤◌, ◌<◌, ◌+◌, ◌*◌, min, drop, length, find, filter, map, MatchOption, []};
+ghost use Rattle.std.specs.Prelude.{◌≡◌, ◌≤◌, ◌<◌, ◌*◌, min, drop, length, find, filter, map, MatchOption, []};
 ghost use Rattle.std.specs.Option.{option_map_or};
 ghost use Rattle.gimli_core.specs.Reading.{result_map};
 ghost use Rattle.elf_sections.specs.SectionHeader.{section_header_size, section_header, is_active, is_code};
@@ -82,7 +82,7 @@ impl<'a> SectionTable<'a> {
     ghost use Rattle.elf_sections.specs.SectionTable.{table_of};
     ghost use Rattle.elf_sections.specs.File.{IsLeast};
 
-    /// The section table that a file's header tells of.
+    /// The section table that a file's header names.
     pub(crate) fn parse(
         layout: Layout,
         header: &Header,

@@ -1,6 +1,6 @@
 //! What a unit that is written is encoded by.
 
-ghost use Rattle.std.specs.Prelude.{◌≡◌, ◌≤◌, ℕ, Err, IfErr, IfOk, None, Some};
+ghost use Rattle.std.specs.Prelude.{◌≡◌, ℕ, Err, IfErr, IfOk, None, Some};
 ghost use Rattle.gimli_build.specs.Conditions.{Accepts};
 ghost use Rattle.gimli_c.specs.Causes.{HasEncodingFault};
 ghost use Rattle.gimli_c.specs.Handed.{IsRefusal, encoding_of, line_encoding_of};

@@ -1,7 +1,6 @@
 //! Rows, as plain numbers.
 
 ghost use Rattle.std.specs.Prelude.{◌≡◌, ◌≤◌};
-ghost use Rattle.std.specs.Int.NonZero.{non_zero_u64_get};
 ghost use Rattle.gimli_c.specs.Handed.{has_flag};
 ghost use Rattle.gimli_c.specs.Seen.{flag, flags_of, row_seen};
 

@@ -1,6 +1,6 @@
 //! The unit at an offset.
 
-ghost use Rattle.std.specs.Prelude.{◌≡◌, ◌≢◌, ◌≤◌, ◌<◌, ◌+◌, ◌^◌, false, IfErr, IfOk};
+ghost use Rattle.std.specs.Prelude.{◌≡◌, ◌≢◌, ◌<◌, ◌+◌, ◌^◌, false, IfErr, IfOk};
 ghost use Rattle.gimli_core.specs.Numbers.{is_address_size};
 ghost use Rattle.gimli_c.specs.Location.{location, HasNoUnit};
 ghost use Rattle.gimli_line.specs.Units.{offset_after};

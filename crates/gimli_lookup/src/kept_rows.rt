@@ -24,7 +24,7 @@ fn addresses_never_go_down(rows: &RowList) -> bool
 }
 
 /// The rows of one sequence, in order. A search reads addresses by `address` alone, which counts each as a probe; `pair`
-/// hands out the two rows that it found, and counts nothing.
+/// returns the two rows that it found, and counts nothing.
 #[derive(Debug, Drop)]
 pub(crate) struct KeptRows {
     rows: RowList,

@@ -3,7 +3,7 @@
 //!
 //! [`Lookup`] keeps the rows of each sequence of a program, and finds the two between which an address stands.
 //! [`SectionLookup`] does so for all units of a section. [`find_in_run`] returns what a lookup does for one address,
-//! and keeps no rows. [`Paths`] tells the whole path of a row's file. The way back, from a line of a file to
+//! and keeps no rows. [`Paths`] gives the whole path of a row's file. The way back, from a line of a file to
 //! [`Addresses`], goes by the same rows.
 #![tactic(auto)]
 

@@ -1,6 +1,6 @@
 //! The rows of a program, kept so that those that cover an address are found.
 
-ghost use Rattle.std.specs.Prelude.{◌≡◌, ◌≢◌, ◌≤◌, ◌+◌, ◌*◌, List, length, map, nat_eq, sum_by, All, Any, IfErr, IfOk, MatchOption};
+ghost use Rattle.std.specs.Prelude.{◌≡◌, ◌≢◌, ◌≤◌, ◌+◌, ◌*◌, length, map, nat_eq, sum_by, All, Any, IfErr, IfOk, MatchOption};
 ghost use Rattle.gimli_line.specs.header.Header.{HasOneOrder};
 ghost use Rattle.gimli_line.specs.header.Orders.{header_orders};
 ghost use Rattle.gimli_line.specs.run.Events.{row};

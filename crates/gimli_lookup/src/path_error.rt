@@ -6,7 +6,7 @@ ghost use Rattle.gimli_lookup.specs.declared.path_error.PathError.TheVariants.{O
 use std::alloc::{AllocError, AllocFailed};
 use std::fmt;
 
-/// Why the path of a file can't be told.
+/// Why a file has no path.
 #[derive(Clone, Copy, Debug, PartialEq, Eq)]
 pub enum PathError {
     /// A string by its index into the string offsets (`DW_FORM_strx` and its like), which aren't among the sections.

@@ -84,7 +84,7 @@ fn last_index<R: Reader>(header: &LineProgramHeader<R>) -> u64
     header.file_names().len() as u64
 }
 
-/// The indices of the files that have this whole path; one whose path can't be told isn't among them. Fails only with
+/// The indices of the files that have this whole path; one that has no path isn't among them. Fails only with
 /// `OutOfMemory`.
 pub(crate) fn files_with_path<R: Reader>(
     alloc: Global,

@@ -1,6 +1,6 @@
 //! The rows that cover an address, found while a program runs once.
 
-ghost use Rattle.std.specs.Prelude.{◌≡◌, ◌≤◌, ◌<◌, ◌↔◌, ℕ, List, [], ◌∷◌, ◌++◌, IsTrue, IfErr, IfOk};
+ghost use Rattle.std.specs.Prelude.{◌≤◌, ◌<◌, ◌↔◌, ℕ, List, [], ◌∷◌, ◌++◌, IsTrue, IfErr, IfOk};
 ghost use Rattle.gimli_line.specs.declared.run.row.LineRow.{LineRow};
 ghost use Rattle.gimli_lookup.specs.inside.PairSearch.{HasPassed, Knows};
 ghost use Rattle.gimli_lookup.specs.Run.{IsFirstFound, IsFoundInRun, IsRefusedInRun};

@@ -47,8 +47,8 @@ impl<R: Reader> SectionLookup<R> {
     }
 
     /// The addresses for a breakpoint at a line of the files that have a whole path, over all units: as
-    /// `addresses_of_file` tells them, in the order of the units, their sequences and their rows. The line is the first
-    /// from the asked one on that has an address in any unit. A file whose path can't be told is passed over, and so is
+    /// `addresses_of_file` gives them, in the order of the units, their sequences and their rows. The line is the first
+    /// from the asked one on that has an address in any unit. A file that has no path is passed over, and so is
     /// a unit that was refused. Fails only with `OutOfMemory`.
     pub fn addresses_of(
         &self,

@@ -46,7 +46,7 @@ impl<R: Reader> Model for UnitLookup<R> {
 impl<R: Reader> UnitLookup<R> {
     ghost use Rattle.gimli_lookup.specs.inside.Section.{IsAdded};
 
-    /// What is kept of the program of a unit, or of its refusal: its sequences are put after those of the units before
+    /// What is kept of the program of a unit, or of its refusal: its sequences come after those of the units before
     /// it. Fails only with `OutOfMemory`.
     pub(crate) fn new(
         alloc: Global,

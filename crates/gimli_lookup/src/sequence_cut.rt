@@ -1,6 +1,6 @@
 //! The rows of a unit, cut into sequences as they come.
 
-ghost use Rattle.std.specs.Prelude.{◌≡◌, [], ◌∷◌, ◌++◌, IfErr, OnOk};
+ghost use Rattle.std.specs.Prelude.{◌≡◌, [], IfErr, OnOk};
 ghost use Rattle.gimli_line.specs.run.Sequences.{first_address};
 
 use crate::kept_rows::KeptRows;

@@ -1,7 +1,6 @@
 //! From lines to addresses: where code of a line begins.
 
-ghost use Rattle.std.specs.Prelude.{◌≡◌, ◌<◌, ◌++◌, ◌==◌, ◌||◌, ℕ, Bool, true, false, List, length, flat_map, IfErr, IfOk, OnOk, MatchOption, [], ◌∷◌};
-ghost use Rattle.std.specs.List.{list_any};
+ghost use Rattle.std.specs.Prelude.{◌≡◌, ◌<◌, ◌++◌, ◌==◌, ◌||◌, ℕ, Bool, true, false, List, IfErr, IfOk, OnOk, MatchOption, [], ◌∷◌};
 ghost use Rattle.gimli_line.specs.declared.run.row.LineRow.{LineRow};
 ghost use Rattle.gimli_lookup.specs.Statements.{is_of_line, addresses_in, addresses_of, AreAddressesFrom};
 ghost use Rattle.gimli_lookup.specs.inside.Statements.{is_among};
@@ -159,7 +158,7 @@ pub(crate) fn addresses_from(
     Ok(Some(Addresses { line, addresses }))
 }
 
-/// The answer for two parts of a section, one after the other, by the answers for each. Fails only with `OutOfMemory`.
+/// The addresses in two parts of a section, one after the other, by those in each. Fails only with `OutOfMemory`.
 pub(crate) fn join(first: Option<Addresses>, second: Option<Addresses>) -> Result<Option<Addresses>>
     ensures ok { (before after : ℕ → List ℕ) (asked : ℕ) → AreAddressesFrom before asked first
         → AreAddressesFrom after asked second

@@ -1,6 +1,6 @@
 //! A unit that is written, and read again.
 
-ghost use Rattle.std.specs.Prelude.{◌≡◌, ◌⊎◌, ℕ, ◌<◌, ◌≤◌, ◌^◌, false, List, [], ◌++◌, length, map, drop, option_map, IsTrue, IfOk, IfErr, OnOk, All, Some, None, Err};
+ghost use Rattle.std.specs.Prelude.{◌≡◌, ◌<◌, ◌^◌, false, length, map, drop, option_map, IsTrue, IfOk, IfErr, OnOk, All, Some, None, Err};
 ghost use Rattle.gimli_core.specs.Numbers.{is_address_size};
 ghost use Rattle.gimli_core.specs.Values.{value_seen};
 ghost use Rattle.gimli_bytes.specs.Written.{Begins, Appends};

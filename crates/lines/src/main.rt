@@ -21,10 +21,10 @@ fn main(rt: HostRuntime) -> ExitCode {
 }
 
 /// Tells an error, and returns the status of the program. Where standard output was closed, nothing
-/// is told.
+/// is reported.
 fn tell(rt: &HostRuntime, error: &io::Error) -> u8 {
     if error.kind() != ErrorKind::BrokenPipe {
-        // Where standard error takes nothing, the status still tells.
+        // Where standard error can't be written to, the status still says it.
         let _ = writeln!(rt.stderr(), "lines: {error}");
     }
     REFUSED
@@ -106,12 +106,12 @@ fn screen(rt: &HostRuntime) -> Screen {
     }
 }
 
-/// The bytes of a file; None where it can't be read, which is told.
+/// The bytes of a file; None where it can't be read, which is reported.
 fn read(rt: &HostRuntime, name: &str) -> io::Result<Option<Vec<u8>>> {
     match fs::read(rt, name) {
         Ok(bytes) => Ok(Some(bytes)),
         Err(error) => {
-            // Where standard error takes nothing, the status still tells.
+            // Where standard error can't be written to, the status still says it.
             let _ = writeln!(rt.stderr(), "lines: {name}: {error}");
             Ok(None)
         }

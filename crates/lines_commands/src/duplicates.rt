@@ -1,4 +1,4 @@
-//! Files whose path can't be told, or is that of another file of the unit.
+//! Files that have no path, or that of another file of the unit.
 
 use crate::check::Findings;
 use crate::finding::Finding;
@@ -18,7 +18,7 @@ struct DigestedFile {
     index: u64,
 }
 
-/// Prints each file whose path can't be told, and each that has the path of a file before it.
+/// Prints each file that has no path, and each that has the path of a file before it.
 pub(crate) fn check_files<'i, O: Write>(
     alloc: Global,
     header: &LineProgramHeader<Slice<'i>>,

@@ -17,7 +17,7 @@ use std::alloc::Global;
 use std::io::Write;
 use std::{fmt, io};
 
-/// Prints the directories and files of units. The fault of a unit is told, and the next unit
+/// Prints the directories and files of units. The fault of a unit is reported, and the next unit
 /// follows.
 pub(crate) fn print_files<O: Write, E: Write>(
     alloc: Global,
@@ -50,7 +50,7 @@ pub(crate) fn print_files<O: Write, E: Write>(
 }
 
 /// Prints the directories and files of a unit, with those that its program defines before its first
-/// fault. The fault is told.
+/// fault. The fault is reported.
 fn print_unit<'i, O: Write, E: Write>(
     alloc: Global,
     input: &Input<'i>,
@@ -204,7 +204,7 @@ impl<'d> Details<'d> {
 }
 
 /// The number of bytes of the source that is held with a file. None where there is none, or it
-/// can't be told.
+/// isn't known.
 fn source_length<'i>(
     file: &FileEntry<Slice<'i>>,
     strings: StringSections<Slice<'i>>,

@@ -15,7 +15,7 @@ pub(crate) enum Finding {
         rows: u64,
         error: Error,
     },
-    /// The path of a file can't be told.
+    /// A file has no path.
     NoPath {
         file: u64,
         error: PathError,

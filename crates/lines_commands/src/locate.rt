@@ -68,7 +68,7 @@ impl<'i> Places<'i> {
     }
 
     /// Prints the place of each address that a reader has, one a line, as they come. A line that is
-    /// no address is told, and answered as an address without a place is; one of blanks alone is
+    /// no address is reported, and printed as an address without a place is; one of blanks alone is
     /// passed over.
     pub(crate) fn print_as_they_come<I: BufRead, O: Write, E: Write>(
         &self,
@@ -137,7 +137,7 @@ impl<'i> Places<'i> {
         }
     }
 
-    /// The whole path of the file that rows are of, or why it can't be told. Fails only for memory.
+    /// The whole path of the file that rows are of, or why it has none. Fails only with `OutOfMemory`.
     fn path_of(
         &self,
         alloc: Global,
@@ -217,7 +217,7 @@ pub(crate) fn tell_faults<E: Write>(
 struct Place<'p> {
     address: u64,
     found: &'p CoveringRows,
-    /// None where the path can't be told.
+    /// None where the file has no path.
     path: Option<&'p [u8]>,
 }
 
@@ -251,7 +251,7 @@ impl fmt::Display for JsonPlace<'_> {
     }
 }
 
-/// A path as a JSON string, or null where it can't be told.
+/// A path as a JSON string, or null where there is none.
 #[derive(Clone, Copy)]
 pub(crate) struct JsonPath<'p>(pub(crate) Option<&'p [u8]>);
 

@@ -19,7 +19,7 @@ use std::io;
 use std::io::{BufRead, Write};
 
 /// Does what a request asks for, and returns the status of the program: 0, or 1 where something was
-/// refused, and told on standard error, or found by a check. Fails where memory is missing, where
+/// refused, and reported on standard error, or found by a check. Fails where memory is missing, where
 /// standard input can't be read, and where standard output takes no more; what was printed before
 /// stands.
 pub fn run<I: BufRead, O: Write, E: Write>(
@@ -37,7 +37,7 @@ pub fn run<I: BufRead, O: Write, E: Write>(
 }
 
 /// Does what `run` does, where outputs may be terminals: headings and faults are set off there, and
-/// a long command tells how far it is.
+/// a long command prints how far it is.
 pub fn run_on<I: BufRead, O: Write, E: Write>(
     alloc: Global,
     screen: Screen,

@@ -16,18 +16,18 @@ pub(crate) enum Printing {
     Rare,
 }
 
-/// How far a command is in its section. What is told stands in a line that is written over.
+/// How far a command is in its section. It is printed in a line that is written over.
 #[derive(Clone, Copy)]
 pub(crate) struct Progress {
     /// The length of the section in bytes.
     whole: u64,
     is_told: bool,
-    /// The hundredths that were told last, where they still stand there.
+    /// The hundredths that were printed last, where they still stand there.
     shown: Option<u64>,
 }
 
 impl Progress {
-    /// Nothing was told yet. Nothing is, where standard error is no terminal or the section is
+    /// Nothing was printed yet. Nothing is, where standard error is no terminal or the section is
     /// short.
     pub(crate) fn new(input: &Input<'_>, printing: Printing) -> Progress {
         let whole = input.length as u64;
@@ -70,7 +70,7 @@ impl Progress {
         }
     }
 
-    /// Takes away what was told.
+    /// Clears what was printed.
     pub(crate) fn clear<E: Write>(&mut self, err: &mut E) {
         if self.shown.is_some() {
             let blanks = "";

@@ -1,4 +1,4 @@
-//! What is told on standard error, and whether there was anything to tell.
+//! What is reported on standard error, and whether there was anything to report.
 
 ghost use Rattle.std.specs.Prelude.{◌≡◌, ◌≤◌, ◌↔◌};
 
@@ -11,7 +11,7 @@ use std::{fmt, io};
 pub(crate) enum Verdict {
     /// Nothing.
     Clean,
-    /// Something was told on standard error, or by a check.
+    /// Something was reported on standard error, or by a check.
     Faulty,
 }
 
@@ -59,7 +59,7 @@ pub(crate) struct InputFile<'n> {
 }
 
 impl InputFile<'_> {
-    /// Tells a sentence on the file. Where standard error takes nothing, the status still tells.
+    /// Prints a sentence on the file. Where standard error can't be written to, the status still says it.
     pub(crate) fn tell<E: Write>(self, err: &mut E, sentence: impl fmt::Display + Drop) -> Verdict
         ensures { result ≡ Verdict.Faulty }
     {

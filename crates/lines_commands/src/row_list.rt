@@ -18,7 +18,7 @@ use std::alloc::Global;
 use std::io::Write;
 use std::{fmt, io};
 
-/// Prints the rows of units. The fault of a unit is told, and the next unit follows.
+/// Prints the rows of units. The fault of a unit is reported, and the next unit follows.
 pub(crate) fn print_rows<O: Write, E: Write>(
     alloc: Global,
     input: &Input<'_>,
@@ -65,7 +65,7 @@ pub(crate) fn tell_no_unit<E: Write>(
     }
 }
 
-/// Prints the rows of a unit up to its end or its first fault, which is told.
+/// Prints the rows of a unit up to its end or its first fault, which is reported.
 fn print_unit<'i, O: Write, E: Write>(
     alloc: Global,
     input: &Input<'i>,
@@ -155,7 +155,7 @@ struct RowPrinter<'i> {
 }
 
 impl<'i> RowPrinter<'i> {
-    /// Keeps the path of a row's file. Where it can't be told, that is told once for rows of one
+    /// Keeps the path of a row's file. Where it has none, that is reported once for rows of one
     /// file that follow each other.
     fn look_up<E: Write>(
         &mut self,
@@ -217,7 +217,7 @@ struct RowLine<'p> {
     /// The offset of the unit.
     offset: u64,
     row: LineRow,
-    /// None where the path can't be told.
+    /// None where the file has no path.
     path: Option<&'p [u8]>,
 }
 

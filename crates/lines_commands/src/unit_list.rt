@@ -12,7 +12,7 @@ use std::alloc::Global;
 use std::io::Write;
 use std::{fmt, io};
 
-/// Prints a line for each unit, under headings. The fault of a unit is told, and the next unit
+/// Prints a line for each unit, under headings. The fault of a unit is reported, and the next unit
 /// follows.
 pub(crate) fn print_units<O: Write, E: Write>(
     alloc: Global,
@@ -42,7 +42,7 @@ pub(crate) fn print_units<O: Write, E: Write>(
     Ok(verdict)
 }
 
-/// Prints the line of a unit whose header can be read, and tells its fault.
+/// Prints the line of a unit whose header can be read, and reports its fault.
 fn print_unit<O: Write, E: Write>(
     unit: LineUnit<Slice<'_>>,
     location: UnitLocation<'_>,

@@ -10,8 +10,8 @@ use crate::refusal::Refusal;
 use crate::section::program_at;
 use gimli_core::{Encoding, Endianity, Format, LineEncoding, LittleEndian, RunTimeEndian};
 use gimli_write::{
-    Address, ConvertError, DebugLine, EndianVec, Error, LineProgram, LineString, LineStringTable,
-    PieceVec, RoundTrip, StringTable, Writer, round_trip,
+    Address, DebugLine, EndianVec, Error, LineProgram, LineString, LineStringTable, PieceVec,
+    RoundTrip, StringTable, Writer, round_trip,
 };
 use rows_units::UnitLocation;
 use rows_words::{AddressSize, print_bytes};

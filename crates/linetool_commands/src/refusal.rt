@@ -37,7 +37,7 @@ impl Refusal {
         }
     }
 
-    /// The refusal of reading a unit, whose faults are told by `fault`.
+    /// The refusal of reading a unit, whose faults are named by `fault`.
     pub fn of_unit(error: Error, fault: Refusal) -> Refusal
         ensures memory { error ≡ Error.OutOfMemory → result ≡ Refusal.Memory }
         ensures fault { error ≢ Error.OutOfMemory → result ≡ fault }
@@ -66,7 +66,7 @@ impl Refusal {
         ensures usage { self ≡ Refusal.Usage → result ≡ 2 }
         ensures refused { self ≢ Refusal.Usage → result ≡ 1 }
     {
-        // Where standard error takes nothing, the status still tells.
+        // Where standard error can't be written to, the status still says it.
         let _ = err.write_all(self.text().as_bytes());
         match self {
             Refusal::Usage => 2,

@@ -22,10 +22,10 @@ pub(crate) enum PieceSize {
     Sixteen,
 }
 
-/// Where a text is put.
+/// Where a text is kept.
 #[derive(Clone, Copy)]
 pub(crate) enum Form {
-    /// Where `LineString::new` puts it.
+    /// Where `LineString::new` keeps it.
     Usual,
     /// In the line program itself.
     Inside,
@@ -35,7 +35,7 @@ pub(crate) enum Form {
     Strings,
 }
 
-/// A text, and where it is put.
+/// A text, and where it is kept.
 #[derive(Drop)]
 pub(crate) struct Text {
     pub form: Form,
@@ -108,6 +108,6 @@ pub(crate) enum Call {
     Set(Address),
     /// Generates a row.
     Row(Registers),
-    /// Ends a sequence, at this operation if it is told.
+    /// Ends a sequence, at this operation where one is given.
     End(u64, Option<u64>),
 }

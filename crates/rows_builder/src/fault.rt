@@ -24,12 +24,12 @@ impl<T: Drop> From<AllocFailed<T>> for Fault {
     }
 }
 
-/// Why a call isn't made, or what it answers.
+/// Why a call isn't made, or the error that it returns.
 #[derive(Clone, Copy)]
 pub(crate) enum Stop {
     /// A condition of the call isn't met.
     Condition,
-    /// The call answers this error.
+    /// The call returns this error.
     Refused(Error),
     /// Memory was refused before the call.
     Memory,

@@ -122,7 +122,7 @@ fn plain_text(alloc: Global, word: &str) -> Result<Vec<u8>, Fault> {
     parse_text(alloc, word)?.ok_or(Fault::Script)
 }
 
-/// A text, with where it is put before it.
+/// A text, after the word for where it is kept.
 fn formed_text(alloc: Global, word: &str) -> Result<Text, Fault> {
     let (form, word) = parse_form(word);
     Ok(Text {
@@ -131,7 +131,7 @@ fn formed_text(alloc: Global, word: &str) -> Result<Text, Fault> {
     })
 }
 
-/// Where a text is put, and the text.
+/// Where a text is kept, and the text.
 fn parse_form(word: &str) -> (Form, &str) {
     if let Some(text) = word.strip_prefix("s:") {
         return (Form::Inside, text);

@@ -25,7 +25,7 @@ enum End {
     Done,
     /// A condition of the call of this line isn't met.
     Condition(u64),
-    /// A call answers this error.
+    /// A call returns this error.
     Refused(Error),
 }
 

@@ -1,4 +1,4 @@
-//! What calls of readers and of numbers answer.
+//! What calls of readers and of numbers return.
 
 use crate::outcome::{ByName, BytesAfter, Told};
 use gimli_core::{DwEhPe, EndianSlice, Error, Format, ReaderOffsetId, Result, RunTimeEndian};

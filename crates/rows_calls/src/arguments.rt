@@ -171,7 +171,7 @@ impl<'a> Arguments<'a> {
         Ok(self.vector(alloc, text))
     }
 
-    /// All that is left, as bytes; a `-` is none.
+    /// All that is left, as bytes; a `-` stands for no bytes.
     pub fn bytes(&mut self, alloc: Global) -> Result<Vec<u8>, AllocError> {
         let all = self.all();
         let bytes = parse_bytes(alloc, if all == "-" { "" } else { all })?;

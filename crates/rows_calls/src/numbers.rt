@@ -11,7 +11,7 @@ use gimli_core::{
 /// A value without bytes.
 type Value = AttributeValue<Slice<'static>>;
 
-/// What a call on numbers answers.
+/// What a call on numbers returns.
 pub fn answer(name: &str, words: &mut Arguments<'_>) -> Result<Answer<'static>, Stop> {
     match name {
         "add_sized" => add_sized(words.u64(), words.u64(), words.u8()),
@@ -66,7 +66,7 @@ fn udata_value(words: &mut Arguments<'_>) -> Result<Answer<'static>, Stop> {
     }
 }
 
-/// The number of a value that is none. A text and a block have no bytes.
+/// The number of a value, which need not be a number. A text and a block have no bytes.
 fn other_udata_value(name: &str, words: &mut Arguments<'_>) -> Result<Answer<'static>, Stop> {
     let none = EndianSlice::new(&[], RunTimeEndian::Little);
     match name {
@@ -90,7 +90,7 @@ fn other_udata_value(name: &str, words: &mut Arguments<'_>) -> Result<Answer<'st
     }
 }
 
-/// What the call answers on a value.
+/// What the call returns on a value.
 fn udata_of(value: Value) -> Answer<'static> {
     match value.udata_value() {
         Some(n) => of_u64(n),

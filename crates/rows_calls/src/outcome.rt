@@ -9,7 +9,7 @@ use std::fmt::{Debug, Display};
 
 /// What makes the calls of a script.
 pub trait Script {
-    /// Makes the call of a line that has words, and prints what it answers.
+    /// Makes the call of a line that has words, and prints what it returns.
     fn call(
         &mut self,
         number: u64,

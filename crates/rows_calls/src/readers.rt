@@ -15,7 +15,7 @@ const GREATEST_BUFFER: usize = 65536;
 
 /// Runs a script of reader calls: lines of bytes, over which a reader is made, and calls. Each call has a line with its
 /// answer, and with the number of bytes that are left. Bytes after a call are those of a new reader; `-` is none.
-/// `split` and `read_null_terminated_slice` answer a part, whose calls have `part` before them. No call takes memory.
+/// `split` and `read_null_terminated_slice` return a part, whose calls have `part` before them. No call takes memory.
 pub fn read(
     alloc: Global,
     words: &[&str],

@@ -20,7 +20,7 @@ pub trait Section: Writer + Drop {
     /// A copy of the bytes.
     fn to_bytes(&self, alloc: Global) -> Result<Vec<u8>, AllocError>;
 
-    /// Makes a call that other sections don't have, and prints what it answers.
+    /// Makes a call that other sections don't have, and prints what it returns.
     fn call_own(&mut self, alloc: Global, name: &str, out: &mut Vec<u8>) -> Result<(), Stop>;
 }
 
@@ -90,7 +90,7 @@ impl<W: Section> Sections<W> {
         Ok(())
     }
 
-    /// Makes a call of the writer, and prints what it answers.
+    /// Makes a call of the writer, and prints what it returns.
     fn write(
         &mut self,
         number: u64,
@@ -107,7 +107,7 @@ impl<W: Section> Sections<W> {
         self.print_written(answer, out)
     }
 
-    /// Makes a call of a table, and prints what it answers.
+    /// Makes a call of a table, and prints what it returns.
     fn call_table(
         &mut self,
         number: u64,
@@ -128,7 +128,7 @@ impl<W: Section> Sections<W> {
         }
     }
 
-    /// Appends a table to the section, and prints what that answers.
+    /// Appends a table to the section, and prints what that returns.
     fn write_table(&mut self, number: u64, kind: Kind, out: &mut Vec<u8>) -> Result<(), Stop> {
         let mut answer = self.append_table(kind);
         if is_made_again(&answer, self.attempts) {

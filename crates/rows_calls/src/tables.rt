@@ -29,7 +29,7 @@ pub struct Tables {
     line_strings: LineStringTable,
 }
 
-/// What a call of a table answers.
+/// What a call of a table returns.
 #[derive(Clone, Copy)]
 pub enum Answer<'a> {
     /// A number, after a word.
@@ -62,7 +62,7 @@ impl Tables {
         }
     }
 
-    /// What a call of a table answers.
+    /// What a call of a table returns.
     pub fn answer(
         &mut self,
         alloc: Global,
@@ -166,7 +166,7 @@ impl Tables {
     }
 }
 
-/// Whether a call that answers this is made once more.
+/// Whether a call that returns this is made once more.
 pub fn is_made_again<T>(answer: &Result<T>, attempts: Attempts) -> bool {
     match answer {
         Err(Error::OutOfMemory) => attempts == Attempts::Two,

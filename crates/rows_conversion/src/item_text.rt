@@ -1,4 +1,4 @@
-//! What a conversion hands out, and why it is refused, as text.
+//! What a conversion returns, and why it is refused, as text.
 
 use gimli_write::{ConvertError, ConvertLineRow, FileId, LineRow};
 use rows_units::{ErrorText, Letters};

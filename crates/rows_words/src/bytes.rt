@@ -64,7 +64,7 @@ pub fn push_bytes(bytes: &mut Vec<u8>, text: &str) -> Result<bool, AllocError> {
     Ok(true)
 }
 
-/// Adds the bytes of a word of digits. False where it is none.
+/// Appends the bytes of a word of digits. False where it isn't one.
 fn push_digits(bytes: &mut Vec<u8>, word: &[u8]) -> Result<bool, AllocError> {
     for pair in word.chunks(2) {
         let [high, low] = pair else {

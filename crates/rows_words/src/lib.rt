@@ -18,11 +18,11 @@ pub use order_and_size::{AddressSize, parse_order, parse_size};
 pub use print::{BytesLine, Digits, Text, print_bytes};
 pub use short_line::ShortLine;
 
-/// Whether a library call that answers `OutOfMemory` is made once more.
+/// Whether a library call that returns `OutOfMemory` is made once more.
 #[derive(Clone, Copy, Debug, PartialEq, Eq)]
 pub enum Attempts {
     /// Each call is made once.
     One,
-    /// A call that answers `OutOfMemory` is made again.
+    /// A call that returns `OutOfMemory` is made again.
     Two,
 }

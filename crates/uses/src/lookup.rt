@@ -1,6 +1,6 @@
 //! From an address to a line.
 
-ghost use Rattle.std.specs.Prelude.{◌≡◌, ◌≤◌, ◌<◌, IfSome};
+ghost use Rattle.std.specs.Prelude.{◌<◌, IfSome};
 ghost use Rattle.gimli_lookup.specs.FirstPair.{IsFirstPair};
 
 use crate::reading::{Sections, directory_of, path_of};

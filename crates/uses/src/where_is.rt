@@ -37,7 +37,7 @@ pub fn start(rt: &HostRuntime, words: &[String]) -> Result<()> {
     Ok(())
 }
 
-/// A line for each address. Refused where memory is missing, and where a path can't be told.
+/// A line for each address. Refused where memory is missing, and where a file has no path.
 pub fn where_is<'i>(
     alloc: Global,
     section: &'i [u8],
@@ -76,7 +76,7 @@ pub struct Source {
 }
 
 /// Where the code at an address comes from: what the row says that covers it. None where no row
-/// covers it. Refused where the path of its file can't be told.
+/// covers it. Refused where its file has no path.
 pub fn source_at<'i>(
     alloc: Global,
     lookup: &SectionLookup<Slice<'i>>,

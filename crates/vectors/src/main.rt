@@ -3,7 +3,7 @@
 //! | Words | Does |
 //! |---|---|
 //! | `check FILE..` | runs the rows of these files; prints each row whose output isn't the expected one, and for each file how many are as stated. Status 0 where all are, else 1 |
-//! | `again FILE..` | the same, with each call that answers `OutOfMemory` made once more; `state LINE` where something doesn't stand as it must. Status 0, or 3 where the program's own memory is refused |
+//! | `again FILE..` | the same, with each call that returns `OutOfMemory` made once more; `state LINE` where something doesn't stand as it must. Status 0, or 3 where the program's own memory is refused |
 //! | `write` | reads builder scripts from standard input, and prints what each gives |
 //! | `header FILE little\|big SIZE OFFSET DIR NAME` | prints a header |
 //! | `instructions FILE little\|big SIZE OFFSET` | prints the instructions of a unit |
@@ -77,7 +77,7 @@ fn tell_error(rt: &HostRuntime, error: &io::Error) -> u8 {
 
 /// Tells something on standard error, and returns a status.
 fn tell(rt: &HostRuntime, text: impl fmt::Display + Drop, status: u8) -> u8 {
-    // Where standard error takes nothing, the status still tells.
+    // Where standard error can't be written to, the status still says it.
     let _ = writeln!(rt.stderr(), "vectors: {text}");
     status
 }

@@ -45,7 +45,7 @@ impl<'t> Parts<'t> {
         }
     }
 
-    /// Adds bytes to a part, and puts it last. The bytes may name the parts before it.
+    /// Appends bytes to a part, and makes it the last one. The bytes may name the parts before it.
     fn put_part(&mut self, alloc: Global, part: Part<'t>, text: &str) -> Result<bool, AllocError> {
         let mut part = part;
         let known = part.little.put_text(alloc, self, text)?

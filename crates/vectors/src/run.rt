@@ -149,7 +149,7 @@ fn without_parts<'w>(alloc: Global, words: &[&'w str]) -> Result<Vec<&'w str>, A
 }
 
 /// Runs a command of `linetool`, a second time from the start where memory is refused it and attempts are two, and
-/// answers its status.
+/// returns its status.
 fn run_linetool(
     alloc: Global,
     words: &[&str],

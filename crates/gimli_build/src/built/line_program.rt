@@ -1,6 +1,6 @@
 //! A line program that is built: gimli's `LineProgram`, its tables, its rows and its flags.
 
-ghost use Rattle.std.specs.Prelude.{◌≡◌, ◌≢◌, ℕ, ◌+◌, ◌/◌, ◌%◌, ◌<◌, ◌≤◌, ◌^◌, Bool, true, false, nat_eq, List, [], ◌∷◌, ◌++◌, length, option_map, slice_get, IfOk, IfErr, OnOk, OnErr, IfSome, Some, None, IsTrue, ◌↔◌};
+ghost use Rattle.std.specs.Prelude.{◌≡◌, ◌≢◌, ℕ, ◌+◌, ◌/◌, ◌%◌, ◌<◌, ◌≤◌, true, false, nat_eq, [], length, option_map, slice_get, IfOk, IfErr, OnOk, OnErr, IfSome, Some, None, IsTrue, ◌↔◌};
 ghost use Rattle.gimli_core.specs.Numbers.{is_address_size};
 ghost use Rattle.gimli_build.specs.Advance.{CanEncode, IsPosition, CanFollow};
 
@@ -368,7 +368,7 @@ impl LineProgram {
 
     /// Builds the current row, and begins a sequence if none has. Then its discriminator,
     /// `basic_block`, `prologue_end` and `epilogue_begin` are cleared. Requires a program that
-    /// isn't a placeholder, and what `can_generate_row` tells. Fails only with `OutOfMemory`; then
+    /// isn't a placeholder, and what `can_generate_row` says. Fails only with `OutOfMemory`; then
     /// nothing changes.
     pub fn generate_row(&mut self) -> Result<()>
         requires program { self.old.is_none ≡ false }
@@ -400,7 +400,7 @@ impl LineProgram {
 
     /// Ends a sequence at this offset, in bytes, and the current op_index; the current row becomes
     /// the initial one. Requires a program that isn't a placeholder, and what `can_end_sequence`
-    /// tells. Fails only with `OutOfMemory`; then nothing changes.
+    /// says. Fails only with `OutOfMemory`; then nothing changes.
     pub fn end_sequence(&mut self, address_offset: u64) -> Result<()>
         requires program { self.old.is_none ≡ false }
         requires can { CanEndSequence self.old address_offset }

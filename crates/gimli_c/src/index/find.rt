@@ -3,7 +3,7 @@
 ghost use Rattle.std.specs.Prelude.{◌≡◌, ◌≢◌, ◌⊎◌, All, IfSome, IsSome, MatchOption, None};
 ghost use Rattle.gimli_lookup.specs.FirstPair.{HasNoPair};
 ghost use Rattle.gimli_lookup.specs.Section.{all_sequences};
-ghost use Rattle.gimli_c.specs.Indexed.{no_place, GivesPlace, IsAnswer, WritesAnswers};
+ghost use Rattle.gimli_c.specs.Indexed.{GivesPlace, IsAnswer, WritesAnswers};
 
 use crate::index::handle::GimliLineIndex;
 use crate::index::kept::SectionIndex;

@@ -108,7 +108,7 @@ fn directory_in(
     )
 }
 
-/// Reads the directory of an index of a unit, as `gimli_line_directory` does, by the index's copy of the section. Answers else as
+/// Reads the directory of an index of a unit, as `gimli_line_directory` does, by the index's copy of the section. Returns else as
 /// `gimli_line_index_file` does.
 #[unsafe(no_mangle)]
 pub extern "C" fn gimli_line_index_directory(

@@ -217,7 +217,7 @@ impl<R: Reader> Conversion<R> {
         }
     }
 
-    /// Reads up to the end of a sequence, or to an address that is set after a row, which the next read hands out first.
+    /// Reads up to the end of a sequence, or to an address that is set after a row, which the next read returns first.
     /// Refused as `read_row` is, as `MissingLineEndSequence` for rows without an end, or by `OutOfMemory`; every later
     /// read repeats the refusal. The line strings keep their texts.
     pub(crate) fn read_sequence(

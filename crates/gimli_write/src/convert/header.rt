@@ -1,6 +1,6 @@
 //! What is made of the header of a source, before its program is read.
 
-ghost use Rattle.std.specs.Prelude.{◌≡◌, ◌≢◌, ◌≤◌, ℕ, List, [], ◌∷◌, All, IfOk, IfErr, IfSome, IsTrue, OnOk, Ok, None, Some, false, option_map};
+ghost use Rattle.std.specs.Prelude.{◌≡◌, ◌≢◌, All, IfOk, IfErr, IfSome, IsTrue, OnOk, Ok, None, Some, false, option_map};
 ghost use Rattle.gimli_core.specs.Numbers.{is_address_size};
 ghost use Rattle.gimli_core.specs.Values.{value_seen};
 ghost use Rattle.gimli_line.specs.header.File.{file_seen};
@@ -9,7 +9,6 @@ ghost use Rattle.gimli_line.specs.header.Header.{has_content};
 ghost use Rattle.gimli_bytes.specs.Texts.{KeepsTexts};
 ghost use Rattle.gimli_build.specs.Advance.{CanEncode};
 ghost use Rattle.gimli_build.specs.Conditions.{Accepts};
-ghost use Rattle.gimli_build.specs.LineText.{line_text, HasNoZero};
 ghost use Rattle.gimli_write.specs.convert.Texts.{◌>>=◌ as ◌>>>◌, IsRefusedBy};
 ghost use Rattle.gimli_write.specs.convert.SourceTables.{tables_with, directory_added, file_added, all_added};
 ghost use Rattle.gimli_write.specs.convert.Preparation.{first_path, working_directory, file_directory, own_source_file, named_source_file, source_file, is_out_of_range, line_encoding_of, first_texts, start_of_program, start_of_tables, first_ids, has_before_5, handed_of, tables_of_header};

@@ -1,4 +1,4 @@
-//! What a command leaves and tells where a file, a write or an allocation is refused.
+//! What a command leaves and prints where a file, a write or an allocation is refused.
 
 use super::memory::{Failing, run_with};
 
