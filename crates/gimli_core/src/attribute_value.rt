@@ -5,9 +5,10 @@ ghost use Rattle.std.specs.Prelude.{◌≡◌};
 use crate::common::{DebugLineStrOffset, DebugStrOffset, DebugStrOffsetsIndex};
 use crate::offset::ReaderOffset;
 use crate::reader::Reader;
+use std::alloc::AllocError;
 
 /// The value of a form. Texts and blocks are readers over the section that they stand in.
-#[derive(Clone, Copy, Debug, PartialEq, Eq)]
+#[derive(Copy, Debug, PartialEq, Eq)]
 pub enum AttributeValue<R, Offset = <R as Reader>::Offset>
 where
     R: Reader<Offset = Offset>,
@@ -41,6 +42,22 @@ where
     DebugLineStrRef(DebugLineStrOffset<Offset>),
     /// A text by its index into the string offsets of the unit.
     DebugStrOffsetsIndex(DebugStrOffsetsIndex<Offset>),
+}
+
+impl<R, Offset> Clone for AttributeValue<R, Offset>
+where
+    R: Reader<Offset = Offset>,
+    Offset: ReaderOffset,
+{
+    ghost use Rattle.std.specs.Prelude.{⊤};
+
+    ghost is_clone = { λ value copy. copy ≡ value };
+
+    ghost is_infallible = { λ _. ⊤ };
+
+    fn clone(&self) -> Result<Self, AllocError> {
+        Ok(*self)
+    }
 }
 
 impl<R, Offset> AttributeValue<R, Offset>

@@ -210,8 +210,7 @@ pub fn clones_of_offsets_are_same<T: Clone>()
         → ClonesGiveSame ⟦<DebugStrOffsetsIndex<T> as Clone>⟧ }
 {}
 
-/// The same of values, if it is so of readers and of offsets.
+/// `clone` of a value is never refused, and gives the same.
 pub fn clones_of_values_are_same<R: Reader>()
-    ensures { GivesSame R.is_clone R.is_infallible → GivesSame R.Offset.is_clone
-        R.Offset.is_infallible → ClonesGiveSame ⟦<AttributeValue<R> as Clone>⟧ }
+    ensures { ClonesGiveSame ⟦<AttributeValue<R> as Clone>⟧ }
 {}

@@ -275,13 +275,11 @@ pub fn equal_programs_look_same<R: Reader + PartialEq>()
     equal_headers_look_same::<R>();
 }
 
-/// What `clone` makes of a file, of an instruction, of a section, of instructions to come or of a sequence is the same,
-/// if this is so of readers and of offsets.
+/// What `clone` makes of a file or of an instruction is the same, and of a section, of instructions to come or of a
+/// sequence, if this is so of readers.
 pub fn clones_are_same<R: Reader>()
-    ensures files { IsSameClone R.is_clone → IsSameClone R.Offset.is_clone
-        → IsSameClone ⟦<FileEntry<R> as Clone>⟧.is_clone }
-    ensures instructions { IsSameClone R.is_clone → IsSameClone R.Offset.is_clone
-        → IsSameClone ⟦<LineInstruction<R> as Clone>⟧.is_clone }
+    ensures files { IsSameClone ⟦<FileEntry<R> as Clone>⟧.is_clone }
+    ensures instructions { IsSameClone ⟦<LineInstruction<R> as Clone>⟧.is_clone }
     ensures sections { IsSameClone R.is_clone → IsSameClone ⟦<DebugLine<R> as Clone>⟧.is_clone }
     ensures unread { IsSameClone R.is_clone
         → IsSameClone ⟦<LineInstructions<R> as Clone>⟧.is_clone }
@@ -289,12 +287,10 @@ pub fn clones_are_same<R: Reader>()
         → IsSameClone ⟦<LineSequence<R> as Clone>⟧.is_clone }
 {}
 
-/// `clone` of these is never refused, if this is so of readers and of offsets.
+/// `clone` of a file or of an instruction is never refused, nor is that of the others, if this is so of readers.
 pub fn clones_are_given<R: Reader>()
-    ensures files { AreAlwaysCloned R.is_infallible → AreAlwaysCloned R.Offset.is_infallible
-        → AreAlwaysCloned ⟦<FileEntry<R> as Clone>⟧.is_infallible }
-    ensures instructions { AreAlwaysCloned R.is_infallible → AreAlwaysCloned R.Offset.is_infallible
-        → AreAlwaysCloned ⟦<LineInstruction<R> as Clone>⟧.is_infallible }
+    ensures files { AreAlwaysCloned ⟦<FileEntry<R> as Clone>⟧.is_infallible }
+    ensures instructions { AreAlwaysCloned ⟦<LineInstruction<R> as Clone>⟧.is_infallible }
     ensures sections { AreAlwaysCloned R.is_infallible
         → AreAlwaysCloned ⟦<DebugLine<R> as Clone>⟧.is_infallible }
     ensures unread { AreAlwaysCloned R.is_infallible

@@ -8,6 +8,7 @@ ghost use Rattle.gimli_line.specs.header.HeaderGrammar.{digest};
 
 use crate::run::leb128::read_uleb128;
 use gimli_core::{AttributeValue, DwForm, DwLnct, Reader, ReaderOffset, Result, constants};
+use std::alloc::AllocError;
 
 /// What a table of version 5 holds of each entry: a kind of value, and the form that it has.
 #[derive(Clone, Copy, Debug, PartialEq, Eq)]
@@ -19,7 +20,7 @@ pub struct FileEntryFormat {
 }
 
 /// A source file.
-#[derive(Clone, Copy, Debug, PartialEq, Eq)]
+#[derive(Copy, Debug, PartialEq, Eq)]
 pub struct FileEntry<R, Offset = <R as Reader>::Offset>
 where
     R: Reader<Offset = Offset>,
@@ -31,6 +32,22 @@ where
     pub(crate) size: u64,
     pub(crate) md5: [u8; 16],
     pub(crate) source: Option<AttributeValue<R, Offset>>,
+}
+
+impl<R, Offset> Clone for FileEntry<R, Offset>
+where
+    R: Reader<Offset = Offset>,
+    Offset: ReaderOffset,
+{
+    ghost use Rattle.std.specs.Prelude.{⊤};
+
+    ghost is_clone = { λ file copy. copy ≡ file };
+
+    ghost is_infallible = { λ _. ⊤ };
+
+    fn clone(&self) -> std::result::Result<Self, AllocError> {
+        Ok(*self)
+    }
 }
 
 impl<R, Offset> FileEntry<R, Offset>

@@ -12,10 +12,11 @@ use gimli_core::{
     AttributeValue, DebugLineOffset, DwLnct, DwLns, Encoding, Error, Format, LineEncoding, Reader,
     ReaderOffset, Result, constants,
 };
+use std::alloc::AllocError;
 use std::marker::Model;
 
 /// The header of a line program. Texts, blocks and the program are readers over the section.
-#[derive(Clone, Debug, PartialEq, Eq, Drop)]
+#[derive(Debug, PartialEq, Eq, Drop)]
 pub struct LineProgramHeader<R, Offset = <R as Reader>::Offset>
 where
     R: Reader<Offset = Offset>,
@@ -93,6 +94,23 @@ where
       comp_dir = v.comp_dir;
       comp_file = v.comp_file;
     } };
+}
+
+impl<R, Offset> Clone for LineProgramHeader<R, Offset>
+where
+    R: Reader<Offset = Offset>,
+    Offset: ReaderOffset,
+{
+    ghost use Rattle.gimli_line.specs.header.HeaderParts.{parts_of};
+
+    ghost is_clone = { λ header copy. parts_of copy ≡ parts_of header };
+
+    fn clone(&self) -> std::result::Result<Self, AllocError> {
+        match self.clone() {
+            Ok(copy) => Ok(copy),
+            Err(_) => Err(AllocError),
+        }
+    }
 }
 
 impl<R, Offset> LineProgramHeader<R, Offset>

@@ -9,10 +9,11 @@ use crate::header::file_entry::FileEntry;
 use crate::header::forms::parse_offset;
 use crate::header::program_header::LineProgramHeader;
 use gimli_core::{DwLne, DwLns, Reader, ReaderOffset, Result, constants};
+use std::alloc::AllocError;
 use std::marker::Model;
 
 /// An instruction of a line program.
-#[derive(Clone, Copy, Debug, PartialEq, Eq)]
+#[derive(Copy, Debug, PartialEq, Eq)]
 pub enum LineInstruction<R, Offset = <R as Reader>::Offset>
 where
     R: Reader<Offset = Offset>,
@@ -62,6 +63,22 @@ where
     SetDiscriminator(u64),
     /// An extended opcode that isn't known, and the bytes after it.
     UnknownExtended(DwLne, R),
+}
+
+impl<R, Offset> Clone for LineInstruction<R, Offset>
+where
+    R: Reader<Offset = Offset>,
+    Offset: ReaderOffset,
+{
+    ghost use Rattle.std.specs.Prelude.{◌≡◌, ⊤};
+
+    ghost is_clone = { λ instruction copy. copy ≡ instruction };
+
+    ghost is_infallible = { λ _. ⊤ };
+
+    fn clone(&self) -> std::result::Result<Self, AllocError> {
+        Ok(*self)
+    }
 }
 
 impl<R, Offset> LineInstruction<R, Offset>
