@@ -2,7 +2,7 @@
 # Looks for misused memory: the example where_is under valgrind; all examples built with the address sanitiser; each call over buffers
 # that end at a page that can't be read (guarded.c); and many threads, each with an index of its own (threads.c), also under helgrind
 # of valgrind. Over compiled programs of versions 2 to 5. What a machine lacks is said, and passed over. The library is that of
-# `make`, or of `rt lib`.
+# `make`, or of .ci/library.
 set -eu
 here=$(cd "$(dirname "$0")" && pwd)
 crate=$(dirname "$here")

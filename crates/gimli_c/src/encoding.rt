@@ -15,7 +15,7 @@ use gimli_core::{Encoding, Format, LineEncoding};
 
 /// What a unit is encoded by.
 #[repr(C)]
-#[derive(Clone, Copy, Debug, PartialEq, Eq)]
+#[derive(Clone, Copy)]
 pub struct GimliEncoding {
     /// The version, from 2 to 5.
     pub version: u16,

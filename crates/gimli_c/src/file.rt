@@ -18,7 +18,7 @@ use std::alloc::Global;
 
 /// Where a text stands.
 #[repr(C)]
-#[derive(Clone, Copy, Debug, PartialEq, Eq)]
+#[derive(Clone, Copy)]
 pub struct GimliText {
     /// `TEXT_NONE`, `TEXT_HERE`, `TEXT_DEBUG_LINE_STR`, `TEXT_DEBUG_STR`, `TEXT_DEBUG_STR_SUP` or `TEXT_INDEX`.
     pub kind: u64,
@@ -43,7 +43,7 @@ pub const TEXT_INDEX: u64 = 5;
 
 /// A source file.
 #[repr(C)]
-#[derive(Clone, Copy, Debug, PartialEq, Eq)]
+#[derive(Clone, Copy)]
 pub struct GimliFile {
     /// The path, which is full or starts at the directory.
     pub path: GimliText,

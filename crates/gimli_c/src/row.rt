@@ -8,7 +8,7 @@ use gimli_line::{ColumnType, LineRow};
 
 /// A row of a line program.
 #[repr(C)]
-#[derive(Clone, Copy, Debug, PartialEq, Eq)]
+#[derive(Clone, Copy)]
 pub struct GimliRow {
     /// The address of the machine instruction, in bytes.
     pub address: u64,

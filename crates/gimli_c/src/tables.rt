@@ -21,7 +21,7 @@ use std::alloc::Global;
 
 /// A file that is handed over.
 #[repr(C)]
-#[derive(Clone, Copy, Debug, PartialEq, Eq)]
+#[derive(Clone, Copy)]
 pub struct GimliFileName {
     /// The path, which is full or starts at the directory.
     pub path: GimliName,

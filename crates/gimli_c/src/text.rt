@@ -12,7 +12,7 @@ use std::alloc::Global;
 
 /// A text among the bytes of texts that are handed over.
 #[repr(C)]
-#[derive(Clone, Copy, Debug, PartialEq, Eq)]
+#[derive(Clone, Copy)]
 pub struct GimliName {
     /// Where it begins.
     pub place: u64,

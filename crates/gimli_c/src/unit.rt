@@ -16,7 +16,7 @@ use std::alloc::Global;
 
 /// A unit of a section `.debug_line`: its header, and what its program gives.
 #[repr(C)]
-#[derive(Clone, Copy, Debug, PartialEq, Eq)]
+#[derive(Clone, Copy)]
 pub struct GimliUnit {
     /// Its length in bytes, without the length itself.
     pub length: u64,

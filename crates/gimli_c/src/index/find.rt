@@ -14,7 +14,7 @@ use std::alloc::Global;
 
 /// Where an address belongs.
 #[repr(C)]
-#[derive(Clone, Copy, Debug, PartialEq, Eq)]
+#[derive(Clone, Copy)]
 pub struct GimliPlace {
     /// The row of the address.
     pub row: GimliRow,

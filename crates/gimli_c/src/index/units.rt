@@ -53,7 +53,7 @@ impl SectionIndex {
 
 /// A unit of an index.
 #[repr(C)]
-#[derive(Clone, Copy, Debug, PartialEq, Eq)]
+#[derive(Clone, Copy)]
 pub struct GimliIndexUnit {
     /// Its offset in the section.
     pub offset: u64,
