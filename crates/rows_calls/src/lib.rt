@@ -32,18 +32,17 @@
 
 mod answer;
 mod arguments;
-mod in_one;
-mod in_pieces;
 mod numbers;
 mod order_calls;
-mod outcome;
 mod reader_calls;
 mod readers;
+mod script;
 mod sections;
-mod stop;
 mod tables;
+mod targets;
 mod writers;
 
-pub use in_one::bytes;
-pub use in_pieces::pieces;
 pub use readers::read;
+pub use sections::write_section;
+pub use tables::{Kind, Tables};
+pub use targets::{Section, Target};

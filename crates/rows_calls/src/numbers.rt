@@ -1,12 +1,12 @@
 //! Calls whose input and answer are numbers.
 
-use crate::answer::{Answer, Slice, of_u8, of_u64};
+use crate::answer::{Answer, Slice};
 use crate::arguments::Arguments;
-use crate::stop::Stop;
 use gimli_core::{
     AttributeValue, DebugLineStrOffset, DebugStrOffset, DebugStrOffsetsIndex, EndianSlice,
     ReaderAddress, ReaderOffset, RunTimeEndian,
 };
+use rows_reading::Stop;
 
 /// A value without bytes.
 type Value = AttributeValue<Slice<'static>>;
@@ -16,7 +16,7 @@ pub fn answer(name: &str, words: &mut Arguments<'_>) -> Result<Answer<'static>, 
     match name {
         "add_sized" => add_sized(words.u64(), words.u64(), words.u8()),
         "min_tombstone" => min_tombstone(words.u8()),
-        "word_size" => Ok(of_u8(words.format().word_size())),
+        "word_size" => Ok(Answer::Number("u8", i128::from(words.format().word_size()))),
         "format" => Ok(Answer::Encoding(words.encoding().format())),
         "application" => Ok(Answer::Encoding(words.encoding().application())),
         "udata_value" => udata_value(words),
@@ -27,7 +27,7 @@ pub fn answer(name: &str, words: &mut Arguments<'_>) -> Result<Answer<'static>, 
 /// An address so many bytes further on, where the size is that of an address.
 fn add_sized(address: u64, length: u64, size: u8) -> Result<Answer<'static>, Stop> {
     match size {
-        1 | 2 | 4 | 8 => Ok(Answer::of(address.add_sized(length, size).map(of_u64))),
+        1 | 2 | 4 | 8 => Ok(Answer::of_read(address.add_sized(length, size).map(of_u64))),
         _ => Err(Stop::Condition),
     }
 }
@@ -49,7 +49,7 @@ fn offset(name: &str, words: &mut Arguments<'_>) -> Result<Answer<'static>, Stop
         "from_u64" => <usize as ReaderOffset>::from_u64(words.u64()),
         _ => return Err(Stop::Bad),
     };
-    Ok(Answer::of(offset.map(|offset| of_u64(offset.into_u64()))))
+    Ok(Answer::of_read(offset.map(|offset| of_u64(offset.into_u64()))))
 }
 
 /// The number of a value that a line says, by the name of its variant.
@@ -88,6 +88,11 @@ fn other_udata_value(name: &str, words: &mut Arguments<'_>) -> Result<Answer<'st
         }
         _ => Err(Stop::Bad),
     }
+}
+
+/// A number of 64 bits.
+fn of_u64(n: u64) -> Answer<'static> {
+    Answer::Number("u64", i128::from(n))
 }
 
 /// What the call returns on a value.

@@ -1,12 +1,9 @@
 //! Calls of readers.
 
-use crate::answer::{
-    Answer, Slice, of_bool, of_i8, of_i64, of_sixteen, of_u8, of_u16, of_u32, of_u64, of_unit,
-    of_usize, word_of,
-};
+use crate::answer::{Answer, Slice};
 use crate::arguments::Arguments;
-use crate::stop::Stop;
 use gimli_core::{Endianity, Reader};
+use rows_reading::Stop;
 
 /// What a call returns over a reader. `base` is the reader that it was at first.
 pub fn answer<'a>(
@@ -17,8 +14,8 @@ pub fn answer<'a>(
 ) -> Result<Answer<'a>, Stop> {
     match name {
         "to_slice" | "slice" => Ok(Answer::Bytes(reader.slice())),
-        "split" => Ok(Answer::of(reader.split(words.usize()).map(Answer::Part))),
-        "read_null_terminated_slice" => Ok(Answer::of(
+        "split" => Ok(Answer::of_read(reader.split(words.usize()).map(Answer::Part))),
+        "read_null_terminated_slice" => Ok(Answer::of_read(
             reader.read_null_terminated_slice().map(Answer::Part),
         )),
         "offset_from" => offset_from(*reader, base),
@@ -44,19 +41,19 @@ fn value(
     words: &mut Arguments<'_>,
 ) -> Result<Answer<'static>, Stop> {
     let answer = match name {
-        "endian" => Ok(Answer::Word(word_of(reader.endian().is_big_endian()))),
+        "endian" => Ok(Answer::order(reader.endian().is_big_endian())),
         "len" => Ok(of_usize(reader.len())),
-        "is_empty" => Ok(of_bool(reader.is_empty())),
+        "is_empty" => Ok(Answer::truth(reader.is_empty())),
         "find" => reader.find(words.u8()).map(of_usize),
         "empty" => {
             reader.empty();
             Ok(Answer::Word("ok"))
         }
-        "truncate" => reader.truncate(words.usize()).map(of_unit),
-        "skip" => reader.skip(words.usize()).map(of_unit),
+        "truncate" => reader.truncate(words.usize()).map(|()| Answer::Word("ok")),
+        "skip" => reader.skip(words.usize()).map(|()| Answer::Word("ok")),
         _ => return read_fixed(reader, name, words),
     };
-    Ok(Answer::of(answer))
+    Ok(Answer::of_read(answer))
 }
 
 /// What a call returns that takes a number of a fixed size.
@@ -66,22 +63,36 @@ fn read_fixed(
     words: &mut Arguments<'_>,
 ) -> Result<Answer<'static>, Stop> {
     let answer = match name {
-        "read_u8" => reader.read_u8().map(of_u8),
-        "read_i8" => reader.read_i8().map(of_i8),
-        "read_u16" => reader.read_u16().map(of_u16),
-        "read_u32" => reader.read_u32().map(of_u32),
-        "read_u64" => reader.read_u64().map(of_u64),
+        "read_u8" => reader
+            .read_u8()
+            .map(|n| Answer::Number("u8", i128::from(n))),
+        "read_i8" => reader
+            .read_i8()
+            .map(|n| Answer::Number("i8", i128::from(n))),
+        "read_u16" => reader
+            .read_u16()
+            .map(|n| Answer::Number("u16", i128::from(n))),
+        "read_u32" => reader
+            .read_u32()
+            .map(|n| Answer::Number("u32", i128::from(n))),
+        "read_u64" => reader
+            .read_u64()
+            .map(|n| Answer::Number("u64", i128::from(n))),
         "read_uint" => return uint(reader, words.usize()),
-        "read_u8_array_16" => reader.read_u8_array_16().map(of_sixteen),
+        "read_u8_array_16" => reader.read_u8_array_16().map(Answer::Sixteen),
         _ => return other(reader, name, words),
     };
-    Ok(Answer::of(answer))
+    Ok(Answer::of_read(answer))
 }
 
 /// A number of `n` bytes, where they are eight at most.
 fn uint(reader: &mut Slice<'_>, n: usize) -> Result<Answer<'static>, Stop> {
     if n <= 8 {
-        Ok(Answer::of(reader.read_uint(n).map(of_u64)))
+        Ok(Answer::of_read(
+            reader
+                .read_uint(n)
+                .map(|n| Answer::Number("u64", i128::from(n))),
+        ))
     } else {
         Err(Stop::Condition)
     }
@@ -90,7 +101,11 @@ fn uint(reader: &mut Slice<'_>, n: usize) -> Result<Answer<'static>, Stop> {
 /// An address, where the size is that of one.
 fn address(reader: &mut Slice<'_>, size: u8) -> Result<Answer<'static>, Stop> {
     match size {
-        1 | 2 | 4 | 8 => Ok(Answer::of(reader.read_address(size).map(of_u64))),
+        1 | 2 | 4 | 8 => Ok(Answer::of_read(
+            reader
+                .read_address(size)
+                .map(|n| Answer::Number("u64", i128::from(n))),
+        )),
         _ => Err(Stop::Condition),
     }
 }
@@ -102,17 +117,30 @@ fn other(
     words: &mut Arguments<'_>,
 ) -> Result<Answer<'static>, Stop> {
     let answer = match name {
-        "read_address_size" => reader.read_address_size().map(of_u8),
+        "read_address_size" => reader
+            .read_address_size()
+            .map(|n| Answer::Number("u8", i128::from(n))),
         "read_address" => return address(reader, words.u8()),
         "read_initial_length" => reader
             .read_initial_length()
             .map(|(length, format)| Answer::Length(length, format)),
         "read_length" => reader.read_length(words.format()).map(of_usize),
         "read_offset" => reader.read_offset(words.format()).map(of_usize),
-        "read_uleb128" => reader.read_uleb128().map(of_u64),
-        "read_uleb128_u16" => reader.read_uleb128_u16().map(of_u16),
-        "read_sleb128" => reader.read_sleb128().map(of_i64),
+        "read_uleb128" => reader
+            .read_uleb128()
+            .map(|n| Answer::Number("u64", i128::from(n))),
+        "read_uleb128_u16" => reader
+            .read_uleb128_u16()
+            .map(|n| Answer::Number("u16", i128::from(n))),
+        "read_sleb128" => reader
+            .read_sleb128()
+            .map(|n| Answer::Number("i64", i128::from(n))),
         _ => return Err(Stop::Bad),
     };
-    Ok(Answer::of(answer))
+    Ok(Answer::of_read(answer))
+}
+
+/// A number of bytes.
+fn of_usize(n: usize) -> Answer<'static> {
+    Answer::Number("usize", n as i128)
 }

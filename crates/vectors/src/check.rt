@@ -3,7 +3,7 @@
 use crate::comparison::is_expected;
 use crate::rows::{Command, Row};
 use crate::run::run_command;
-use rows_words::Attempts;
+use rows_reading::Attempts;
 use std::alloc::Global;
 use std::io;
 use std::io::Write;

@@ -44,7 +44,8 @@ mod run;
 use check::check_rows;
 use files::{SectionFiles, split_words};
 use rows::{Fault, parse_rows};
-use rows_words::Attempts;
+use rows_reading::{Attempts, Stop};
+use run::run_over;
 use std::io::{BufWriter, ErrorKind, Write};
 use std::process::ExitCode;
 use std::{env, fmt, fs, io};
@@ -58,21 +59,13 @@ const NOT_AS_STATED: u8 = 1;
 fn main(rt: HostRuntime) -> ExitCode {
     let status = match start(&rt) {
         Ok(status) => status,
-        Err(e) => tell_error(&rt, &e),
+        Err(e) if e.kind() == ErrorKind::OutOfMemory => tell(&rt, "memory is refused", 3),
+        Err(_) => {
+            let text = "a file can't be read, or the output can't be written";
+            tell(&rt, text, MALFORMED)
+        }
     };
     ExitCode::from(status)
-}
-
-/// Tells an error, and returns the status of the program: 3 where memory is refused.
-fn tell_error(rt: &HostRuntime, error: &io::Error) -> u8 {
-    match error.kind() {
-        ErrorKind::OutOfMemory => tell(rt, "memory is refused", 3),
-        _ => tell(
-            rt,
-            "a file can't be read, or the output can't be written",
-            MALFORMED,
-        ),
-    }
 }
 
 /// Tells something on standard error, and returns a status.
@@ -103,36 +96,43 @@ fn start(rt: &HostRuntime) -> io::Result<u8> {
 
 /// Prints what a command gives of a unit of a file.
 fn print_unit(rt: &HostRuntime, command: &str, file: &str, words: &[&str]) -> io::Result<u8> {
-    let alloc = rt.alloc();
-    let mut out = Vec::new(alloc);
-    let status = match command {
-        "header" => {
-            let section = fs::read(rt, file)?;
-            rows_units::header(alloc, words, &section, Attempts::One, &mut out)?
-        }
-        "instructions" => {
-            let section = fs::read(rt, file)?;
-            rows_units::instructions(alloc, words, &section, Attempts::One, &mut out)?
-        }
-        "convert" => {
-            let (words, texts) = split_words(words);
-            let files = SectionFiles::read(rt, file, texts)?;
-            rows_conversion::convert(alloc, words, files.sections(), Attempts::One, &mut out)?
-        }
-        "convert_sequences" => {
-            let (words, texts) = split_words(words);
-            let files = SectionFiles::read(rt, file, texts)?;
-            rows_conversion::convert_sequences(
-                alloc,
-                words,
-                files.sections(),
-                Attempts::One,
-                &mut out,
-            )?
-        }
+    let (words, texts) = match command {
+        "header" | "instructions" => (words, [].as_slice()),
+        "convert" | "convert_sequences" => split_words(words),
         _ => return Ok(tell(rt, "no such words", MALFORMED)),
     };
-    print_all(rt, &out, status)
+    let files = SectionFiles::read(rt, file, texts)?;
+    let mut out = Vec::new(rt.alloc());
+    let sections = files.sections();
+    let done = run_over(
+        rt.alloc(),
+        command,
+        words,
+        sections,
+        Attempts::One,
+        &mut out,
+    );
+    print_all(rt, &out, done)
+}
+
+/// Runs the scripts on standard input, and prints what they give.
+fn print_scripts(rt: &HostRuntime) -> io::Result<u8> {
+    let script = io::read_to_string(rt.alloc(), rt.stdin())?;
+    let mut out = Vec::new(rt.alloc());
+    let done = rows_writing::write(rt.alloc(), &[], script.as_str(), Attempts::One, &mut out);
+    print_all(rt, &out, done)
+}
+
+/// Prints what a command gave, and returns its status.
+fn print_all(rt: &HostRuntime, text: &[u8], done: Result<u8, Stop>) -> io::Result<u8> {
+    match done {
+        Err(Stop::Memory) => Err(io::Error::from(ErrorKind::OutOfMemory)),
+        Err(_) => Ok(tell(rt, "not what the command takes", MALFORMED)),
+        Ok(status) => {
+            rt.stdout().write_all(text)?;
+            Ok(status)
+        }
+    }
 }
 
 /// Runs the rows of files, prints how many of each are as stated, and returns the status of the program.
@@ -146,11 +146,8 @@ fn check_files(rt: &HostRuntime, files: &[&str], attempts: Attempts) -> io::Resu
             Err(Fault::Memory) => return Err(io::Error::from(ErrorKind::OutOfMemory)),
             Err(Fault::Line(line)) => {
                 out.flush()?;
-                return Ok(tell(
-                    rt,
-                    format_args!("{file}:{line}: this can't stand here"),
-                    MALFORMED,
-                ));
+                let text = format_args!("{file}:{line}: this can't stand here");
+                return Ok(tell(rt, text, MALFORMED));
             }
         };
         let tally = check_rows(rt.alloc(), &rows, attempts, &mut out)?;
@@ -163,21 +160,4 @@ fn check_files(rt: &HostRuntime, files: &[&str], attempts: Attempts) -> io::Resu
     }
     out.flush()?;
     Ok(status)
-}
-
-/// Runs the scripts on standard input, and prints what they give.
-fn print_scripts(rt: &HostRuntime) -> io::Result<u8> {
-    let script = io::read_to_string(rt.alloc(), rt.stdin())?;
-    let mut out = Vec::new(rt.alloc());
-    let status = rows_builder::write(rt.alloc(), &[], script.as_str(), Attempts::One, &mut out)?;
-    print_all(rt, &out, status)
-}
-
-/// Prints what a command gave, and returns its status.
-fn print_all(rt: &HostRuntime, text: &[u8], status: u8) -> io::Result<u8> {
-    rt.stdout().write_all(text)?;
-    match status {
-        MALFORMED => Ok(tell(rt, "not what the command takes", MALFORMED)),
-        _ => Ok(status),
-    }
 }

@@ -4,9 +4,20 @@ use crate::again::watch_rows;
 use crate::files::split_words;
 use crate::lines::run_lines;
 use crate::rows::{Command, Input};
-use rows_conversion::Sections;
-use rows_words::{Attempts, print_line};
+use gimli_bytes::{EndianVec, PieceVec};
+use gimli_core::RunTimeEndian;
+use rows_calls::write_section;
+use rows_reading::{
+    Attempts, Lines, Part, Sections, Stop, addresses, paths, places, print_unit, walk,
+};
+use rows_writing::{Kind, convert};
 use std::alloc::{AllocError, Global};
+
+/// A section in one vector.
+type InOne = EndianVec<RunTimeEndian>;
+
+/// A section in pieces of four bytes.
+type InPieces = PieceVec<RunTimeEndian, 4>;
 
 /// What a command of a row prints: its output, its lines on standard error after `stderr`, and its status, where
 /// it isn't 0, after `status`.
@@ -17,16 +28,25 @@ pub fn run_command(
 ) -> Result<Vec<u8>, AllocError> {
     let words: Vec<&str> = command.words.split_whitespace().collect(alloc)?;
     let mut out = Vec::new(alloc);
-    let status = match &command.input {
-        Input::Script(script) => run_script(alloc, &words, script, attempts, &mut out)?,
+    let done = match &command.input {
+        Input::Script(script) => run_script(alloc, &words, script, attempts, &mut out),
         Input::Section(section, named) => {
-            run_over_parts(alloc, &words, section, named, attempts, &mut out)?
+            run_over_parts(alloc, &words, section, named, attempts, &mut out)
         }
     };
+    let status = match done {
+        Ok(status) => status,
+        Err(Stop::Memory) => return Err(AllocError),
+        Err(_) => 2,
+    };
+    let mut lines = Lines::new(&mut out);
     if status != 0 {
-        print_line(&mut out, format_args!("status {status}"))?;
+        lines.put(format_args!("status {status}"));
     }
-    Ok(out)
+    match lines.finish() {
+        Ok(()) => Ok(out),
+        Err(_) => Err(AllocError),
+    }
 }
 
 /// Runs a command on a script, and returns its status.
@@ -36,13 +56,13 @@ fn run_script(
     script: &str,
     attempts: Attempts,
     out: &mut Vec<u8>,
-) -> Result<u8, AllocError> {
+) -> Result<u8, Stop> {
     match words {
-        ["write", rest @ ..] => rows_builder::write(alloc, rest, script, attempts, out),
-        ["read", rest @ ..] => rows_calls::read(alloc, rest, script, attempts, out),
-        ["bytes", rest @ ..] => rows_calls::bytes(alloc, rest, script, attempts, out),
-        ["pieces", rest @ ..] => rows_calls::pieces(alloc, rest, script, attempts, out),
-        _ => Ok(2),
+        ["write", rest @ ..] => rows_writing::write(alloc, rest, script, attempts, out),
+        ["read", rest @ ..] => rows_calls::read(alloc, rest, script, out),
+        ["bytes", rest @ ..] => write_section::<InOne>(alloc, rest, script, attempts, out),
+        ["pieces", rest @ ..] => write_section::<InPieces>(alloc, rest, script, attempts, out),
+        _ => Err(Stop::Bad),
     }
 }
 
@@ -54,25 +74,35 @@ fn run_over_parts<'r>(
     named: &'r [Vec<u8>],
     attempts: Attempts,
     out: &mut Vec<u8>,
-) -> Result<u8, AllocError> {
-    if words.first() == Some(&"lines") {
-        return run_lines(alloc, words, section, named, out);
-    }
-    match sections_of(section, named) {
-        Some(sections) => run_over(alloc, words, sections, attempts, out),
-        None => Ok(2),
+) -> Result<u8, Stop> {
+    let (command, rest) = match words {
+        [] => return run_linetool(alloc, words, section, attempts, out),
+        ["lines", ..] => return run_lines(alloc, words, section, named, out),
+        [command, rest @ ..] => (*command, rest),
+    };
+    let sections = sections_of(section, named)?;
+    match command {
+        "convert" | "convert_sequences" => {
+            let rest = without_parts(alloc, rest)?;
+            run_over(alloc, command, &rest, sections, attempts, out)
+        }
+        "addresses" | "paths" => {
+            let rest = &rest[..rest.len().min(5)];
+            run_over(alloc, command, rest, sections, attempts, out)
+        }
+        _ => run_over(alloc, command, rest, sections, attempts, out),
     }
 }
 
-/// The sections of a row: that of lines, and after it those of texts, as far as they are named. None where more are.
-fn sections_of<'r>(lines: &'r [u8], named: &'r [Vec<u8>]) -> Option<Sections<'r>> {
+/// The sections of a row: that of lines, and after it those of texts, as far as they are named.
+fn sections_of<'r>(lines: &'r [u8], named: &'r [Vec<u8>]) -> Result<Sections<'r>, Stop> {
     let (strings, line_strings) = match named {
         [] => ([].as_slice(), [].as_slice()),
         [strings] => (strings.as_slice(), [].as_slice()),
         [strings, line_strings] => (strings.as_slice(), line_strings.as_slice()),
-        _ => return None,
+        _ => return Err(Stop::Bad),
     };
-    Some(Sections {
+    Ok(Sections {
         lines,
         strings,
         line_strings,
@@ -80,60 +110,35 @@ fn sections_of<'r>(lines: &'r [u8], named: &'r [Vec<u8>]) -> Option<Sections<'r>
 }
 
 /// Runs a command over sections, and returns its status.
-fn run_over(
+pub fn run_over(
     alloc: Global,
+    command: &str,
     words: &[&str],
     sections: Sections<'_>,
     attempts: Attempts,
     out: &mut Vec<u8>,
-) -> Result<u8, AllocError> {
+) -> Result<u8, Stop> {
     let section = sections.lines;
-    match words {
-        ["convert", rest @ ..] => {
-            let rest = without_parts(alloc, rest)?;
-            rows_conversion::convert(alloc, &rest, sections, attempts, out)
-        }
-        ["convert_sequences", rest @ ..] => {
-            let rest = without_parts(alloc, rest)?;
-            rows_conversion::convert_sequences(alloc, &rest, sections, attempts, out)
-        }
-        ["places", rest @ ..] => rows_lookup::places(alloc, rest, section, out),
-        ["addresses", rest @ ..] => {
-            let words = &rest[..rest.len().min(5)];
-            rows_lookup::addresses(
-                alloc,
-                words,
-                section,
-                sections.strings,
-                sections.line_strings,
-                out,
-            )
-        }
-        ["walk", rest @ ..] => rows_lookup::walk(alloc, rest, section, out),
-        ["paths", rest @ ..] => {
-            let words = &rest[..rest.len().min(5)];
-            rows_lookup::paths(
-                alloc,
-                words,
-                section,
-                sections.strings,
-                sections.line_strings,
-                out,
-            )
-        }
-        ["header", rest @ ..] => rows_units::header(alloc, rest, section, attempts, out),
-        ["instructions", rest @ ..] => {
-            rows_units::instructions(alloc, rest, section, attempts, out)
-        }
-        ["demo", ..] | [] => run_linetool(alloc, words, section, attempts, out),
-        [command, rest @ ..] => {
+    match command {
+        "convert" => convert(alloc, Kind::Items, words, sections, attempts, out)?,
+        "convert_sequences" => convert(alloc, Kind::Sequences, words, sections, attempts, out)?,
+        "header" => print_unit(alloc, Part::Header, words, section, attempts, out)?,
+        "instructions" => print_unit(alloc, Part::Instructions, words, section, attempts, out)?,
+        "places" => places(alloc, words, section, out)?,
+        "addresses" => addresses(alloc, words, sections, out)?,
+        "walk" => walk(alloc, words, section, out)?,
+        "paths" => paths(alloc, words, sections, out)?,
+        command => {
             let mut all = Vec::with_capacity(alloc, words.len())?;
-            all.push(*command)?;
-            all.push("FILE")?;
-            all.extend_from_slice(rest)?;
-            run_linetool(alloc, &all, section, attempts, out)
+            all.push(command)?;
+            if command != "demo" {
+                all.push("FILE")?;
+            }
+            all.extend_from_slice(words)?;
+            return run_linetool(alloc, &all, section, attempts, out);
         }
     }
+    Ok(0)
 }
 
 /// The words of a conversion that name no part; parts stand after the others.
@@ -156,7 +161,7 @@ fn run_linetool(
     section: &[u8],
     attempts: Attempts,
     out: &mut Vec<u8>,
-) -> Result<u8, AllocError> {
+) -> Result<u8, Stop> {
     let start = out.len();
     let mut err = Vec::new(alloc);
     let mut status = linetool_commands::run(alloc, words, Some(section), out, &mut err);
@@ -166,18 +171,30 @@ fn run_linetool(
             err.clear();
             status = linetool_commands::run(alloc, words, Some(section), out, &mut err);
         }
-        if let Some(linetool_commands::Command::Rows(location)) = linetool_commands::Command::parse(
-            words,
-        ) {
-            watch_rows(alloc, section, location, out)?;
-        }
+        watch_command(alloc, words, section, out)?;
     }
     // A vector takes no more output only where memory is refused.
     if status != 0 && err.is_empty() {
-        return Err(AllocError);
+        return Err(Stop::Memory);
     }
     print_errors(&err, out)?;
     Ok(status)
+}
+
+/// Watches the rows of a command that prints them.
+fn watch_command(
+    alloc: Global,
+    words: &[&str],
+    section: &[u8],
+    out: &mut Vec<u8>,
+) -> Result<(), Stop> {
+    let mut lines = Lines::new(out);
+    if let Some(linetool_commands::Command::Rows(location)) = linetool_commands::Command::parse(
+        words,
+    ) {
+        watch_rows(alloc, section, location, &mut lines);
+    }
+    lines.finish()
 }
 
 /// Prints the lines that stand on standard error, to the last byte.
