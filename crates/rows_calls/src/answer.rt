@@ -35,10 +35,34 @@ pub enum Answer<'a> {
 }
 
 impl<'a> Answer<'a> {
-    /// What a call of a reader returns.
-    pub fn of_read(answer: gimli_core::Result<Answer<'a>>) -> Answer<'a> {
-        match answer {
-            Ok(answer) => answer,
+    /// What a call of a reader returns that reads a number of this type.
+    pub fn of_number<N: Into<i128>>(kind: &'static str, read: gimli_core::Result<N>) -> Answer<'a> {
+        match read {
+            Ok(n) => Answer::Number(kind, n.into()),
+            Err(error) => Answer::Unread(error),
+        }
+    }
+
+    /// What a call of a reader returns that gives a number of bytes.
+    pub fn of_size(read: gimli_core::Result<usize>) -> Answer<'a> {
+        match read {
+            Ok(n) => Answer::Number("usize", n as i128),
+            Err(error) => Answer::Unread(error),
+        }
+    }
+
+    /// What a call of a reader returns that gives a part of it.
+    pub fn of_part(read: gimli_core::Result<Slice<'a>>) -> Answer<'a> {
+        match read {
+            Ok(part) => Answer::Part(part),
+            Err(error) => Answer::Unread(error),
+        }
+    }
+
+    /// What a call of a reader returns that gives nothing.
+    pub fn of_read(read: gimli_core::Result<()>) -> Answer<'a> {
+        match read {
+            Ok(()) => Answer::Word("ok"),
             Err(error) => Answer::Unread(error),
         }
     }

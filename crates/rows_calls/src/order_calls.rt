@@ -10,18 +10,9 @@ pub fn read(order: RunTimeEndian, name: &str, bytes: &[u8]) -> Result<Answer<'st
     match name {
         "is_big_endian" => Ok(Answer::truth(order.is_big_endian())),
         "is_little_endian" => Ok(Answer::truth(order.is_little_endian())),
-        "read_u16" if bytes.len() >= 2 => Ok(Answer::Number(
-            "u16",
-            i128::from(order.read_u16(bytes)),
-        )),
-        "read_u32" if bytes.len() >= 4 => Ok(Answer::Number(
-            "u32",
-            i128::from(order.read_u32(bytes)),
-        )),
-        "read_u64" if bytes.len() >= 8 => Ok(Answer::Number(
-            "u64",
-            i128::from(order.read_u64(bytes)),
-        )),
+        "read_u16" if bytes.len() >= 2 => Ok(Answer::of_number("u16", Ok(order.read_u16(bytes)))),
+        "read_u32" if bytes.len() >= 4 => Ok(Answer::of_number("u32", Ok(order.read_u32(bytes)))),
+        "read_u64" if bytes.len() >= 8 => Ok(Answer::of_number("u64", Ok(order.read_u64(bytes)))),
         "read_u128" if bytes.len() >= 16 => Ok(Answer::Wide(order.read_u128(bytes))),
         "read_u16" | "read_u32" | "read_u64" | "read_u128" => Err(Stop::Condition),
         _ => Err(Stop::Bad),

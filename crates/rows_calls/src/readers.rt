@@ -2,10 +2,10 @@
 
 use crate::answer::{Answer, BytesAfter, Slice};
 use crate::arguments::{Arguments, is_bytes, order_of};
-use crate::script::{Script, run};
+use crate::script::{Call, Script, run};
 use crate::{numbers, order_calls, reader_calls};
 use gimli_core::{EndianSlice, Reader, RunTimeEndian};
-use rows_reading::{Lines, Stop};
+use rows_reading::{Request, Stop};
 use std::alloc::Global;
 
 /// The greatest buffer of a script.
@@ -14,15 +14,10 @@ const GREATEST_BUFFER: usize = 65536;
 /// Runs a script of reader calls: lines of bytes, over which a reader is made, and calls. Each call has a line with its
 /// answer, and with the number of bytes that are left. Bytes after a call are those of a new reader; `-` is none.
 /// `split` and `read_null_terminated_slice` return a part, whose calls have `part` before them. No call takes memory.
-pub fn read(
-    alloc: Global,
-    words: &[&str],
-    input: &str,
-    out: &mut Vec<u8>,
-) -> Result<u8, Stop> {
-    let order = order_of(words)?;
-    let groups = parse_groups(alloc, input)?;
-    let mut script = ReaderScript::new(alloc, order, groups.as_slice());
+pub fn read(request: Request<'_>, input: &str, out: &mut Vec<u8>) -> Result<u8, Stop> {
+    let order = order_of(request.words)?;
+    let groups = parse_groups(request.alloc, input)?;
+    let mut script = ReaderScript::new(request.alloc, order, groups.as_slice());
     run(&mut script, input, out)
 }
 
@@ -101,82 +96,71 @@ impl<'a> ReaderScript<'a> {
     }
 
     /// Makes a call of the reader, of its part or of its order.
-    fn call_reader(
-        &mut self,
-        name: &str,
-        words: &mut Arguments<'_>,
-        lines: &mut Lines<'_>,
-    ) -> Result<(), Stop> {
-        match name {
-            "read_slice" => self.read_slice(words.usize(), lines)?,
-            "endian" if !words.is_empty() => self.call_order(words, lines)?,
+    fn call_reader(&mut self, call: &mut Call<'_>) -> Result<(), Stop> {
+        match call.name {
+            "read_slice" => return self.read_slice(call),
+            "endian" if !call.words.is_empty() => return self.call_order(call),
             "part" => {
-                let name = words.word();
+                let name = call.words.word();
+                let words = &mut call.words;
                 let answer = reader_calls::answer(&mut self.part, self.base, name, words)?;
-                print_left(lines, answer, self.part);
+                print_left(call, answer, self.part);
             }
-            _ => {
+            name => {
+                let words = &mut call.words;
                 let answer = reader_calls::answer(&mut self.reader, self.base, name, words)?;
                 if let Answer::Part(part) = answer {
                     self.part = part;
                 }
-                print_left(lines, answer, self.reader);
+                print_left(call, answer, self.reader);
             }
         }
         Ok(())
     }
 
     /// Reads into a buffer of so many bytes 07, and prints what it holds then, also where the call refused.
-    fn read_slice(&mut self, count: usize, lines: &mut Lines<'_>) -> Result<(), Stop> {
+    fn read_slice(&mut self, call: &mut Call<'_>) -> Result<(), Stop> {
+        let count = call.words.usize();
         if count > GREATEST_BUFFER {
             return Err(Stop::Bad);
         }
         let mut buffer = vec![in self.alloc; 7u8; count]?;
-        let answer = match self.reader.read_slice(&mut buffer) {
-            Ok(()) => Answer::Word("ok"),
-            Err(error) => Answer::Unread(error),
-        };
-        print_left(lines, answer, self.reader);
-        lines.put(BytesAfter("buffer", buffer.as_slice()));
+        let answer = Answer::of_read(self.reader.read_slice(&mut buffer));
+        print_left(call, answer, self.reader);
+        call.lines.put(BytesAfter("buffer", buffer.as_slice()));
         Ok(())
     }
 
     /// Makes a call of the order, on the bytes that are left or on a copy of them.
-    fn call_order(&mut self, words: &mut Arguments<'_>, lines: &mut Lines<'_>) -> Result<(), Stop> {
-        let name = words.word();
+    fn call_order(&mut self, call: &mut Call<'_>) -> Result<(), Stop> {
+        let name = call.words.word();
         let bytes = self.reader.slice();
         if name.starts_with("write") {
             let mut copy = Vec::from_slice(self.alloc, bytes)?;
-            order_calls::write(self.order, name, words, &mut copy)?;
-            lines.put(Answer::Bytes(copy.as_slice()));
+            order_calls::write(self.order, name, &mut call.words, &mut copy)?;
+            call.lines.put(Answer::Bytes(copy.as_slice()));
         } else {
-            lines.put(order_calls::read(self.order, name, bytes)?);
+            call.lines.put(order_calls::read(self.order, name, bytes)?);
         }
         Ok(())
     }
 }
 
 impl Script for ReaderScript<'_> {
-    fn call(
-        &mut self,
-        _number: u64,
-        name: &str,
-        words: &mut Arguments<'_>,
-        lines: &mut Lines<'_>,
-    ) -> Result<(), Stop> {
+    fn make(&mut self, call: &mut Call<'_>) -> Result<(), Stop> {
         let was_open = self.is_open;
-        self.is_open = is_bytes(name);
+        self.is_open = is_bytes(call.name);
         if self.is_open {
-            words.all();
+            call.words.all();
             if !was_open {
                 self.begin();
             }
             return Ok(());
         }
-        match numbers::answer(name, words) {
-            Err(Stop::Bad) => self.call_reader(name, words, lines),
+        match numbers::answer(call.name, &mut call.words) {
+            Err(Stop::Bad) => self.call_reader(call),
             answer => {
-                lines.put(answer?);
+                call.lines.put(answer?);
                 Ok(())
             }
         }
@@ -184,7 +168,7 @@ impl Script for ReaderScript<'_> {
 }
 
 /// Prints an answer, and how many bytes are left.
-fn print_left(lines: &mut Lines<'_>, answer: Answer<'_>, reader: Slice<'_>) {
+fn print_left(call: &mut Call<'_>, answer: Answer<'_>, reader: Slice<'_>) {
     let left = reader.len();
-    lines.put(format_args!("{answer}, {left} left"));
+    call.lines.put(format_args!("{answer}, {left} left"));
 }

@@ -3,40 +3,64 @@
 use crate::arguments::Arguments;
 use rows_reading::{Lines, Stop};
 
+/// A call of a script, and where what it returns is printed.
+#[derive(Drop)]
+pub struct Call<'c> {
+    /// The number of the line.
+    pub number: u64,
+    /// The name of the call.
+    pub name: &'c str,
+    /// The other words of the line.
+    pub words: Arguments<'c>,
+    /// What is printed.
+    pub lines: Lines<'c>,
+}
+
+impl Call<'_> {
+    /// Says that something doesn't stand as it must after a refused call.
+    pub fn print_state(&mut self) {
+        let number = self.number;
+        self.lines.put(format_args!("state {number}"));
+    }
+}
+
 /// What makes the calls of a script.
 pub trait Script {
-    /// Makes the call of a line that has words, and prints what it returns.
-    fn call(
-        &mut self,
-        number: u64,
-        name: &str,
-        words: &mut Arguments<'_>,
-        lines: &mut Lines<'_>,
-    ) -> Result<(), Stop>;
+    /// Makes a call, and prints what it returns.
+    fn make(&mut self, call: &mut Call<'_>) -> Result<(), Stop>;
 }
 
 /// Makes the calls of a script, and returns its status. Of a bad script nothing is printed.
 pub fn run<S: Script>(script: &mut S, input: &str, out: &mut Vec<u8>) -> Result<u8, Stop> {
-    let before = out.len();
-    let mut lines = Lines::new(out);
-    let ended = run_lines(script, input, &mut lines);
-    let printed = lines.finish();
+    let mut call = Call {
+        number: 0,
+        name: "",
+        words: Arguments::of_line(""),
+        lines: Lines::new(out),
+    };
+    let start = call.lines.len();
+    let ended = run_lines(script, input, &mut call);
     if ended.is_err() {
-        out.truncate(before);
+        call.lines.truncate(start);
     }
-    printed?;
+    call.lines.finish()?;
     ended
 }
 
 /// Makes the calls of a script as far as they are calls, and returns its status.
-fn run_lines<S: Script>(script: &mut S, input: &str, lines: &mut Lines<'_>) -> Result<u8, Stop> {
+fn run_lines<'c, S: Script>(
+    script: &mut S,
+    input: &'c str,
+    call: &mut Call<'c>,
+) -> Result<u8, Stop> {
     let mut status = 0;
-    let mut number = 0u64;
     for line in input.lines() {
-        number = number.saturating_add(1);
-        match run_line(script, number, line, lines) {
+        call.number = call.number.saturating_add(1);
+        call.words = Arguments::of_line(line);
+        match run_line(script, call) {
             Err(Stop::Condition) => {
-                lines.put(format_args!("condition {number}"));
+                let number = call.number;
+                call.lines.put(format_args!("condition {number}"));
                 status = 1;
             }
             answer => answer?,
@@ -46,21 +70,15 @@ fn run_lines<S: Script>(script: &mut S, input: &str, lines: &mut Lines<'_>) -> R
 }
 
 /// Makes the call of a line, where it has words.
-fn run_line<S: Script>(
-    script: &mut S,
-    number: u64,
-    line: &str,
-    lines: &mut Lines<'_>,
-) -> Result<(), Stop> {
-    let mut words = Arguments::of_line(line);
-    if words.is_empty() {
+fn run_line<S: Script>(script: &mut S, call: &mut Call<'_>) -> Result<(), Stop> {
+    if call.words.is_empty() {
         return Ok(());
     }
-    let name = words.word();
-    let made = script.call(number, name, &mut words, lines);
-    if words.is_bad() {
+    call.name = call.words.word();
+    let made = script.make(call);
+    if call.words.is_bad() {
         return Err(Stop::Bad);
     }
     made?;
-    words.finish()
+    call.words.finish()
 }

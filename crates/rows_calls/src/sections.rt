@@ -1,14 +1,14 @@
 //! Scripts of writer calls and of string table calls.
 
 use crate::answer::{Answer, BytesAfter};
-use crate::arguments::{Arguments, order_of};
-use crate::script::{Script, run};
+use crate::arguments::order_of;
+use crate::script::{Call, Script, run};
 use crate::tables::{Kind, Tables};
 use crate::targets::Target;
 use crate::writers;
 use gimli_bytes::{DebugLine, DebugLineStr, DebugStr, Error, Result, Writer};
 use gimli_core::{Endianity, RunTimeEndian, SectionId};
-use rows_reading::{Attempts, Lines, Stop};
+use rows_reading::{Attempts, Request, Stop};
 use std::alloc::Global;
 use std::{fmt, mem, result};
 
@@ -16,14 +16,13 @@ use std::{fmt, mem, result};
 /// has a line: `ok`, `place N` or `error NAME`, with ` + ` and the bytes that it appended, or with ` = ` and all bytes where
 /// it changed others. `next` makes the section and the tables anew, and prints `--`.
 pub fn write_section<W: Target>(
-    alloc: Global,
-    words: &[&str],
+    request: Request<'_>,
     input: &str,
-    attempts: Attempts,
     out: &mut Vec<u8>,
 ) -> result::Result<u8, Stop> {
-    let order = order_of(words)?;
-    run(&mut Sections::<W>::new(alloc, order, attempts), input, out)
+    let order = order_of(request.words)?;
+    let mut sections = Sections::<W>::new(request.alloc, order, request.attempts);
+    run(&mut sections, input, out)
 }
 
 /// What a script writes to.
@@ -60,56 +59,45 @@ impl<W: Target> Sections<W> {
     }
 
     /// Makes a call of the writer, and prints what it returns.
-    fn write(
-        &mut self,
-        number: u64,
-        name: &str,
-        words: &mut Arguments<'_>,
-        lines: &mut Lines<'_>,
-    ) -> result::Result<(), Stop> {
-        let mut again = *words;
-        let mut answer = writers::answer(self.alloc, &mut self.section, name, words)?;
+    fn write(&mut self, call: &mut Call<'_>) -> result::Result<(), Stop> {
+        let mut again = call.words;
+        let section = &mut self.section;
+        let mut answer = writers::answer(self.alloc, section, call.name, &mut call.words)?;
         if is_made_again(&answer, self.attempts) {
-            self.restore(number, name, lines)?;
-            answer = writers::answer(self.alloc, &mut self.section, name, &mut again)?;
+            self.restore(call)?;
+            let section = &mut self.section;
+            answer = writers::answer(self.alloc, section, call.name, &mut again)?;
         }
-        self.print_written(answer, lines)
+        self.print_written(answer, call)
     }
 
     /// Makes a call of a table, and prints what it returns.
-    fn call_table(
-        &mut self,
-        number: u64,
-        kind: Kind,
-        words: &mut Arguments<'_>,
-        lines: &mut Lines<'_>,
-    ) -> result::Result<(), Stop> {
-        let answer = match words.word() {
-            "write" => return self.write_table(number, kind, lines),
+    fn call_table(&mut self, kind: Kind, call: &mut Call<'_>) -> result::Result<(), Stop> {
+        let answer = match call.words.word() {
+            "write" => return self.write_table(kind, call),
             "add" => {
-                let text = words.text(self.alloc)?;
-                return self.add(number, kind, text.as_slice(), lines);
+                let text = call.words.text(self.alloc)?;
+                Some(self.add(kind, text.as_slice(), call)?)
             }
             "count" => Some(Answer::Number("count", self.tables.count(kind) as i128)),
-            "get" => self.tables.get(kind, words.usize()).map(Answer::Text),
+            "get" => self.tables.get(kind, call.words.usize()).map(Answer::Text),
             "offset" => {
-                let offset = self.tables.offset(kind, words.usize());
+                let offset = self.tables.offset(kind, call.words.usize());
                 offset.map(|offset| Answer::Number("offset", offset as i128))
             }
             _ => return Err(Stop::Bad),
         };
-        lines.put(answer.ok_or(Stop::Condition)?);
+        call.lines.put(answer.ok_or(Stop::Condition)?);
         Ok(())
     }
 
     /// Adds a text to a table, where no byte of it is zero.
     fn add(
         &mut self,
-        number: u64,
         kind: Kind,
         text: &[u8],
-        lines: &mut Lines<'_>,
-    ) -> result::Result<(), Stop> {
+        call: &mut Call<'_>,
+    ) -> result::Result<Answer<'static>, Stop> {
         if text.contains(&0) {
             return Err(Stop::Condition);
         }
@@ -117,27 +105,21 @@ impl<W: Target> Sections<W> {
         let mut added = self.tables.add(kind, text);
         if is_made_again(&added, self.attempts) {
             if self.tables.count(kind) != before {
-                lines.put(format_args!("state {number}"));
+                call.print_state();
             }
             added = self.tables.add(kind, text);
         }
-        lines.put(Answer::of_written(added.map(|id| Answer::Number("id", id as i128))));
-        Ok(())
+        Ok(Answer::of_written(added.map(|id| Answer::Number("id", id as i128))))
     }
 
     /// Appends a table to the section, and prints what that returns.
-    fn write_table(
-        &mut self,
-        number: u64,
-        kind: Kind,
-        lines: &mut Lines<'_>,
-    ) -> result::Result<(), Stop> {
+    fn write_table(&mut self, kind: Kind, call: &mut Call<'_>) -> result::Result<(), Stop> {
         let mut answer = self.append_table(kind);
         if is_made_again(&answer, self.attempts) {
-            self.restore(number, "write table", lines)?;
+            self.restore(call)?;
             answer = self.append_table(kind);
         }
-        self.print_written(answer, lines)
+        self.print_written(answer, call)
     }
 
     /// Appends a table to the section.
@@ -155,17 +137,11 @@ impl<W: Target> Sections<W> {
 
     /// Looks whether the bytes of before a refused call are still a beginning, or after a refused `write` all there are,
     /// and makes the section anew with them.
-    fn restore(
-        &mut self,
-        number: u64,
-        name: &str,
-        lines: &mut Lines<'_>,
-    ) -> result::Result<(), Stop> {
+    fn restore(&mut self, call: &mut Call<'_>) -> result::Result<(), Stop> {
         let now = self.section.to_bytes(self.alloc)?;
-        let stands = now.starts_with(self.before.as_slice())
-            && (name != "write" || now.len() == self.before.len());
-        if !stands {
-            lines.put(format_args!("state {number}"));
+        let is_longer = call.name == "write" && now.len() != self.before.len();
+        if is_longer || !now.starts_with(self.before.as_slice()) {
+            call.print_state();
         }
         self.section = W::empty(self.alloc, self.order);
         let restored = self.section.write(self.before.as_slice());
@@ -176,10 +152,10 @@ impl<W: Target> Sections<W> {
     fn print_written(
         &mut self,
         answer: Result<Answer<'static>>,
-        lines: &mut Lines<'_>,
+        call: &mut Call<'_>,
     ) -> result::Result<(), Stop> {
         let now = self.section.to_bytes(self.alloc)?;
-        lines.put(Written {
+        call.lines.put(Written {
             answer: Answer::of_written(answer),
             before: self.before.as_slice(),
             now: now.as_slice(),
@@ -216,33 +192,30 @@ fn offset_in<W: Writer>(section: SectionId, w: W) -> (W, usize) {
 }
 
 impl<W: Target> Script for Sections<W> {
-    fn call(
-        &mut self,
-        number: u64,
-        name: &str,
-        words: &mut Arguments<'_>,
-        lines: &mut Lines<'_>,
-    ) -> result::Result<(), Stop> {
-        match name {
-            "endian" => lines.put(Answer::order(self.section.endian().is_big_endian())),
-            "len" => lines.put(Answer::Number("usize", self.section.len() as i128)),
-            "slice" => lines.put(Answer::Bytes(self.section.to_bytes(self.alloc)?.as_slice())),
-            "offset" => {
-                let offset = self.offset(words.section());
-                lines.put(Answer::Number("usize", offset as i128));
+    fn make(&mut self, call: &mut Call<'_>) -> result::Result<(), Stop> {
+        let answer = match call.name {
+            "endian" => Answer::order(self.section.endian().is_big_endian()),
+            "len" => Answer::Number("usize", self.section.len() as i128),
+            "slice" => {
+                let bytes = self.section.to_bytes(self.alloc)?;
+                call.lines.put(Answer::Bytes(bytes.as_slice()));
+                return Ok(());
             }
+            "offset" => Answer::Number("usize", self.offset(call.words.section()) as i128),
             "next" => {
                 *self = Sections::new(self.alloc, self.order, self.attempts);
-                lines.put("--");
+                Answer::Word("--")
             }
-            "str" => return self.call_table(number, Kind::Strings, words, lines),
-            "line_str" => return self.call_table(number, Kind::LineStrings, words, lines),
+            "str" => return self.call_table(Kind::Strings, call),
+            "line_str" => return self.call_table(Kind::LineStrings, call),
             "take" | "pieces" | "into_vec" => {
-                self.section.call_own(self.alloc, name, lines)?;
+                self.section.call_own(self.alloc, call)?;
                 self.before = self.section.to_bytes(self.alloc)?;
+                return Ok(());
             }
-            _ => return self.write(number, name, words, lines),
-        }
+            _ => return self.write(call),
+        };
+        call.lines.put(answer);
         Ok(())
     }
 }

@@ -6,7 +6,7 @@ ghost use Rattle.rows_reading.specs.declared.stop.Stop.TheVariants.{Bad};
 use crate::header_text::print_header;
 use crate::instruction_text::print_instructions;
 use crate::lines::Lines;
-use crate::request::{Handed, UnitLocation};
+use crate::request::{Handed, Request, UnitLocation};
 use crate::stop::{Attempts, Stop};
 use crate::value_text::{Lender, Slice};
 use gimli_core::{DebugLineOffset, EndianSlice, Error};
@@ -25,21 +25,19 @@ pub enum Part {
 /// Prints a part of a unit, or why its header is refused. The words are the order of bytes, the size of an address and
 /// the offset of the unit; for a header then the directory and the name that are handed in.
 pub fn print_unit(
-    alloc: Global,
+    request: Request<'_>,
     part: Part,
-    words: &[&str],
     section: &[u8],
-    attempts: Attempts,
     out: &mut Vec<u8>,
 ) -> Result<(), Stop>
     ensures { result ≡ Err Bad → out.new.items ≡ out.old.items }
 {
-    let [order, size, offset, words @ ..] = words else {
+    let [order, size, offset, words @ ..] = request.words else {
         return Err(Stop::Bad);
     };
     let location = UnitLocation::parse(order, size, offset)?;
     let handed = match (part, words) {
-        (Part::Header, [directory, name]) => Handed::parse(alloc, directory, name)?,
+        (Part::Header, [directory, name]) => Handed::parse(request.alloc, directory, name)?,
         (Part::Instructions, []) => Handed::nothing(),
         _ => return Err(Stop::Bad),
     };
@@ -49,7 +47,11 @@ pub fn print_unit(
         handed: &handed,
     };
     let mut lines = Lines::new(out);
-    print_part(unit.program(alloc, attempts), part, &mut lines);
+    print_part(
+        unit.program(request.alloc, request.attempts),
+        part,
+        &mut lines,
+    );
     lines.finish()
 }
 

@@ -2,7 +2,7 @@
 
 use crate::lines::Lines;
 use crate::numbers::parse_number;
-use crate::request::UnitLocation;
+use crate::request::{Request, UnitLocation};
 use crate::row_line::RowLine;
 use crate::stop::Stop;
 use crate::value_text::{ErrorText, Optional, Slice};
@@ -13,21 +13,16 @@ use std::alloc::Global;
 
 /// Prints the units of a section, and for each address the rows that cover it. The words are the order of bytes, the size of
 /// an address, the lowest address of code, and the addresses.
-pub fn places(
-    alloc: Global,
-    words: &[&str],
-    section: &[u8],
-    out: &mut Vec<u8>,
-) -> Result<(), Stop> {
-    let [order, size, lowest, words @ ..] = words else {
+pub fn places(request: Request<'_>, section: &[u8], out: &mut Vec<u8>) -> Result<(), Stop> {
+    let [order, size, lowest, words @ ..] = request.words else {
         return Err(Stop::Bad);
     };
-    let mut addresses = Vec::new(alloc);
+    let mut addresses = Vec::new(request.alloc);
     for word in words {
         addresses.push(parse_number(word)?)?;
     }
     let location = UnitLocation::parse(order, size, "0")?;
-    let lookup = lookup_over(alloc, location, parse_number(lowest)?, section)?;
+    let lookup = lookup_over(request.alloc, location, parse_number(lowest)?, section)?;
     let mut lines = Lines::new(out);
     print_places(&lookup, &addresses, &mut lines);
     lines.finish()

@@ -3,7 +3,7 @@
 use crate::command::Unit;
 use crate::lines::Lines;
 use crate::print::Text;
-use crate::request::{Handed, Sections, UnitLocation};
+use crate::request::{Handed, Request, Sections, UnitLocation};
 use crate::stop::{Attempts, Stop};
 use gimli_core::{Error, Reader};
 use gimli_line::LineProgramHeader;
@@ -13,17 +13,12 @@ use std::alloc::Global;
 /// Prints the whole path of each file of a unit, or why it isn't known. The words are the order of bytes, the size of an
 /// address, the offset of the unit, the directory that is handed to the reader, and the directory of the compilation that
 /// is handed with each file.
-pub fn paths(
-    alloc: Global,
-    words: &[&str],
-    sections: Sections<'_>,
-    out: &mut Vec<u8>,
-) -> Result<(), Stop> {
-    let [order, size, offset, directory, comp_dir] = words else {
+pub fn paths(request: Request<'_>, sections: Sections<'_>, out: &mut Vec<u8>) -> Result<(), Stop> {
+    let [order, size, offset, directory, comp_dir] = request.words else {
         return Err(Stop::Bad);
     };
     let location = UnitLocation::parse(order, size, offset)?;
-    let Handed { directory, name } = Handed::parse(alloc, directory, comp_dir)?;
+    let Handed { directory, name } = Handed::parse(request.alloc, directory, comp_dir)?;
     let handed = Handed {
         directory,
         name: None,
@@ -34,9 +29,9 @@ pub fn paths(
         handed: &handed,
     };
     let mut lines = Lines::new(out);
-    match unit.program(alloc, Attempts::One) {
+    match unit.program(request.alloc, Attempts::One) {
         Ok(program) => print_paths(
-            alloc,
+            request.alloc,
             program.header(),
             sections.of_texts(location.order),
             name.as_deref(),

@@ -76,7 +76,7 @@ pub use lines::Lines;
 pub use numbers::{parse_number, parse_signed, parse_wide};
 pub use order_and_size::{AddressSize, parse_order, parse_size};
 pub use print::{BytesLine, Digits, Text, print_bytes};
-pub use request::{Handed, Sections, UnitLocation};
+pub use request::{Handed, Request, Sections, UnitLocation};
 pub use row_line::{RowLine, SequenceLine, Words};
 pub use short_line::ShortLine;
 pub use stop::{Attempts, Stop};

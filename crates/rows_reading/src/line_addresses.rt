@@ -4,26 +4,24 @@ use crate::bytes::parse_text;
 use crate::covering_rows::lookup_over;
 use crate::lines::Lines;
 use crate::numbers::parse_number;
-use crate::request::{Sections, UnitLocation};
+use crate::request::{Request, Sections, UnitLocation};
 use crate::stop::Stop;
-use std::alloc::Global;
 
 /// Prints the addresses at which the code of a line begins, or of the next line that has any. The words are the order of
 /// bytes, the size of an address, the lowest address of code, the whole path of a file, and the line.
 pub fn addresses(
-    alloc: Global,
-    words: &[&str],
+    request: Request<'_>,
     sections: Sections<'_>,
     out: &mut Vec<u8>,
 ) -> Result<(), Stop> {
-    let [order, size, lowest, path, line] = words else {
+    let [order, size, lowest, path, line] = request.words else {
         return Err(Stop::Bad);
     };
     let location = UnitLocation::parse(order, size, "0")?;
     let line = parse_number(line)?;
     let lowest = parse_number(lowest)?;
-    let path = parse_text(alloc, path)?;
-    let lookup = lookup_over(alloc, location, lowest, sections.lines)?;
+    let path = parse_text(request.alloc, path)?;
+    let lookup = lookup_over(request.alloc, location, lowest, sections.lines)?;
     let found = match lookup.addresses_of(&sections.of_texts(location.order), &path, line) {
         Ok(found) => found,
         Err(_) => return Err(Stop::Memory),

@@ -3,11 +3,22 @@
 use crate::bytes::parse_optional;
 use crate::numbers::parse_number;
 use crate::order_and_size::{AddressSize, parse_order, parse_size};
-use crate::stop::Stop;
+use crate::stop::{Attempts, Stop};
 use crate::value_text::Slice;
 use gimli_core::{EndianSlice, RunTimeEndian};
 use gimli_lookup::StringSections;
 use std::alloc::Global;
+
+/// A command that is asked for.
+#[derive(Clone, Copy)]
+pub struct Request<'w> {
+    /// What takes memory.
+    pub alloc: Global,
+    /// The words after its name.
+    pub words: &'w [&'w str],
+    /// How often a library call is made.
+    pub attempts: Attempts,
+}
 
 /// Where a unit stands in a section, and how its numbers are read.
 #[derive(Clone, Copy, Debug, PartialEq, Eq)]

@@ -1,21 +1,20 @@
 //! The units of a section, one after the other.
 
 use crate::lines::Lines;
-use crate::request::UnitLocation;
+use crate::request::{Request, UnitLocation};
 use crate::stop::Stop;
 use crate::value_text::ErrorText;
 use gimli_core::{Reader, ReaderOffset};
 use gimli_line::{DebugLine, LineUnit, LineUnits};
-use std::alloc::Global;
 
 /// Prints the units of a section. The words are the order of bytes and the size of an address.
-pub fn walk(alloc: Global, words: &[&str], section: &[u8], out: &mut Vec<u8>) -> Result<(), Stop> {
-    let [order, size] = words else {
+pub fn walk(request: Request<'_>, section: &[u8], out: &mut Vec<u8>) -> Result<(), Stop> {
+    let [order, size] = request.words else {
         return Err(Stop::Bad);
     };
     let location = UnitLocation::parse(order, size, "0")?;
     let section = DebugLine::new(section, location.order);
-    let units = section.units(alloc, location.address_size.bytes());
+    let units = section.units(request.alloc, location.address_size.bytes());
     let mut lines = Lines::new(out);
     print_units(units, &mut lines)?;
     lines.finish()

@@ -13,24 +13,18 @@ use gimli_write::{
     ConvertError, ConvertResult, DebugLine, EndianVec, Error, LineProgram, PieceVec, RoundTrip,
 };
 use rows_calls::{Kind, Section, Tables};
-use rows_reading::{Attempts, BytesLine, Lines, Stop, parse_order, push_bytes};
+use rows_reading::{Attempts, BytesLine, Lines, Request, Stop, parse_order, push_bytes};
 use std::alloc::{AllocError, Global};
 
 /// Builds the programs of a text's scripts and writes them; appends what is printed, and returns the status: 1 where
 /// a program is refused or a condition isn't met. Of a bad script nothing is printed.
-pub fn write(
-    alloc: Global,
-    words: &[&str],
-    input: &str,
-    attempts: Attempts,
-    out: &mut Vec<u8>,
-) -> Result<u8, Stop> {
-    if !words.is_empty() {
+pub fn write(request: Request<'_>, input: &str, out: &mut Vec<u8>) -> Result<u8, Stop> {
+    if !request.words.is_empty() {
         return Err(Stop::Bad);
     }
     let mut lines = Lines::new(out);
     let start = lines.len();
-    let ended = run_scripts(alloc, attempts, input, &mut lines);
+    let ended = run_scripts(request.alloc, request.attempts, input, &mut lines);
     if ended.is_err() {
         lines.truncate(start);
     }
@@ -46,16 +40,18 @@ fn run_scripts(
     lines: &mut Lines<'_>,
 ) -> Result<u8, Stop> {
     let mut status = 0;
-    let mut script = Script::new(alloc, Builder::new(alloc, attempts), attempts);
+    let mut script = Script::new(alloc, attempts, Builder::new(alloc, attempts));
     for line in input.lines() {
         script.number = script.number.saturating_add(1);
         let words = words_of(alloc, line)?;
-        if words.as_slice() == ["next"].as_slice() {
-            status = status.max(script.finish(lines)?);
-            lines.put("--");
-            script.begin_anew();
-        } else if !words.is_empty() {
-            script.take(words.as_slice(), lines)?;
+        match words.as_slice() {
+            [] => {}
+            ["next"] => {
+                status = status.max(script.finish(lines)?);
+                lines.put("--");
+                script.begin_anew();
+            }
+            words => script.take(words, lines)?,
         }
     }
     script.number = script.number.saturating_add(1);
@@ -96,7 +92,7 @@ pub(crate) struct Script {
 
 impl Script {
     /// A script without a call.
-    fn new(alloc: Global, builder: Builder, attempts: Attempts) -> Script {
+    fn new(alloc: Global, attempts: Attempts, builder: Builder) -> Script {
         Script {
             alloc,
             attempts,
@@ -116,7 +112,7 @@ impl Script {
     fn begin_anew(&mut self) {
         let number = self.number;
         let builder = Builder::new(self.alloc, self.attempts);
-        *self = Script::new(self.alloc, builder, self.attempts);
+        *self = Script::new(self.alloc, self.attempts, builder);
         self.number = number;
     }
 
@@ -314,7 +310,7 @@ pub(crate) fn print_program(
     requires { AreWithin program.directories (texts_of tables) }
 {
     let builder = Builder::of_program(alloc, attempts, program, tables);
-    let mut script = Script::new(alloc, builder, attempts);
+    let mut script = Script::new(alloc, attempts, builder);
     script.order = order;
     script.reads_back = true;
     script.print_written(lines)?;

@@ -44,7 +44,7 @@ mod run;
 use check::check_rows;
 use files::{SectionFiles, split_words};
 use rows::{Fault, parse_rows};
-use rows_reading::{Attempts, Stop};
+use rows_reading::{Attempts, Request, Stop};
 use run::run_over;
 use std::io::{BufWriter, ErrorKind, Write};
 use std::process::ExitCode;
@@ -103,15 +103,7 @@ fn print_unit(rt: &HostRuntime, command: &str, file: &str, words: &[&str]) -> io
     };
     let files = SectionFiles::read(rt, file, texts)?;
     let mut out = Vec::new(rt.alloc());
-    let sections = files.sections();
-    let done = run_over(
-        rt.alloc(),
-        command,
-        words,
-        sections,
-        Attempts::One,
-        &mut out,
-    );
+    let done = run_over(request(rt, words), command, files.sections(), &mut out);
     print_all(rt, &out, done)
 }
 
@@ -119,8 +111,17 @@ fn print_unit(rt: &HostRuntime, command: &str, file: &str, words: &[&str]) -> io
 fn print_scripts(rt: &HostRuntime) -> io::Result<u8> {
     let script = io::read_to_string(rt.alloc(), rt.stdin())?;
     let mut out = Vec::new(rt.alloc());
-    let done = rows_writing::write(rt.alloc(), &[], script.as_str(), Attempts::One, &mut out);
+    let done = rows_writing::write(request(rt, &[]), script.as_str(), &mut out);
     print_all(rt, &out, done)
+}
+
+/// A command with these words.
+fn request<'w>(rt: &HostRuntime, words: &'w [&'w str]) -> Request<'w> {
+    Request {
+        alloc: rt.alloc(),
+        words,
+        attempts: Attempts::One,
+    }
 }
 
 /// Prints what a command gave, and returns its status.

@@ -11,7 +11,7 @@ use std::alloc::Global;
 pub struct Row<'t> {
     pub name: &'t str,
     /// The commands, of which there is one at least.
-    pub commands: Vec<Command<'t>>,
+    pub commands: Vec<RowCommand<'t>>,
     /// The lines of the output.
     pub expected: String,
     /// Whether the output must be another one than this.
@@ -20,7 +20,7 @@ pub struct Row<'t> {
 
 /// A command, with what it is given.
 #[derive(Drop)]
-pub struct Command<'t> {
+pub struct RowCommand<'t> {
     /// The command and its other words.
     pub words: &'t str,
     pub input: Input,
@@ -118,7 +118,7 @@ impl<'t> Draft<'t> {
     fn end_input(&mut self, alloc: Global, parts: &Parts<'_>) -> Result<(), Stop> {
         for words in &self.words {
             let input = input_of(alloc, parts, words, self.text.as_str())?;
-            self.row.commands.push(Command { words, input })?;
+            self.row.commands.push(RowCommand { words, input })?;
         }
         Ok(())
     }

@@ -3,12 +3,13 @@
 use crate::again::watch_rows;
 use crate::files::split_words;
 use crate::lines::run_lines;
-use crate::rows::{Command, Input};
+use crate::rows::{Input, RowCommand};
 use gimli_bytes::{EndianVec, PieceVec};
 use gimli_core::RunTimeEndian;
+use linetool_commands::Command;
 use rows_calls::write_section;
 use rows_reading::{
-    Attempts, Lines, Part, Sections, Stop, addresses, paths, places, print_unit, walk,
+    Attempts, Lines, Part, Request, Sections, Stop, addresses, paths, places, print_unit, walk,
 };
 use rows_writing::{Kind, convert};
 use std::alloc::{AllocError, Global};
@@ -23,16 +24,20 @@ type InPieces = PieceVec<RunTimeEndian, 4>;
 /// it isn't 0, after `status`.
 pub fn run_command(
     alloc: Global,
-    command: &Command<'_>,
+    command: &RowCommand<'_>,
     attempts: Attempts,
 ) -> Result<Vec<u8>, AllocError> {
     let words: Vec<&str> = command.words.split_whitespace().collect(alloc)?;
     let mut out = Vec::new(alloc);
+    let request = Request {
+        alloc,
+        words: words.get(1..).unwrap_or(&[]),
+        attempts,
+    };
+    let name = words.first().copied().unwrap_or("");
     let done = match &command.input {
-        Input::Script(script) => run_script(alloc, &words, script, attempts, &mut out),
-        Input::Section(section, named) => {
-            run_over_parts(alloc, &words, section, named, attempts, &mut out)
-        }
+        Input::Script(script) => run_script(request, name, script, &mut out),
+        Input::Section(section, named) => run_row(request, name, &words, section, named, &mut out),
     };
     let status = match done {
         Ok(status) => status,
@@ -51,47 +56,45 @@ pub fn run_command(
 
 /// Runs a command on a script, and returns its status.
 fn run_script(
-    alloc: Global,
-    words: &[&str],
+    request: Request<'_>,
+    name: &str,
     script: &str,
-    attempts: Attempts,
     out: &mut Vec<u8>,
 ) -> Result<u8, Stop> {
-    match words {
-        ["write", rest @ ..] => rows_writing::write(alloc, rest, script, attempts, out),
-        ["read", rest @ ..] => rows_calls::read(alloc, rest, script, out),
-        ["bytes", rest @ ..] => write_section::<InOne>(alloc, rest, script, attempts, out),
-        ["pieces", rest @ ..] => write_section::<InPieces>(alloc, rest, script, attempts, out),
+    match name {
+        "write" => rows_writing::write(request, script, out),
+        "read" => rows_calls::read(request, script, out),
+        "bytes" => write_section::<InOne>(request, script, out),
+        "pieces" => write_section::<InPieces>(request, script, out),
         _ => Err(Stop::Bad),
     }
 }
 
 /// Runs a command over a section and the parts that its words name, and returns its status.
-fn run_over_parts<'r>(
-    alloc: Global,
-    words: &[&str],
+fn run_row<'r>(
+    request: Request<'_>,
+    name: &str,
+    all: &[&str],
     section: &'r [u8],
     named: &'r [Vec<u8>],
-    attempts: Attempts,
     out: &mut Vec<u8>,
 ) -> Result<u8, Stop> {
-    let (command, rest) = match words {
-        [] => return run_linetool(alloc, words, section, attempts, out),
-        ["lines", ..] => return run_lines(alloc, words, section, named, out),
-        [command, rest @ ..] => (*command, rest),
-    };
-    let sections = sections_of(section, named)?;
-    match command {
-        "convert" | "convert_sequences" => {
-            let rest = without_parts(alloc, rest)?;
-            run_over(alloc, command, &rest, sections, attempts, out)
-        }
-        "addresses" | "paths" => {
-            let rest = &rest[..rest.len().min(5)];
-            run_over(alloc, command, rest, sections, attempts, out)
-        }
-        _ => run_over(alloc, command, rest, sections, attempts, out),
+    if name == "lines" {
+        return run_lines(request.alloc, all, section, named, out);
     }
+    let sections = sections_of(section, named)?;
+    let words = match name {
+        "convert" | "convert_sequences" => without_parts(request.alloc, request.words)?,
+        "addresses" | "paths" => {
+            Vec::from_slice(request.alloc, &request.words[..request.words.len().min(5)])?
+        }
+        _ => Vec::from_slice(request.alloc, request.words)?,
+    };
+    let request = Request {
+        words: &words,
+        ..request
+    };
+    run_over(request, name, sections, out)
 }
 
 /// The sections of a row: that of lines, and after it those of texts, as far as they are named.
@@ -111,32 +114,22 @@ fn sections_of<'r>(lines: &'r [u8], named: &'r [Vec<u8>]) -> Result<Sections<'r>
 
 /// Runs a command over sections, and returns its status.
 pub fn run_over(
-    alloc: Global,
-    command: &str,
-    words: &[&str],
+    request: Request<'_>,
+    name: &str,
     sections: Sections<'_>,
-    attempts: Attempts,
     out: &mut Vec<u8>,
 ) -> Result<u8, Stop> {
     let section = sections.lines;
-    match command {
-        "convert" => convert(alloc, Kind::Items, words, sections, attempts, out)?,
-        "convert_sequences" => convert(alloc, Kind::Sequences, words, sections, attempts, out)?,
-        "header" => print_unit(alloc, Part::Header, words, section, attempts, out)?,
-        "instructions" => print_unit(alloc, Part::Instructions, words, section, attempts, out)?,
-        "places" => places(alloc, words, section, out)?,
-        "addresses" => addresses(alloc, words, sections, out)?,
-        "walk" => walk(alloc, words, section, out)?,
-        "paths" => paths(alloc, words, sections, out)?,
-        command => {
-            let mut all = Vec::with_capacity(alloc, words.len())?;
-            all.push(command)?;
-            if command != "demo" {
-                all.push("FILE")?;
-            }
-            all.extend_from_slice(words)?;
-            return run_linetool(alloc, &all, section, attempts, out);
-        }
+    match name {
+        "convert" => convert(request, Kind::Items, sections, out)?,
+        "convert_sequences" => convert(request, Kind::Sequences, sections, out)?,
+        "header" => print_unit(request, Part::Header, section, out)?,
+        "instructions" => print_unit(request, Part::Instructions, section, out)?,
+        "places" => places(request, section, out)?,
+        "addresses" => addresses(request, sections, out)?,
+        "walk" => walk(request, section, out)?,
+        "paths" => paths(request, sections, out)?,
+        name => return run_linetool(request, name, section, out),
     }
     Ok(0)
 }
@@ -156,22 +149,23 @@ fn without_parts<'w>(alloc: Global, words: &[&'w str]) -> Result<Vec<&'w str>, A
 /// Runs a command of `linetool`, a second time from the start where memory is refused it and attempts are two, and
 /// returns its status.
 fn run_linetool(
-    alloc: Global,
-    words: &[&str],
+    request: Request<'_>,
+    name: &str,
     section: &[u8],
-    attempts: Attempts,
     out: &mut Vec<u8>,
 ) -> Result<u8, Stop> {
+    let alloc = request.alloc;
+    let words = linetool_words(request, name)?;
     let start = out.len();
     let mut err = Vec::new(alloc);
-    let mut status = linetool_commands::run(alloc, words, Some(section), out, &mut err);
-    if attempts == Attempts::Two {
+    let mut status = linetool_commands::run(alloc, &words, Some(section), out, &mut err);
+    if request.attempts == Attempts::Two {
         if err.as_slice() == b"refused: memory\n".as_slice() {
             out.truncate(start);
             err.clear();
-            status = linetool_commands::run(alloc, words, Some(section), out, &mut err);
+            status = linetool_commands::run(alloc, &words, Some(section), out, &mut err);
         }
-        watch_command(alloc, words, section, out)?;
+        watch_command(alloc, &words, section, out)?;
     }
     // A vector takes no more output only where memory is refused.
     if status != 0 && err.is_empty() {
@@ -179,6 +173,18 @@ fn run_linetool(
     }
     print_errors(&err, out)?;
     Ok(status)
+}
+
+/// The words of a command of `linetool`: a file stands after each name but `demo`.
+fn linetool_words<'w>(request: Request<'w>, name: &'w str) -> Result<Vec<&'w str>, AllocError> {
+    let mut words = Vec::new(request.alloc);
+    match name {
+        "" => {}
+        "demo" => words.push(name)?,
+        name => words.extend_from_slice(&[name, "FILE"])?,
+    }
+    words.extend_from_slice(request.words)?;
+    Ok(words)
 }
 
 /// Watches the rows of a command that prints them.
@@ -189,9 +195,7 @@ fn watch_command(
     out: &mut Vec<u8>,
 ) -> Result<(), Stop> {
     let mut lines = Lines::new(out);
-    if let Some(linetool_commands::Command::Rows(location)) = linetool_commands::Command::parse(
-        words,
-    ) {
+    if let Some(Command::Rows(location)) = Command::parse(words) {
         watch_rows(alloc, section, location, &mut lines);
     }
     lines.finish()
