@@ -2,10 +2,10 @@
 
 use crate::answer::{Answer, BytesAfter, Slice};
 use crate::arguments::{Arguments, is_bytes, order_of};
-use crate::script::{Call, Script, run};
+use crate::script::{Answers, Made, Script, run};
 use crate::{numbers, order_calls, reader_calls};
 use gimli_core::{EndianSlice, Reader, RunTimeEndian};
-use rows_reading::{Request, Stop};
+use rows_reading::{Lines, Request, Stop};
 use std::alloc::Global;
 
 /// The greatest buffer of a script.
@@ -96,71 +96,73 @@ impl<'a> ReaderScript<'a> {
     }
 
     /// Makes a call of the reader, of its part or of its order.
-    fn call_reader(&mut self, call: &mut Call<'_>) -> Result<(), Stop> {
-        match call.name {
-            "read_slice" => return self.read_slice(call),
-            "endian" if !call.words.is_empty() => return self.call_order(call),
+    fn call_reader(
+        &mut self,
+        name: &str,
+        words: &mut Arguments<'_>,
+        lines: &mut Lines<'_>,
+    ) -> Made {
+        match name {
+            "read_slice" => return self.read_slice(words.usize(), lines),
+            "endian" if !words.is_empty() => return self.call_order(words, lines),
             "part" => {
-                let name = call.words.word();
-                let words = &mut call.words;
+                let name = words.word();
                 let answer = reader_calls::answer(&mut self.part, self.base, name, words)?;
-                print_left(call, answer, self.part);
+                print_left(lines, answer, self.part);
             }
-            name => {
-                let words = &mut call.words;
+            _ => {
                 let answer = reader_calls::answer(&mut self.reader, self.base, name, words)?;
                 if let Answer::Part(part) = answer {
                     self.part = part;
                 }
-                print_left(call, answer, self.reader);
+                print_left(lines, answer, self.reader);
             }
         }
         Ok(())
     }
 
     /// Reads into a buffer of so many bytes 07, and prints what it holds then, also where the call refused.
-    fn read_slice(&mut self, call: &mut Call<'_>) -> Result<(), Stop> {
-        let count = call.words.usize();
+    fn read_slice(&mut self, count: usize, lines: &mut Lines<'_>) -> Made {
         if count > GREATEST_BUFFER {
             return Err(Stop::Bad);
         }
         let mut buffer = vec![in self.alloc; 7u8; count]?;
         let answer = Answer::of_read(self.reader.read_slice(&mut buffer));
-        print_left(call, answer, self.reader);
-        call.lines.put(BytesAfter("buffer", buffer.as_slice()));
+        print_left(lines, answer, self.reader);
+        lines.put(BytesAfter("buffer", buffer.as_slice()));
         Ok(())
     }
 
     /// Makes a call of the order, on the bytes that are left or on a copy of them.
-    fn call_order(&mut self, call: &mut Call<'_>) -> Result<(), Stop> {
-        let name = call.words.word();
+    fn call_order(&mut self, words: &mut Arguments<'_>, lines: &mut Lines<'_>) -> Made {
+        let name = words.word();
         let bytes = self.reader.slice();
         if name.starts_with("write") {
             let mut copy = Vec::from_slice(self.alloc, bytes)?;
-            order_calls::write(self.order, name, &mut call.words, &mut copy)?;
-            call.lines.put(Answer::Bytes(copy.as_slice()));
+            order_calls::write(self.order, name, words, &mut copy)?;
+            lines.put(Answer::Bytes(copy.as_slice()));
         } else {
-            call.lines.put(order_calls::read(self.order, name, bytes)?);
+            lines.put(order_calls::read(self.order, name, bytes)?);
         }
         Ok(())
     }
 }
 
 impl Script for ReaderScript<'_> {
-    fn make(&mut self, call: &mut Call<'_>) -> Result<(), Stop> {
+    fn make(&mut self, name: &str, words: &mut Arguments<'_>, out: &mut Answers<'_>) -> Made {
         let was_open = self.is_open;
-        self.is_open = is_bytes(call.name);
+        self.is_open = is_bytes(name);
         if self.is_open {
-            call.words.all();
+            words.all();
             if !was_open {
                 self.begin();
             }
             return Ok(());
         }
-        match numbers::answer(call.name, &mut call.words) {
-            Err(Stop::Bad) => self.call_reader(call),
+        match numbers::answer(name, words) {
+            Err(Stop::Bad) => self.call_reader(name, words, &mut out.lines),
             answer => {
-                call.lines.put(answer?);
+                out.lines.put(answer?);
                 Ok(())
             }
         }
@@ -168,7 +170,7 @@ impl Script for ReaderScript<'_> {
 }
 
 /// Prints an answer, and how many bytes are left.
-fn print_left(call: &mut Call<'_>, answer: Answer<'_>, reader: Slice<'_>) {
+fn print_left(lines: &mut Lines<'_>, answer: Answer<'_>, reader: Slice<'_>) {
     let left = reader.len();
-    call.lines.put(format_args!("{answer}, {left} left"));
+    lines.put(format_args!("{answer}, {left} left"));
 }

@@ -3,82 +3,74 @@
 use crate::arguments::Arguments;
 use rows_reading::{Lines, Stop};
 
-/// A call of a script, and where what it returns is printed.
+/// How a call ends.
+pub type Made = Result<(), Stop>;
+
+/// What is printed of a script.
 #[derive(Drop)]
-pub struct Call<'c> {
-    /// The number of the line.
+pub struct Answers<'o> {
+    /// The number of the line whose call is made.
     pub number: u64,
-    /// The name of the call.
-    pub name: &'c str,
-    /// The other words of the line.
-    pub words: Arguments<'c>,
-    /// What is printed.
-    pub lines: Lines<'c>,
+    /// The lines so far.
+    pub lines: Lines<'o>,
 }
 
-impl Call<'_> {
-    /// Says that something doesn't stand as it must after a refused call.
-    pub fn print_state(&mut self) {
+impl Answers<'_> {
+    /// Prints a word and the number of the line.
+    pub fn put_number(&mut self, word: &str) {
         let number = self.number;
-        self.lines.put(format_args!("state {number}"));
+        self.lines.put(format_args!("{word} {number}"));
     }
 }
 
 /// What makes the calls of a script.
 pub trait Script {
-    /// Makes a call, and prints what it returns.
-    fn make(&mut self, call: &mut Call<'_>) -> Result<(), Stop>;
+    /// Makes the call of a name and words, and prints what it returns.
+    fn make(&mut self, name: &str, words: &mut Arguments<'_>, out: &mut Answers<'_>) -> Made;
 }
 
 /// Makes the calls of a script, and returns its status. Of a bad script nothing is printed.
 pub fn run<S: Script>(script: &mut S, input: &str, out: &mut Vec<u8>) -> Result<u8, Stop> {
-    let mut call = Call {
+    let mut answers = Answers {
         number: 0,
-        name: "",
-        words: Arguments::of_line(""),
         lines: Lines::new(out),
     };
-    let start = call.lines.len();
-    let ended = run_lines(script, input, &mut call);
+    let start = answers.lines.len();
+    let ended = run_lines(script, input, &mut answers);
     if ended.is_err() {
-        call.lines.truncate(start);
+        answers.lines.truncate(start);
     }
-    call.lines.finish()?;
+    answers.lines.finish()?;
     ended
 }
 
 /// Makes the calls of a script as far as they are calls, and returns its status.
-fn run_lines<'c, S: Script>(
-    script: &mut S,
-    input: &'c str,
-    call: &mut Call<'c>,
-) -> Result<u8, Stop> {
+fn run_lines<S: Script>(script: &mut S, input: &str, out: &mut Answers<'_>) -> Result<u8, Stop> {
     let mut status = 0;
     for line in input.lines() {
-        call.number = call.number.saturating_add(1);
-        call.words = Arguments::of_line(line);
-        match run_line(script, call) {
+        out.number = out.number.saturating_add(1);
+        match run_line(script, line, out) {
             Err(Stop::Condition) => {
-                let number = call.number;
-                call.lines.put(format_args!("condition {number}"));
+                out.put_number("condition");
                 status = 1;
             }
-            answer => answer?,
+            made => made?,
         }
     }
     Ok(status)
 }
 
 /// Makes the call of a line, where it has words.
-fn run_line<S: Script>(script: &mut S, call: &mut Call<'_>) -> Result<(), Stop> {
-    if call.words.is_empty() {
+fn run_line<S: Script>(script: &mut S, line: &str, out: &mut Answers<'_>) -> Made {
+    let mut words = Arguments::of_line(line);
+    if words.is_empty() {
         return Ok(());
     }
-    call.name = call.words.word();
-    let made = script.make(call);
-    if call.words.is_bad() {
+    let name = words.word();
+    let made = script.make(name, &mut words, out);
+    if words.is_bad() {
         return Err(Stop::Bad);
     }
     made?;
-    call.words.finish()
+    words.finish()
 }

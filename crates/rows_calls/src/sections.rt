@@ -1,8 +1,8 @@
 //! Scripts of writer calls and of string table calls.
 
 use crate::answer::{Answer, BytesAfter};
-use crate::arguments::order_of;
-use crate::script::{Call, Script, run};
+use crate::arguments::{Arguments, order_of};
+use crate::script::{Answers, Made, Script, run};
 use crate::tables::{Kind, Tables};
 use crate::targets::Target;
 use crate::writers;
@@ -59,45 +59,43 @@ impl<W: Target> Sections<W> {
     }
 
     /// Makes a call of the writer, and prints what it returns.
-    fn write(&mut self, call: &mut Call<'_>) -> result::Result<(), Stop> {
-        let mut again = call.words;
-        let section = &mut self.section;
-        let mut answer = writers::answer(self.alloc, section, call.name, &mut call.words)?;
+    fn write(&mut self, name: &str, words: &mut Arguments<'_>, out: &mut Answers<'_>) -> Made {
+        let mut again = *words;
+        let mut answer = writers::answer(self.alloc, &mut self.section, name, words)?;
         if is_made_again(&answer, self.attempts) {
-            self.restore(call)?;
-            let section = &mut self.section;
-            answer = writers::answer(self.alloc, section, call.name, &mut again)?;
+            self.restore(name, out)?;
+            answer = writers::answer(self.alloc, &mut self.section, name, &mut again)?;
         }
-        self.print_written(answer, call)
+        self.print_written(answer, out)
     }
 
     /// Makes a call of a table, and prints what it returns.
-    fn call_table(&mut self, kind: Kind, call: &mut Call<'_>) -> result::Result<(), Stop> {
-        let answer = match call.words.word() {
-            "write" => return self.write_table(kind, call),
+    fn call_table(&mut self, kind: Kind, words: &mut Arguments<'_>, out: &mut Answers<'_>) -> Made {
+        match words.word() {
+            "write" => return self.write_table(kind, out),
             "add" => {
-                let text = call.words.text(self.alloc)?;
-                Some(self.add(kind, text.as_slice(), call)?)
+                let text = words.text(self.alloc)?;
+                return self.add(kind, text.as_slice(), out);
             }
-            "count" => Some(Answer::Number("count", self.tables.count(kind) as i128)),
-            "get" => self.tables.get(kind, call.words.usize()).map(Answer::Text),
-            "offset" => {
-                let offset = self.tables.offset(kind, call.words.usize());
-                offset.map(|offset| Answer::Number("offset", offset as i128))
+            "count" => {
+                let count = self.tables.count(kind);
+                out.lines.put(Answer::Number("count", count as i128));
             }
+            "get" => match self.tables.get(kind, words.usize()) {
+                Some(text) => out.lines.put(Answer::Text(text)),
+                None => return Err(Stop::Condition),
+            },
+            "offset" => match self.tables.offset(kind, words.usize()) {
+                Some(offset) => out.lines.put(Answer::Number("offset", offset as i128)),
+                None => return Err(Stop::Condition),
+            },
             _ => return Err(Stop::Bad),
-        };
-        call.lines.put(answer.ok_or(Stop::Condition)?);
+        }
         Ok(())
     }
 
     /// Adds a text to a table, where no byte of it is zero.
-    fn add(
-        &mut self,
-        kind: Kind,
-        text: &[u8],
-        call: &mut Call<'_>,
-    ) -> result::Result<Answer<'static>, Stop> {
+    fn add(&mut self, kind: Kind, text: &[u8], out: &mut Answers<'_>) -> Made {
         if text.contains(&0) {
             return Err(Stop::Condition);
         }
@@ -105,21 +103,23 @@ impl<W: Target> Sections<W> {
         let mut added = self.tables.add(kind, text);
         if is_made_again(&added, self.attempts) {
             if self.tables.count(kind) != before {
-                call.print_state();
+                out.put_number("state");
             }
             added = self.tables.add(kind, text);
         }
-        Ok(Answer::of_written(added.map(|id| Answer::Number("id", id as i128))))
+        let answer = added.map(|id| Answer::Number("id", id as i128));
+        out.lines.put(Answer::of_written(answer));
+        Ok(())
     }
 
     /// Appends a table to the section, and prints what that returns.
-    fn write_table(&mut self, kind: Kind, call: &mut Call<'_>) -> result::Result<(), Stop> {
+    fn write_table(&mut self, kind: Kind, out: &mut Answers<'_>) -> Made {
         let mut answer = self.append_table(kind);
         if is_made_again(&answer, self.attempts) {
-            self.restore(call)?;
+            self.restore("write table", out)?;
             answer = self.append_table(kind);
         }
-        self.print_written(answer, call)
+        self.print_written(answer, out)
     }
 
     /// Appends a table to the section.
@@ -137,25 +137,23 @@ impl<W: Target> Sections<W> {
 
     /// Looks whether the bytes of before a refused call are still a beginning, or after a refused `write` all there are,
     /// and makes the section anew with them.
-    fn restore(&mut self, call: &mut Call<'_>) -> result::Result<(), Stop> {
+    fn restore(&mut self, name: &str, out: &mut Answers<'_>) -> Made {
         let now = self.section.to_bytes(self.alloc)?;
-        let is_longer = call.name == "write" && now.len() != self.before.len();
+        let is_longer = name == "write" && now.len() != self.before.len();
         if is_longer || !now.starts_with(self.before.as_slice()) {
-            call.print_state();
+            out.put_number("state");
         }
         self.section = W::empty(self.alloc, self.order);
-        let restored = self.section.write(self.before.as_slice());
-        restored.ok().ok_or(Stop::Memory)
+        match self.section.write(self.before.as_slice()) {
+            Ok(()) => Ok(()),
+            Err(_) => Err(Stop::Memory),
+        }
     }
 
     /// Prints what a call returns that writes, and what it changed.
-    fn print_written(
-        &mut self,
-        answer: Result<Answer<'static>>,
-        call: &mut Call<'_>,
-    ) -> result::Result<(), Stop> {
+    fn print_written(&mut self, answer: Result<Answer<'static>>, out: &mut Answers<'_>) -> Made {
         let now = self.section.to_bytes(self.alloc)?;
-        call.lines.put(Written {
+        out.lines.put(Written {
             answer: Answer::of_written(answer),
             before: self.before.as_slice(),
             now: now.as_slice(),
@@ -192,30 +190,34 @@ fn offset_in<W: Writer>(section: SectionId, w: W) -> (W, usize) {
 }
 
 impl<W: Target> Script for Sections<W> {
-    fn make(&mut self, call: &mut Call<'_>) -> result::Result<(), Stop> {
-        let answer = match call.name {
-            "endian" => Answer::order(self.section.endian().is_big_endian()),
-            "len" => Answer::Number("usize", self.section.len() as i128),
+    fn make(&mut self, name: &str, words: &mut Arguments<'_>, out: &mut Answers<'_>) -> Made {
+        match name {
+            "endian" => out
+                .lines
+                .put(Answer::order(self.section.endian().is_big_endian())),
+            "len" => out
+                .lines
+                .put(Answer::Number("usize", self.section.len() as i128)),
             "slice" => {
                 let bytes = self.section.to_bytes(self.alloc)?;
-                call.lines.put(Answer::Bytes(bytes.as_slice()));
-                return Ok(());
+                out.lines.put(Answer::Bytes(bytes.as_slice()));
             }
-            "offset" => Answer::Number("usize", self.offset(call.words.section()) as i128),
+            "offset" => {
+                let offset = self.offset(words.section());
+                out.lines.put(Answer::Number("usize", offset as i128));
+            }
             "next" => {
                 *self = Sections::new(self.alloc, self.order, self.attempts);
-                Answer::Word("--")
+                out.lines.put("--");
             }
-            "str" => return self.call_table(Kind::Strings, call),
-            "line_str" => return self.call_table(Kind::LineStrings, call),
+            "str" => return self.call_table(Kind::Strings, words, out),
+            "line_str" => return self.call_table(Kind::LineStrings, words, out),
             "take" | "pieces" | "into_vec" => {
-                self.section.call_own(self.alloc, call)?;
+                self.section.call_own(self.alloc, name, &mut out.lines)?;
                 self.before = self.section.to_bytes(self.alloc)?;
-                return Ok(());
             }
-            _ => return self.write(call),
-        };
-        call.lines.put(answer);
+            _ => return self.write(name, words, out),
+        }
         Ok(())
     }
 }

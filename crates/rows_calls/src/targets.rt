@@ -1,10 +1,10 @@
 //! Sections that scripts write to: in one vector, and in pieces.
 
 use crate::answer::Answer;
-use crate::script::Call;
+use crate::script::Made;
 use gimli_bytes::{EndianVec, PieceVec, Writer};
 use gimli_core::RunTimeEndian;
-use rows_reading::Stop;
+use rows_reading::{Lines, Stop};
 use std::alloc::{AllocError, Global};
 use std::mem;
 
@@ -20,7 +20,7 @@ pub trait Target: Section {
     fn empty(alloc: Global, order: RunTimeEndian) -> Self;
 
     /// Makes a call that other sections don't have, and prints what it returns.
-    fn call_own(&mut self, alloc: Global, call: &mut Call<'_>) -> Result<(), Stop>;
+    fn call_own(&mut self, alloc: Global, name: &str, lines: &mut Lines<'_>) -> Made;
 }
 
 impl Section for EndianVec<RunTimeEndian> {
@@ -34,10 +34,10 @@ impl Target for EndianVec<RunTimeEndian> {
         EndianVec::new(alloc, order)
     }
 
-    fn call_own(&mut self, _alloc: Global, call: &mut Call<'_>) -> Result<(), Stop> {
-        match call.name {
+    fn call_own(&mut self, _alloc: Global, name: &str, lines: &mut Lines<'_>) -> Made {
+        match name {
             "take" => {
-                call.lines.put(Answer::Bytes(self.take().as_slice()));
+                lines.put(Answer::Bytes(self.take().as_slice()));
                 Ok(())
             }
             _ => Err(Stop::Bad),
@@ -60,20 +60,19 @@ impl<const N: usize> Target for PieceVec<RunTimeEndian, N> {
         PieceVec::new(alloc, order)
     }
 
-    fn call_own(&mut self, alloc: Global, call: &mut Call<'_>) -> Result<(), Stop> {
-        match call.name {
+    fn call_own(&mut self, alloc: Global, name: &str, lines: &mut Lines<'_>) -> Made {
+        match name {
             "pieces" => {
-                call.lines
-                    .put(Answer::Number("pieces", self.piece_count() as i128));
+                lines.put(Answer::Number("pieces", self.piece_count() as i128));
                 for piece in self.pieces() {
-                    call.lines.put(Answer::Bytes(piece));
+                    lines.put(Answer::Bytes(piece));
                 }
                 Ok(())
             }
             "into_vec" => {
                 let empty = PieceVec::new(alloc, self.endian());
                 match mem::replace(self, empty).into_vec() {
-                    Ok(bytes) => call.lines.put(Answer::Bytes(bytes.as_slice())),
+                    Ok(bytes) => lines.put(Answer::Bytes(bytes.as_slice())),
                     Err(_) => return Err(Stop::Memory),
                 }
                 Ok(())
