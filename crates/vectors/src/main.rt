@@ -16,20 +16,7 @@
 //!
 //! Other words, a bad script and a file that isn't one of rows: status 2, with a line on standard error.
 //!
-//! A row stands in a file so:
-//!
-//! ```text
-//! == demo unit                         a name that no other row of the file has
-//! -- DWARF 4, 6.2, by hand             where the expected output comes from
-//! > rows little 4 0                    the command, without a file; or several, a line each, over the same input
-//! unit(@header_13 00 05 02 3*00 01)    its input: a script, or bytes in hexadecimal
-//! <                                    the expected output, or `!!` for one that it must not give
-//! 0000000000001000 0 1 1 0 0 0 s
-//! ```
-//!
-//! The commands are `write`, `read`, `bytes` and `pieces`, which take a script, `header`, `instructions`, `convert`,
-//! `convert_sequences`, those of `linetool`, and `lines` with the words of that program. A line `:= NAME BYTES` defines a part, for which `@NAME` then stands; `unit(..)` puts a unit length
-//! before its bytes, and `N*HH` is N times a byte. Blank lines at the end of the expected output don't count.
+//! `docs/ROWS.md` has the files of rows, and the commands of a row.
 #![tactic(auto)]
 
 mod again;
