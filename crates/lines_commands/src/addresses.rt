@@ -9,7 +9,7 @@ use crate::report::{Verdict, out_of_memory};
 use gimli_core::Reader;
 use gimli_line::LineProgramHeader;
 use gimli_lookup::{Addresses, PathError, Paths, SectionLookup, StringSections};
-use rows_units::Slice;
+use rows_reading::Slice;
 use std::alloc::Global;
 use std::io;
 use std::io::Write;

@@ -7,7 +7,7 @@ use crate::input::Input;
 use crate::overlaps::Sequence;
 use crate::walk::fault;
 use gimli_line::{IncompleteLineProgram, LineInstruction, LineProgramHeader, LineRow, LineUnit};
-use rows_units::Slice;
+use rows_reading::Slice;
 use std::alloc::Global;
 use std::io;
 use std::io::Write;

@@ -6,7 +6,7 @@ use crate::paths_seen::{PathDigest, digest_of};
 use crate::report::out_of_memory;
 use gimli_line::LineProgramHeader;
 use gimli_lookup::{PathError, Paths, StringSections};
-use rows_units::Slice;
+use rows_reading::Slice;
 use std::alloc::Global;
 use std::io;
 use std::io::Write;

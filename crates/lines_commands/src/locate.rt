@@ -12,7 +12,7 @@ use crate::report::{UnitLocation, Verdict, out_of_memory};
 use crate::request::Form;
 use gimli_line::{ColumnType, LineRow};
 use gimli_lookup::{CoveringRows, PathError, Paths, SectionLookup};
-use rows_units::Slice;
+use rows_reading::Slice;
 use std::alloc::Global;
 use std::io::{BufRead, Write};
 use std::{fmt, io};

@@ -3,7 +3,7 @@
 ghost use Rattle.std.specs.Prelude.{◌≡◌, ℕ, List, IfSome, MatchOption, Some};
 ghost use Rattle.lines_commands.specs.Words.{HasPrefix, NamesAddress, NamesOffset, NamesTarget};
 
-use rows_words::parse_digits;
+use rows_reading::parse_digits;
 
 /// An address in hexadecimal digits of either case, with or without `0x`. None for another word,
 /// and for one that doesn't fit 64 bits.

@@ -13,7 +13,7 @@ use crate::screen::Screen;
 use crate::walk::{fault, next_unit};
 use gimli_line::{IncompleteLineProgram, LineProgramHeader, LineRow, LineUnit};
 use gimli_lookup::{PathError, Paths, StringSections};
-use rows_units::Slice;
+use rows_reading::Slice;
 use std::alloc::Global;
 use std::io::Write;
 use std::{fmt, io};

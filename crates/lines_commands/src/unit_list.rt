@@ -7,7 +7,7 @@ use crate::row_count::RowCount;
 use crate::walk::{fault, next_unit};
 use gimli_core::{Error, Format};
 use gimli_line::{IncompleteLineProgram, LineProgramHeader, LineUnit};
-use rows_units::Slice;
+use rows_reading::Slice;
 use std::alloc::Global;
 use std::io::Write;
 use std::{fmt, io};

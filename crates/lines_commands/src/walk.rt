@@ -4,7 +4,7 @@ use crate::input::Input;
 use crate::report::{UnitLocation, out_of_memory};
 use gimli_core::Error;
 use gimli_line::{LineUnit, LineUnits};
-use rows_units::Slice;
+use rows_reading::Slice;
 use std::alloc::Global;
 use std::io;
 

@@ -11,7 +11,7 @@ use clap::{ArgMatches, Error};
 use lines_commands::{
     Command, Form, Kind, Notation, Request, UnitChoice, parse_address, parse_offset, parse_target,
 };
-use rows_words::{AddressSize, parse_order, parse_size};
+use rows_reading::{AddressSize, parse_order, parse_size};
 use std::alloc::{AllocError, Global};
 
 /// What words ask for, of which the first is the program's name.

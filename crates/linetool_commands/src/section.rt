@@ -5,8 +5,8 @@ ghost use Rattle.std.specs.Prelude.{◌≡◌, ◌≢◌, Err, IfErr, IsNone};
 use crate::refusal::Refusal;
 use gimli_core::{DebugLineOffset, EndianSlice, Reader, RunTimeEndian};
 use gimli_line::{DebugLine, IncompleteLineProgram};
-use rows_units::UnitLocation;
-use rows_words::AddressSize;
+use rows_reading::UnitLocation;
+use rows_reading::AddressSize;
 use std::alloc::Global;
 use std::io::Read;
 

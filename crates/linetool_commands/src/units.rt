@@ -9,7 +9,7 @@ use crate::refusal::Refusal;
 use crate::words::Numbers;
 use gimli_core::{Reader, ReaderOffset};
 use gimli_line::{DebugLine, LineUnit, LineUnits};
-use rows_words::ShortLine;
+use rows_reading::ShortLine;
 use std::alloc::Global;
 use std::io::Write;
 

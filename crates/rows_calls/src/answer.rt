@@ -1,7 +1,7 @@
-//! What calls of readers and of numbers return.
+//! What calls return, as it is printed.
 
-use crate::outcome::{ByName, BytesAfter, Told};
-use gimli_core::{DwEhPe, EndianSlice, Error, Format, ReaderOffsetId, Result, RunTimeEndian};
+use gimli_core::{DwEhPe, EndianSlice, Format, ReaderOffsetId, RunTimeEndian};
+use rows_reading::{BytesLine, Text};
 use std::fmt;
 
 /// A reader of a script.
@@ -12,7 +12,7 @@ pub type Slice<'a> = EndianSlice<'a, RunTimeEndian>;
 pub enum Answer<'a> {
     /// A word.
     Word(&'static str),
-    /// A number, after its type.
+    /// A number, after a word.
     Number(&'static str, i128),
     /// A number of 128 bits.
     Wide(u128),
@@ -26,115 +26,102 @@ pub enum Answer<'a> {
     Bytes(&'a [u8]),
     /// A part of the reader, as a reader of its own.
     Part(Slice<'a>),
-    /// Why it refused.
-    Refused(Error),
+    /// A text of a table.
+    Text(&'a [u8]),
+    /// Why a reader refused.
+    Unread(gimli_core::Error),
+    /// Why a writer or a table refused.
+    Unwritten(gimli_bytes::Error),
 }
 
 impl<'a> Answer<'a> {
-    /// What a call returns that may refuse.
-    pub fn of(answer: Result<Answer<'a>>) -> Answer<'a> {
-        match answer {
-            Ok(answer) => answer,
-            Err(error) => Answer::Refused(error),
+    /// What a call of a reader returns that reads a number of this type.
+    pub fn of_number<N: Into<i128>>(kind: &'static str, read: gimli_core::Result<N>) -> Answer<'a> {
+        match read {
+            Ok(n) => Answer::Number(kind, n.into()),
+            Err(error) => Answer::Unread(error),
         }
     }
-}
 
-/// That it is done.
-pub fn of_unit(_done: ()) -> Answer<'static> {
-    Answer::Word("ok")
-}
+    /// What a call of a reader returns that gives a number of bytes.
+    pub fn of_size(read: gimli_core::Result<usize>) -> Answer<'a> {
+        match read {
+            Ok(n) => Answer::Number("usize", n as i128),
+            Err(error) => Answer::Unread(error),
+        }
+    }
 
-/// A number of 8 bits.
-pub fn of_u8(n: u8) -> Answer<'static> {
-    Answer::Number("u8", i128::from(n))
-}
+    /// What a call of a reader returns that gives a part of it.
+    pub fn of_part(read: gimli_core::Result<Slice<'a>>) -> Answer<'a> {
+        match read {
+            Ok(part) => Answer::Part(part),
+            Err(error) => Answer::Unread(error),
+        }
+    }
 
-/// A signed number of 8 bits.
-pub fn of_i8(n: i8) -> Answer<'static> {
-    Answer::Number("i8", i128::from(n))
-}
+    /// What a call of a reader returns that gives nothing.
+    pub fn of_read(read: gimli_core::Result<()>) -> Answer<'a> {
+        match read {
+            Ok(()) => Answer::Word("ok"),
+            Err(error) => Answer::Unread(error),
+        }
+    }
 
-/// A number of 16 bits.
-pub fn of_u16(n: u16) -> Answer<'static> {
-    Answer::Number("u16", i128::from(n))
-}
+    /// What a call of a writer or of a table returns.
+    pub fn of_written(answer: gimli_bytes::Result<Answer<'a>>) -> Answer<'a> {
+        match answer {
+            Ok(answer) => answer,
+            Err(error) => Answer::Unwritten(error),
+        }
+    }
 
-/// A number of 32 bits.
-pub fn of_u32(n: u32) -> Answer<'static> {
-    Answer::Number("u32", i128::from(n))
-}
+    /// A truth value.
+    pub fn truth(truth: bool) -> Answer<'a> {
+        Answer::Word(if truth { "true" } else { "false" })
+    }
 
-/// A number of 64 bits.
-pub fn of_u64(n: u64) -> Answer<'static> {
-    Answer::Number("u64", i128::from(n))
-}
-
-/// A signed number of 64 bits.
-pub fn of_i64(n: i64) -> Answer<'static> {
-    Answer::Number("i64", i128::from(n))
-}
-
-/// A number of bytes.
-pub fn of_usize(n: usize) -> Answer<'static> {
-    Answer::Number("usize", n as i128)
-}
-
-/// Sixteen bytes.
-pub fn of_sixteen(bytes: [u8; 16]) -> Answer<'static> {
-    Answer::Sixteen(bytes)
-}
-
-/// A truth value.
-pub fn of_bool(truth: bool) -> Answer<'static> {
-    Answer::Word(if truth { "true" } else { "false" })
-}
-
-/// The word of an order.
-pub fn word_of(is_big: bool) -> &'static str {
-    if is_big { "big" } else { "little" }
+    /// An order of bytes.
+    pub fn order(is_big: bool) -> Answer<'a> {
+        Answer::Word(if is_big { "big" } else { "little" })
+    }
 }
 
 impl fmt::Display for Answer<'_> {
     fn fmt<W: fmt::Write>(&self, f: &mut fmt::Formatter<W>) -> fmt::Result {
         match self {
             Answer::Word(word) => f.write_str(word),
-            Answer::Number(kind, n) => Told(*kind, *n).fmt(f),
-            Answer::Wide(n) => Told("u128", *n).fmt(f),
-            Answer::Length(n, format) => Told("usize", Length(*n, *format)).fmt(f),
+            Answer::Number(word, n) => write!(f, "{word} {n}"),
+            Answer::Wide(n) => write!(f, "u128 {n}"),
+            Answer::Length(n, Format::Dwarf32) => write!(f, "usize {n} format 32"),
+            Answer::Length(n, Format::Dwarf64) => write!(f, "usize {n} format 64"),
             Answer::Encoding(encoding) => encoding.fmt(f),
             Answer::Sixteen(bytes) => BytesAfter("bytes", bytes).fmt(f),
             Answer::Bytes(bytes) => BytesAfter("bytes", bytes).fmt(f),
             Answer::Part(part) => BytesAfter("bytes", part.slice()).fmt(f),
-            Answer::Refused(error) => Told("error", ReaderError(*error)).fmt(f),
+            Answer::Text(text) => {
+                let text = Text(text);
+                write!(f, "text {text}")
+            }
+            Answer::Unread(gimli_core::Error::UnexpectedEof(ReaderOffsetId(left))) => {
+                write!(f, "error UnexpectedEof({left})")
+            }
+            Answer::Unread(error) => write!(f, "error {error:?}"),
+            Answer::Unwritten(error) => write!(f, "error {error:?}"),
         }
     }
 }
 
-/// A length, with the number of bits of its format.
+/// A word, and bytes after it.
 #[derive(Clone, Copy)]
-struct Length(usize, Format);
+pub struct BytesAfter<'a>(pub &'static str, pub &'a [u8]);
 
-impl fmt::Display for Length {
+impl fmt::Display for BytesAfter<'_> {
     fn fmt<W: fmt::Write>(&self, f: &mut fmt::Formatter<W>) -> fmt::Result {
-        let length = self.0;
-        let bits = match self.1 {
-            Format::Dwarf32 => "32",
-            Format::Dwarf64 => "64",
-        };
-        write!(f, "{length} format {bits}")
-    }
-}
-
-/// The text of a reader's refusal.
-#[derive(Clone, Copy)]
-struct ReaderError(Error);
-
-impl fmt::Display for ReaderError {
-    fn fmt<W: fmt::Write>(&self, f: &mut fmt::Formatter<W>) -> fmt::Result {
-        match self.0 {
-            Error::UnexpectedEof(ReaderOffsetId(left)) => write!(f, "UnexpectedEof({left})"),
-            error => ByName(error).fmt(f),
+        f.write_str(self.0)?;
+        if !self.1.is_empty() {
+            let bytes = BytesLine(self.1);
+            write!(f, " {bytes}")?;
         }
+        Ok(())
     }
 }

@@ -1,10 +1,11 @@
 //! The words of a line.
 
-use crate::stop::Stop;
 use gimli_bytes::Address;
 use gimli_core::{DwEhPe, Format, RunTimeEndian, SectionId};
-use rows_words::{parse_bytes, parse_number, parse_order, parse_signed, parse_text};
-use std::alloc::{AllocError, Global};
+use rows_reading::{
+    Stop, parse_number, parse_order, parse_signed, parse_text, parse_wide, push_bytes,
+};
+use std::alloc::Global;
 
 /// What stands in a line after the words that were taken. A word that is missing, or that isn't what it is taken for,
 /// makes the line bad, and something stands in its place: so a call is made, but its line ends the script.
@@ -87,13 +88,13 @@ impl<'a> Arguments<'a> {
     /// An unsigned number of 64 bits.
     pub fn u64(&mut self) -> u64 {
         let number = parse_number(self.word());
-        self.value_or(number, 0)
+        self.value_or(number.ok(), 0)
     }
 
     /// A signed number of 64 bits.
     pub fn i64(&mut self) -> i64 {
         let number = parse_signed(self.word());
-        self.value_or(number, 0)
+        self.value_or(number.ok(), 0)
     }
 
     /// A number of 8 bits.
@@ -117,13 +118,12 @@ impl<'a> Arguments<'a> {
     /// A number of 128 bits.
     pub fn u128(&mut self) -> u128 {
         let number = parse_wide(self.word());
-        self.value_or(number, 0)
+        self.value_or(number.ok(), 0)
     }
 
     /// A number of bytes.
     pub fn usize(&mut self) -> usize {
-        let number = usize::try_from(self.u64());
-        self.value_or(number.ok(), 0)
+        self.u64() as usize
     }
 
     /// A format, by its number of bits.
@@ -138,14 +138,13 @@ impl<'a> Arguments<'a> {
 
     /// An address, or `symbol`.
     pub fn address(&mut self) -> Address {
-        let address = match self.word() {
-            "symbol" => Some(Address::Symbol {
+        match self.word() {
+            "symbol" => Address::Symbol {
                 symbol: 0,
                 addend: 0,
-            }),
-            word => parse_number(word).map(Address::Constant),
-        };
-        self.value_or(address, Address::Constant(0))
+            },
+            word => Address::Constant(self.value_or(parse_number(word).ok(), 0)),
+        }
     }
 
     /// A section, by its name.
@@ -166,37 +165,18 @@ impl<'a> Arguments<'a> {
     }
 
     /// A text.
-    pub fn text(&mut self, alloc: Global) -> Result<Vec<u8>, AllocError> {
-        let text = parse_text(alloc, self.word())?;
-        Ok(self.vector(alloc, text))
+    pub fn text(&mut self, alloc: Global) -> Result<Vec<u8>, Stop> {
+        parse_text(alloc, self.word())
     }
 
     /// All that is left, as bytes; a `-` stands for no bytes.
-    pub fn bytes(&mut self, alloc: Global) -> Result<Vec<u8>, AllocError> {
-        let all = self.all();
-        let bytes = parse_bytes(alloc, if all == "-" { "" } else { all })?;
-        Ok(self.vector(alloc, bytes))
-    }
-
-    /// The bytes that words say; where they don't, the line is bad.
-    fn vector(&mut self, alloc: Global, said: Option<Vec<u8>>) -> Vec<u8> {
-        match said {
-            Some(bytes) => bytes,
-            None => {
-                self.is_bad = true;
-                Vec::new(alloc)
-            }
+    pub fn bytes(&mut self, alloc: Global) -> Result<Vec<u8>, Stop> {
+        let mut bytes = Vec::new(alloc);
+        match self.all() {
+            "-" => {}
+            all => push_bytes(&mut bytes, all)?,
         }
-    }
-}
-
-/// A number of 128 bits, as the shorter ones are read.
-fn parse_wide(word: &str) -> Option<u128> {
-    match word.strip_prefix("0x") {
-        Some(digits) if digits.starts_with('+') => None,
-        Some(digits) => u128::from_str_radix(digits, 16).ok(),
-        None if word.starts_with('+') => None,
-        None => word.parse::<u128>().ok(),
+        Ok(bytes)
     }
 }
 
@@ -206,9 +186,9 @@ pub fn is_bytes(word: &str) -> bool {
 }
 
 /// The order that the words of a command name.
-pub fn order_of(words: &[&str]) -> Option<RunTimeEndian> {
+pub fn order_of(words: &[&str]) -> Result<RunTimeEndian, Stop> {
     match words {
-        [word] => parse_order(word),
-        _ => None,
+        [word] => parse_order(word).ok_or(Stop::Bad),
+        _ => Err(Stop::Bad),
     }
 }

@@ -1,18 +1,18 @@
 //! Calls of orders of bytes.
 
-use crate::answer::{Answer, of_bool, of_u16, of_u32, of_u64};
+use crate::answer::Answer;
 use crate::arguments::Arguments;
-use crate::stop::Stop;
 use gimli_core::{Endianity, RunTimeEndian};
+use rows_reading::Stop;
 
 /// What a call returns that reads bytes, where they are enough.
 pub fn read(order: RunTimeEndian, name: &str, bytes: &[u8]) -> Result<Answer<'static>, Stop> {
     match name {
-        "is_big_endian" => Ok(of_bool(order.is_big_endian())),
-        "is_little_endian" => Ok(of_bool(order.is_little_endian())),
-        "read_u16" if bytes.len() >= 2 => Ok(of_u16(order.read_u16(bytes))),
-        "read_u32" if bytes.len() >= 4 => Ok(of_u32(order.read_u32(bytes))),
-        "read_u64" if bytes.len() >= 8 => Ok(of_u64(order.read_u64(bytes))),
+        "is_big_endian" => Ok(Answer::truth(order.is_big_endian())),
+        "is_little_endian" => Ok(Answer::truth(order.is_little_endian())),
+        "read_u16" if bytes.len() >= 2 => Ok(Answer::of_number("u16", Ok(order.read_u16(bytes)))),
+        "read_u32" if bytes.len() >= 4 => Ok(Answer::of_number("u32", Ok(order.read_u32(bytes)))),
+        "read_u64" if bytes.len() >= 8 => Ok(Answer::of_number("u64", Ok(order.read_u64(bytes)))),
         "read_u128" if bytes.len() >= 16 => Ok(Answer::Wide(order.read_u128(bytes))),
         "read_u16" | "read_u32" | "read_u64" | "read_u128" => Err(Stop::Condition),
         _ => Err(Stop::Bad),

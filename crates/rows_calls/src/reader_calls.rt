@@ -1,12 +1,9 @@
 //! Calls of readers.
 
-use crate::answer::{
-    Answer, Slice, of_bool, of_i8, of_i64, of_sixteen, of_u8, of_u16, of_u32, of_u64, of_unit,
-    of_usize, word_of,
-};
+use crate::answer::{Answer, Slice};
 use crate::arguments::Arguments;
-use crate::stop::Stop;
 use gimli_core::{Endianity, Reader};
+use rows_reading::Stop;
 
 /// What a call returns over a reader. `base` is the reader that it was at first.
 pub fn answer<'a>(
@@ -17,12 +14,10 @@ pub fn answer<'a>(
 ) -> Result<Answer<'a>, Stop> {
     match name {
         "to_slice" | "slice" => Ok(Answer::Bytes(reader.slice())),
-        "split" => Ok(Answer::of(reader.split(words.usize()).map(Answer::Part))),
-        "read_null_terminated_slice" => Ok(Answer::of(
-            reader.read_null_terminated_slice().map(Answer::Part),
-        )),
+        "split" => Ok(Answer::of_part(reader.split(words.usize()))),
+        "read_null_terminated_slice" => Ok(Answer::of_part(reader.read_null_terminated_slice())),
         "offset_from" => offset_from(*reader, base),
-        _ => value(reader, name, words),
+        _ => look(reader, name, words),
     }
 }
 
@@ -31,88 +26,81 @@ fn offset_from(reader: Slice<'_>, base: Slice<'_>) -> Result<Answer<'static>, St
     let whole = base.slice();
     let rest = reader.slice();
     if whole.ends_with(rest) {
-        Ok(of_usize(reader.offset_from(&base)))
+        Ok(Answer::Number("usize", reader.offset_from(&base) as i128))
     } else {
         Err(Stop::Condition)
     }
 }
 
 /// What a call returns that looks at bytes, or lets bytes go.
-fn value(
-    reader: &mut Slice<'_>,
+fn look<'w, R: Reader<Offset = usize>>(
+    reader: &mut R,
     name: &str,
-    words: &mut Arguments<'_>,
+    words: &mut Arguments<'w>,
 ) -> Result<Answer<'static>, Stop> {
-    let answer = match name {
-        "endian" => Ok(Answer::Word(word_of(reader.endian().is_big_endian()))),
-        "len" => Ok(of_usize(reader.len())),
-        "is_empty" => Ok(of_bool(reader.is_empty())),
-        "find" => reader.find(words.u8()).map(of_usize),
+    match name {
+        "endian" => Ok(Answer::order(reader.endian().is_big_endian())),
+        "len" => Ok(Answer::Number("usize", reader.len() as i128)),
+        "is_empty" => Ok(Answer::truth(reader.is_empty())),
+        "find" => Ok(Answer::of_size(reader.find(words.u8()))),
         "empty" => {
             reader.empty();
             Ok(Answer::Word("ok"))
         }
-        "truncate" => reader.truncate(words.usize()).map(of_unit),
-        "skip" => reader.skip(words.usize()).map(of_unit),
-        _ => return read_fixed(reader, name, words),
-    };
-    Ok(Answer::of(answer))
-}
-
-/// What a call returns that takes a number of a fixed size.
-fn read_fixed(
-    reader: &mut Slice<'_>,
-    name: &str,
-    words: &mut Arguments<'_>,
-) -> Result<Answer<'static>, Stop> {
-    let answer = match name {
-        "read_u8" => reader.read_u8().map(of_u8),
-        "read_i8" => reader.read_i8().map(of_i8),
-        "read_u16" => reader.read_u16().map(of_u16),
-        "read_u32" => reader.read_u32().map(of_u32),
-        "read_u64" => reader.read_u64().map(of_u64),
-        "read_uint" => return uint(reader, words.usize()),
-        "read_u8_array_16" => reader.read_u8_array_16().map(of_sixteen),
-        _ => return other(reader, name, words),
-    };
-    Ok(Answer::of(answer))
-}
-
-/// A number of `n` bytes, where they are eight at most.
-fn uint(reader: &mut Slice<'_>, n: usize) -> Result<Answer<'static>, Stop> {
-    if n <= 8 {
-        Ok(Answer::of(reader.read_uint(n).map(of_u64)))
-    } else {
-        Err(Stop::Condition)
+        "truncate" => Ok(Answer::of_read(reader.truncate(words.usize()))),
+        "skip" => Ok(Answer::of_read(reader.skip(words.usize()))),
+        _ => read_fixed(reader, name, words),
     }
 }
 
-/// An address, where the size is that of one.
-fn address(reader: &mut Slice<'_>, size: u8) -> Result<Answer<'static>, Stop> {
-    match size {
-        1 | 2 | 4 | 8 => Ok(Answer::of(reader.read_address(size).map(of_u64))),
-        _ => Err(Stop::Condition),
+/// What a call returns that takes a number of a fixed size. A number of `n` bytes has eight at most, and an address has
+/// one, two, four or eight.
+fn read_fixed<'w, R: Reader<Offset = usize>>(
+    reader: &mut R,
+    name: &str,
+    words: &mut Arguments<'w>,
+) -> Result<Answer<'static>, Stop> {
+    match name {
+        "read_u8" => Ok(Answer::of_number("u8", reader.read_u8())),
+        "read_i8" => Ok(Answer::of_number("i8", reader.read_i8())),
+        "read_u16" => Ok(Answer::of_number("u16", reader.read_u16())),
+        "read_u32" => Ok(Answer::of_number("u32", reader.read_u32())),
+        "read_u64" => Ok(Answer::of_number("u64", reader.read_u64())),
+        "read_uint" => match words.usize() {
+            n if n <= 8 => Ok(Answer::of_number("u64", reader.read_uint(n))),
+            _ => Err(Stop::Condition),
+        },
+        "read_address" => match words.u8() {
+            size if matches!(size, 1 | 2 | 4 | 8) => {
+                Ok(Answer::of_number("u64", reader.read_address(size)))
+            }
+            _ => Err(Stop::Condition),
+        },
+        _ => read_other(reader, name, words),
     }
 }
 
 /// What a call returns that takes something else.
-fn other(
-    reader: &mut Slice<'_>,
+fn read_other<'w, R: Reader<Offset = usize>>(
+    reader: &mut R,
     name: &str,
-    words: &mut Arguments<'_>,
+    words: &mut Arguments<'w>,
 ) -> Result<Answer<'static>, Stop> {
-    let answer = match name {
-        "read_address_size" => reader.read_address_size().map(of_u8),
-        "read_address" => return address(reader, words.u8()),
-        "read_initial_length" => reader
-            .read_initial_length()
-            .map(|(length, format)| Answer::Length(length, format)),
-        "read_length" => reader.read_length(words.format()).map(of_usize),
-        "read_offset" => reader.read_offset(words.format()).map(of_usize),
-        "read_uleb128" => reader.read_uleb128().map(of_u64),
-        "read_uleb128_u16" => reader.read_uleb128_u16().map(of_u16),
-        "read_sleb128" => reader.read_sleb128().map(of_i64),
-        _ => return Err(Stop::Bad),
-    };
-    Ok(Answer::of(answer))
+    match name {
+        "read_u8_array_16" => match reader.read_u8_array_16() {
+            Ok(bytes) => Ok(Answer::Sixteen(bytes)),
+            Err(error) => Ok(Answer::Unread(error)),
+        },
+        "read_address_size" => Ok(Answer::of_number("u8", reader.read_address_size())),
+        "read_initial_length" => match reader.read_initial_length() {
+            Ok((length, format)) => Ok(Answer::Length(length, format)),
+            Err(error) => Ok(Answer::Unread(error)),
+        },
+        "read_length" => Ok(Answer::of_size(reader.read_length(words.format()))),
+        "read_offset" => Ok(Answer::of_size(reader.read_offset(words.format()))),
+        "read_uleb128" => Ok(Answer::of_number("u64", reader.read_uleb128())),
+        "read_uleb128_u16" => Ok(Answer::of_number("u16", reader.read_uleb128_u16())),
+        "read_sleb128" => Ok(Answer::of_number("i64", reader.read_sleb128())),
+        _ => Err(Stop::Bad),
+    }
 }

@@ -1,14 +1,12 @@
 //! Scripts of reader calls.
 
-use crate::answer::{Answer, Slice};
+use crate::answer::{Answer, BytesAfter, Slice};
 use crate::arguments::{Arguments, is_bytes, order_of};
-use crate::outcome::{BytesAfter, Script, print_line, run};
-use crate::stop::Stop;
+use crate::script::{Answers, Made, Script, run};
 use crate::{numbers, order_calls, reader_calls};
 use gimli_core::{EndianSlice, Reader, RunTimeEndian};
-use rows_words::Attempts;
-use std::alloc::{AllocError, Global};
-use std::fmt;
+use rows_reading::{Lines, Request, Stop};
+use std::alloc::Global;
 
 /// The greatest buffer of a script.
 const GREATEST_BUFFER: usize = 65536;
@@ -16,22 +14,10 @@ const GREATEST_BUFFER: usize = 65536;
 /// Runs a script of reader calls: lines of bytes, over which a reader is made, and calls. Each call has a line with its
 /// answer, and with the number of bytes that are left. Bytes after a call are those of a new reader; `-` is none.
 /// `split` and `read_null_terminated_slice` return a part, whose calls have `part` before them. No call takes memory.
-pub fn read(
-    alloc: Global,
-    words: &[&str],
-    input: &str,
-    _attempts: Attempts,
-    out: &mut Vec<u8>,
-) -> Result<u8, AllocError> {
-    let Some(order) = order_of(words) else {
-        return Ok(2);
-    };
-    let groups = match parse_groups(alloc, input) {
-        Ok(groups) => groups,
-        Err(Stop::Memory) => return Err(AllocError),
-        Err(_) => return Ok(2),
-    };
-    let mut script = ReaderScript::new(alloc, order, groups.as_slice());
+pub fn read(request: Request<'_>, input: &str, out: &mut Vec<u8>) -> Result<u8, Stop> {
+    let order = order_of(request.words)?;
+    let groups = parse_groups(request.alloc, input)?;
+    let mut script = ReaderScript::new(request.alloc, order, groups.as_slice());
     run(&mut script, input, out)
 }
 
@@ -62,10 +48,7 @@ fn put_bytes(
     words.finish()?;
     match groups.last_mut() {
         Some(group) if is_open => group.extend_from_slice(bytes.as_slice())?,
-        _ => match groups.push(bytes) {
-            Ok(()) => {}
-            Err(_) => return Err(Stop::Memory),
-        },
+        _ => groups.push(bytes)?,
     }
     Ok(())
 }
@@ -117,62 +100,56 @@ impl<'a> ReaderScript<'a> {
         &mut self,
         name: &str,
         words: &mut Arguments<'_>,
-        out: &mut Vec<u8>,
-    ) -> Result<(), Stop> {
+        lines: &mut Lines<'_>,
+    ) -> Made {
         match name {
-            "read_slice" => self.read_slice(words.usize(), out),
-            "endian" if !words.is_empty() => self.call_order(words, out),
+            "read_slice" => return self.read_slice(words.usize(), lines),
+            "endian" if !words.is_empty() => return self.call_order(words, lines),
             "part" => {
                 let name = words.word();
                 let answer = reader_calls::answer(&mut self.part, self.base, name, words)?;
-                print_left(out, answer, self.part)
+                print_left(lines, answer, self.part);
             }
             _ => {
                 let answer = reader_calls::answer(&mut self.reader, self.base, name, words)?;
                 if let Answer::Part(part) = answer {
                     self.part = part;
                 }
-                print_left(out, answer, self.reader)
+                print_left(lines, answer, self.reader);
             }
         }
+        Ok(())
     }
 
     /// Reads into a buffer of so many bytes 07, and prints what it holds then, also where the call refused.
-    fn read_slice(&mut self, count: usize, out: &mut Vec<u8>) -> Result<(), Stop> {
+    fn read_slice(&mut self, count: usize, lines: &mut Lines<'_>) -> Made {
         if count > GREATEST_BUFFER {
             return Err(Stop::Bad);
         }
         let mut buffer = vec![in self.alloc; 7u8; count]?;
-        let answer = match self.reader.read_slice(&mut buffer) {
-            Ok(()) => Answer::Word("ok"),
-            Err(error) => Answer::Refused(error),
-        };
-        print_left(out, answer, self.reader)?;
-        print_line(out, BytesAfter("buffer", buffer.as_slice()))
+        let answer = Answer::of_read(self.reader.read_slice(&mut buffer));
+        print_left(lines, answer, self.reader);
+        lines.put(BytesAfter("buffer", buffer.as_slice()));
+        Ok(())
     }
 
     /// Makes a call of the order, on the bytes that are left or on a copy of them.
-    fn call_order(&mut self, words: &mut Arguments<'_>, out: &mut Vec<u8>) -> Result<(), Stop> {
+    fn call_order(&mut self, words: &mut Arguments<'_>, lines: &mut Lines<'_>) -> Made {
         let name = words.word();
         let bytes = self.reader.slice();
         if name.starts_with("write") {
             let mut copy = Vec::from_slice(self.alloc, bytes)?;
             order_calls::write(self.order, name, words, &mut copy)?;
-            print_line(out, Answer::Bytes(copy.as_slice()))
+            lines.put(Answer::Bytes(copy.as_slice()));
         } else {
-            print_line(out, order_calls::read(self.order, name, bytes)?)
+            lines.put(order_calls::read(self.order, name, bytes)?);
         }
+        Ok(())
     }
 }
 
 impl Script for ReaderScript<'_> {
-    fn call(
-        &mut self,
-        _number: u64,
-        name: &str,
-        words: &mut Arguments<'_>,
-        out: &mut Vec<u8>,
-    ) -> Result<(), Stop> {
+    fn make(&mut self, name: &str, words: &mut Arguments<'_>, out: &mut Answers<'_>) -> Made {
         let was_open = self.is_open;
         self.is_open = is_bytes(name);
         if self.is_open {
@@ -183,29 +160,17 @@ impl Script for ReaderScript<'_> {
             return Ok(());
         }
         match numbers::answer(name, words) {
-            Err(Stop::Bad) => self.call_reader(name, words, out),
-            answer => print_line(out, answer?),
+            Err(Stop::Bad) => self.call_reader(name, words, &mut out.lines),
+            answer => {
+                out.lines.put(answer?);
+                Ok(())
+            }
         }
     }
 }
 
 /// Prints an answer, and how many bytes are left.
-fn print_left(out: &mut Vec<u8>, answer: Answer<'_>, reader: Slice<'_>) -> Result<(), Stop> {
+fn print_left(lines: &mut Lines<'_>, answer: Answer<'_>, reader: Slice<'_>) {
     let left = reader.len();
-    print_line(out, Left { answer, left })
-}
-
-/// An answer, and how many bytes are left.
-#[derive(Clone, Copy)]
-struct Left<'a> {
-    answer: Answer<'a>,
-    left: usize,
-}
-
-impl fmt::Display for Left<'_> {
-    fn fmt<W: fmt::Write>(&self, f: &mut fmt::Formatter<W>) -> fmt::Result {
-        let left = self.left;
-        self.answer.fmt(f)?;
-        write!(f, ", {left} left")
-    }
+    lines.put(format_args!("{answer}, {left} left"));
 }

@@ -1,12 +1,11 @@
 //! Calls of writers.
 
+use crate::answer::Answer;
 use crate::arguments::Arguments;
-use crate::stop::Stop;
 use gimli_bytes::{InitialLengthOffset, Result, Writer};
+use rows_reading::Stop;
 use std::alloc::Global;
-
-/// What a call returns: a place, or nothing but that it is done.
-pub type Answer = Result<Option<usize>>;
+use std::result;
 
 /// What a call returns over a writer.
 pub fn answer<W: Writer>(
@@ -14,37 +13,21 @@ pub fn answer<W: Writer>(
     w: &mut W,
     name: &str,
     words: &mut Arguments<'_>,
-) -> std::result::Result<Answer, Stop> {
+) -> result::Result<Result<Answer<'static>>, Stop> {
     let done = match name {
-        "write" | "write_at" => {
-            let offset = if name == "write_at" {
-                Some(words.usize())
-            } else {
-                None
-            };
-            let bytes = words.bytes(alloc)?;
-            Some(write_bytes(w, offset, bytes.as_slice()))
+        "write" => Some(w.write(words.bytes(alloc)?.as_slice())),
+        "write_at" => {
+            let offset = words.usize();
+            Some(w.write_at(offset, words.bytes(alloc)?.as_slice()))
         }
         "write_initial_length" => {
-            return Ok(
-                w.write_initial_length(words.format())
-                    .map(|place| Some(place.0)),
-            );
+            let place = w.write_initial_length(words.format());
+            return Ok(place.map(|place| Answer::Number("place", place.0 as i128)));
         }
         _ => number(w, name, words),
     };
-    match done {
-        Some(done) => Ok(done.map(|()| None)),
-        None => Err(Stop::Bad),
-    }
-}
-
-/// Appends bytes, or writes them over those from an offset on.
-fn write_bytes<W: Writer>(w: &mut W, offset: Option<usize>, bytes: &[u8]) -> Result<()> {
-    match offset {
-        Some(offset) => w.write_at(offset, bytes),
-        None => w.write(bytes),
-    }
+    let done = done.ok_or(Stop::Bad)?;
+    Ok(done.map(|()| Answer::Word("ok")))
 }
 
 /// What a call returns that appends a number.

@@ -1,40 +1,23 @@
 //! What must stand where memory is refused to the rows of a unit.
 
-use gimli_core::{DebugLineOffset, EndianSlice, Error, Reader, RunTimeEndian};
-use gimli_line::{DebugLine, IncompleteLineProgram, LineProgram, LineRows};
-use rows_units::UnitLocation;
-use rows_words::print_line;
-use std::alloc::{AllocError, Global};
+use gimli_core::{Error, Reader};
+use gimli_line::{LineProgram, LineRows};
+use rows_reading::{Attempts, Handed, Lines, Unit, UnitLocation};
+use std::alloc::Global;
 
 /// The rows of a unit, where memory is refused them: the files must be as before, and each later call must say that
 /// there is no more row. Prints `state` and the count of calls where this doesn't hold.
-pub fn watch_rows(
-    alloc: Global,
-    section: &[u8],
-    location: UnitLocation,
-    out: &mut Vec<u8>,
-) -> Result<(), AllocError> {
-    let Some(program) = program_at(alloc, section, location) else {
-        return Ok(());
+pub fn watch_rows(alloc: Global, section: &[u8], location: UnitLocation, lines: &mut Lines<'_>) {
+    let unit = Unit {
+        section,
+        location,
+        handed: &Handed::nothing(),
     };
-    match refused_call(program.rows()) {
-        Some((call, Left::Broken)) => print_line(out, format_args!("state {call}")),
-        _ => Ok(()),
-    }
-}
-
-/// The program of a unit, by a second call where the first is refused memory.
-fn program_at<'i>(
-    alloc: Global,
-    section: &'i [u8],
-    location: UnitLocation,
-) -> Option<IncompleteLineProgram<EndianSlice<'i, RunTimeEndian>>> {
-    let section = DebugLine::new(section, location.order);
-    let offset = DebugLineOffset(location.offset);
-    let size = location.address_size.bytes();
-    match section.program(alloc, offset, size, None, None) {
-        Err(Error::OutOfMemory) => section.program(alloc, offset, size, None, None).ok(),
-        answer => answer.ok(),
+    let Ok(program) = unit.program(alloc, Attempts::Two) else {
+        return;
+    };
+    if let Some((call, Left::Broken)) = refused_call(program.rows()) {
+        lines.put(format_args!("state {call}"));
     }
 }
 

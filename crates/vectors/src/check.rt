@@ -1,9 +1,9 @@
 //! Rows that are run and compared with what is expected of them.
 
 use crate::comparison::is_expected;
-use crate::rows::{Command, Row};
+use crate::rows::{Row, RowCommand};
 use crate::run::run_command;
-use rows_words::Attempts;
+use rows_reading::Attempts;
 use std::alloc::Global;
 use std::io;
 use std::io::Write;
@@ -62,7 +62,7 @@ fn gives_what_is_stated(row: &Row<'_>, got: &[u8]) -> bool {
 /// Prints a command of a row whose output isn't the expected one. Its words stand there where the row has others.
 fn print_command<O: Write>(
     row: &Row<'_>,
-    command: &Command<'_>,
+    command: &RowCommand<'_>,
     got: &[u8],
     out: &mut O,
 ) -> io::Result<()> {

@@ -3,7 +3,8 @@
 use crate::run::print_errors;
 use clap::Error;
 use lines_commands::{Files, run};
-use std::alloc::{AllocError, Global};
+use rows_reading::Stop;
+use std::alloc::Global;
 use std::io::Write;
 
 /// Runs the program `lines`, by its words, of which the first is its name. Its file is the input of the row, and a file of
@@ -14,7 +15,7 @@ pub fn run_lines<'r>(
     section: &'r [u8],
     named: &'r [Vec<u8>],
     out: &mut Vec<u8>,
-) -> Result<u8, AllocError> {
+) -> Result<u8, Stop> {
     let mut err = Vec::new(alloc);
     let status = match lines_words::parse(alloc, words) {
         Ok(request) => {
@@ -26,7 +27,7 @@ pub fn run_lines<'r>(
             let mut input: &[u8] = &[];
             match run(alloc, &request, files, &mut input, out, &mut err) {
                 Ok(status) => status,
-                Err(_) => return Err(AllocError),
+                Err(_) => return Err(Stop::Memory),
             }
         }
         Err(error) if error.use_stderr() => {
@@ -43,10 +44,10 @@ pub fn run_lines<'r>(
 }
 
 /// Prints what is said of words that ask for nothing, or of help.
-fn print(error: &Error, out: &mut Vec<u8>) -> Result<(), AllocError> {
+fn print(error: &Error, out: &mut Vec<u8>) -> Result<(), Stop> {
     match write!(out, "{error}") {
         Ok(()) => Ok(()),
-        Err(_) => Err(AllocError),
+        Err(_) => Err(Stop::Memory),
     }
 }
 

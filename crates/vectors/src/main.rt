@@ -16,20 +16,7 @@
 //!
 //! Other words, a bad script and a file that isn't one of rows: status 2, with a line on standard error.
 //!
-//! A row stands in a file so:
-//!
-//! ```text
-//! == demo unit                         a name that no other row of the file has
-//! -- DWARF 4, 6.2, by hand             where the expected output comes from
-//! > rows little 4 0                    the command, without a file; or several, a line each, over the same input
-//! unit(@header_13 00 05 02 3*00 01)    its input: a script, or bytes in hexadecimal
-//! <                                    the expected output, or `!!` for one that it must not give
-//! 0000000000001000 0 1 1 0 0 0 s
-//! ```
-//!
-//! The commands are `write`, `read`, `bytes` and `pieces`, which take a script, `header`, `instructions`, `convert`,
-//! `convert_sequences`, those of `linetool`, and `lines` with the words of that program. A line `:= NAME BYTES` defines a part, for which `@NAME` then stands; `unit(..)` puts a unit length
-//! before its bytes, and `N*HH` is N times a byte. Blank lines at the end of the expected output don't count.
+//! `docs/ROWS.md` has the files of rows, and the commands of a row.
 #![tactic(auto)]
 
 mod again;
@@ -44,7 +31,8 @@ mod run;
 use check::check_rows;
 use files::{SectionFiles, split_words};
 use rows::{Fault, parse_rows};
-use rows_words::Attempts;
+use rows_reading::{Attempts, Request, Stop};
+use run::run_over;
 use std::io::{BufWriter, ErrorKind, Write};
 use std::process::ExitCode;
 use std::{env, fmt, fs, io};
@@ -58,21 +46,13 @@ const NOT_AS_STATED: u8 = 1;
 fn main(rt: HostRuntime) -> ExitCode {
     let status = match start(&rt) {
         Ok(status) => status,
-        Err(e) => tell_error(&rt, &e),
+        Err(e) if e.kind() == ErrorKind::OutOfMemory => tell(&rt, "memory is refused", 3),
+        Err(_) => {
+            let text = "a file can't be read, or the output can't be written";
+            tell(&rt, text, MALFORMED)
+        }
     };
     ExitCode::from(status)
-}
-
-/// Tells an error, and returns the status of the program: 3 where memory is refused.
-fn tell_error(rt: &HostRuntime, error: &io::Error) -> u8 {
-    match error.kind() {
-        ErrorKind::OutOfMemory => tell(rt, "memory is refused", 3),
-        _ => tell(
-            rt,
-            "a file can't be read, or the output can't be written",
-            MALFORMED,
-        ),
-    }
 }
 
 /// Tells something on standard error, and returns a status.
@@ -103,36 +83,44 @@ fn start(rt: &HostRuntime) -> io::Result<u8> {
 
 /// Prints what a command gives of a unit of a file.
 fn print_unit(rt: &HostRuntime, command: &str, file: &str, words: &[&str]) -> io::Result<u8> {
-    let alloc = rt.alloc();
-    let mut out = Vec::new(alloc);
-    let status = match command {
-        "header" => {
-            let section = fs::read(rt, file)?;
-            rows_units::header(alloc, words, &section, Attempts::One, &mut out)?
-        }
-        "instructions" => {
-            let section = fs::read(rt, file)?;
-            rows_units::instructions(alloc, words, &section, Attempts::One, &mut out)?
-        }
-        "convert" => {
-            let (words, texts) = split_words(words);
-            let files = SectionFiles::read(rt, file, texts)?;
-            rows_conversion::convert(alloc, words, files.sections(), Attempts::One, &mut out)?
-        }
-        "convert_sequences" => {
-            let (words, texts) = split_words(words);
-            let files = SectionFiles::read(rt, file, texts)?;
-            rows_conversion::convert_sequences(
-                alloc,
-                words,
-                files.sections(),
-                Attempts::One,
-                &mut out,
-            )?
-        }
+    let (words, texts) = match command {
+        "header" | "instructions" => (words, [].as_slice()),
+        "convert" | "convert_sequences" => split_words(words),
         _ => return Ok(tell(rt, "no such words", MALFORMED)),
     };
-    print_all(rt, &out, status)
+    let files = SectionFiles::read(rt, file, texts)?;
+    let mut out = Vec::new(rt.alloc());
+    let done = run_over(request(rt, words), command, files.sections(), &mut out);
+    print_all(rt, &out, done)
+}
+
+/// Runs the scripts on standard input, and prints what they give.
+fn print_scripts(rt: &HostRuntime) -> io::Result<u8> {
+    let script = io::read_to_string(rt.alloc(), rt.stdin())?;
+    let mut out = Vec::new(rt.alloc());
+    let done = rows_writing::write(request(rt, &[]), script.as_str(), &mut out);
+    print_all(rt, &out, done)
+}
+
+/// A command with these words.
+fn request<'w>(rt: &HostRuntime, words: &'w [&'w str]) -> Request<'w> {
+    Request {
+        alloc: rt.alloc(),
+        words,
+        attempts: Attempts::One,
+    }
+}
+
+/// Prints what a command gave, and returns its status.
+fn print_all(rt: &HostRuntime, text: &[u8], done: Result<u8, Stop>) -> io::Result<u8> {
+    match done {
+        Err(Stop::Memory) => Err(io::Error::from(ErrorKind::OutOfMemory)),
+        Err(_) => Ok(tell(rt, "not what the command takes", MALFORMED)),
+        Ok(status) => {
+            rt.stdout().write_all(text)?;
+            Ok(status)
+        }
+    }
 }
 
 /// Runs the rows of files, prints how many of each are as stated, and returns the status of the program.
@@ -146,11 +134,8 @@ fn check_files(rt: &HostRuntime, files: &[&str], attempts: Attempts) -> io::Resu
             Err(Fault::Memory) => return Err(io::Error::from(ErrorKind::OutOfMemory)),
             Err(Fault::Line(line)) => {
                 out.flush()?;
-                return Ok(tell(
-                    rt,
-                    format_args!("{file}:{line}: this can't stand here"),
-                    MALFORMED,
-                ));
+                let text = format_args!("{file}:{line}: this can't stand here");
+                return Ok(tell(rt, text, MALFORMED));
             }
         };
         let tally = check_rows(rt.alloc(), &rows, attempts, &mut out)?;
@@ -163,21 +148,4 @@ fn check_files(rt: &HostRuntime, files: &[&str], attempts: Attempts) -> io::Resu
     }
     out.flush()?;
     Ok(status)
-}
-
-/// Runs the scripts on standard input, and prints what they give.
-fn print_scripts(rt: &HostRuntime) -> io::Result<u8> {
-    let script = io::read_to_string(rt.alloc(), rt.stdin())?;
-    let mut out = Vec::new(rt.alloc());
-    let status = rows_builder::write(rt.alloc(), &[], script.as_str(), Attempts::One, &mut out)?;
-    print_all(rt, &out, status)
-}
-
-/// Prints what a command gave, and returns its status.
-fn print_all(rt: &HostRuntime, text: &[u8], status: u8) -> io::Result<u8> {
-    rt.stdout().write_all(text)?;
-    match status {
-        MALFORMED => Ok(tell(rt, "not what the command takes", MALFORMED)),
-        _ => Ok(status),
-    }
 }

@@ -1,15 +1,9 @@
 //! Bytes in hexadecimal, which may name parts that were defined before, and have unit lengths put before them.
 
-use rows_words::push_bytes;
-use std::alloc::{AllocError, Global};
+use gimli_core::RunTimeEndian;
+use rows_reading::{Stop, push_bytes};
+use std::alloc::Global;
 use std::mem;
-
-/// The order of the bytes of a unit length.
-#[derive(Clone, Copy, Debug, PartialEq, Eq)]
-pub enum Order {
-    Little,
-    Big,
-}
 
 /// A part with a name, and its bytes in either order of its unit lengths.
 #[derive(Drop)]
@@ -29,60 +23,54 @@ impl<'t> Parts<'t> {
         Parts(Vec::new(alloc))
     }
 
-    /// Defines a part by its name and its bytes. False where they are none, or the part before isn't ended.
-    pub fn define(&mut self, alloc: Global, line: &'t str) -> Result<bool, AllocError> {
+    /// Defines a part by its name and its bytes. Refused where the part before isn't ended.
+    pub fn define(&mut self, alloc: Global, line: &'t str) -> Result<(), Stop> {
+        self.finish()?;
         let (name, text) = line.split_once(char::is_whitespace).unwrap_or((line, ""));
-        let little = Expansion::new(alloc, Order::Little);
-        let big = Expansion::new(alloc, Order::Big);
-        Ok(self.are_ended() && self.put_part(alloc, Part { name, little, big }, text)?)
+        let little = Expansion::new(alloc, RunTimeEndian::Little);
+        let big = Expansion::new(alloc, RunTimeEndian::Big);
+        self.put_part(alloc, Part { name, little, big }, text)
     }
 
-    /// Adds bytes to the last part. False where there is no part, or they are no bytes.
-    pub fn extend_last(&mut self, alloc: Global, text: &str) -> Result<bool, AllocError> {
+    /// Adds bytes to the last part.
+    pub fn extend_last(&mut self, alloc: Global, text: &str) -> Result<(), Stop> {
         match self.0.pop() {
             Some(part) => self.put_part(alloc, part, text),
-            None => Ok(false),
+            None => Err(Stop::Bad),
         }
     }
 
     /// Appends bytes to a part, and makes it the last one. The bytes may name the parts before it.
-    fn put_part(&mut self, alloc: Global, part: Part<'t>, text: &str) -> Result<bool, AllocError> {
+    fn put_part(&mut self, alloc: Global, part: Part<'t>, text: &str) -> Result<(), Stop> {
         let mut part = part;
-        let known = part.little.put_text(alloc, self, text)?
-            && part.big.put_text(alloc, self, text)?;
+        part.little.put_text(alloc, self, text)?;
+        part.big.put_text(alloc, self, text)?;
         self.0.push(part)?;
-        Ok(known)
+        Ok(())
     }
 
-    /// Whether the last part has no unit that isn't ended.
-    pub fn are_ended(&self) -> bool {
+    /// Refused where the last part has a unit that isn't ended.
+    pub fn finish(&self) -> Result<(), Stop> {
         match self.0.last() {
-            Some(part) => part.little.is_ended() && part.big.is_ended(),
-            None => true,
+            Some(part) => part.little.finish(),
+            None => Ok(()),
         }
     }
 
-    /// The bytes that a text says; None where it has a word that says none.
-    pub fn expand(
-        &self,
-        alloc: Global,
-        text: &str,
-        order: Order,
-    ) -> Result<Option<Vec<u8>>, AllocError> {
+    /// The bytes that a text says.
+    pub fn expand(&self, alloc: Global, text: &str, order: RunTimeEndian) -> Result<Vec<u8>, Stop> {
         let mut expansion = Expansion::new(alloc, order);
-        if expansion.put_text(alloc, self, text)? && expansion.is_ended() {
-            Ok(Some(expansion.bytes))
-        } else {
-            Ok(None)
-        }
+        expansion.put_text(alloc, self, text)?;
+        expansion.finish()?;
+        Ok(expansion.bytes)
     }
 
     /// The bytes of the part that was defined last under a name.
-    fn bytes_of(&self, name: &str, order: Order) -> Option<&[u8]> {
-        let part = self.0.iter().rev().find(|part| part.name == name)?;
-        match order {
-            Order::Little => Some(part.little.bytes.as_slice()),
-            Order::Big => Some(part.big.bytes.as_slice()),
+    fn bytes_of(&self, name: &str, order: RunTimeEndian) -> Result<&[u8], Stop> {
+        match self.0.iter().rev().find(|part| part.name == name) {
+            Some(part) if order == RunTimeEndian::Little => Ok(part.little.bytes.as_slice()),
+            Some(part) => Ok(part.big.bytes.as_slice()),
+            None => Err(Stop::Bad),
         }
     }
 }
@@ -90,7 +78,7 @@ impl<'t> Parts<'t> {
 /// The bytes of a text as far as it was read.
 #[derive(Drop)]
 struct Expansion {
-    order: Order,
+    order: RunTimeEndian,
     /// The bytes so far, or within `unit(` those after it.
     bytes: Vec<u8>,
     /// Within `unit(`, the bytes before it.
@@ -99,7 +87,7 @@ struct Expansion {
 
 impl Expansion {
     /// No bytes.
-    fn new(alloc: Global, order: Order) -> Expansion {
+    fn new(alloc: Global, order: RunTimeEndian) -> Expansion {
         Expansion {
             order,
             bytes: Vec::new(alloc),
@@ -107,82 +95,69 @@ impl Expansion {
         }
     }
 
-    /// Whether each unit is ended.
-    fn is_ended(&self) -> bool {
-        self.before_unit.is_none()
+    /// Refused within a unit.
+    fn finish(&self) -> Result<(), Stop> {
+        match &self.before_unit {
+            Some(_) => Err(Stop::Bad),
+            None => Ok(()),
+        }
     }
 
-    /// Adds what the words of a text say. False where one says no bytes.
-    fn put_text(
-        &mut self,
-        alloc: Global,
-        parts: &Parts<'_>,
-        text: &str,
-    ) -> Result<bool, AllocError> {
+    /// Adds what the words of a text say.
+    fn put_text(&mut self, alloc: Global, parts: &Parts<'_>, text: &str) -> Result<(), Stop> {
         for word in text.split_whitespace() {
-            if !self.put_word(alloc, parts, word)? {
-                return Ok(false);
-            }
+            self.put_word(alloc, parts, word)?;
         }
-        Ok(true)
+        Ok(())
     }
 
-    /// Adds what a word says. False where it says no bytes.
-    fn put_word(
-        &mut self,
-        alloc: Global,
-        parts: &Parts<'_>,
-        word: &str,
-    ) -> Result<bool, AllocError> {
+    /// Adds what a word says.
+    fn put_word(&mut self, alloc: Global, parts: &Parts<'_>, word: &str) -> Result<(), Stop> {
         for piece in word.split_inclusive(['(', ')']) {
-            let known = match piece.strip_suffix(')') {
-                Some(inner) => self.put_bytes(parts, inner)? && self.close_unit()?,
-                None if piece == "unit(" => self.open_unit(alloc),
+            match piece.strip_suffix(')') {
+                Some(inner) => {
+                    self.put_bytes(parts, inner)?;
+                    self.close_unit()?;
+                }
+                None if piece == "unit(" => self.open_unit(alloc)?,
                 None => self.put_bytes(parts, piece)?,
-            };
-            if !known {
-                return Ok(false);
             }
         }
-        Ok(true)
+        Ok(())
     }
 
-    /// Adds bytes, or those of a part. False where there is no such part, or they are no bytes.
-    fn put_bytes(&mut self, parts: &Parts<'_>, piece: &str) -> Result<bool, AllocError> {
-        let Some(name) = piece.strip_prefix('@') else {
-            return push_bytes(&mut self.bytes, piece);
-        };
-        let Some(part) = parts.bytes_of(name, self.order) else {
-            return Ok(false);
-        };
-        self.bytes.extend_from_slice(part)?;
-        Ok(true)
-    }
-
-    /// Begins a unit. False within another.
-    fn open_unit(&mut self, alloc: Global) -> bool {
-        if self.before_unit.is_some() {
-            return false;
+    /// Adds bytes, or those of a part.
+    fn put_bytes(&mut self, parts: &Parts<'_>, piece: &str) -> Result<(), Stop> {
+        match piece.strip_prefix('@') {
+            Some(name) => {
+                self.bytes
+                    .extend_from_slice(parts.bytes_of(name, self.order)?)?;
+                Ok(())
+            }
+            None => push_bytes(&mut self.bytes, piece),
         }
-        self.before_unit = Some(mem::replace(&mut self.bytes, Vec::new(alloc)));
-        true
     }
 
-    /// Ends a unit: its length goes before its bytes. False where there is none, or its length doesn't fit.
-    fn close_unit(&mut self) -> Result<bool, AllocError> {
-        let (Some(mut bytes), Ok(length)) = (
-            self.before_unit.take(),
-            u32::try_from(self.bytes.len()),
-        ) else {
-            return Ok(false);
+    /// Begins a unit. Refused within another.
+    fn open_unit(&mut self, alloc: Global) -> Result<(), Stop> {
+        self.finish()?;
+        self.before_unit = Some(mem::replace(&mut self.bytes, Vec::new(alloc)));
+        Ok(())
+    }
+
+    /// Ends a unit: its length goes before its bytes.
+    fn close_unit(&mut self) -> Result<(), Stop> {
+        let (Some(before), Ok(length)) = (self.before_unit.take(), u32::try_from(self.bytes.len()))
+        else {
+            return Err(Stop::Bad);
         };
         let length = match self.order {
-            Order::Little => length.to_le_bytes(),
-            Order::Big => length.to_be_bytes(),
+            RunTimeEndian::Little => length.to_le_bytes(),
+            RunTimeEndian::Big => length.to_be_bytes(),
         };
-        bytes.extend_from_slice(&length)?;
-        bytes.extend_from_slice(&self.bytes)?;
-        self.bytes = bytes;
-        Ok(true)
+        let bytes = mem::replace(&mut self.bytes, before);
+        self.bytes.extend_from_slice(&length)?;
+        self.bytes.extend_from_slice(&bytes)?;
+        Ok(())
     }
 }

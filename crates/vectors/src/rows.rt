@@ -1,15 +1,17 @@
 //! Files of rows as they are read.
 
 use crate::files::WORDS;
-use crate::parts::{Order, Parts};
-use std::alloc::{AllocError, Global};
+use crate::parts::Parts;
+use gimli_core::RunTimeEndian;
+use rows_reading::Stop;
+use std::alloc::Global;
 
 /// A row: commands over one input, and the output that is expected of each of them.
 #[derive(Drop)]
 pub struct Row<'t> {
     pub name: &'t str,
     /// The commands, of which there is one at least.
-    pub commands: Vec<Command<'t>>,
+    pub commands: Vec<RowCommand<'t>>,
     /// The lines of the output.
     pub expected: String,
     /// Whether the output must be another one than this.
@@ -18,7 +20,7 @@ pub struct Row<'t> {
 
 /// A command, with what it is given.
 #[derive(Drop)]
-pub struct Command<'t> {
+pub struct RowCommand<'t> {
     /// The command and its other words.
     pub words: &'t str,
     pub input: Input,
@@ -42,12 +44,6 @@ pub enum Fault {
     Line(usize),
 }
 
-impl From<AllocError> for Fault {
-    fn from(_: AllocError) -> Fault {
-        Fault::Memory
-    }
-}
-
 /// The rows of a file.
 pub fn parse_rows<'t>(alloc: Global, text: &'t str) -> Result<Vec<Row<'t>>, Fault> {
     let mut file = RowsReader {
@@ -59,73 +55,73 @@ pub fn parse_rows<'t>(alloc: Global, text: &'t str) -> Result<Vec<Row<'t>>, Faul
     let mut count = 0usize;
     for line in text.lines() {
         count = count.saturating_add(1);
-        if !file.take_line(line)? {
-            return Err(Fault::Line(count));
-        }
+        fault_at(count, file.take_line(line))?;
     }
-    if !file.end_row()? || !file.parts.are_ended() {
-        return Err(Fault::Line(count));
-    }
+    fault_at(count, file.end_row())?;
+    fault_at(count, file.parts.finish())?;
     Ok(file.rows)
+}
+
+/// The fault of a line that is refused.
+fn fault_at(line: usize, taken: Result<(), Stop>) -> Result<(), Fault> {
+    match taken {
+        Ok(()) => Ok(()),
+        Err(Stop::Memory) => Err(Fault::Memory),
+        Err(_) => Err(Fault::Line(line)),
+    }
 }
 
 /// A row as far as it was read.
 #[derive(Drop)]
 struct Draft<'t> {
-    name: &'t str,
+    /// The row, with its commands once the input has ended.
+    row: Row<'t>,
     /// The words of each command.
     words: Vec<&'t str>,
     /// The lines of the input.
     text: String,
-    /// The commands, once the input has ended.
-    commands: Vec<Command<'t>>,
-    expected: String,
-    must_differ: bool,
 }
 
 impl<'t> Draft<'t> {
     /// A row of this name, without a command.
     fn new(alloc: Global, name: &'t str) -> Draft<'t> {
         Draft {
-            name,
+            row: Row {
+                name,
+                commands: Vec::new(alloc),
+                expected: String::new(alloc),
+                must_differ: false,
+            },
             words: Vec::new(alloc),
             text: String::new(alloc),
-            commands: Vec::new(alloc),
-            expected: String::new(alloc),
-            must_differ: false,
         }
     }
 
-    /// Takes a line after a command: a further command, as long as no input stands there, or a line of the input.
-    fn take_input(&mut self, line: &'t str) -> Result<(), AllocError> {
-        match line.strip_prefix("> ") {
-            Some(words) if self.text.is_empty() => self.words.push(words.trim())?,
-            _ => push_line(&mut self.text, line)?,
+    /// Takes a line after a command: a further command, as long as no input stands there, a line of the input, or the one
+    /// that ends it.
+    fn take_input(&mut self, alloc: Global, parts: &Parts<'_>, line: &'t str) -> Result<(), Stop> {
+        match (line.strip_prefix("> "), line) {
+            (_, "<") => self.end_input(alloc, parts),
+            (_, "!!") => {
+                self.row.must_differ = true;
+                self.end_input(alloc, parts)
+            }
+            (Some(words), _) if self.text.is_empty() => {
+                self.words.push(words.trim())?;
+                Ok(())
+            }
+            _ => push_line(&mut self.text, line),
+        }
+    }
+
+    /// Ends the input, and makes of it what each command is given.
+    fn end_input(&mut self, alloc: Global, parts: &Parts<'_>) -> Result<(), Stop> {
+        for words in &self.words {
+            let input = input_of(alloc, parts, words, self.text.as_str())?;
+            self.row.commands.push(RowCommand { words, input })?;
         }
         Ok(())
     }
-
-    /// Ends the input, and makes of it what each command is given. False where it says no such thing.
-    fn end_input(&mut self, alloc: Global, parts: &Parts<'_>) -> Result<bool, AllocError> {
-        for words in &self.words {
-            match input_of(alloc, parts, words, self.text.as_str())? {
-                Some(input) => self.commands.push(Command { words, input })?,
-                None => return Ok(false),
-            }
-        }
-        Ok(true)
-    }
-}
-
-/// What the next line of a file is a part of.
-#[derive(Clone, Copy)]
-enum RowPart {
-    /// What stands before a command: parts, and where rows come from.
-    Head,
-    /// The commands after the first one, and their input.
-    Input,
-    /// The output of each command.
-    Output,
 }
 
 /// A file of rows as far as it was read.
@@ -138,150 +134,94 @@ struct RowsReader<'t> {
 }
 
 impl<'t> RowsReader<'t> {
-    /// Takes a line. False where it can't stand there.
-    fn take_line(&mut self, line: &'t str) -> Result<bool, AllocError> {
+    /// Takes a line. Refused where it can't stand there: a part can't in an output, whose lines are all that a command
+    /// gives.
+    fn take_line(&mut self, line: &'t str) -> Result<(), Stop> {
         if let Some(name) = line.strip_prefix("== ") {
-            return Ok(self.end_row()? && self.parts.are_ended() && self.begin_row(name.trim()));
+            self.end_row()?;
+            return self.begin_row(name.trim());
         }
-        if let Some(part) = line.strip_prefix(":= ") {
-            return self.take_part(part.trim());
-        }
-        match self.part() {
-            RowPart::Head => self.take_head(line.trim()),
-            RowPart::Input => self.take_input(line),
-            RowPart::Output => self.take_output(line),
-        }
-    }
-
-    /// Takes a line that defines a part. False in an output, whose lines are all that a command gives.
-    fn take_part(&mut self, part: &'t str) -> Result<bool, AllocError> {
-        match self.part() {
-            RowPart::Head | RowPart::Input => self.parts.define(self.alloc, part),
-            RowPart::Output => Ok(false),
+        match (&mut self.draft, line.strip_prefix(":= ")) {
+            (Some(draft), None) if !draft.row.commands.is_empty() => {
+                push_line(&mut draft.row.expected, line)
+            }
+            (Some(draft), Some(_)) if !draft.row.commands.is_empty() => Err(Stop::Bad),
+            (_, Some(part)) => self.parts.define(self.alloc, part.trim()),
+            (Some(draft), None) if !draft.words.is_empty() => {
+                draft.take_input(self.alloc, &self.parts, line.trim_end())
+            }
+            _ => self.take_head(line.trim()),
         }
     }
 
-    /// What the next line is a part of.
-    fn part(&self) -> RowPart {
-        match &self.draft {
-            Some(draft) if !draft.commands.is_empty() => RowPart::Output,
-            Some(draft) if !draft.words.is_empty() => RowPart::Input,
-            _ => RowPart::Head,
-        }
-    }
-
-    /// Begins a row. False where another has its name.
-    fn begin_row(&mut self, name: &'t str) -> bool {
+    /// Begins a row. Refused where another has its name, and where the part before isn't ended.
+    fn begin_row(&mut self, name: &'t str) -> Result<(), Stop> {
         if name.is_empty() || self.rows.iter().any(|row| row.name == name) {
-            return false;
+            return Err(Stop::Bad);
         }
         self.draft = Some(Draft::new(self.alloc, name));
-        true
+        self.parts.finish()
     }
 
     /// Takes a line before a command: the command of a row, where a row comes from, or more bytes of a part.
-    fn take_head(&mut self, line: &'t str) -> Result<bool, AllocError> {
+    fn take_head(&mut self, line: &'t str) -> Result<(), Stop> {
         match (line.strip_prefix('>'), &mut self.draft) {
             (Some(words), Some(draft)) => {
                 draft.words.push(words.trim())?;
-                Ok(self.parts.are_ended())
+                self.parts.finish()
             }
-            _ if line.is_empty() || line.starts_with("--") => Ok(true),
+            _ if line.is_empty() || line.starts_with("--") => Ok(()),
             _ => self.parts.extend_last(self.alloc, line),
         }
     }
 
-    /// Takes a further command, a line of the input, or the one that ends it.
-    fn take_input(&mut self, line: &'t str) -> Result<bool, AllocError> {
-        let Some(draft) = &mut self.draft else {
-            return Ok(false);
-        };
-        match line.trim_end() {
-            "<" => draft.end_input(self.alloc, &self.parts),
-            "!!" => {
-                draft.must_differ = true;
-                draft.end_input(self.alloc, &self.parts)
+    /// Ends the row, if there is one. Refused where it has no command, or no output.
+    fn end_row(&mut self) -> Result<(), Stop> {
+        match self.draft.take() {
+            Some(draft) if draft.row.commands.is_empty() => Err(Stop::Bad),
+            Some(draft) => {
+                self.rows.push(draft.row)?;
+                Ok(())
             }
-            line => {
-                draft.take_input(line)?;
-                Ok(true)
-            }
+            None => Ok(()),
         }
-    }
-
-    /// Takes a line of the output.
-    fn take_output(&mut self, line: &str) -> Result<bool, AllocError> {
-        let Some(draft) = &mut self.draft else {
-            return Ok(false);
-        };
-        push_line(&mut draft.expected, line)?;
-        Ok(true)
-    }
-
-    /// Ends the row, if there is one. False where it has no command, or no output.
-    fn end_row(&mut self) -> Result<bool, AllocError> {
-        let Some(draft) = self.draft.take() else {
-            return Ok(true);
-        };
-        if draft.commands.is_empty() {
-            return Ok(false);
-        }
-        self.rows.push(Row {
-            name: draft.name,
-            commands: draft.commands,
-            expected: draft.expected,
-            must_differ: draft.must_differ,
-        })?;
-        Ok(true)
     }
 }
 
-/// What a command with these words is given: the text as a script, or the bytes that it says. None where it says none.
-fn input_of(
-    alloc: Global,
-    parts: &Parts<'_>,
-    words: &str,
-    text: &str,
-) -> Result<Option<Input>, AllocError> {
+/// What a command with these words is given: the text as a script, or the bytes that it says.
+fn input_of(alloc: Global, parts: &Parts<'_>, words: &str, text: &str) -> Result<Input, Stop> {
     if takes_script(words) {
-        return Ok(Some(Input::Script(String::from_str(alloc, text)?)));
+        return Ok(Input::Script(String::from_str(alloc, text)?));
     }
     let order = order_of(words);
     let section = parts.expand(alloc, text, order)?;
-    let named = named_parts(alloc, parts, words, order)?;
-    match (section, named) {
-        (Some(section), Some(named)) => Ok(Some(Input::Section(section, named))),
-        _ => Ok(None),
-    }
+    Ok(Input::Section(section, named_parts(alloc, parts, words, order)?))
 }
 
-/// The bytes of the parts that a command with texts names after its other words; None where there is no such part.
-/// Another command names none.
+/// The bytes of the parts that a command with texts names after its other words. Another command names none.
 fn named_parts(
     alloc: Global,
     parts: &Parts<'_>,
     words: &str,
-    order: Order,
-) -> Result<Option<Vec<Vec<u8>>>, AllocError> {
+    order: RunTimeEndian,
+) -> Result<Vec<Vec<u8>>, Stop> {
     let mut named = Vec::new(alloc);
     let Some(others) = words_before_parts(words) else {
-        return Ok(Some(named));
+        return Ok(named);
     };
     for word in words.split_whitespace().skip(others) {
         if word.starts_with('@') {
-            match parts.expand(alloc, word, order)? {
-                Some(bytes) => named.push(bytes)?,
-                None => return Ok(None),
-            }
+            named.push(parts.expand(alloc, word, order)?)?;
         }
     }
-    Ok(Some(named))
+    Ok(named)
 }
 
 /// Adds a line to a text.
-fn push_line(text: &mut String, line: &str) -> Result<(), AllocError> {
+fn push_line(text: &mut String, line: &str) -> Result<(), Stop> {
     text.push_str(line)?;
-    text.push('\n')
+    text.push('\n')?;
+    Ok(())
 }
 
 /// How many words of a command with texts stand before the parts that hold them, itself among these. None where the
@@ -289,8 +229,7 @@ fn push_line(text: &mut String, line: &str) -> Result<(), AllocError> {
 fn words_before_parts(words: &str) -> Option<usize> {
     match words.split_whitespace().next()? {
         "convert" | "convert_sequences" => Some(WORDS + 1),
-        "paths" => Some(6),
-        "addresses" => Some(6),
+        "paths" | "addresses" => Some(6),
         "lines" => Some(1),
         _ => None,
     }
@@ -305,11 +244,15 @@ fn takes_script(words: &str) -> bool {
 }
 
 /// The order of bytes that the word after a command names, or any word of `lines`; little if none.
-fn order_of(words: &str) -> Order {
+fn order_of(words: &str) -> RunTimeEndian {
     let mut words = words.split_whitespace();
     let is_big = match words.next() {
         Some("lines") => words.any(|word| word == "big"),
         _ => words.next() == Some("big"),
     };
-    if is_big { Order::Big } else { Order::Little }
+    if is_big {
+        RunTimeEndian::Big
+    } else {
+        RunTimeEndian::Little
+    }
 }

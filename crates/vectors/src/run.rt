@@ -3,76 +3,109 @@
 use crate::again::watch_rows;
 use crate::files::split_words;
 use crate::lines::run_lines;
-use crate::rows::{Command, Input};
-use rows_conversion::Sections;
-use rows_words::{Attempts, print_line};
+use crate::rows::{Input, RowCommand};
+use gimli_bytes::{EndianVec, PieceVec};
+use gimli_core::RunTimeEndian;
+use linetool_commands::Command;
+use rows_calls::write_section;
+use rows_reading::{
+    Attempts, Lines, Part, Request, Sections, Stop, addresses, paths, places, print_unit, walk,
+};
+use rows_writing::{Kind, convert};
 use std::alloc::{AllocError, Global};
+
+/// A section in one vector.
+type InOne = EndianVec<RunTimeEndian>;
+
+/// A section in pieces of four bytes.
+type InPieces = PieceVec<RunTimeEndian, 4>;
 
 /// What a command of a row prints: its output, its lines on standard error after `stderr`, and its status, where
 /// it isn't 0, after `status`.
 pub fn run_command(
     alloc: Global,
-    command: &Command<'_>,
+    command: &RowCommand<'_>,
     attempts: Attempts,
 ) -> Result<Vec<u8>, AllocError> {
     let words: Vec<&str> = command.words.split_whitespace().collect(alloc)?;
     let mut out = Vec::new(alloc);
-    let status = match &command.input {
-        Input::Script(script) => run_script(alloc, &words, script, attempts, &mut out)?,
-        Input::Section(section, named) => {
-            run_over_parts(alloc, &words, section, named, attempts, &mut out)?
-        }
+    let request = Request {
+        alloc,
+        words: words.get(1..).unwrap_or(&[]),
+        attempts,
     };
+    let name = words.first().copied().unwrap_or("");
+    let done = match &command.input {
+        Input::Script(script) => run_script(request, name, script, &mut out),
+        Input::Section(section, named) => run_row(request, name, &words, section, named, &mut out),
+    };
+    let status = match done {
+        Ok(status) => status,
+        Err(Stop::Memory) => return Err(AllocError),
+        Err(_) => 2,
+    };
+    let mut lines = Lines::new(&mut out);
     if status != 0 {
-        print_line(&mut out, format_args!("status {status}"))?;
+        lines.put(format_args!("status {status}"));
     }
-    Ok(out)
+    match lines.finish() {
+        Ok(()) => Ok(out),
+        Err(_) => Err(AllocError),
+    }
 }
 
 /// Runs a command on a script, and returns its status.
 fn run_script(
-    alloc: Global,
-    words: &[&str],
+    request: Request<'_>,
+    name: &str,
     script: &str,
-    attempts: Attempts,
     out: &mut Vec<u8>,
-) -> Result<u8, AllocError> {
-    match words {
-        ["write", rest @ ..] => rows_builder::write(alloc, rest, script, attempts, out),
-        ["read", rest @ ..] => rows_calls::read(alloc, rest, script, attempts, out),
-        ["bytes", rest @ ..] => rows_calls::bytes(alloc, rest, script, attempts, out),
-        ["pieces", rest @ ..] => rows_calls::pieces(alloc, rest, script, attempts, out),
-        _ => Ok(2),
+) -> Result<u8, Stop> {
+    match name {
+        "write" => rows_writing::write(request, script, out),
+        "read" => rows_calls::read(request, script, out),
+        "bytes" => write_section::<InOne>(request, script, out),
+        "pieces" => write_section::<InPieces>(request, script, out),
+        _ => Err(Stop::Bad),
     }
 }
 
 /// Runs a command over a section and the parts that its words name, and returns its status.
-fn run_over_parts<'r>(
-    alloc: Global,
-    words: &[&str],
+fn run_row<'r>(
+    request: Request<'_>,
+    name: &str,
+    all: &[&str],
     section: &'r [u8],
     named: &'r [Vec<u8>],
-    attempts: Attempts,
     out: &mut Vec<u8>,
-) -> Result<u8, AllocError> {
-    if words.first() == Some(&"lines") {
-        return run_lines(alloc, words, section, named, out);
+) -> Result<u8, Stop> {
+    if name == "lines" {
+        return run_lines(request.alloc, all, section, named, out);
     }
-    match sections_of(section, named) {
-        Some(sections) => run_over(alloc, words, sections, attempts, out),
-        None => Ok(2),
-    }
+    let sections = sections_of(section, named)?;
+    let words = match name {
+        "convert" | "convert_sequences" => without_parts(request.alloc, request.words)?,
+        "addresses" | "paths" => {
+            Vec::from_slice(request.alloc, &request.words[..request.words.len().min(5)])?
+        }
+        _ => Vec::from_slice(request.alloc, request.words)?,
+    };
+    let request = Request {
+        words: &words,
+        ..request
+    };
+    run_over(request, name, sections, out)
 }
 
-/// The sections of a row: that of lines, and after it those of texts, as far as they are named. None where more are.
-fn sections_of<'r>(lines: &'r [u8], named: &'r [Vec<u8>]) -> Option<Sections<'r>> {
+/// The sections of a row: that of lines, and after it those of texts, as far as they are named.
+fn sections_of<'r>(lines: &'r [u8], named: &'r [Vec<u8>]) -> Result<Sections<'r>, Stop> {
     let (strings, line_strings) = match named {
         [] => ([].as_slice(), [].as_slice()),
         [strings] => (strings.as_slice(), [].as_slice()),
         [strings, line_strings] => (strings.as_slice(), line_strings.as_slice()),
-        _ => return None,
+        _ => return Err(Stop::Bad),
     };
-    Some(Sections {
+    Ok(Sections {
         lines,
         strings,
         line_strings,
@@ -80,60 +113,25 @@ fn sections_of<'r>(lines: &'r [u8], named: &'r [Vec<u8>]) -> Option<Sections<'r>
 }
 
 /// Runs a command over sections, and returns its status.
-fn run_over(
-    alloc: Global,
-    words: &[&str],
+pub fn run_over(
+    request: Request<'_>,
+    name: &str,
     sections: Sections<'_>,
-    attempts: Attempts,
     out: &mut Vec<u8>,
-) -> Result<u8, AllocError> {
+) -> Result<u8, Stop> {
     let section = sections.lines;
-    match words {
-        ["convert", rest @ ..] => {
-            let rest = without_parts(alloc, rest)?;
-            rows_conversion::convert(alloc, &rest, sections, attempts, out)
-        }
-        ["convert_sequences", rest @ ..] => {
-            let rest = without_parts(alloc, rest)?;
-            rows_conversion::convert_sequences(alloc, &rest, sections, attempts, out)
-        }
-        ["places", rest @ ..] => rows_lookup::places(alloc, rest, section, out),
-        ["addresses", rest @ ..] => {
-            let words = &rest[..rest.len().min(5)];
-            rows_lookup::addresses(
-                alloc,
-                words,
-                section,
-                sections.strings,
-                sections.line_strings,
-                out,
-            )
-        }
-        ["walk", rest @ ..] => rows_lookup::walk(alloc, rest, section, out),
-        ["paths", rest @ ..] => {
-            let words = &rest[..rest.len().min(5)];
-            rows_lookup::paths(
-                alloc,
-                words,
-                section,
-                sections.strings,
-                sections.line_strings,
-                out,
-            )
-        }
-        ["header", rest @ ..] => rows_units::header(alloc, rest, section, attempts, out),
-        ["instructions", rest @ ..] => {
-            rows_units::instructions(alloc, rest, section, attempts, out)
-        }
-        ["demo", ..] | [] => run_linetool(alloc, words, section, attempts, out),
-        [command, rest @ ..] => {
-            let mut all = Vec::with_capacity(alloc, words.len())?;
-            all.push(*command)?;
-            all.push("FILE")?;
-            all.extend_from_slice(rest)?;
-            run_linetool(alloc, &all, section, attempts, out)
-        }
+    match name {
+        "convert" => convert(request, Kind::Items, sections, out)?,
+        "convert_sequences" => convert(request, Kind::Sequences, sections, out)?,
+        "header" => print_unit(request, Part::Header, section, out)?,
+        "instructions" => print_unit(request, Part::Instructions, section, out)?,
+        "places" => places(request, section, out)?,
+        "addresses" => addresses(request, sections, out)?,
+        "walk" => walk(request, section, out)?,
+        "paths" => paths(request, sections, out)?,
+        name => return run_linetool(request, name, section, out),
     }
+    Ok(0)
 }
 
 /// The words of a conversion that name no part; parts stand after the others.
@@ -151,33 +149,56 @@ fn without_parts<'w>(alloc: Global, words: &[&'w str]) -> Result<Vec<&'w str>, A
 /// Runs a command of `linetool`, a second time from the start where memory is refused it and attempts are two, and
 /// returns its status.
 fn run_linetool(
-    alloc: Global,
-    words: &[&str],
+    request: Request<'_>,
+    name: &str,
     section: &[u8],
-    attempts: Attempts,
     out: &mut Vec<u8>,
-) -> Result<u8, AllocError> {
+) -> Result<u8, Stop> {
+    let alloc = request.alloc;
+    let words = linetool_words(request, name)?;
     let start = out.len();
     let mut err = Vec::new(alloc);
-    let mut status = linetool_commands::run(alloc, words, Some(section), out, &mut err);
-    if attempts == Attempts::Two {
+    let mut status = linetool_commands::run(alloc, &words, Some(section), out, &mut err);
+    if request.attempts == Attempts::Two {
         if err.as_slice() == b"refused: memory\n".as_slice() {
             out.truncate(start);
             err.clear();
-            status = linetool_commands::run(alloc, words, Some(section), out, &mut err);
+            status = linetool_commands::run(alloc, &words, Some(section), out, &mut err);
         }
-        if let Some(linetool_commands::Command::Rows(location)) = linetool_commands::Command::parse(
-            words,
-        ) {
-            watch_rows(alloc, section, location, out)?;
-        }
+        watch_command(alloc, &words, section, out)?;
     }
     // A vector takes no more output only where memory is refused.
     if status != 0 && err.is_empty() {
-        return Err(AllocError);
+        return Err(Stop::Memory);
     }
     print_errors(&err, out)?;
     Ok(status)
+}
+
+/// The words of a command of `linetool`: a file stands after each name but `demo`.
+fn linetool_words<'w>(request: Request<'w>, name: &'w str) -> Result<Vec<&'w str>, AllocError> {
+    let mut words = Vec::new(request.alloc);
+    match name {
+        "" => {}
+        "demo" => words.push(name)?,
+        name => words.extend_from_slice(&[name, "FILE"])?,
+    }
+    words.extend_from_slice(request.words)?;
+    Ok(words)
+}
+
+/// Watches the rows of a command that prints them.
+fn watch_command(
+    alloc: Global,
+    words: &[&str],
+    section: &[u8],
+    out: &mut Vec<u8>,
+) -> Result<(), Stop> {
+    let mut lines = Lines::new(out);
+    if let Some(Command::Rows(location)) = Command::parse(words) {
+        watch_rows(alloc, section, location, &mut lines);
+    }
+    lines.finish()
 }
 
 /// Prints the lines that stand on standard error, to the last byte.

@@ -1,0 +1,45 @@
+//! Why a command isn't done.
+
+use std::alloc::{AllocError, AllocFailed};
+
+/// Whether a library call that returns `OutOfMemory` is made once more.
+#[derive(Clone, Copy, Debug, PartialEq, Eq)]
+pub enum Attempts {
+    /// Each call is made once.
+    One,
+    /// A call that returns `OutOfMemory` is made again.
+    Two,
+}
+
+/// Why a command, or a call of a script, isn't done.
+#[derive(Clone, Copy, Debug, PartialEq, Eq)]
+pub enum Stop {
+    /// Its words are no such command or call.
+    Bad,
+    /// The conditions of the call aren't met.
+    Condition,
+    /// Memory is refused to the program itself.
+    Memory,
+}
+
+impl From<AllocError> for Stop {
+    ghost use Rattle.std.specs.Prelude.{◌≡◌};
+    ghost use Rattle.rows_reading.specs.declared.stop.Stop.TheVariants.{Memory};
+
+    ghost from_gives = { λ _ stop. stop ≡ Memory };
+
+    fn from(_error: AllocError) -> Stop {
+        Stop::Memory
+    }
+}
+
+impl<T: Drop> From<AllocFailed<T>> for Stop {
+    ghost use Rattle.std.specs.Prelude.{◌≡◌};
+    ghost use Rattle.rows_reading.specs.declared.stop.Stop.TheVariants.{Memory};
+
+    ghost from_gives = { λ _ stop. stop ≡ Memory };
+
+    fn from(_error: AllocFailed<T>) -> Stop {
+        Stop::Memory
+    }
+}
