@@ -4,7 +4,7 @@
 //!
 //! Standard output has the length of each section that was written, and a sum of its bytes.
 
-use crate::order::ConvertOrder;
+use crate::order::{CONVERT, OrderOf};
 use crate::sums::print_sum;
 use crate::words::{parse_count, parse_offset};
 use gimli_core::{DebugLineOffset, EndianSlice, Reader};
@@ -42,9 +42,9 @@ fn converted_unit(
     section: &[u8],
     offset: DebugLineOffset,
 ) -> ConvertResult<Vec<u8>> {
-    let section = DebugLine::new(section, ConvertOrder);
+    let section = DebugLine::new(section, OrderOf::<CONVERT>);
     let program = section.program(alloc, offset, 8, None, None)?;
-    convert_and_write(alloc, program, EndianSlice::new(b"", ConvertOrder))
+    convert_and_write(alloc, program, EndianSlice::new(b"", OrderOf::<CONVERT>))
 }
 
 /// A program, as it is written after its conversion. `no_texts` is a reader of no bytes, which stands for both sections of
@@ -68,7 +68,7 @@ fn convert_and_write<R: Reader>(
         &mut strings,
         |address| Some(Address::Constant(address)),
     )?;
-    let mut unit = gimli_write::DebugLine::from(EndianVec::new(alloc, ConvertOrder));
+    let mut unit = gimli_write::DebugLine::from(EndianVec::new(alloc, OrderOf::<CONVERT>));
     program.write(
         &mut unit,
         program.encoding(),

@@ -14,7 +14,7 @@
 
 mod work;
 
-use crate::order::LookupOrder;
+use crate::order::{LOOKUP, OrderOf};
 use crate::words::{parse_count, parse_offset};
 use gimli_core::DebugLineOffset;
 use gimli_line::DebugLine;
@@ -43,7 +43,7 @@ fn measure(
     work: &str,
     times: u64,
 ) -> io::Result<Tally> {
-    let section = DebugLine::new(section, LookupOrder);
+    let section = DebugLine::new(section, OrderOf::<LOOKUP>);
     match do_work(alloc, &section, offset, work, times) {
         Ok(tally) => Ok(tally),
         Err(_) => Err(io::Error::from(ErrorKind::InvalidData)),

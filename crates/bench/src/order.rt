@@ -5,35 +5,20 @@ ghost use Rattle.std.specs.Prelude.{false};
 
 use gimli_core::Endianity;
 
-/// The least significant byte first, where a section is read.
+/// The work that reads a section.
+pub(crate) const READ: u8 = 0;
+
+/// The work that converts a unit.
+pub(crate) const CONVERT: u8 = 1;
+
+/// The work that looks addresses up.
+pub(crate) const LOOKUP: u8 = 2;
+
+/// The least significant byte first, in a work.
 #[derive(Clone, Copy, Debug, PartialEq, Eq)]
-pub(crate) struct ReadOrder;
+pub(crate) struct OrderOf<const WORK: u8>;
 
-/// The least significant byte first, where a unit is converted.
-#[derive(Clone, Copy, Debug, PartialEq, Eq)]
-pub(crate) struct ConvertOrder;
-
-/// The least significant byte first, where addresses are looked up.
-#[derive(Clone, Copy, Debug, PartialEq, Eq)]
-pub(crate) struct LookupOrder;
-
-impl Endianity for ReadOrder {
-    ghost big = { λ _. false };
-
-    fn is_big_endian(self) -> bool {
-        false
-    }
-}
-
-impl Endianity for ConvertOrder {
-    ghost big = { λ _. false };
-
-    fn is_big_endian(self) -> bool {
-        false
-    }
-}
-
-impl Endianity for LookupOrder {
+impl<const WORK: u8> Endianity for OrderOf<WORK> {
     ghost big = { λ _. false };
 
     fn is_big_endian(self) -> bool {

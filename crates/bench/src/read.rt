@@ -4,7 +4,7 @@
 //! Standard output has the counts and a checksum, over every register or over the bounds of the sequences; standard
 //! error has the time of each pass.
 
-use crate::order::ReadOrder;
+use crate::order::{OrderOf, READ};
 use crate::words::parse_count;
 use gimli_core::{DebugLineOffset, Reader};
 use gimli_line::{ColumnType, DebugLine, IncompleteLineProgram, LineRow};
@@ -49,7 +49,7 @@ fn make_passes(rt: &HostRuntime, section: &[u8], times: u64, what: What) -> io::
 fn measure(alloc: Global, section: &[u8], what: What) -> Total {
     pass(
         alloc,
-        &DebugLine::new(section, ReadOrder),
+        &DebugLine::new(section, OrderOf::<READ>),
         section.len(),
         what,
     )

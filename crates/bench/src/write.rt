@@ -3,15 +3,17 @@
 //!
 //! Standard output has the length of each section and a sum of its bytes, standard error the times.
 
-ghost use Rattle.std.specs.Prelude.{◌≡◌, [], OnOk, IfOk};
+ghost use Rattle.std.specs.Prelude.{OnOk, IfOk};
 ghost use Rattle.gimli_bytes.specs.Texts.{no_texts};
 ghost use Rattle.gimli_build.specs.Conditions.{CanWrite};
 
 use crate::sums::print_sum;
 use crate::words::parse_count;
-use gimli_build::{LineProgram, LineString};
+use gimli_build::LineProgram;
 use gimli_bytes::{Address, DebugLine, EndianVec, LineStringTable, Result, StringTable};
-use gimli_core::{Encoding, Format, LineEncoding, LittleEndian};
+use gimli_core::LittleEndian;
+use linetool_commands::one_file_program;
+use rows_reading::AddressSize;
 use std::alloc::Global;
 use std::io;
 use std::io::ErrorKind;
@@ -76,8 +78,7 @@ fn write(alloc: Global, program: &LineProgram) -> Result<Vec<u8>>
 fn build(alloc: Global, sequences: u64) -> Result<LineProgram>
     ensures { IfOk result (λ program. CanWrite program no_texts) }
 {
-    let mut program = empty_program(alloc)?;
-    put_file(&mut program, alloc)?;
+    let mut program = one_file_program(alloc, AddressSize::Eight)?;
     let mut seed: u64 = 1;
     for i in 0..sequences {
         seed = put_sequence(&mut program, i, seed)?;
@@ -129,39 +130,4 @@ fn move_on(program: &mut LineProgram, seed: u64)
         row.column = (seed >> 56) & 15;
     }
     row.is_statement = (seed >> 62) & 1 == 1;
-}
-
-/// A program without a file.
-fn empty_program(alloc: Global) -> Result<LineProgram>
-    ensures can { IfOk result (λ program. CanWrite program no_texts) }
-    ensures files { IfOk result (λ program. program.files ≡ []) }
-{
-    let encoding = Encoding {
-        address_size: 8,
-        format: Format::Dwarf32,
-        version: 4,
-    };
-    let working_dir = LineString::String(b"/w".to_vec(alloc)?);
-    let source_file = LineString::String(b"a.c".to_vec(alloc)?);
-    LineProgram::new(
-        alloc,
-        encoding,
-        LineEncoding::default(),
-        working_dir,
-        None,
-        source_file,
-        None,
-    )
-}
-
-/// Puts in the file that rows start with.
-fn put_file(program: &mut LineProgram, alloc: Global) -> Result<()>
-    requires can { CanWrite program.old no_texts }
-    requires files { program.old.files ≡ [] }
-    ensures can { OnOk result (CanWrite program.new no_texts) }
-{
-    let name = LineString::String(b"a.c".to_vec(alloc)?);
-    let directory = program.default_directory();
-    program.add_file(name, directory, None)?;
-    Ok(())
 }

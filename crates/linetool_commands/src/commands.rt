@@ -13,7 +13,7 @@ use crate::section::{program_at, read_section};
 use crate::units::print_units;
 use crate::words::Command;
 use gimli_core::Reader;
-use gimli_line::{CompleteLineProgram, LineSequence};
+use gimli_line::{CompleteLineProgram, IncompleteLineProgram, LineSequence};
 use rows_reading::{SequenceLine, UnitLocation};
 use std::alloc::Global;
 use std::io::{Read, Write};
@@ -55,54 +55,81 @@ fn perform<F: Read + Drop, O: Write>(
     match Command::parse(words).ok_or(Refusal::Usage)? {
         Command::Demo => print_demo(alloc, out),
         Command::DemoPieces => print_demo_pieces(alloc, out),
-        Command::Rows(location) => {
-            let section = read_section(alloc, file)?;
-            print_unit(alloc, &section, location, out)
-        }
-        Command::Sequences(location) => {
-            let section = read_section(alloc, file)?;
-            print_sequences(alloc, &section, location, out)
-        }
-        Command::Units(numbers) => {
-            let section = read_section(alloc, file)?;
-            print_units(alloc, &section, numbers, out)
-        }
+        Command::Rows(location) => print_unit(alloc, file, location, Part::Rows, out),
+        Command::Sequences(location) => print_unit(alloc, file, location, Part::Sequences, out),
+        Command::Units(numbers) => print_units(alloc, file, numbers, out),
         Command::Find(query) => {
-            let section = read_section(alloc, file)?;
-            print_pair(alloc, &section, query, out)
+            print_unit(alloc, file, query.location, Part::Pair(query.address), out)
         }
     }
 }
 
-/// Prints the rows of a unit.
-fn print_unit<O: Write>(
+/// What is printed of a unit.
+#[derive(Clone, Copy)]
+enum Part {
+    /// Its rows.
+    Rows,
+    /// Its sequences, each with its rows.
+    Sequences,
+    /// The two rows that cover an address.
+    Pair(u64),
+}
+
+/// Prints a part of a unit of a file.
+fn print_unit<F: Read + Drop, O: Write>(
+    alloc: Global,
+    file: Option<F>,
+    location: UnitLocation,
+    part: Part,
+    out: &mut O,
+) -> Result<(), Refusal>
+    ensures no_file { IsNone file → result ≡ Err Refusal.File }
+    ensures refusal { IfErr result (λ r. r ≢ Refusal.Usage) }
+{
+    let section = read_section(alloc, file)?;
+    print_unit_of(alloc, &section, location, part, out)
+}
+
+/// Prints a part of a unit of a section.
+fn print_unit_of<O: Write>(
     alloc: Global,
     section: &[u8],
     location: UnitLocation,
+    part: Part,
     out: &mut O,
 ) -> Result<(), Refusal>
     ensures refusal { IfErr result (λ r. r ≢ Refusal.Usage) }
 {
-    let program = program_at(alloc, section, location)?;
-    let outcome = print_program(program, out);
+    print_part(program_at(alloc, section, location)?, part, out)
+}
+
+/// Prints a part of a program.
+fn print_part<R: Reader, O: Write>(
+    program: IncompleteLineProgram<R>,
+    part: Part,
+    out: &mut O,
+) -> Result<(), Refusal>
+    ensures refusal { IfErr result (λ r. r ≢ Refusal.Usage) }
+{
+    let outcome = match part {
+        Part::Rows => print_program(program, out),
+        Part::Sequences => print_sequences(program, out),
+        Part::Pair(address) => print_pair(program, address, out),
+    };
     finish(outcome, out)
 }
 
-/// Prints the sequences of a unit. Nothing is printed where it can't be cut.
-fn print_sequences<O: Write>(
-    alloc: Global,
-    section: &[u8],
-    location: UnitLocation,
+/// Prints the sequences of a program. Nothing is printed where it can't be cut.
+fn print_sequences<R: Reader, O: Write>(
+    program: IncompleteLineProgram<R>,
     out: &mut O,
 ) -> Result<(), Refusal>
     ensures refusal { IfErr result (λ r. r ≢ Refusal.Usage) }
 {
-    let program = program_at(alloc, section, location)?;
-    let (program, sequences) = program
-        .sequences()
-        .map_err(|e| Refusal::of_unit(e, Refusal::Rows))?;
-    let outcome = print_each(&program, &sequences, out);
-    finish(outcome, out)
+    match program.sequences() {
+        Ok((program, sequences)) => print_each(&program, &sequences, out),
+        Err(e) => Err(Refusal::of_unit(e, Refusal::Rows)),
+    }
 }
 
 /// Prints sequences one after the other, each with its rows.

@@ -5,79 +5,49 @@ ghost use Rattle.gimli_write.specs.StringTables.{no_texts};
 ghost use Rattle.gimli_write.specs.Conditions.{CanWrite};
 ghost use Rattle.linetool_commands.specs.Demo.{IsAtStart};
 
-use crate::print::{finish, print_program, print_row};
+use crate::print::{finish, print_program};
 use crate::refusal::Refusal;
 use crate::section::program_at;
-use gimli_core::{Encoding, Endianity, Format, LineEncoding, LittleEndian, RunTimeEndian};
+use gimli_core::{Encoding, Endianity, Format, LineEncoding, LittleEndian, Reader, RunTimeEndian};
+use gimli_line::IncompleteLineProgram;
 use gimli_write::{
     Address, DebugLine, EndianVec, Error, LineProgram, LineString, LineStringTable, PieceVec,
-    RoundTrip, StringTable, Writer, round_trip,
+    StringTable, Writer,
 };
 use rows_reading::UnitLocation;
 use rows_reading::{AddressSize, print_bytes};
 use std::alloc::Global;
 use std::io::Write;
 
+/// Where the unit stands among its bytes.
+const LOCATION: UnitLocation = UnitLocation {
+    order: RunTimeEndian::Little,
+    address_size: AddressSize::Four,
+    offset: 0,
+};
+
 /// Prints the bytes of the unit, and what is read of it.
 pub fn print_demo<O: Write>(alloc: Global, out: &mut O) -> Result<(), Refusal>
     ensures refusal { IfErr result (λ r. r ≢ Refusal.Usage) }
 {
     let mut section = DebugLine::from(EndianVec::new(alloc, LittleEndian));
-    let answer = write_demo(alloc, &mut section)?;
-    let outcome = print_unit(section.0.slice(), &answer, out);
+    write_demo(alloc, &mut section)?;
+    let outcome = print_written(alloc, section.0.slice(), out);
     finish(outcome, out)
-}
-
-/// Writes the unit, and reads it again.
-fn write_demo(
-    alloc: Global,
-    section: &mut DebugLine<EndianVec<LittleEndian>>,
-) -> Result<RoundTrip, Refusal>
-    ensures refusal { IfErr result (λ r. r ≢ Refusal.Usage) }
-{
-    match demo_program(alloc) {
-        Ok(program) => write_and_read(alloc, &program, section),
-        Err(_) => Err(Refusal::Memory),
-    }
-}
-
-/// Writes a program with tables of its own, and reads its unit again.
-fn write_and_read<E: Endianity>(
-    alloc: Global,
-    program: &LineProgram,
-    section: &mut DebugLine<EndianVec<E>>,
-) -> Result<RoundTrip, Refusal>
-    requires { CanWrite program.now no_texts }
-    ensures refusal { IfErr result (λ r. r ≢ Refusal.Usage) }
-{
-    let mut strings = StringTable::default(alloc);
-    let mut line_strings = LineStringTable::default(alloc);
-    let encoding = program.encoding();
-    round_trip(program, section, encoding, &mut line_strings, &mut strings).map_err(
-        |e| Refusal::of_conversion(e),
-    )
 }
 
 /// Prints the pieces of the unit, sixteen bytes each but the last, and what is read of their bytes.
 pub fn print_demo_pieces<O: Write>(alloc: Global, out: &mut O) -> Result<(), Refusal>
     ensures refusal { IfErr result (λ r. r ≢ Refusal.Usage) }
 {
-    let section = write_demo_pieces(alloc)?;
-    let outcome = print_pieces(alloc, section, out);
+    let mut section = DebugLine::from(PieceVec::<_, 16>::new(alloc, LittleEndian));
+    write_demo(alloc, &mut section)?;
+    let outcome = print_pieces(alloc, section.0, out);
     finish(outcome, out)
 }
 
-/// Writes the unit in pieces.
-fn write_demo_pieces(alloc: Global) -> Result<PieceVec<LittleEndian, 16>, Refusal>
-    ensures refusal { IfErr result (λ r. r ≢ Refusal.Usage) }
-{
-    let mut section = DebugLine::from(PieceVec::<_, 16>::new(alloc, LittleEndian));
-    write_unit(alloc, &mut section)?;
-    Ok(section.0)
-}
-
 /// Writes the unit into a section.
-fn write_unit<W: Writer>(alloc: Global, section: &mut DebugLine<W>) -> Result<(), Refusal>
+fn write_demo<W: Writer>(alloc: Global, section: &mut DebugLine<W>) -> Result<(), Refusal>
     ensures refusal { IfErr result (λ r. r ≢ Refusal.Usage) }
 {
     match demo_program(alloc) {
@@ -105,17 +75,38 @@ fn write_program<W: Writer>(
     }
 }
 
+/// Prints the bytes of the unit, and its rows. Nothing is printed where the unit is refused.
+fn print_written<O: Write>(alloc: Global, bytes: &[u8], out: &mut O) -> Result<(), Refusal>
+    ensures refusal { IfErr result (λ r. r ≢ Refusal.Usage) }
+{
+    print_unit(program_at(alloc, bytes, LOCATION)?, bytes, out)
+}
+
+/// Prints bytes, and the rows of the program that is read of them.
+fn print_unit<R: Reader, O: Write>(
+    program: IncompleteLineProgram<R>,
+    bytes: &[u8],
+    out: &mut O,
+) -> Result<(), Refusal>
+    ensures refusal { IfErr result (λ r. r ≢ Refusal.Usage) }
+{
+    match print_bytes(bytes, out) {
+        Ok(()) => print_program(program, out),
+        Err(_) => Err(Refusal::Output),
+    }
+}
+
 /// Prints pieces, and the rows of the unit that their bytes are together.
-fn print_pieces<O: Write>(
+fn print_pieces<E: Endianity, const N: usize, O: Write>(
     alloc: Global,
-    section: PieceVec<LittleEndian, 16>,
+    section: PieceVec<E, N>,
     out: &mut O,
 ) -> Result<(), Refusal>
     ensures refusal { IfErr result (λ r. r ≢ Refusal.Usage) }
 {
     print_each_piece(&section, out)?;
     match section.into_vec() {
-        Ok(bytes) => print_demo_rows(alloc, bytes.as_slice(), out),
+        Ok(bytes) => print_rows_of(alloc, bytes.as_slice(), out),
         Err(_) => Err(Refusal::Memory),
     }
 }
@@ -136,15 +127,10 @@ fn print_each_piece<E: Endianity, const N: usize, O: Write>(
 }
 
 /// Prints the rows of the unit whose bytes these are.
-fn print_demo_rows<O: Write>(alloc: Global, bytes: &[u8], out: &mut O) -> Result<(), Refusal>
+fn print_rows_of<O: Write>(alloc: Global, bytes: &[u8], out: &mut O) -> Result<(), Refusal>
     ensures refusal { IfErr result (λ r. r ≢ Refusal.Usage) }
 {
-    let location = UnitLocation {
-        order: RunTimeEndian::Little,
-        address_size: AddressSize::Four,
-        offset: 0,
-    };
-    print_program(program_at(alloc, bytes, location)?, out)
+    print_program(program_at(alloc, bytes, LOCATION)?, out)
 }
 
 /// The program of the unit: a file, and a sequence of two rows. Refused by `OutOfMemory` alone.
@@ -152,21 +138,32 @@ fn demo_program(alloc: Global) -> Result<LineProgram, Error>
     ensures ok { IfOk result (λ program. CanWrite program no_texts) }
     ensures err { IfErr result (λ e. e ≡ Error.OutOfMemory) }
 {
-    let mut program = empty_program(alloc)?;
-    put_file(&mut program, alloc)?;
+    let mut program = one_file_program(alloc, AddressSize::Four)?;
     put_rows(&mut program)?;
     Ok(program)
 }
 
+/// A program of version 4 without rows: the working directory `/w`, and the file `a.c`. Fails only
+/// with `OutOfMemory`.
+pub fn one_file_program(alloc: Global, address_size: AddressSize) -> Result<LineProgram, Error>
+    ensures can { IfOk result (λ program. CanWrite program no_texts) }
+    ensures start { IfOk result IsAtStart }
+    ensures err { IfErr result (λ e. e ≡ Error.OutOfMemory) }
+{
+    let mut program = empty_program(alloc, address_size)?;
+    put_file(&mut program, alloc)?;
+    Ok(program)
+}
+
 /// A program of version 4 whose working directory is `/w`. Refused by `OutOfMemory` alone.
-fn empty_program(alloc: Global) -> Result<LineProgram, Error>
+fn empty_program(alloc: Global, address_size: AddressSize) -> Result<LineProgram, Error>
     ensures can { IfOk result (λ program. CanWrite program no_texts) }
     ensures files { IfOk result (λ program. program.files ≡ []) }
     ensures start { IfOk result IsAtStart }
     ensures err { IfErr result (λ e. e ≡ Error.OutOfMemory) }
 {
     let encoding = Encoding {
-        address_size: 4,
+        address_size: address_size.bytes(),
         format: Format::Dwarf32,
         version: 4,
     };
@@ -222,17 +219,4 @@ fn move_on(program: &mut LineProgram)
     let row = program.row();
     row.address_offset = 4;
     row.line = 3;
-}
-
-/// Prints bytes and rows.
-fn print_unit<O: Write>(bytes: &[u8], answer: &RoundTrip, out: &mut O) -> Result<(), Refusal>
-    ensures refusal { IfErr result (λ r. r ≢ Refusal.Usage) }
-{
-    if print_bytes(bytes, out).is_err() {
-        return Err(Refusal::Output);
-    }
-    for row in answer.rows.as_slice() {
-        print_row(*row, out)?;
-    }
-    Ok(())
 }

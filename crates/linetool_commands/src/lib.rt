@@ -12,5 +12,6 @@ mod units;
 mod words;
 
 pub use commands::run;
+pub use demo::one_file_program;
 pub use refusal::Refusal;
 pub use words::{Command, Numbers, Query};

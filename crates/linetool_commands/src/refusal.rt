@@ -4,7 +4,6 @@ ghost use Rattle.std.specs.Prelude.{◌≡◌, ◌≢◌};
 ghost use Rattle.std.specs.IoError.{error_kind};
 
 use gimli_core::Error;
-use gimli_write::ConvertError;
 use std::io;
 use std::io::{ErrorKind, Write};
 
@@ -45,18 +44,6 @@ impl Refusal {
         match error {
             Error::OutOfMemory => Refusal::Memory,
             _ => fault,
-        }
-    }
-
-    /// The refusal of writing a unit and reading it again.
-    pub fn of_conversion(error: ConvertError) -> Refusal
-        ensures memory { error ≡ ConvertError.OutOfMemory → result ≡ Refusal.Memory }
-        ensures refusal { result ≢ Refusal.Usage }
-    {
-        match error {
-            ConvertError::OutOfMemory => Refusal::Memory,
-            ConvertError::Read(_) => Refusal::Rows,
-            _ => Refusal::Header,
         }
     }
 

@@ -1,17 +1,18 @@
 //! The units of a section, one after the other.
 
-ghost use Rattle.std.specs.Prelude.{◌≡◌, ◌≢◌, ◌≤◌, ◌++◌, IfErr, codes, length};
+ghost use Rattle.std.specs.Prelude.{◌≡◌, ◌≢◌, ◌≤◌, ◌++◌, Err, IfErr, IsNone, codes, length};
 ghost use Rattle.std.specs.Fmt.{decimal};
 
 use crate::count::count_rows;
 use crate::print::{finish, write_line};
 use crate::refusal::Refusal;
+use crate::section::read_section;
 use crate::words::Numbers;
 use gimli_core::{Reader, ReaderOffset};
 use gimli_line::{DebugLine, LineUnit, LineUnits};
 use rows_reading::ShortLine;
 use std::alloc::Global;
-use std::io::Write;
+use std::io::{Read, Write};
 
 /// The line of a unit: its offset in the section, its version, and how many rows it gives, ends among them.
 #[derive(Clone, Copy)]
@@ -47,9 +48,23 @@ impl UnitLine {
     }
 }
 
-/// Prints the line of each unit, from the start of the section to its end. The first fault stops it, before the line of
-/// its unit.
-pub(crate) fn print_units<O: Write>(
+/// Prints the line of each unit of a file, from the start of the section to its end. The first fault stops it, before
+/// the line of its unit.
+pub(crate) fn print_units<F: Read + Drop, O: Write>(
+    alloc: Global,
+    file: Option<F>,
+    numbers: Numbers,
+    out: &mut O,
+) -> Result<(), Refusal>
+    ensures no_file { IsNone file → result ≡ Err Refusal.File }
+    ensures refusal { IfErr result (λ r. r ≢ Refusal.Usage) }
+{
+    let section = read_section(alloc, file)?;
+    print_units_of(alloc, &section, numbers, out)
+}
+
+/// The same of a section.
+fn print_units_of<O: Write>(
     alloc: Global,
     section: &[u8],
     numbers: Numbers,

@@ -3,9 +3,8 @@
 ghost use Rattle.std.specs.Bool.{Decides};
 ghost use Rattle.uses.specs.SameHeaders.{AgreeInAllParts};
 
-use gimli_core::{DebugLineOffset, EndianSlice, Reader, ReaderOffset, Result, RunTimeEndian};
-use gimli_line::{DebugLine, LineProgramHeader};
-use std::alloc::Global;
+use gimli_core::{EndianSlice, Reader, ReaderOffset, RunTimeEndian};
+use gimli_line::LineProgramHeader;
 
 /// A reader over the bytes of a section, in an order that an argument of the program or the head of a file tells.
 pub type Slice<'i> = EndianSlice<'i, RunTimeEndian>;
@@ -24,18 +23,4 @@ pub fn is_same_header<'i>(
     gimli_core::laws::equal_slices_are_same::<RunTimeEndian>();
     gimli_line::laws::equal_headers_look_same::<Slice<'i>>();
     first == second
-}
-
-/// Whether the headers of the units at two offsets of a section agree in all their parts.
-pub fn are_same_headers<'i>(
-    alloc: Global,
-    section: &'i [u8],
-    order: RunTimeEndian,
-    first: usize,
-    second: usize,
-) -> Result<bool> {
-    let section = DebugLine::new(section, order);
-    let first = section.program(alloc, DebugLineOffset(first), 8, None, None)?;
-    let second = section.program(alloc, DebugLineOffset(second), 8, None, None)?;
-    Ok(is_same_header(first.header(), second.header()))
 }

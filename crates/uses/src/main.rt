@@ -3,16 +3,15 @@
 //!
 //! | Words | Prints |
 //! |---|---|
-//! | `where_is LINES LINE_STRINGS ADDRESS..` | `path:line:column` of each address |
+//! | `where_is FILE ADDRESS..` | `path:line:column` of each address of an ELF file |
 //! | `ends LINES` | all units of a section, and their sequences |
-//! | `make_unit` | the bytes of a unit of version 5 that it builds, and the rows that are read of them |
+//! | `make_unit` | the bytes of a unit of version 5 that it builds, and those of its texts |
 //! | `shift LINES OFFSET BY [DIRECTORY [NAME]]` | the rows of a unit up to version 4 in version 5, each address moved |
 //!
 //! After the word `then` another command may follow. A command that is refused says why, and the
 //! next one is run.
 #![tactic(auto)]
 
-mod building;
 mod comparing;
 mod converting;
 mod ends;
@@ -24,12 +23,16 @@ mod shift;
 mod where_is;
 
 use anyhow::{Result, bail};
-use std::env;
 
 fn main(rt: HostRuntime) -> Result<()> {
-    let words: Vec<String> = env::args(&rt)?.skip(1).collect(rt.alloc())?;
+    let words: Vec<String> = std::env::args(&rt)?.skip(1).collect(rt.alloc())?;
+    start(&rt, &words)
+}
+
+/// Runs each command, and says why where one is refused.
+fn start(rt: &HostRuntime, words: &[String]) -> Result<()> {
     for command in words.split(|word| word.as_str() == "then") {
-        if let Err(refusal) = run(&rt, command) {
+        if let Err(refusal) = run(rt, command) {
             println!(rt; "refused: {refusal}")?;
         }
     }

@@ -1,8 +1,10 @@
 //! A unit of version 5 whose texts stand in `.debug_line_str`: built, and written.
 #![tactic(auto)]
 
-ghost use Rattle.std.specs.Prelude.{[], IfOk};
+ghost use Rattle.std.specs.Prelude.{false, [], IfOk};
+ghost use Rattle.gimli_bytes.specs.Written.{Appends};
 ghost use Rattle.gimli_write.specs.StringTables.{texts_in};
+ghost use Rattle.gimli_write.specs.Unit.{unit_bytes};
 ghost use Rattle.gimli_write.specs.Conditions.{CanWrite};
 
 use anyhow::{Result, bail};
@@ -16,26 +18,56 @@ use std::fmt::Write;
 
 /// Prints the bytes of a unit, and those of its texts.
 pub fn start(rt: &HostRuntime, _words: &[String]) -> Result<()> {
-    let (lines, line_strings) = make_unit(rt.alloc())?;
     let mut text = String::new(rt.alloc());
-    print_bytes(".debug_line", lines.slice(), &mut text)?;
-    print_bytes(".debug_line_str", line_strings.slice(), &mut text)?;
+    make_unit(rt.alloc(), &mut text)?;
     print!(rt; "{text}")?;
     Ok(())
 }
 
-/// The sections `.debug_line` and `.debug_line_str`. The texts are written last, since `write`
-/// may add one.
-pub fn make_unit(alloc: Global) -> Result<(EndianVec<LittleEndian>, EndianVec<LittleEndian>)> {
-    let mut strings = StringTable::default(alloc);
+/// Builds a unit, and adds its bytes and those of its texts. The texts are written last, since
+/// `write` may add one.
+pub fn make_unit(alloc: Global, text: &mut String) -> Result<()> {
     let mut line_strings = LineStringTable::default(alloc);
     let program = build(alloc, &mut line_strings)?;
-    let mut lines = DebugLine::from(EndianVec::new(alloc, LittleEndian));
-    let encoding = program.encoding();
-    program.write(&mut lines, encoding, &mut line_strings, &mut strings)?;
-    let mut texts = DebugLineStr::from(EndianVec::new(alloc, LittleEndian));
-    line_strings.write(&mut texts)?;
-    Ok((lines.0, texts.0))
+    print_unit(alloc, &program, &mut line_strings, text)?;
+    print_texts(alloc, &line_strings, text)
+}
+
+/// Adds the bytes of a unit.
+fn print_unit(
+    alloc: Global,
+    program: &LineProgram,
+    line_strings: &mut LineStringTable,
+    text: &mut String,
+) -> Result<()>
+    requires { CanWrite program.now (texts_in [] line_strings.old) }
+{
+    let section = write_unit(alloc, program, line_strings)?;
+    print_bytes(".debug_line", section.slice(), text)
+}
+
+/// Adds the bytes of the texts of a table.
+fn print_texts(alloc: Global, line_strings: &LineStringTable, text: &mut String) -> Result<()> {
+    let mut section = DebugLineStr::from(EndianVec::new(alloc, LittleEndian));
+    line_strings.write(&mut section)?;
+    print_bytes(".debug_line_str", section.0.slice(), text)
+}
+
+/// The bytes of a unit whose texts all stand in the program or in a table. Refused by the first
+/// cause that the program has, or by `OutOfMemory`.
+pub fn write_unit(
+    alloc: Global,
+    program: &LineProgram,
+    line_strings: &mut LineStringTable,
+) -> gimli_write::Result<EndianVec<LittleEndian>>
+    requires can { CanWrite program.now (texts_in [] line_strings.old) }
+    ensures unit { IfOk result (λ section. Appends (unit_bytes false program.now.encoding
+        program.now (texts_in [] line_strings.old)) [] section.bytes) }
+{
+    let mut section = DebugLine::from(EndianVec::new(alloc, LittleEndian));
+    let mut strings = StringTable::default(alloc);
+    program.write(&mut section, program.encoding(), line_strings, &mut strings)?;
+    Ok(section.0)
 }
 
 /// Lines 3 and 4 of `a.c` in `/w`: the first at 0x1000, the second from 0x1004 up to 0x1009.

@@ -3,16 +3,18 @@
 
 ghost use Rattle.std.specs.Prelude.{◌+◌, ◌<◌, ◌^◌, IfOk};
 ghost use Rattle.std.specs.Option.{SomeIff};
+ghost use Rattle.gimli_write.specs.Conditions.{CanWrite};
+ghost use Rattle.gimli_write.specs.StringTables.{texts_in};
 ghost use Rattle.gimli_write.specs.convert.KeptTables.{IsWritable};
 
 use anyhow::{Result, bail};
 use gimli_core::{DebugLineOffset, Encoding, EndianSlice, LittleEndian, Reader};
-use gimli_line::{DebugLine, IncompleteLineProgram};
+use gimli_line::{DebugLine, IncompleteLineProgram, LineRow};
 use gimli_write::{
     Address, ConvertLineProgram, ConvertResult, EndianVec, LineProgram, LineStringTable, RoundTrip,
     StringTable, round_trip,
 };
-use std::alloc::Global;
+use std::alloc::{AllocError, Global};
 use std::fmt::Write;
 use std::fs;
 
@@ -42,16 +44,29 @@ pub fn start(rt: &HostRuntime, words: &[String]) -> Result<()> {
         name: known.get(1).map(|text| text.as_bytes()),
     };
     let digits = by.strip_prefix("0x").unwrap_or(by.as_str());
-    let shifted = shift(rt.alloc(), unit, u64::from_str_radix(digits, 16)?)?;
+    let by = u64::from_str_radix(digits, 16)?;
     let mut text = String::new(rt.alloc());
-    for row in &shifted.rows {
+    print_shifted(rt.alloc(), unit, by, &mut text)?;
+    print!(rt; "{text}")?;
+    Ok(())
+}
+
+/// Adds a line for each row that is read of a unit after it was moved.
+fn print_shifted(alloc: Global, unit: Unit<'_>, by: u64, text: &mut String) -> Result<()> {
+    let shifted = shift(alloc, unit, by)?;
+    print_rows(&shifted.rows, text)?;
+    Ok(())
+}
+
+/// Adds a line for each row.
+fn print_rows(rows: &[LineRow], text: &mut String) -> Result<(), AllocError> {
+    for row in rows {
         let address = row.address();
         let file = row.file_index();
         let line = row.line().map_or(0, |line| line.get());
         let end = if row.end_sequence() { " end" } else { "" };
         writeln!(text, "{address:#x} file {file} line {line}{end}")?;
     }
-    print!(rt; "{text}")?;
     Ok(())
 }
 
@@ -61,29 +76,48 @@ pub fn start(rt: &HostRuntime, words: &[String]) -> Result<()> {
 /// can't be moved so far is refused by `InvalidAddress`, and a row that lies too far after one by
 /// `AddressOverflow`, when it is read.
 pub fn shift<'i>(alloc: Global, unit: Unit<'i>, by: u64) -> ConvertResult<RoundTrip> {
-    let directory = unit
-        .directory
-        .map(|text| EndianSlice::new(text, LittleEndian));
-    let name = unit.name.map(|text| EndianSlice::new(text, LittleEndian));
+    let reader = |text| EndianSlice::new(text, LittleEndian);
     let section = DebugLine::new(unit.section, LittleEndian);
-    let source = section.program(alloc, DebugLineOffset(unit.offset), 8, directory, None)?;
-    let no_texts = EndianSlice::new(b"", LittleEndian);
+    let offset = DebugLineOffset(unit.offset);
+    let source = section.program(alloc, offset, 8, unit.directory.map(reader), None)?;
+    shift_program(alloc, source, unit.name.map(reader), reader(b""), by)
+}
+
+/// The same of the program of any reader, and the name of its unit. `no_texts` is a reader of no
+/// bytes: up to version 4 all texts stand in the header.
+fn shift_program<R: Reader>(
+    alloc: Global,
+    source: IncompleteLineProgram<R>,
+    name: Option<R>,
+    no_texts: R,
+    by: u64,
+) -> ConvertResult<RoundTrip> {
     let mut strings = StringTable::default(alloc);
     let mut line_strings = LineStringTable::default(alloc);
     let program = shifted_program(source, name, no_texts, by, &mut line_strings, &mut strings)?;
+    write_and_read(alloc, &program, &mut line_strings, &mut strings)
+}
+
+/// What is read of a program after it was written.
+fn write_and_read(
+    alloc: Global,
+    program: &LineProgram,
+    line_strings: &mut LineStringTable,
+    strings: &mut StringTable,
+) -> ConvertResult<RoundTrip>
+    requires { CanWrite program.now (texts_in strings.old line_strings.old) }
+{
     let mut lines = gimli_write::DebugLine::from(EndianVec::new(alloc, LittleEndian));
-    let encoding = program.encoding();
     round_trip(
-        &program,
+        program,
         &mut lines,
-        encoding,
-        &mut line_strings,
-        &mut strings,
+        program.encoding(),
+        line_strings,
+        strings,
     )
 }
 
-/// A program in version 5, with each address moved. `no_texts` is a reader of no bytes: up to
-/// version 4 all texts stand in the header.
+/// A program in version 5, with each address moved.
 fn shifted_program<R: Reader>(
     source: IncompleteLineProgram<R>,
     name: Option<R>,

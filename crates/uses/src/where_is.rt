@@ -1,4 +1,4 @@
-//! From addresses to `path:line:column`.
+//! From the addresses of a program to `path:line:column`.
 #![tactic(auto)]
 
 ghost use Rattle.std.specs.Prelude.{◌≡◌, All, IfOk, IfSome, None};
@@ -6,7 +6,8 @@ ghost use Rattle.gimli_lookup.specs.FirstPair.{HasNoPair, IsFirstPair};
 ghost use Rattle.gimli_lookup.specs.Section.{all_sequences};
 
 use anyhow::{Result, bail};
-use gimli_core::{EndianSlice, LittleEndian};
+use elf_sections::Elf;
+use gimli_core::{EndianSlice, LittleEndian, Reader};
 use gimli_line::{ColumnType, DebugLine};
 use gimli_lookup::{PathError, Paths, SectionLookup, StringSections};
 use std::alloc::Global;
@@ -16,52 +17,66 @@ use std::fs;
 /// The least address that code may have: at 0 a linker leaves what it dropped.
 const LOWEST: u64 = 1;
 
-/// A reader over the bytes of a section.
-type Slice<'i> = EndianSlice<'i, LittleEndian>;
-
-/// Reads both sections from files, and prints a line for each address. The second file is empty
-/// where a program has no section `.debug_line_str`.
+/// Reads an ELF file, and prints a line for each address, which has hexadecimal digits.
 pub fn start(rt: &HostRuntime, words: &[String]) -> Result<()> {
-    let [lines, line_strings, addresses @ ..] = words else {
-        bail!("usage: where_is LINES LINE_STRINGS ADDRESS..");
+    let [file, addresses @ ..] = words else {
+        bail!("usage: where_is FILE ADDRESS..");
     };
-    let lines = fs::read(rt, lines.as_str())?;
-    let line_strings = fs::read(rt, line_strings.as_str())?;
-    let mut numbers = Vec::new(rt.alloc());
-    for address in addresses {
-        let digits = address.strip_prefix("0x").unwrap_or(address.as_str());
-        numbers.push(u64::from_str_radix(digits, 16)?)?;
-    }
-    let text = where_is(rt.alloc(), &lines, &line_strings, &numbers)?;
+    let file = fs::read(rt, file.as_str())?;
+    let mut text = String::new(rt.alloc());
+    print_places(rt.alloc(), &file, addresses, &mut text)?;
     print!(rt; "{text}")?;
     Ok(())
 }
 
-/// A line for each address. Refused where memory is missing, and where a file has no path.
-pub fn where_is<'i>(
-    alloc: Global,
-    section: &'i [u8],
-    line_strings: &'i [u8],
-    addresses: &[u64],
-) -> Result<String> {
-    let lookup = SectionLookup::new(&DebugLine::new(section, LittleEndian), alloc, 8, LOWEST)?;
+/// Adds a line for each address of an ELF file.
+fn print_places(alloc: Global, file: &[u8], addresses: &[String], text: &mut String) -> Result<()> {
+    let elf = Elf::parse(file)?;
+    let lines = elf.section(b".debug_line")?.unwrap_or(&[]);
+    let line_strings = elf.section(b".debug_line_str")?.unwrap_or(&[]);
     let sections = StringSections {
         debug_line_str: EndianSlice::new(line_strings, LittleEndian),
         debug_str: EndianSlice::new(b"", LittleEndian),
     };
-    let mut text = String::new(alloc);
+    where_is(
+        alloc,
+        DebugLine::new(lines, LittleEndian),
+        sections,
+        addresses,
+        text,
+    )
+}
+
+/// Adds a line for each address. Refused where a word is no address, where a file has no path, and
+/// where memory is missing.
+pub fn where_is<R: Reader>(
+    alloc: Global,
+    section: DebugLine<R>,
+    sections: StringSections<R>,
+    addresses: &[String],
+    text: &mut String,
+) -> Result<()> {
+    let lookup = SectionLookup::new(&section, alloc, 8, LOWEST)?;
     for address in addresses {
-        match source_at(alloc, &lookup, sections, *address)? {
-            Some(source) => {
-                let path = String::from_utf8_lossy(alloc, &source.path)?;
-                let line = source.line;
-                let column = source.column;
-                writeln!(text, "{address:#x} {path}:{line}:{column}")?;
-            }
-            None => writeln!(text, "{address:#x} ??")?,
-        }
+        print_place(alloc, &lookup, sections, address.as_str(), text)?;
     }
-    Ok(text)
+    Ok(())
+}
+
+/// Adds the line of an address.
+fn print_place<R: Reader>(
+    alloc: Global,
+    lookup: &SectionLookup<R>,
+    sections: StringSections<R>,
+    address: &str,
+    text: &mut String,
+) -> Result<()> {
+    let address = u64::from_str_radix(address.strip_prefix("0x").unwrap_or(address), 16)?;
+    match source_at(alloc, lookup, sections, address)? {
+        Some(source) => print_source(alloc, address, &source, text)?,
+        None => writeln!(text, "{address:#x} ??")?,
+    }
+    Ok(())
 }
 
 /// Where code comes from.
@@ -75,12 +90,26 @@ pub struct Source {
     pub column: u64,
 }
 
+/// Adds the line of an address whose source is known.
+fn print_source(
+    alloc: Global,
+    address: u64,
+    source: &Source,
+    text: &mut String,
+) -> std::result::Result<(), PathError> {
+    let path = String::from_utf8_lossy(alloc, &source.path)?;
+    let line = source.line;
+    let column = source.column;
+    writeln!(text, "{address:#x} {path}:{line}:{column}")?;
+    Ok(())
+}
+
 /// Where the code at an address comes from: what the row says that covers it. None where no row
 /// covers it. Refused where its file has no path.
-pub fn source_at<'i>(
+pub fn source_at<R: Reader>(
     alloc: Global,
-    lookup: &SectionLookup<Slice<'i>>,
-    sections: StringSections<Slice<'i>>,
+    lookup: &SectionLookup<R>,
+    sections: StringSections<R>,
     address: u64,
 ) -> std::result::Result<Option<Source>, PathError>
     ensures none { IfOk result (λ source. source ≡ None
