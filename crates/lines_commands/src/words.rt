@@ -1,16 +1,19 @@
-//! What the words ask for.
+//! The words of the program, and what they ask for.
+//!
+//! [`parse`] reads them by `clap`. What isn't words of the program, and a question for help or the
+//! version, is an error of `clap`, whose text and status are for the user.
 
 ghost use Rattle.std.specs.Prelude.{◌≡◌, ℕ, List, IfOk, IsOk, Some, codes};
 ghost use Rattle.clap.specs.Words.{first_value, found_of};
 ghost use Rattle.lines_commands.specs.Words.{NamesOffset, NamesTarget};
-ghost use Rattle.lines_words.specs.Choice.{ChoosesUnits};
+ghost use Rattle.lines_commands.specs.Choice.{ChoosesUnits};
 
 use crate::grammar::program;
+use crate::input::{Kind, Notation};
+use crate::numbers::{parse_address, parse_offset, parse_target};
+use crate::request::{Command, Form, Request, UnitChoice};
 use clap::error::ErrorKind;
 use clap::{ArgMatches, Error};
-use lines_commands::{
-    Command, Form, Kind, Notation, Request, UnitChoice, parse_address, parse_offset, parse_target,
-};
 use rows_words::{AddressSize, parse_order, parse_size};
 use std::alloc::{AllocError, Global};
 
