@@ -1,12 +1,8 @@
-//! The command `files`: the directories and files of units.
+//! The command `files`: the directories and files of a unit.
 
-use crate::input::Input;
 use crate::output::Output;
 use crate::path_text::PathText;
-use crate::progress::Printing;
-use crate::request::UnitChoice;
 use crate::row_count::RowTotal;
-use crate::walk::Walk;
 use gimli_core::{Reader, ReaderOffset};
 use gimli_line::{FileEntry, IncompleteLineProgram, LineProgramHeader};
 use gimli_lookup::{PathError, Paths, StringSections};
@@ -15,34 +11,16 @@ use std::alloc::Global;
 use std::fmt;
 use std::io::Write;
 
-/// Prints the directories and files of units. The fault of a unit is reported, and the next unit
-/// follows.
-pub(crate) fn print_files<R: Reader, O: Write, E: Write>(
-    alloc: Global,
-    input: &Input<R>,
-    choice: UnitChoice,
-    output: &mut Output<'_, O, E>,
-) {
-    let mut walk = Walk::new(alloc, input, choice, output.screen(), Printing::Steady);
-    for _ in 0..u64::MAX {
-        let Some((offset, program)) = walk.next_program(output) else {
-            break;
-        };
-        print_program(alloc, offset, program, &input.strings, output);
-    }
-}
-
 /// Prints the directories and files of a program, with those that it defines before its first
 /// fault. The fault is reported.
-fn print_program<R: Reader, O: Write, E: Write>(
+pub(crate) fn print_files<R: Reader, O: Write, E: Write>(
     alloc: Global,
     offset: u64,
     program: IncompleteLineProgram<R>,
     strings: &StringSections<R>,
     output: &mut Output<'_, O, E>,
 ) {
-    let version = program.header().version();
-    output.print_heading(format_args!("unit at 0x{offset:x}, version {version}"));
+    output.print_unit_heading(offset, program.header().version());
     let mut rows = program.rows();
     let total = RowTotal::of(&mut rows);
     if let Some(fault) = total.fault {

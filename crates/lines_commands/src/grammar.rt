@@ -136,7 +136,8 @@ impl Argument {
     fn argument<'a>(self, alloc: Global) -> Result<Arg<'a>, AllocError> {
         match self {
             Argument::AddressSize => {
-                let help = "With --raw: the bytes of an address up to version 4: 1, 2, 4 or 8 (8 if unsaid)";
+                let help =
+                    "With --raw: the bytes of an address up to version 4: 1, 2, 4 or 8 (8 if unsaid)";
                 option(alloc, "address-size", "N", help).requires_arg("raw")
             }
             Argument::WholePaths => {

@@ -15,6 +15,7 @@ mod grammar;
 mod input;
 mod input_error;
 mod json_text;
+mod listing;
 mod locate;
 mod lookup;
 mod numbers;

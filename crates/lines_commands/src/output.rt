@@ -5,7 +5,7 @@ ghost use Rattle.std.specs.Prelude.{◌≡◌, ◌≤◌, IfOk};
 use crate::finding::Finding;
 use crate::report::Verdict;
 use crate::row_count::RowCount;
-use crate::screen::Screen;
+use crate::screen::{Screen, Style};
 use gimli_core::Error;
 use std::io::{ErrorKind, Write};
 use std::{fmt, io};
@@ -81,21 +81,20 @@ impl<'o, O: Write, E: Write> Output<'o, O, E> {
 
     /// Prints a line of headings.
     pub(crate) fn print_heading(&mut self, heading: impl fmt::Display + Drop) {
-        let style = self.screen.heading();
-        let begin = style.begin();
-        let end = style.end();
+        let Style { begin, end } = self.screen.heading();
         self.print(format_args!("{begin}{heading}{end}"));
+    }
+
+    /// Prints the heading of the unit at an offset.
+    pub(crate) fn print_unit_heading(&mut self, unit: u64, version: u16) {
+        self.print_heading(format_args!("unit at 0x{unit:x}, version {version}"));
     }
 
     /// Prints what a check finds in the unit at an offset, and counts it.
     pub(crate) fn print_finding(&mut self, unit: u64, finding: Finding) {
         self.found = self.found.saturating_add(1);
-        let style = self.screen.heading();
-        let begin = style.begin();
-        let end = style.end();
-        self.print(format_args!(
-            "{begin}unit at 0x{unit:x}:{end} {finding}"
-        ));
+        let Style { begin, end } = self.screen.heading();
+        self.print(format_args!("{begin}unit at 0x{unit:x}:{end} {finding}"));
     }
 
     /// Hands on what was printed.
@@ -112,9 +111,7 @@ impl<'o, O: Write, E: Write> Output<'o, O, E> {
         self.verdict = Verdict::Faulty;
         if self.failure.is_ok() {
             let name = self.name;
-            let style = self.screen.fault();
-            let begin = style.begin();
-            let end = style.end();
+            let Style { begin, end } = self.screen.fault();
             // Where standard error can't be written to, the status still says it.
             let _ = writeln!(self.err, "lines: {name}: {begin}{sentence}{end}");
         }

@@ -6,15 +6,13 @@ ghost use Rattle.lines_commands.specs.Lines.{HasLines};
 
 use crate::addresses::print_addresses;
 use crate::check::print_check;
-use crate::file_list::print_files;
 use crate::input::{Files, Input, Kind};
+use crate::listing::{Listing, print_each};
 use crate::locate::print_places;
 use crate::output::Output;
 use crate::report::Verdict;
-use crate::request::{Command, Request};
-use crate::row_list::print_rows;
+use crate::request::{Command, Request, UnitChoice};
 use crate::screen::Screen;
-use crate::unit_list::print_units;
 use gimli_core::Reader;
 use std::alloc::Global;
 use std::io;
@@ -77,9 +75,11 @@ fn perform<R: Reader, I: BufRead, O: Write, E: Write>(
             print_places(alloc, sections, addresses, *form, input, output);
         }
         Command::At { path, line } => print_addresses(alloc, sections, path, *line, output),
-        Command::Units => print_units(alloc, sections, output),
-        Command::Files(units) => print_files(alloc, sections, *units, output),
-        Command::Rows { units, form } => print_rows(alloc, sections, *units, *form, output),
+        Command::Units => print_each(alloc, sections, UnitChoice::All, Listing::Line, output),
+        Command::Files(units) => print_each(alloc, sections, *units, Listing::Files, output),
+        Command::Rows { units, form } => {
+            print_each(alloc, sections, *units, Listing::Rows(*form), output);
+        }
         Command::Check => print_check(alloc, sections, output),
     }
 }

@@ -1,44 +1,44 @@
-//! The command `rows`: the rows of units.
+//! The command `rows`: the rows of a unit.
 
 use crate::fields::{FlagLetters, JsonFlags, column_of, line_of};
-use crate::input::Input;
 use crate::json_text::JsonPath;
 use crate::output::Output;
 use crate::path_text::{PathText, last_part};
-use crate::progress::Printing;
-use crate::request::{Form, UnitChoice};
+use crate::request::Form;
 use crate::row_count::RowCount;
-use crate::walk::Walk;
 use gimli_core::Reader;
 use gimli_line::{IncompleteLineProgram, LineProgramHeader, LineRow};
 use gimli_lookup::{PathError, Paths, StringSections};
 use std::alloc::Global;
 use std::io::Write;
 
-/// Prints the rows of units. The fault of a unit is reported, and the next unit follows.
+/// Prints the rows of a program up to its end or its first fault, which is reported.
 pub(crate) fn print_rows<R: Reader, O: Write, E: Write>(
     alloc: Global,
-    input: &Input<R>,
-    choice: UnitChoice,
+    offset: u64,
     form: Form,
+    program: IncompleteLineProgram<R>,
+    strings: &StringSections<R>,
     output: &mut Output<'_, O, E>,
 ) {
-    let mut walk = Walk::new(alloc, input, choice, output.screen(), Printing::Steady);
-    for _ in 0..u64::MAX {
-        let Some((offset, program)) = walk.next_program(output) else {
-            break;
-        };
-        let mut printer = RowPrinter {
-            alloc,
-            offset,
-            form,
-            file: None,
-            path: None,
-            rows: 0,
-        };
-        printer.print_headings(program.header(), output);
-        printer.print_program(program, &input.strings, output);
+    if form != Form::Json {
+        print_headings(offset, program.header().version(), output);
     }
+    let mut printer = RowPrinter {
+        alloc,
+        offset,
+        form,
+        file: None,
+        path: None,
+        rows: 0,
+    };
+    printer.print_program(program, strings, output);
+}
+
+/// Prints what stands above rows.
+fn print_headings<O: Write, E: Write>(offset: u64, version: u16, output: &mut Output<'_, O, E>) {
+    output.print_unit_heading(offset, version);
+    output.print_heading("           address     line  column  discr  isa  flags  file");
 }
 
 /// What prints the rows of a unit one after the other, and keeps the path of the last one's file.
@@ -56,22 +56,6 @@ struct RowPrinter {
 }
 
 impl RowPrinter {
-    /// Prints what stands above rows.
-    fn print_headings<R: Reader, O: Write, E: Write>(
-        &self,
-        header: &LineProgramHeader<R>,
-        output: &mut Output<'_, O, E>,
-    ) {
-        if self.form != Form::Json {
-            let offset = self.offset;
-            let version = header.version();
-            output.print_heading(format_args!("unit at 0x{offset:x}, version {version}"));
-            output.print_heading(
-                "           address     line  column  discr  isa  flags  file",
-            );
-        }
-    }
-
     /// Prints the rows of a program up to its end or its first fault, which is reported.
     fn print_program<R: Reader, O: Write, E: Write>(
         &mut self,

@@ -1,44 +1,21 @@
-//! The command `units`: a line for each unit of a section.
+//! The command `units`: the line of a unit.
 
-use crate::input::Input;
 use crate::output::Output;
-use crate::progress::Printing;
-use crate::request::UnitChoice;
 use crate::row_count::RowTotal;
-use crate::walk::Walk;
 use gimli_core::{Error, Format, Reader, ReaderOffset};
 use gimli_line::{IncompleteLineProgram, LineProgramHeader};
-use std::alloc::Global;
 use std::io::Write;
 
-/// Prints a line for each unit whose header can be read, under headings. The fault of a unit is
-/// reported, and the next unit follows.
-pub(crate) fn print_units<R: Reader, O: Write, E: Write>(
-    alloc: Global,
-    input: &Input<R>,
-    output: &mut Output<'_, O, E>,
-) {
+/// Prints what stands above the lines of units.
+pub(crate) fn print_headings<O: Write, E: Write>(output: &mut Output<'_, O, E>) {
     output.print_heading(
         "    offset  version  format  address  files  sequences      rows     bytes",
     );
-    let mut walk = Walk::new(
-        alloc,
-        input,
-        UnitChoice::All,
-        output.screen(),
-        Printing::Steady,
-    );
-    for _ in 0..u64::MAX {
-        let Some((offset, program)) = walk.next_program(output) else {
-            break;
-        };
-        print_unit(offset, program, output);
-    }
 }
 
 /// Prints the line of a unit, with the files that are defined before the first fault of its
 /// program, and reports the fault.
-fn print_unit<R: Reader, O: Write, E: Write>(
+pub(crate) fn print_unit<R: Reader, O: Write, E: Write>(
     offset: u64,
     program: IncompleteLineProgram<R>,
     output: &mut Output<'_, O, E>,
@@ -69,10 +46,7 @@ fn print_line<R: Reader, O: Write, E: Write>(
     let files = header.file_names().len();
     let sequences = total.sequences;
     let rows = total.rows;
-    let bytes = header
-        .unit_length()
-        .into_u64()
-        .saturating_add(length_size);
+    let bytes = header.unit_length().into_u64().saturating_add(length_size);
     output.print(format_args!(
         "0x{offset:08x}  {version:>7}  {format}  {address_size:>7}  {files:>5}  {sequences:>9}  {rows:>8}  {bytes:>8}"
     ));
