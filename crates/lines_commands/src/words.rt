@@ -60,23 +60,28 @@ fn request_of<'w>(alloc: Global, matches: &ArgMatches<'w>) -> Result<Request<'w>
 
 /// How the file is read.
 fn kind_of<'w>(matches: &ArgMatches<'w>) -> Result<Kind, Mistake<'w>> {
-    let Some(order) = matches.get_str("raw") else {
+    let Some(word) = matches.get_str("raw") else {
         return Ok(Kind::Elf);
     };
-    let Some(order) = parse_order(order) else {
-        return Err(Mistake::Word(order, "an order of bytes, little or big"));
+    let Some(order) = parse_order(word) else {
+        return Err(Mistake::Word(word, "an order of bytes, little or big"));
     };
-    let address_size = match matches.get_str("address-size") {
-        None => AddressSize::Eight,
-        Some(size) => match parse_size(size) {
-            Some(size) => size,
-            None => return Err(Mistake::Word(size, "an address size: 1, 2, 4 or 8")),
-        },
-    };
+    let address_size = address_size_of(matches)?;
     Ok(Kind::Raw(Notation {
         order,
         address_size,
     }))
+}
+
+/// How wide an address is in a raw section.
+fn address_size_of<'w>(matches: &ArgMatches<'w>) -> Result<AddressSize, Mistake<'w>> {
+    let Some(word) = matches.get_str("address-size") else {
+        return Ok(AddressSize::Eight);
+    };
+    match parse_size(word) {
+        Some(size) => Ok(size),
+        None => Err(Mistake::Word(word, "an address size: 1, 2, 4 or 8")),
+    }
 }
 
 /// The command of a name.
