@@ -67,15 +67,17 @@ impl<'i> Input<Slice<'i>> {
     pub(crate) fn new(kind: Kind, files: Files<'i>) -> Result<Input<Slice<'i>>, InputError>
         ensures elf { kind ≡ Kind.Elf → OnOk result (HasLines files.entry.file.now) }
     {
-        let program = match kind {
-            Kind::Elf => Program::of_elf(files)?,
-            Kind::Raw(notation) => Program {
+        match kind {
+            Kind::Elf => {
+                let program = Program::of_elf(files)?;
+                Ok(Input::of_program(program))
+            }
+            Kind::Raw(notation) => Ok(Input::of_program(Program {
                 notation,
                 sections: files,
                 lowest: 0,
-            },
-        };
-        Ok(Input::of_program(program))
+            })),
+        }
     }
 
     /// The sections by their bytes.
