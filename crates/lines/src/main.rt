@@ -38,7 +38,7 @@ fn start(rt: &HostRuntime) -> io::Result<u8> {
     for word in &arguments {
         words.push(word.as_str())?;
     }
-    match lines_words::parse(alloc, &words) {
+    match lines_commands::parse(alloc, &words) {
         Ok(request) => run(rt, &request),
         Err(error) => {
             error.print(rt)?;

@@ -1,43 +1,45 @@
 //! What is found in one unit.
 
-use crate::check::Findings;
 use crate::duplicates::check_files;
 use crate::finding::Finding;
 use crate::input::Input;
+use crate::output::Output;
 use crate::overlaps::Sequence;
-use crate::walk::fault;
+use gimli_core::{Error, Reader, ReaderOffset};
 use gimli_line::{IncompleteLineProgram, LineInstruction, LineProgramHeader, LineRow, LineUnit};
-use rows_reading::Slice;
 use std::alloc::Global;
-use std::io;
 use std::io::Write;
 
 /// Prints what is found in a unit, and adds its sequences to others.
-pub(crate) fn check_unit<O: Write>(
+pub(crate) fn check_unit<R: Reader, O: Write, E: Write>(
     alloc: Global,
-    input: &Input<'_>,
-    unit: LineUnit<Slice<'_>>,
+    input: &Input<R>,
+    unit: LineUnit<R>,
     sequences: &mut Vec<Sequence>,
-    findings: &mut Findings<'_, O>,
-) -> io::Result<()> {
+    output: &mut Output<'_, O, E>,
+) {
+    let offset = unit.offset.0.into_u64();
     let mut program = match unit.program {
         Ok(program) => program,
-        Err(e) => return findings.print(Finding::Header(fault(e)?)),
+        Err(refusal) => return output.print_finding(offset, Finding::Header(refusal)),
     };
     let mut check = RowCheck {
+        unit: offset,
         lowest: input.lowest,
         rows: 0,
         rows_since_end: 0,
         start: None,
         is_left_out: false,
     };
-    check.run(&mut program, sequences, findings)?;
-    check_files(alloc, program.header(), input.strings, findings)
+    check.run(&mut program, sequences, output);
+    check_files(alloc, offset, program.header(), &input.strings, output);
 }
 
 /// What is kept of the rows of a unit.
 #[derive(Clone, Copy)]
 struct RowCheck {
+    /// The offset of the unit.
+    unit: u64,
     /// An address below which there is no code.
     lowest: u64,
     /// How many rows there were, those that are left out not among them.
@@ -52,153 +54,148 @@ struct RowCheck {
 
 impl RowCheck {
     /// Runs a program up to its end or its first fault.
-    fn run<O: Write>(
+    fn run<R: Reader, O: Write, E: Write>(
         &mut self,
-        program: &mut IncompleteLineProgram<Slice<'_>>,
+        program: &mut IncompleteLineProgram<R>,
         sequences: &mut Vec<Sequence>,
-        findings: &mut Findings<'_, O>,
-    ) -> io::Result<()> {
+        output: &mut Output<'_, O, E>,
+    ) {
         let mut instructions = program.header().instructions();
         let mut row = LineRow::new(program.header());
         for _ in 0..u64::MAX {
-            let next = instructions.next_instruction(program.header());
-            let before = row.address();
-            let (set, made) = match next {
-                Ok(Some(instruction)) => {
-                    let set = set_address(&instruction);
-                    (set, row.execute(instruction, program))
-                }
-                Ok(None) => break,
-                Err(e) => (None, Err(e)),
+            let instruction = match instructions.next_instruction(program.header()) {
+                Ok(Some(instruction)) => instruction,
+                Ok(None) => return self.finish(output),
+                Err(fault) => return self.stop(fault, output),
             };
-            match made {
+            let set = set_address(&instruction);
+            let before = row.address();
+            match row.execute(instruction, program) {
                 Ok(is_made) => {
-                    self.look_at_address(set, before, row.address(), findings)?;
+                    self.look_at_address(set, before, row.address(), output);
                     if is_made {
-                        self.take_row(program.header(), &row, sequences, findings)?;
+                        self.take_row(program.header(), &row, sequences, output);
                         row.reset(program.header());
                     }
                 }
-                Err(e) => {
-                    let error = fault(e)?;
-                    let rows = self.rows;
-                    return findings.print(Finding::Program { rows, error });
-                }
+                Err(fault) => return self.stop(fault, output),
+            }
+            if output.has_failed() {
+                break;
             }
         }
-        self.finish(findings)
     }
 
-    /// Looks at an address that was set. It is a tombstone for the rows that follow where the address of the row
-    /// isn't it.
-    fn look_at_address<O: Write>(
+    /// Looks at an address that was set. It is a tombstone for the rows that follow where the
+    /// address of the row isn't it.
+    fn look_at_address<O: Write, E: Write>(
         &mut self,
         set: Option<u64>,
         before: u64,
         after: u64,
-        findings: &mut Findings<'_, O>,
-    ) -> io::Result<()> {
+        output: &mut Output<'_, O, E>,
+    ) {
         let Some(address) = set else {
-            return Ok(());
+            return;
         };
         self.is_left_out = address != after;
-        if !self.is_left_out {
-            return Ok(());
-        }
-        let rows = self.rows;
-        if address < before {
-            findings.print(Finding::AddressGoesDown {
-                rows,
-                from: before,
-                to: address,
-            })
-        } else {
-            findings.print(Finding::Tombstone { rows, address })
+        if self.is_left_out {
+            let rows = self.rows;
+            let finding = if address < before {
+                Finding::AddressGoesDown {
+                    rows,
+                    from: before,
+                    to: address,
+                }
+            } else {
+                Finding::Tombstone { rows, address }
+            };
+            output.print_finding(self.unit, finding);
         }
     }
 
     /// Looks at a row, and at the sequence that it ends.
-    fn take_row<O: Write>(
+    fn take_row<R: Reader, O: Write, E: Write>(
         &mut self,
-        header: &LineProgramHeader<Slice<'_>>,
+        header: &LineProgramHeader<R>,
         row: &LineRow,
         sequences: &mut Vec<Sequence>,
-        findings: &mut Findings<'_, O>,
-    ) -> io::Result<()> {
+        output: &mut Output<'_, O, E>,
+    ) {
         if self.is_left_out {
             self.is_left_out = !row.end_sequence();
-            return Ok(());
+            return;
         }
         self.rows = self.rows.saturating_add(1);
+        let address = row.address();
         if row.end_sequence() {
-            return self.end_sequence(row.address(), sequences, findings);
+            if !self.end_sequence(address, sequences) {
+                output.fail_for_memory();
+            }
+            return;
         }
         self.rows_since_end = self.rows_since_end.saturating_add(1);
-        self.begin_at(row.address(), findings)?;
+        self.begin_at(address, output);
         let file = row.file_index();
         if header.file(file).is_none() {
-            findings.print(Finding::NoFile {
+            let finding = Finding::NoFile {
                 row: self.rows,
-                address: row.address(),
+                address,
                 file,
-            })?;
+            };
+            output.print_finding(self.unit, finding);
         }
-        Ok(())
     }
 
     /// Keeps the least address of the rows of a sequence, and looks at the first one.
-    fn begin_at<O: Write>(
-        &mut self,
-        address: u64,
-        findings: &mut Findings<'_, O>,
-    ) -> io::Result<()> {
-        let Some(start) = self.start else {
-            self.start = Some(address);
-            if address < self.lowest {
-                return findings.print(Finding::BelowCode {
-                    row: self.rows,
-                    address,
-                    lowest: self.lowest,
-                });
-            }
-            return Ok(());
-        };
-        self.start = Some(start.min(address));
-        Ok(())
+    fn begin_at<O: Write, E: Write>(&mut self, address: u64, output: &mut Output<'_, O, E>) {
+        if self.start.is_none() && address < self.lowest {
+            let finding = Finding::BelowCode {
+                row: self.rows,
+                address,
+                lowest: self.lowest,
+            };
+            output.print_finding(self.unit, finding);
+        }
+        self.start = Some(self.start.unwrap_or(address).min(address));
     }
 
     /// Keeps the addresses of a sequence that ends here. One that begins below the lowest address
-    /// of code is dead, and one without an address between overlaps nothing.
-    fn end_sequence<O: Write>(
-        &mut self,
-        end: u64,
-        sequences: &mut Vec<Sequence>,
-        findings: &Findings<'_, O>,
-    ) -> io::Result<()> {
+    /// of code is dead, and one without an address between overlaps nothing. False where memory is
+    /// missing.
+    fn end_sequence(&mut self, end: u64, sequences: &mut Vec<Sequence>) -> bool {
+        let start = self.start;
         self.rows_since_end = 0;
-        if let Some(start) = self.start.take() {
-            if start < end && start >= self.lowest {
-                sequences.push(Sequence {
-                    start,
-                    end,
-                    unit: findings.unit,
-                })?;
+        self.start = None;
+        match start {
+            Some(start) if start < end && start >= self.lowest => {
+                let unit = self.unit;
+                sequences.push(Sequence { start, end, unit }).is_ok()
             }
+            _ => true,
         }
-        Ok(())
     }
 
     /// Looks at the end of the program.
-    fn finish<O: Write>(&self, findings: &mut Findings<'_, O>) -> io::Result<()> {
+    fn finish<O: Write, E: Write>(&self, output: &mut Output<'_, O, E>) {
         match self.rows_since_end {
-            0 => Ok(()),
-            rows => findings.print(Finding::NoEnd { rows }),
+            0 => {}
+            rows => output.print_finding(self.unit, Finding::NoEnd { rows }),
+        }
+    }
+
+    /// Prints the fault that ends the program. Missing memory is no fault of it.
+    fn stop<O: Write, E: Write>(&self, error: Error, output: &mut Output<'_, O, E>) {
+        let rows = self.rows;
+        match error {
+            Error::OutOfMemory => output.fail_for_memory(),
+            error => output.print_finding(self.unit, Finding::Program { rows, error }),
         }
     }
 }
 
 /// The address that an instruction sets, where it does.
-fn set_address(instruction: &LineInstruction<Slice<'_>>) -> Option<u64> {
+fn set_address<R: Reader>(instruction: &LineInstruction<R>) -> Option<u64> {
     match instruction {
         LineInstruction::SetAddress(address) => Some(*address),
         _ => None,

@@ -85,15 +85,6 @@ impl fmt::Display for Finding {
                 let rows = RowCount(rows);
                 write!(f, "no sequence ends after the last {rows}")
             }
-            _ => self.fmt_addresses(f),
-        }
-    }
-}
-
-impl Finding {
-    /// The sentence of what is found in addresses.
-    fn fmt_addresses<W: fmt::Write>(&self, f: &mut fmt::Formatter<W>) -> fmt::Result {
-        match *self {
             Finding::AddressGoesDown { rows, from, to } => {
                 let rows = RowCount(rows);
                 write!(
@@ -126,7 +117,6 @@ impl Finding {
                 f,
                 "the sequence from 0x{start:x} to 0x{end:x} overlaps that from 0x{other_start:x} to 0x{other_end:x} in the unit at 0x{other_unit:x}"
             ),
-            _ => Ok(()),
         }
     }
 }

@@ -6,10 +6,8 @@ ghost use Rattle.elf_sections.specs.Elf.{file_of};
 ghost use Rattle.lines_commands.specs.Lines.{HasLines};
 
 use crate::input_error::InputError;
-use crate::report::InputFile;
-use crate::screen::Screen;
 use elf_sections::{Elf, ElfError};
-use gimli_core::{EndianSlice, RunTimeEndian};
+use gimli_core::{EndianSlice, Reader, ReaderOffset, RunTimeEndian, Section};
 use gimli_line::DebugLine;
 use gimli_lookup::StringSections;
 use rows_reading::Slice;
@@ -46,68 +44,54 @@ pub struct Files<'i> {
 
 /// The sections of a program that a command reads.
 #[derive(Clone, Copy)]
-pub(crate) struct Input<'i> {
-    /// The file, as faults name it.
-    pub(crate) file: InputFile<'i>,
-    /// What the outputs are shown on.
-    pub(crate) screen: Screen,
-    /// The length of the section of line programs in bytes.
-    pub(crate) length: usize,
+pub(crate) struct Input<R> {
     /// The line programs.
-    pub(crate) lines: DebugLine<Slice<'i>>,
+    pub(crate) lines: DebugLine<R>,
     /// The sections of texts.
-    pub(crate) strings: StringSections<Slice<'i>>,
+    pub(crate) strings: StringSections<R>,
     /// How wide an address is, where the unit doesn't say.
     pub(crate) address_size: AddressSize,
     /// An address below which there is no code, 0 where none is known.
     pub(crate) lowest: u64,
 }
 
-impl<'i> Input<'i> {
+impl<R: Reader> Input<R> {
+    /// The length of the section of line programs in bytes.
+    pub(crate) fn length(&self) -> u64 {
+        self.lines.reader().len().into_u64()
+    }
+}
+
+impl<'i> Input<Slice<'i>> {
     /// The sections of files. Refused as `InputError` says.
-    pub(crate) fn new(
-        file: InputFile<'i>,
-        screen: Screen,
-        kind: Kind,
-        files: Files<'i>,
-    ) -> Result<Input<'i>, InputError>
+    pub(crate) fn new(kind: Kind, files: Files<'i>) -> Result<Input<Slice<'i>>, InputError>
         ensures elf { kind ≡ Kind.Elf → OnOk result (HasLines files.entry.file.now) }
     {
         match kind {
             Kind::Elf => {
                 let program = Program::of_elf(files)?;
-                Ok(Input::of_program(file, screen, program))
+                Ok(Input::of_program(program))
             }
-            Kind::Raw(notation) => {
-                let program = Program {
-                    notation,
-                    sections: files,
-                    lowest: 0,
-                };
-                Ok(Input::of_program(file, screen, program))
-            }
+            Kind::Raw(notation) => Ok(Input::of_program(Program {
+                notation,
+                sections: files,
+                lowest: 0,
+            })),
         }
     }
 
     /// The sections by their bytes.
-    fn of_program(file: InputFile<'i>, screen: Screen, program: Program<'i>) -> Input<'i> {
-        let Program {
-            notation,
-            sections,
-            lowest,
-        } = program;
-        let order = notation.order;
+    fn of_program(program: Program<'i>) -> Input<Slice<'i>> {
+        let order = program.notation.order;
+        let sections = program.sections;
         Input {
-            file,
-            screen,
-            length: sections.file.len(),
             lines: DebugLine::new(sections.file, order),
             strings: StringSections {
                 debug_line_str: EndianSlice::new(sections.line_str, order),
                 debug_str: EndianSlice::new(sections.strings, order),
             },
-            address_size: notation.address_size,
-            lowest,
+            address_size: program.notation.address_size,
+            lowest: program.lowest,
         }
     }
 }

@@ -2,16 +2,20 @@
 
 use std::fmt;
 
-/// A path as a JSON string. In a path that isn't UTF-8 each byte that isn't ASCII stands as U+FFFD.
+/// A path as a JSON string, or null where there is none. In a path that isn't UTF-8 each byte that
+/// isn't ASCII stands as U+FFFD.
 #[derive(Clone, Copy)]
-pub(crate) struct JsonText<'p>(pub(crate) &'p [u8]);
+pub(crate) struct JsonPath<'p>(pub(crate) Option<&'p [u8]>);
 
-impl fmt::Display for JsonText<'_> {
+impl fmt::Display for JsonPath<'_> {
     fn fmt<W: fmt::Write>(&self, f: &mut fmt::Formatter<W>) -> fmt::Result {
+        let Some(path) = self.0 else {
+            return f.write_str("null");
+        };
         f.write_char('"')?;
-        match str::from_utf8(self.0) {
+        match str::from_utf8(path) {
             Ok(text) => write_text(text, f)?,
-            Err(_) => write_lossy(self.0, f)?,
+            Err(_) => write_lossy(path, f)?,
         }
         f.write_char('"')
     }

@@ -1,21 +1,25 @@
-//! The commands of the program `lines`: over the bytes of files, what is printed on standard output
-//! and standard error.
+//! The program `lines` but for its `main`: its words, and its commands over the bytes of files.
 //!
-//! [`Request`] is what the words ask for, [`Files`] the bytes that it names, and [`run`] does it.
+//! [`parse`] reads the words, [`Request`] is what they ask for, [`Files`] the bytes that it names,
+//! and [`run`] does it: it prints on writers in place of standard output and standard error.
 #![tactic(auto)]
 
 mod addresses;
 mod check;
 mod check_unit;
 mod duplicates;
+mod fields;
 mod file_list;
 mod finding;
-mod flags;
+mod grammar;
 mod input;
 mod input_error;
 mod json_text;
+mod listing;
 mod locate;
+mod lookup;
 mod numbers;
+mod output;
 mod overlaps;
 mod path_text;
 mod paths_seen;
@@ -28,9 +32,11 @@ mod row_list;
 mod screen;
 mod unit_list;
 mod walk;
+mod words;
 
 pub use input::{Files, Kind, Notation};
 pub use numbers::{parse_address, parse_offset, parse_target};
 pub use perform::{run, run_on};
 pub use request::{Command, Form, Request, UnitChoice};
 pub use screen::Screen;
+pub use words::parse;

@@ -1,8 +1,7 @@
 //! Sequences that overlap.
 
-use crate::check::Findings;
 use crate::finding::Finding;
-use std::io;
+use crate::output::Output;
 use std::io::Write;
 
 /// The addresses of a sequence, by its rows that are not left out.
@@ -18,16 +17,18 @@ pub(crate) struct Sequence {
 
 /// Prints each sequence that begins before the end of one that begins no later than it. They are
 /// sorted for this.
-pub(crate) fn print_overlaps<O: Write>(
+pub(crate) fn print_overlaps<O: Write, E: Write>(
     sequences: &mut Vec<Sequence>,
-    findings: &mut Findings<'_, O>,
-) -> io::Result<()> {
-    sequences.sort()?;
+    output: &mut Output<'_, O, E>,
+) {
+    if sequences.sort().is_err() {
+        return output.fail_for_memory();
+    }
     let mut furthest: Option<Sequence> = None;
     for sequence in sequences.iter() {
         match furthest {
             Some(other) if sequence.start < other.end => {
-                print_overlap(*sequence, other, findings)?;
+                print_overlap(*sequence, other, output);
                 if sequence.end > other.end {
                     furthest = Some(*sequence);
                 }
@@ -35,21 +36,20 @@ pub(crate) fn print_overlaps<O: Write>(
             _ => furthest = Some(*sequence),
         }
     }
-    Ok(())
 }
 
 /// Prints that a sequence overlaps another.
-fn print_overlap<O: Write>(
+fn print_overlap<O: Write, E: Write>(
     sequence: Sequence,
     other: Sequence,
-    findings: &mut Findings<'_, O>,
-) -> io::Result<()> {
-    findings.unit = sequence.unit;
-    findings.print(Finding::Overlap {
+    output: &mut Output<'_, O, E>,
+) {
+    let finding = Finding::Overlap {
         start: sequence.start,
         end: sequence.end,
         other_unit: other.unit,
         other_start: other.start,
         other_end: other.end,
-    })
+    };
+    output.print_finding(sequence.unit, finding);
 }

@@ -19,7 +19,7 @@ impl fmt::Display for PathText<'_> {
 
 /// Whether a byte is printable ASCII.
 fn is_plain(byte: u8) -> bool {
-    (b' '..=b'~').contains(&byte)
+    byte == b' ' || byte.is_ascii_graphic()
 }
 
 /// Writes characters, a control character by its number.

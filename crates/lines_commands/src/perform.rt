@@ -4,16 +4,16 @@
 ghost use Rattle.std.specs.Prelude.{◌≡◌, ◌≤◌, IfOk, Ok};
 ghost use Rattle.lines_commands.specs.Lines.{HasLines};
 
-use crate::addresses::{Target, print_addresses};
+use crate::addresses::print_addresses;
 use crate::check::print_check;
-use crate::file_list::print_files;
 use crate::input::{Files, Input, Kind};
-use crate::locate::Places;
-use crate::report::{InputFile, Verdict};
-use crate::request::{Command, Form, Request};
-use crate::row_list::print_rows;
+use crate::listing::{Listing, print_each};
+use crate::locate::print_places;
+use crate::output::Output;
+use crate::report::Verdict;
+use crate::request::{Command, Request, UnitChoice};
 use crate::screen::Screen;
-use crate::unit_list::print_units;
+use gimli_core::Reader;
 use std::alloc::Global;
 use std::io;
 use std::io::{BufRead, Write};
@@ -50,62 +50,36 @@ pub fn run_on<I: BufRead, O: Write, E: Write>(
     ensures status { IfOk result (λ status. status ≤ 1) }
     ensures no_lines { request.now.kind ≡ Kind.Elf → (HasLines files.entry.file.now → ⊥) → result ≡ Ok 1 }
 {
-    let file = InputFile {
-        name: request.file,
-        style: screen.fault(),
-    };
-    let sections = match Input::new(file, screen, request.kind, files) {
+    let mut output = Output::new(request.file, screen, out, err);
+    let sections = match Input::new(request.kind, files) {
         Ok(sections) => sections,
-        Err(refusal) => return Ok(file.tell(err, refusal).status()),
+        Err(refusal) => {
+            output.tell(refusal);
+            return Ok(Verdict::Faulty.status());
+        }
     };
-    let verdict = perform(alloc, &request.command, sections, input, out, err)?;
-    out.flush()?;
-    Ok(verdict.status())
+    perform(alloc, &request.command, &sections, input, &mut output);
+    output.finish()
 }
 
 /// Does what a command asks for.
-fn perform<I: BufRead, O: Write, E: Write>(
+fn perform<R: Reader, I: BufRead, O: Write, E: Write>(
     alloc: Global,
     command: &Command<'_>,
-    sections: Input<'_>,
+    sections: &Input<R>,
     input: &mut I,
-    out: &mut O,
-    err: &mut E,
-) -> io::Result<Verdict> {
+    output: &mut Output<'_, O, E>,
+) {
     match command {
         Command::Where { addresses, form } => {
-            print_places(alloc, addresses, *form, sections, input, out, err)
+            print_places(alloc, sections, addresses, *form, input, output);
         }
-        Command::At { path, line } => {
-            let target = Target {
-                path: *path,
-                line: *line,
-            };
-            print_addresses(alloc, &sections, target, out, err)
+        Command::At { path, line } => print_addresses(alloc, sections, path, *line, output),
+        Command::Units => print_each(alloc, sections, UnitChoice::All, Listing::Line, output),
+        Command::Files(units) => print_each(alloc, sections, *units, Listing::Files, output),
+        Command::Rows { units, form } => {
+            print_each(alloc, sections, *units, Listing::Rows(*form), output);
         }
-        Command::Units => print_units(alloc, &sections, out, err),
-        Command::Files(units) => print_files(alloc, &sections, *units, out, err),
-        Command::Rows { units, form } => print_rows(alloc, &sections, *units, *form, out, err),
-        Command::Check => print_check(alloc, &sections, out, err),
+        Command::Check => print_check(alloc, sections, output),
     }
-}
-
-/// Prints the places of addresses, or of those of standard input where there are none.
-fn print_places<I: BufRead, O: Write, E: Write>(
-    alloc: Global,
-    addresses: &[u64],
-    form: Form,
-    sections: Input<'_>,
-    input: &mut I,
-    out: &mut O,
-    err: &mut E,
-) -> io::Result<Verdict> {
-    let places = Places::new(alloc, sections, form, err)?;
-    let faults = places.tell_faults(err);
-    let verdict = if addresses.is_empty() {
-        places.print_as_they_come(alloc, input, out, err)?
-    } else {
-        places.print_each(alloc, addresses, out, err)?
-    };
-    Ok(faults.and(verdict))
 }

@@ -1,6 +1,7 @@
 //! How far a long command is, on standard error where that is a terminal.
 
-use crate::input::Input;
+use crate::output::Output;
+use crate::screen::Screen;
 use std::io::Write;
 
 /// The length of a section from which on a person waits for it, in bytes.
@@ -29,52 +30,42 @@ pub(crate) struct Progress {
 impl Progress {
     /// Nothing was printed yet. Nothing is, where standard error is no terminal or the section is
     /// short.
-    pub(crate) fn new(input: &Input<'_>, printing: Printing) -> Progress {
-        let whole = input.length as u64;
-        let is_seen = printing == Printing::Steady && input.screen.is_out;
+    pub(crate) fn new(whole: u64, screen: Screen, printing: Printing) -> Progress {
+        let is_seen = printing == Printing::Steady && screen.is_out;
         Progress {
             whole,
-            is_told: input.screen.is_err && whole >= LONG && !is_seen,
+            is_told: screen.is_err && whole >= LONG && !is_seen,
             shown: None,
         }
     }
 
-    /// Whether there is something new to tell, at the unit at an offset.
-    pub(crate) fn is_due(self, offset: u64) -> bool {
-        self.is_told && self.shown != Some(self.percent(offset))
-    }
-
-    /// Tells how far a command is that begins with the unit at an offset.
-    pub(crate) fn show<E: Write>(&mut self, offset: u64, err: &mut E) {
-        if self.is_due(offset) {
-            let percent = self.percent(offset);
+    /// Tells how far a command is that begins with the unit at an offset, where that is new. The
+    /// lines before it are handed on first.
+    pub(crate) fn show<O: Write, E: Write>(&mut self, offset: u64, output: &mut Output<'_, O, E>) {
+        let hundredth = (self.whole / 100).max(1);
+        let percent = (offset / hundredth).min(99);
+        if self.is_told && self.shown != Some(percent) {
             let megabytes = self.whole >> 20;
-            // Where standard error takes nothing, the command goes on.
-            let _ = write!(err, "lines: {percent}% of {megabytes} MB\r");
+            output.flush();
+            output.show(format_args!("lines: {percent}% of {megabytes} MB"));
             self.shown = Some(percent);
         }
     }
 
-    /// The hundredths of the section that stand before an offset.
-    fn percent(self, offset: u64) -> u64 {
-        let hundredth = (self.whole / 100).max(1);
-        (offset / hundredth).min(99)
-    }
-
     /// Tells that a command reads the whole section before it prints anything.
-    pub(crate) fn show_whole<E: Write>(&mut self, err: &mut E) {
+    pub(crate) fn show_whole<O: Write, E: Write>(&mut self, output: &mut Output<'_, O, E>) {
         if self.is_told {
             let megabytes = self.whole >> 20;
-            let _ = write!(err, "lines: reading {megabytes} MB\r");
+            output.show(format_args!("lines: reading {megabytes} MB"));
             self.shown = Some(0);
         }
     }
 
     /// Clears what was printed.
-    pub(crate) fn clear<E: Write>(&mut self, err: &mut E) {
+    pub(crate) fn clear<O: Write, E: Write>(&mut self, output: &mut Output<'_, O, E>) {
         if self.shown.is_some() {
             let blanks = "";
-            let _ = write!(err, "{blanks:40}\r");
+            output.show(format_args!("{blanks:40}"));
             self.shown = None;
         }
     }

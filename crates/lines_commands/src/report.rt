@@ -1,10 +1,6 @@
-//! What is reported on standard error, and whether there was anything to report.
+//! Whether a command reported anything.
 
 ghost use Rattle.std.specs.Prelude.{◌≡◌, ◌≤◌, ◌↔◌};
-
-use crate::screen::Style;
-use std::io::Write;
-use std::{fmt, io};
 
 /// Whether something was refused or found.
 #[derive(Clone, Copy, Debug, PartialEq, Eq)]
@@ -47,51 +43,4 @@ impl Verdict {
             Verdict::Faulty => 1,
         }
     }
-}
-
-/// A file, as faults name it.
-#[derive(Clone, Copy)]
-pub(crate) struct InputFile<'n> {
-    /// The name of the file.
-    pub(crate) name: &'n str,
-    /// How faults are set off.
-    pub(crate) style: Style,
-}
-
-impl InputFile<'_> {
-    /// Prints a sentence on the file. Where standard error can't be written to, the status still says it.
-    pub(crate) fn tell<E: Write>(self, err: &mut E, sentence: impl fmt::Display + Drop) -> Verdict
-        ensures { result ≡ Verdict.Faulty }
-    {
-        let name = self.name;
-        let begin = self.style.begin();
-        let end = self.style.end();
-        let _ = writeln!(err, "lines: {name}: {begin}{sentence}{end}");
-        Verdict::Faulty
-    }
-}
-
-/// The location of a fault: a unit of a file, by its offset.
-#[derive(Clone, Copy)]
-pub(crate) struct UnitLocation<'n> {
-    /// The file.
-    pub(crate) file: InputFile<'n>,
-    /// The offset of the unit in its section.
-    pub(crate) offset: u64,
-}
-
-impl UnitLocation<'_> {
-    /// Tells a sentence on the unit.
-    pub(crate) fn tell<E: Write>(self, err: &mut E, sentence: impl fmt::Display + Drop) -> Verdict
-        ensures { result ≡ Verdict.Faulty }
-    {
-        let offset = self.offset;
-        self.file
-            .tell(err, format_args!("unit at 0x{offset:x}: {sentence}"))
-    }
-}
-
-/// The refusal of memory, as an error of a program.
-pub(crate) fn out_of_memory() -> io::Error {
-    io::Error::from(io::ErrorKind::OutOfMemory)
 }

@@ -11,15 +11,11 @@ pub struct Screen {
     pub is_coloured: bool,
 }
 
-/// How a text is set off.
-#[derive(Clone, Copy, Debug, PartialEq, Eq)]
-pub(crate) enum Style {
-    /// Not at all.
-    Plain,
-    /// By bold letters.
-    Bold,
-    /// By red letters.
-    Red,
+/// What stands before and after a text that is set off on a terminal (ECMA-48, section 8.3.117).
+#[derive(Clone, Copy)]
+pub(crate) struct Style {
+    pub(crate) begin: &'static str,
+    pub(crate) end: &'static str,
 }
 
 impl Screen {
@@ -34,38 +30,25 @@ impl Screen {
 
     /// A heading on standard output: bold on a terminal.
     pub(crate) fn heading(self) -> Style {
-        if self.is_out && self.is_coloured {
-            Style::Bold
-        } else {
-            Style::Plain
-        }
+        Style::new(self.is_out && self.is_coloured, "\u{1b}[1m")
     }
 
     /// A fault on standard error: red on a terminal.
     pub(crate) fn fault(self) -> Style {
-        if self.is_err && self.is_coloured {
-            Style::Red
-        } else {
-            Style::Plain
-        }
+        Style::new(self.is_err && self.is_coloured, "\u{1b}[31m")
     }
 }
 
 impl Style {
-    /// What stands before a text on a terminal (ECMA-48, section 8.3.117).
-    pub(crate) fn begin(self) -> &'static str {
-        match self {
-            Style::Plain => "",
-            Style::Bold => "\u{1b}[1m",
-            Style::Red => "\u{1b}[31m",
-        }
-    }
-
-    /// What stands after it.
-    pub(crate) fn end(self) -> &'static str {
-        match self {
-            Style::Plain => "",
-            Style::Bold | Style::Red => "\u{1b}[0m",
+    /// What begins so on a terminal with colours, and nothing elsewhere.
+    fn new(is_coloured: bool, begin: &'static str) -> Style {
+        if is_coloured {
+            Style {
+                begin,
+                end: "\u{1b}[0m",
+            }
+        } else {
+            Style { begin: "", end: "" }
         }
     }
 }

@@ -1,42 +1,99 @@
 //! The units of a section, one after the other.
 
 use crate::input::Input;
-use crate::report::{UnitLocation, out_of_memory};
-use gimli_core::Error;
-use gimli_line::{LineUnit, LineUnits};
-use rows_reading::Slice;
+use crate::output::Output;
+use crate::progress::{Printing, Progress};
+use crate::request::UnitChoice;
+use crate::screen::Screen;
+use gimli_core::{Reader, ReaderOffset};
+use gimli_line::{IncompleteLineProgram, LineUnit, LineUnits};
 use std::alloc::Global;
-use std::io;
+use std::io::Write;
 
-impl<'i> Input<'i> {
-    /// The units of the section.
-    pub(crate) fn units(&self, alloc: Global) -> LineUnits<Slice<'i>> {
-        self.lines.units(alloc, self.address_size.bytes())
-    }
+/// The chosen units of a section, one after the other.
+#[derive(Drop)]
+pub(crate) struct Walk<R: Reader> {
+    units: LineUnits<R>,
+    choice: UnitChoice,
+    is_found: bool,
+    progress: Progress,
+}
 
-    /// The location of a unit.
-    pub(crate) fn location(&self, offset: usize) -> UnitLocation<'i> {
-        UnitLocation {
-            file: self.file,
-            offset: offset as u64,
+impl<R: Reader> Walk<R> {
+    /// The units from the start of the section on.
+    pub(crate) fn new(
+        alloc: Global,
+        input: &Input<R>,
+        choice: UnitChoice,
+        screen: Screen,
+        printing: Printing,
+    ) -> Walk<R> {
+        Walk {
+            units: input.lines.units(alloc, input.address_size.bytes()),
+            choice,
+            is_found: choice == UnitChoice::All,
+            progress: Progress::new(input.length(), screen, printing),
         }
     }
-}
 
-/// The next unit; None at the end of the section. Fails only for memory.
-pub(crate) fn next_unit<'i>(
-    units: &mut LineUnits<Slice<'i>>,
-) -> io::Result<Option<LineUnit<Slice<'i>>>> {
-    match units.next() {
-        Ok(unit) => Ok(unit),
-        Err(_) => Err(out_of_memory()),
+    /// The next chosen unit. None at the end, and after a failure.
+    pub(crate) fn next<O: Write, E: Write>(
+        &mut self,
+        output: &mut Output<'_, O, E>,
+    ) -> Option<LineUnit<R>> {
+        for _ in 0..u64::MAX {
+            let unit = self.next_of_all(output)?;
+            let offset = unit.offset.0.into_u64();
+            self.progress.show(offset, output);
+            if self.choice.includes(offset) {
+                self.is_found = true;
+                return Some(unit);
+            }
+        }
+        None
     }
-}
 
-/// A fault of reading that isn't missing memory, or the failure.
-pub(crate) fn fault(error: Error) -> io::Result<Error> {
-    match error {
-        Error::OutOfMemory => Err(out_of_memory()),
-        fault => Ok(fault),
+    /// The offset and the program of the next chosen unit that has one. A refused header is
+    /// reported.
+    pub(crate) fn next_program<O: Write, E: Write>(
+        &mut self,
+        output: &mut Output<'_, O, E>,
+    ) -> Option<(u64, IncompleteLineProgram<R>)> {
+        for _ in 0..u64::MAX {
+            let unit = self.next(output)?;
+            let offset = unit.offset.0.into_u64();
+            match unit.program {
+                Ok(program) => return Some((offset, program)),
+                Err(refusal) => output.tell_of_unit(offset, refusal),
+            }
+        }
+        None
+    }
+
+    /// The next unit, chosen or not.
+    fn next_of_all<O: Write, E: Write>(
+        &mut self,
+        output: &mut Output<'_, O, E>,
+    ) -> Option<LineUnit<R>> {
+        if output.has_failed() {
+            return None;
+        }
+        match self.units.next() {
+            Ok(Some(unit)) => return Some(unit),
+            Ok(None) => self.end(output),
+            Err(_) => output.fail_for_memory(),
+        }
+        None
+    }
+
+    /// Reports that no unit was the chosen one.
+    fn end<O: Write, E: Write>(&mut self, output: &mut Output<'_, O, E>) {
+        self.progress.clear(output);
+        match self.choice {
+            UnitChoice::At(offset) if !self.is_found => output.tell(format_args!(
+                "no unit begins at 0x{offset:x}; the command units prints where they do"
+            )),
+            _ => {}
+        }
     }
 }

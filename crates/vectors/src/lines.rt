@@ -17,7 +17,7 @@ pub fn run_lines<'r>(
     out: &mut Vec<u8>,
 ) -> Result<u8, Stop> {
     let mut err = Vec::new(alloc);
-    let status = match lines_words::parse(alloc, words) {
+    let status = match lines_commands::parse(alloc, words) {
         Ok(request) => {
             let files = Files {
                 file: section,

@@ -2,7 +2,7 @@ use Rattle.std.proofs.Common.{◌≡◌, Some, None, IsNone, [], refl, sym, ap, 
 use mathlib.Core.Bool.{true≢false}
 use Rattle.std.specs.Option.{unwrap_or}
 use Rattle.lines_commands.specs.Words.{NamesOffset}
-use Rattle.lines_words.proofs.request.units_of.Goals as goal
+use Rattle.lines_commands.proofs.words.units_of.Goals as goal
 
 none_some : {A : Type 0} (x : A) → None ≡ Some x → ⊥
 none_some x e = true≢false (subst IsNone e refl)

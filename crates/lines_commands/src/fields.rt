@@ -1,7 +1,29 @@
-//! The flags of a row.
+//! The fields of a row, as they are printed.
 
-use gimli_line::LineRow;
+ghost use Rattle.std.specs.Prelude.{◌≡◌};
+
+use gimli_line::{ColumnType, LineRow};
 use std::fmt;
+
+/// The line of a row, 0 where there is none.
+pub(crate) fn line_of(row: &LineRow) -> u64
+    ensures { result ≡ row.now.line }
+{
+    match row.line() {
+        Some(line) => line.get(),
+        None => 0,
+    }
+}
+
+/// The column of a row, 0 for the left edge.
+pub(crate) fn column_of(row: &LineRow) -> u64
+    ensures { result ≡ row.now.column }
+{
+    match row.column() {
+        ColumnType::LeftEdge => 0,
+        ColumnType::Column(column) => column.get(),
+    }
+}
 
 /// The flags of a row, as words in JSON.
 #[derive(Clone, Copy)]

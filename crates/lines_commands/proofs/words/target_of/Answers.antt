@@ -1,7 +1,7 @@
 use Rattle.std.proofs.Common.{◌≡◌, [], sym, ap, ◌∙◌, subst}
 use Rattle.std.specs.Option.{unwrap_or}
 use Rattle.lines_commands.specs.Words.{NamesTarget}
-use Rattle.lines_words.proofs.request.target_of.Goals as goal
+use Rattle.lines_commands.proofs.words.target_of.Goals as goal
 
 pub returns-in-None-clause-found : goal.returns-in-None-clause-found
 returns-in-None-clause-found c = λ word path line e t.

@@ -1,16 +1,19 @@
-//! What the words ask for.
+//! The words of the program, and what they ask for.
+//!
+//! [`parse`] reads them by `clap`. What isn't words of the program, and a question for help or the
+//! version, is an error of `clap`, whose text and status are for the user.
 
 ghost use Rattle.std.specs.Prelude.{◌≡◌, ℕ, List, IfOk, IsOk, Some, codes};
 ghost use Rattle.clap.specs.Words.{first_value, found_of};
 ghost use Rattle.lines_commands.specs.Words.{NamesOffset, NamesTarget};
-ghost use Rattle.lines_words.specs.Choice.{ChoosesUnits};
+ghost use Rattle.lines_commands.specs.Choice.{ChoosesUnits};
 
 use crate::grammar::program;
+use crate::input::{Kind, Notation};
+use crate::numbers::{parse_address, parse_offset, parse_target};
+use crate::request::{Command, Form, Request, UnitChoice};
 use clap::error::ErrorKind;
 use clap::{ArgMatches, Error};
-use lines_commands::{
-    Command, Form, Kind, Notation, Request, UnitChoice, parse_address, parse_offset, parse_target,
-};
 use rows_reading::{AddressSize, parse_order, parse_size};
 use std::alloc::{AllocError, Global};
 
@@ -57,23 +60,28 @@ fn request_of<'w>(alloc: Global, matches: &ArgMatches<'w>) -> Result<Request<'w>
 
 /// How the file is read.
 fn kind_of<'w>(matches: &ArgMatches<'w>) -> Result<Kind, Mistake<'w>> {
-    let Some(order) = matches.get_str("raw") else {
+    let Some(word) = matches.get_str("raw") else {
         return Ok(Kind::Elf);
     };
-    let Some(order) = parse_order(order) else {
-        return Err(Mistake::Word(order, "an order of bytes, little or big"));
+    let Some(order) = parse_order(word) else {
+        return Err(Mistake::Word(word, "an order of bytes, little or big"));
     };
-    let address_size = match matches.get_str("address-size") {
-        None => AddressSize::Eight,
-        Some(size) => match parse_size(size) {
-            Some(size) => size,
-            None => return Err(Mistake::Word(size, "an address size: 1, 2, 4 or 8")),
-        },
-    };
+    let address_size = address_size_of(matches)?;
     Ok(Kind::Raw(Notation {
         order,
         address_size,
     }))
+}
+
+/// How wide an address is in a raw section.
+fn address_size_of<'w>(matches: &ArgMatches<'w>) -> Result<AddressSize, Mistake<'w>> {
+    let Some(word) = matches.get_str("address-size") else {
+        return Ok(AddressSize::Eight);
+    };
+    match parse_size(word) {
+        Some(size) => Ok(size),
+        None => Err(Mistake::Word(word, "an address size: 1, 2, 4 or 8")),
+    }
 }
 
 /// The command of a name.

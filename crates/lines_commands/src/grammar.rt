@@ -1,0 +1,210 @@
+//! The commands and options of the program, as `clap` reads them.
+
+use clap::{Arg, ArgAction, Command};
+use std::alloc::{AllocError, Global};
+
+/// The version of the program.
+const VERSION: &str = "1.0";
+
+/// What is said of a command, and what it takes beside a file.
+#[derive(Clone, Copy)]
+struct Entry {
+    name: &'static str,
+    about: &'static str,
+    example: &'static str,
+    arguments: &'static [Argument],
+}
+
+/// The commands.
+const COMMANDS: [Entry; 6] = [
+    Entry {
+        name: "where",
+        about: "Prints path:line:column of each address, ??:0 where there is none",
+        example: "Example: lines where a.out 401136 0x40113D",
+        arguments: &[Argument::Addresses, Argument::Json],
+    },
+    Entry {
+        name: "at",
+        about: "Prints the addresses to break at for a line, or for the next one that has code",
+        example: "Example: lines at a.out src/main.c:12",
+        arguments: &[Argument::Target],
+    },
+    Entry {
+        name: "units",
+        about: "Prints a line for each unit",
+        example: "Example: lines units a.out",
+        arguments: &[],
+    },
+    Entry {
+        name: "files",
+        about: "Prints the directories and files of the units",
+        example: "Example: lines files a.out 0x8d",
+        arguments: &[Argument::Unit],
+    },
+    Entry {
+        name: "rows",
+        about: "Prints the rows of the units",
+        example: "Example: lines rows --whole-paths a.out 0x8d",
+        arguments: &[Argument::Unit, Argument::WholePaths, Argument::Json],
+    },
+    Entry {
+        name: "check",
+        about: "Prints each fault and each odd thing; the status is 1 where there is one",
+        example: "Example: lines check a.out",
+        arguments: &[],
+    },
+];
+
+/// What each command takes: a file, and how it is read.
+const OF_FILE: [Argument; 5] = [
+    Argument::File,
+    Argument::Raw,
+    Argument::AddressSize,
+    Argument::LineStr,
+    Argument::Str,
+];
+
+/// What the whole program takes.
+pub(crate) fn program<'a>(alloc: Global) -> Result<Command<'a>, AllocError> {
+    let mut program = Command::new(alloc, "lines")
+        .version(VERSION)
+        .about("Looks into the line tables (.debug_line) of a program, DWARF versions 2 to 5.")
+        .after_help(
+            "FILE is an ELF program or library, or with --raw a section that objcopy --dump-section wrote.\nThe status is 0, or 1 where something was refused or found, or 2 for other words.",
+        )
+        .subcommand_required(true)
+        .arg_required_else_help(true)
+        .bin_name("lines")?;
+    for entry in &COMMANDS {
+        program = program.subcommand(entry.command(alloc)?)?;
+    }
+    Ok(program)
+}
+
+impl Entry {
+    /// The command.
+    fn command<'a>(&self, alloc: Global) -> Result<Command<'a>, AllocError> {
+        let command = Command::new(alloc, self.name)
+            .about(self.about)
+            .after_help(self.example);
+        let command = with_arguments(alloc, command, &OF_FILE)?;
+        with_arguments(alloc, command, self.arguments)
+    }
+}
+
+/// A command that takes these too.
+fn with_arguments<'a>(
+    alloc: Global,
+    command: Command<'a>,
+    arguments: &[Argument],
+) -> Result<Command<'a>, AllocError> {
+    let mut command = command;
+    for argument in arguments {
+        let argument = argument.argument(alloc)?;
+        command = command.arg(argument)?;
+    }
+    Ok(command)
+}
+
+/// What commands take.
+#[derive(Clone, Copy)]
+enum Argument {
+    /// The file.
+    File,
+    /// The order of a raw section.
+    Raw,
+    /// The size of an address, which an ELF file says itself.
+    AddressSize,
+    /// The file with the section `.debug_line_str`.
+    LineStr,
+    /// The file with the section `.debug_str`.
+    Str,
+    /// Addresses.
+    Addresses,
+    /// A line of a path.
+    Target,
+    /// The choice of a unit.
+    Unit,
+    /// The choice of whole paths.
+    WholePaths,
+    /// The choice of JSON.
+    Json,
+}
+
+impl Argument {
+    /// The argument.
+    fn argument<'a>(self, alloc: Global) -> Result<Arg<'a>, AllocError> {
+        match self {
+            Argument::AddressSize => {
+                let help =
+                    "With --raw: the bytes of an address up to version 4: 1, 2, 4 or 8 (8 if unsaid)";
+                option(alloc, "address-size", "N", help).requires_arg("raw")
+            }
+            Argument::WholePaths => {
+                flag(alloc, "whole-paths", "Prints whole paths").conflicts_with("json")
+            }
+            _ => Ok(self.plain(alloc)),
+        }
+    }
+
+    /// The argument, where it stands beside all others.
+    fn plain<'a>(self, alloc: Global) -> Arg<'a> {
+        match self {
+            Argument::File => word(
+                alloc,
+                "FILE",
+                "An ELF file, or with --raw a section .debug_line",
+            )
+            .required(true),
+            Argument::Raw => option(
+                alloc,
+                "raw",
+                "little|big",
+                "FILE is a section .debug_line alone, in this order of bytes",
+            ),
+            Argument::LineStr => option(alloc, "line-str", "FILE", "The section .debug_line_str"),
+            Argument::Str => option(alloc, "str", "FILE", "The section .debug_str"),
+            Argument::Addresses => word(
+                alloc,
+                "ADDRESS",
+                "An address in hexadecimal digits; without one they are read from standard input",
+            )
+            .action(ArgAction::Append)
+            .num_args(0..),
+            Argument::Target => word(
+                alloc,
+                "PATH:LINE",
+                "A line of each file whose path ends so, by whole parts",
+            )
+            .required(true),
+            Argument::Unit => word(
+                alloc,
+                "UNIT",
+                "The offset of a unit, as the command units prints it",
+            ),
+            _ => flag(alloc, "json", "Prints a JSON object a line"),
+        }
+    }
+}
+
+/// A word that stands by itself.
+fn word<'a>(alloc: Global, name: &'a str, help: &'a str) -> Arg<'a> {
+    Arg::new(alloc, name).help(help)
+}
+
+/// An option with a value.
+fn option<'a>(alloc: Global, name: &'a str, value: &'a str, help: &'a str) -> Arg<'a> {
+    Arg::new(alloc, name)
+        .long(name)
+        .value_name(value)
+        .action(ArgAction::Set)
+        .help(help)
+}
+
+/// An option without a value.
+fn flag<'a>(alloc: Global, name: &'a str, help: &'a str) -> Arg<'a> {
+    Arg::new(alloc, name)
+        .long(name)
+        .action(ArgAction::SetTrue)
+        .help(help)
+}
