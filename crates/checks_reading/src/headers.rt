@@ -19,58 +19,35 @@ fn refusal<R: Reader>(alloc: Global, unit: R) -> Option<Error> {
 
 // ---- how many bytes were left
 
-/// A unit of version 5 with the directory `/w` and the file `a.c`, without a program.
-const UNIT_OF_VERSION_5: &[u8] =
-    b"\x2c\0\0\0\x05\0\x08\0\x24\0\0\0\x01\x01\x01\xfb\x0e\x0d\0\x01\x01\x01\x01\0\0\0\x01\0\0\x01\
-      \x01\x01\x08\x01/w\0\x02\x01\x08\x02\x0f\x01a.c\0\0";
-
-/// A place of this unit, another byte there, and how many bytes were left where more are needed: in the section, in the
-/// unit for its version, in the unit for the header, in the header for operand counts, for a second file and for an
-/// index.
-const LEFT: [(usize, u8, u64); 6] = [
-    (0, 0x2d, 44),
-    (0, 1, 1),
-    (8, 0x25, 36),
-    (17, 0x30, 30),
-    (42, 2, 0),
-    (47, 0x80, 0),
+/// Units, and how many bytes were left where more are needed: in the section, in a unit for its version and for its
+/// header, and in a header for operand counts, for the end of a text and for the end of a number.
+const LEFT: [(&[u8], u64); 6] = [
+    (b"\x04\0\0\0\x05\0\x08", 3),
+    (b"\x01\0\0\0\x05\0", 1),
+    (b"\x0c\0\0\0\x05\0\x08\0\x05\0\0\0\x01\x01\x01\xfb\x0e", 4),
+    (b"\x0e\0\0\0\x04\0\x07\0\0\0\x01\x01\x01\xfb\x0e\x04\0\0", 1),
+    (b"\x0e\0\0\0\x04\0\x08\0\0\0\x01\x01\x01\xfb\x0e\x01ab", 2),
+    (
+        b"\x12\0\0\0\x05\0\x08\0\x0a\0\0\0\x01\x01\x01\xfb\x0e\x01\x01\x01\x08\x80",
+        0,
+    ),
 ];
-
-/// A unit with another byte at a place.
-fn with_change(alloc: Global, unit: &[u8], place: usize, byte: u8) -> Result<Vec<u8>> {
-    let Ok(mut bytes) = Vec::from_slice(alloc, unit) else {
-        return Err(Error::OutOfMemory);
-    };
-    if let Some(old) = bytes.get_mut(place) {
-        *old = byte;
-    }
-    Ok(bytes)
-}
-
-fn steps_of_bytes_left(rt: &impl Abort, alloc: Global) -> Result<()> {
-    for (place, byte, left) in LEFT {
-        let unit = with_change(alloc, UNIT_OF_VERSION_5, place, byte)?;
-        let refused = Some(UnexpectedEof(ReaderOffsetId(left)));
-        check_equal_at(rt, refusal(alloc, slice(&unit)), refused, place);
-    }
-    Ok(())
-}
 
 #[test]
 fn bytes_left(rt: HostRuntime) {
-    check_equal(&rt, steps_of_bytes_left(&rt, rt.alloc()), Ok(()));
+    for (unit, left) in LEFT {
+        let refused = Some(UnexpectedEof(ReaderOffsetId(left)));
+        check_equal_at(&rt, refusal(rt.alloc(), slice(unit)), refused, unit);
+    }
 }
 
 // ---- numbers that offsets of 32 bits don't hold
 
 /// A unit of version 5 and 64-bit DWARF with these directories and no file, in a header of 64 bytes.
-fn unit_of_directories(
-    alloc: Global,
-    directories: &[u8],
-) -> std::result::Result<Vec<u8>, AllocError> {
-    let opening =
-        b"\xff\xff\xff\xff\x4c\0\0\0\0\0\0\0\x05\0\x04\0\x40\0\0\0\0\0\0\0\x01\x01\x01\0\x01\x01";
-    let mut unit = Vec::from_slice(alloc, opening)?;
+fn unit_of(alloc: Global, directories: &[u8]) -> std::result::Result<Vec<u8>, AllocError> {
+    let lengths = b"\xff\xff\xff\xff\x4c\0\0\0\0\0\0\0\x05\0\x04\0\x40\0\0\0\0\0\0\0";
+    let mut unit = Vec::from_slice(alloc, lengths)?;
+    unit.extend_from_slice(b"\x01\x01\x01\0\x01\x01")?;
     unit.extend_from_slice(directories)?;
     unit.extend_from_slice(b"\x01\x01\x08\0")?;
     unit.resize(88, 0)?;
@@ -102,33 +79,22 @@ fn narrow_refusal(alloc: Global, unit: &[u8]) -> Option<Error> {
     refusal(alloc, NarrowReader::new(alloc, unit, RunTimeEndian::Little))
 }
 
-fn steps_of_numbers_that_offsets_do_not_hold(
-    rt: &impl Abort,
-    alloc: Global,
-) -> std::result::Result<(), AllocError> {
+fn steps_of_wide_numbers(rt: &impl Abort, alloc: Global) -> std::result::Result<(), AllocError> {
     for (directories, fits) in VALUES {
-        let unit = unit_of_directories(alloc, directories)?;
+        let unit = unit_of(alloc, directories)?;
         let refused = if fits { None } else { Some(UnsupportedOffset) };
         check_equal_at(rt, narrow_refusal(alloc, &unit), refused, directories);
     }
     for unit in LENGTHS {
-        check_equal_at(
-            rt,
-            narrow_refusal(alloc, unit),
-            Some(UnsupportedOffset),
-            unit,
-        );
+        let refused = Some(UnsupportedOffset);
+        check_equal_at(rt, narrow_refusal(alloc, unit), refused, unit);
     }
     Ok(())
 }
 
 #[test]
-fn numbers_that_offsets_do_not_hold(rt: HostRuntime) {
-    check_equal(
-        &rt,
-        steps_of_numbers_that_offsets_do_not_hold(&rt, rt.alloc()),
-        Ok(()),
-    );
+fn wide_numbers(rt: HostRuntime) {
+    check_equal(&rt, steps_of_wide_numbers(&rt, rt.alloc()), Ok(()));
 }
 
 // ---- a unit over a reader of one's own
@@ -165,35 +131,31 @@ fn check_sequences<R: Reader>(
     Ok(())
 }
 
-/// Each way to the row that covers an address.
+/// The first unit, and each way to the row that covers an address of it.
 fn check_lookups<R: Reader>(rt: &impl Abort, alloc: Global, section: &DebugLine<R>) -> Result<()> {
-    let mut units = section.units(alloc, 4);
-    while let Some(unit) = units.next()? {
-        let program = unit.program?;
-        check_header(rt, program.header());
-        let (complete, sequences) = program.clone()?.sequences()?;
-        check_sequences(rt, &complete, &sequences)?;
-        let found = find_in_run(program.clone()?, 0x1005)?;
-        check_equal(rt, found.map(|(row, _)| row.address()), Some(0x1004));
-        let found = Lookup::new(program)?.find(0x1005);
-        check_equal(rt, found.map(|(row, _)| row.address()), Some(0x1004));
-    }
+    let Some(unit) = section.units(alloc, 4).next()? else {
+        return Ok(check_equal(rt, true, false));
+    };
+    let program = unit.program?;
+    check_header(rt, program.header());
+    let (complete, sequences) = program.clone()?.sequences()?;
+    check_sequences(rt, &complete, &sequences)?;
+    let found = find_in_run(program.clone()?, 0x1005)?;
+    check_equal(rt, found.map(|(row, _)| row.address()), Some(0x1004));
+    let found = Lookup::new(program)?.find(0x1005);
+    check_equal(rt, found.map(|(row, _)| row.address()), Some(0x1004));
     let found = SectionLookup::new(section, alloc, 4, 0)?.find(0x1005);
     check_equal(rt, found.map(|found| found.row.address()), Some(0x1004));
     Ok(())
 }
 
-fn steps_of_unit_over_a_narrow_reader(rt: &impl Abort, alloc: Global) -> Result<()> {
+fn steps_of_narrow_unit(rt: &impl Abort, alloc: Global) -> Result<()> {
     let owned = DebugLine::from(unit(alloc, HEADER, [PROGRAM, b""])?);
     let section = owned.borrow(|bytes| NarrowReader::new(alloc, bytes, RunTimeEndian::Little));
     check_lookups(rt, alloc, &section)
 }
 
 #[test]
-fn unit_over_a_narrow_reader(rt: HostRuntime) {
-    check_equal(
-        &rt,
-        steps_of_unit_over_a_narrow_reader(&rt, rt.alloc()),
-        Ok(()),
-    );
+fn narrow_unit(rt: HostRuntime) {
+    check_equal(&rt, steps_of_narrow_unit(&rt, rt.alloc()), Ok(()));
 }

@@ -137,7 +137,7 @@ fn check_executed<R: Reader>(
     Ok(())
 }
 
-fn steps_of_instructions_executed(rt: &impl Abort, alloc: Global) -> Result<()> {
+fn steps_of_executed(rt: &impl Abort, alloc: Global) -> Result<()> {
     for cases in &EXECUTED {
         let before = unit(alloc, HEADER_OF_THREE, [cases.before, b""])?;
         for case in cases.cases {
@@ -149,8 +149,8 @@ fn steps_of_instructions_executed(rt: &impl Abort, alloc: Global) -> Result<()> 
 }
 
 #[test]
-fn instructions_executed(rt: HostRuntime) {
-    check_equal(&rt, steps_of_instructions_executed(&rt, rt.alloc()), Ok(()));
+fn executed_instructions(rt: HostRuntime) {
+    check_equal(&rt, steps_of_executed(&rt, rt.alloc()), Ok(()));
 }
 
 // ---- after a fault
@@ -198,7 +198,7 @@ fn check_run<R: Reader>(rt: &impl Abort, alloc: Global, unit: R, wanted: [Next; 
     Ok(())
 }
 
-fn steps_of_runs_after_a_fault(rt: &impl Abort, alloc: Global) -> Result<()> {
+fn steps_of_faults(rt: &impl Abort, alloc: Global) -> Result<()> {
     for (rest, wanted) in RUNS {
         let unit = unit(alloc, HEADER, [b"\0\x05\x02\xfd\xff\xff\xff", rest])?;
         check_run(rt, alloc, slice(&unit), wanted)?;
@@ -207,8 +207,8 @@ fn steps_of_runs_after_a_fault(rt: &impl Abort, alloc: Global) -> Result<()> {
 }
 
 #[test]
-fn runs_after_a_fault(rt: HostRuntime) {
-    check_equal(&rt, steps_of_runs_after_a_fault(&rt, rt.alloc()), Ok(()));
+fn faults(rt: HostRuntime) {
+    check_equal(&rt, steps_of_faults(&rt, rt.alloc()), Ok(()));
 }
 
 // ---- counted anew
@@ -222,12 +222,12 @@ fn check_rebased<R: Reader>(rt: &impl Abort, alloc: Global, unit: R) -> Result<(
     Ok(())
 }
 
-fn steps_of_row_counted_anew(rt: &impl Abort, alloc: Global) -> Result<()> {
+fn steps_of_rebased(rt: &impl Abort, alloc: Global) -> Result<()> {
     let unit = unit(alloc, HEADER, [b"\x02\x2a", b"\0\x05\x02\x08\0\0\0"])?;
     check_rebased(rt, alloc, slice(&unit))
 }
 
 #[test]
-fn row_counted_anew(rt: HostRuntime) {
-    check_equal(&rt, steps_of_row_counted_anew(&rt, rt.alloc()), Ok(()));
+fn rebased(rt: HostRuntime) {
+    check_equal(&rt, steps_of_rebased(&rt, rt.alloc()), Ok(()));
 }
