@@ -22,11 +22,10 @@ fn execute<R: Reader>(row: &mut LineRow, program: &mut IncompleteLineProgram<R>)
     let mut instructions = program.header().instructions();
     let mut last = Ok(false);
     for _ in 0..8 {
-        match instructions.next_instruction(program.header()) {
-            Ok(Some(instruction)) => last = row.execute(instruction, program),
-            Ok(None) => return last,
-            Err(e) => return Err(e),
-        }
+        let Some(instruction) = instructions.next_instruction(program.header())? else {
+            return last;
+        };
+        last = row.execute(instruction, program);
     }
     last
 }
@@ -34,23 +33,18 @@ fn execute<R: Reader>(row: &mut LineRow, program: &mut IncompleteLineProgram<R>)
 /// The rest of a program, what its last instruction answers, and the place after it.
 type Case = (&'static [u8], Result<bool>, [u64; 3]);
 
-/// Programs on a row that another program leaves.
-struct Cases {
-    /// The program before, of three operations in an instruction.
-    before: &'static [u8],
-    header: &'static [u8],
-    front: &'static [u8],
-    cases: &'static [Case],
-}
+/// A program of three operations in an instruction, which is executed first; then on its row programs of this header,
+/// each of them with this front.
+type Cases = (&'static [u8], &'static [u8], &'static [u8], &'static [Case]);
 
 const EXECUTED: [Cases; 5] = [
     // Operation 2 of address 0, and a tombstone: no advance moves the address or op_index, until an address is set that
     // is one.
-    Cases {
-        before: b"\x02\x02",
-        header: HEADER_OF_THREE,
-        front: b"\0\x05\x02\xfe\xff\xff\xff",
-        cases: &[
+    (
+        b"\x02\x02",
+        HEADER_OF_THREE,
+        b"\0\x05\x02\xfe\xff\xff\xff",
+        &[
             (b"", Ok(false), [0, 2, 1]),
             (b"\x02\x02", Ok(false), [0, 2, 1]),
             (b"\x4b", Ok(true), [0, 2, 2]),
@@ -60,23 +54,23 @@ const EXECUTED: [Cases; 5] = [
             (b"\0\x05\x02\xff\xff\xff\xff\x02\x02", Ok(false), [0, 2, 1]),
             (b"\x02\x02\0\x05\x02\x10\0\0\0", Ok(false), [16, 0, 1]),
         ],
-    },
+    ),
     // Operation 2 of address 2: an address that goes back is a tombstone too, and an equal one isn't.
-    Cases {
-        before: b"\x02\x08",
-        header: HEADER_OF_THREE,
-        front: b"\0\x05\x02",
-        cases: &[
+    (
+        b"\x02\x08",
+        HEADER_OF_THREE,
+        b"\0\x05\x02",
+        &[
             (b"\x01\0\0\0\x02\x02", Ok(false), [2, 2, 1]),
             (b"\x02\0\0\0\x02\x01", Ok(false), [2, 1, 1]),
         ],
-    },
+    ),
     // Operation 2, where an instruction has one: each advance of the address sets op_index to 0, also one of no bytes.
-    Cases {
-        before: b"\x02\x02",
-        header: HEADER,
-        front: b"",
-        cases: &[
+    (
+        b"\x02\x02",
+        HEADER,
+        b"",
+        &[
             (b"\x12", Ok(true), [0, 0, 1]),
             (b"\x02\0", Ok(false), [0, 0, 1]),
             (b"\x02\x05", Ok(false), [5, 0, 1]),
@@ -86,30 +80,30 @@ const EXECUTED: [Cases; 5] = [
             (b"\x01", Ok(true), [0, 2, 1]),
             (b"\x03\x01", Ok(false), [0, 2, 2]),
         ],
-    },
+    ),
     // An address that would pass the greatest one stays, and the line of a special opcode goes on.
-    Cases {
-        before: b"",
-        header: HEADER,
-        front: b"\0\x05\x02\xfd\xff\xff\xff",
-        cases: &[
+    (
+        b"",
+        HEADER,
+        b"\0\x05\x02\xfd\xff\xff\xff",
+        &[
             (b"\x02\x02", Ok(false), [0xffff_ffff, 0, 1]),
             (b"\x02\x2a", Err(AddressOverflow), [0xffff_fffd, 0, 1]),
             (b"\x08", Err(AddressOverflow), [0xffff_fffd, 0, 1]),
             (b"\x4b", Err(AddressOverflow), [0xffff_fffd, 0, 2]),
             (b"\x09\x0a\0", Err(AddressOverflow), [0xffff_fffd, 0, 1]),
         ],
-    },
+    ),
     // So does op_index, but not at a fixed advance.
-    Cases {
-        before: b"",
-        header: HEADER_OF_THREE,
-        front: b"\0\x05\x02\xfd\xff\xff\xff\x02\x02",
-        cases: &[
+    (
+        b"",
+        HEADER_OF_THREE,
+        b"\0\x05\x02\xfd\xff\xff\xff\x02\x02",
+        &[
             (b"\x02\x08", Err(AddressOverflow), [0xffff_fffd, 1, 1]),
             (b"\x09\x0a\0", Err(AddressOverflow), [0xffff_fffd, 2, 1]),
         ],
-    },
+    ),
 ];
 
 /// The last answer of a unit, and the row that it leaves of a row, or of a new one.
@@ -124,7 +118,8 @@ fn executed<R: Reader>(
     Ok((last, row))
 }
 
-/// A unit answers this, and leaves this place of the row that another one leaves.
+/// A unit answers this, and leaves this place of the row that another one leaves; it is 0 after `rebase`, and under no
+/// tombstone.
 fn check_executed<R: Reader>(
     rt: &impl Abort,
     alloc: Global,
@@ -132,16 +127,19 @@ fn check_executed<R: Reader>(
     case: &Case,
 ) -> Result<()> {
     let (_, row) = executed(alloc, before, None)?;
-    let (last, row) = executed(alloc, unit, Some(row))?;
+    let (last, mut row) = executed(alloc, unit, Some(row))?;
     check_equal_at(rt, (last, place_of(&row)), (case.1, case.2), case.0);
+    row.rebase();
+    let rebased = (row.address(), row.op_index(), row.is_under_tombstone());
+    check_equal_at(rt, rebased, (0, 0, false), case.0);
     Ok(())
 }
 
 fn steps_of_executed(rt: &impl Abort, alloc: Global) -> Result<()> {
-    for cases in &EXECUTED {
-        let before = unit(alloc, HEADER_OF_THREE, [cases.before, b""])?;
-        for case in cases.cases {
-            let unit = unit(alloc, cases.header, [cases.front, case.0])?;
+    for (before, header, front, cases) in EXECUTED {
+        let before = unit(alloc, HEADER_OF_THREE, [before, b""])?;
+        for case in cases {
+            let unit = unit(alloc, header, [front, case.0])?;
             check_executed(rt, alloc, (slice(&before), slice(&unit)), case)?;
         }
     }
@@ -209,25 +207,4 @@ fn steps_of_faults(rt: &impl Abort, alloc: Global) -> Result<()> {
 #[test]
 fn faults(rt: HostRuntime) {
     check_equal(&rt, steps_of_faults(&rt, rt.alloc()), Ok(()));
-}
-
-// ---- counted anew
-
-/// A row at 42 under a tombstone is at 0 after `rebase`, and under none.
-fn check_rebased<R: Reader>(rt: &impl Abort, alloc: Global, unit: R) -> Result<()> {
-    let (_, mut row) = executed(alloc, unit, None)?;
-    check_equal(rt, (row.address(), row.is_under_tombstone()), (42, true));
-    row.rebase();
-    check_equal(rt, (row.address(), row.is_under_tombstone()), (0, false));
-    Ok(())
-}
-
-fn steps_of_rebased(rt: &impl Abort, alloc: Global) -> Result<()> {
-    let unit = unit(alloc, HEADER, [b"\x02\x2a", b"\0\x05\x02\x08\0\0\0"])?;
-    check_rebased(rt, alloc, slice(&unit))
-}
-
-#[test]
-fn rebased(rt: HostRuntime) {
-    check_equal(&rt, steps_of_rebased(&rt, rt.alloc()), Ok(()));
 }

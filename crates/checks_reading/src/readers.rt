@@ -59,25 +59,6 @@ fn numbers_and_texts(rt: HostRuntime) {
     check_equal(&rt, texts(reader), Ok(wanted));
 }
 
-// ---- words that an offset of 32 bits doesn't hold
-
-/// Why a length and a word of 64 bits are refused, and how many bytes are left after each.
-fn words<R: Reader>(mut length: R, mut word: R) -> ([Option<Error>; 2], [u64; 2]) {
-    let of_length = length.read_initial_length().err();
-    let of_word = word.read_offset(Format::Dwarf64).err();
-    let left = [length.len().into_u64(), word.len().into_u64()];
-    ([of_length, of_word], left)
-}
-
-#[test]
-fn words_that_an_offset_does_not_hold(rt: HostRuntime) {
-    let length = b"\xff\xff\xff\xff\0\0\0\0\x01\0\0\0\x09";
-    let length = NarrowReader::new(rt.alloc(), length, Little);
-    let word = NarrowReader::new(rt.alloc(), b"\0\0\0\x01\0\0\0\0\x09", Big);
-    let refused = Some(Error::UnsupportedOffset);
-    check_equal(&rt, words(length, word), ([refused; 2], [1; 2]));
-}
-
 // ---- parts of readers
 
 /// Takes two bytes, a text, and what is left; returns what each has.
