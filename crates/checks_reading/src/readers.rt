@@ -76,10 +76,11 @@ fn places<R: Reader>(reader: R, one: R::Offset, two: R::Offset) -> Result<(u64, 
     let found = reader.find(0)?.into_u64();
     let mut after = reader;
     after.skip(one)?;
-    let offset = after.offset_from(&reader).into_u64();
+    let offset = after.offset_from(&reader);
+    let distance = offset.into_u64();
     let mut front = reader;
     front.truncate(two)?;
-    Ok((found, offset, after.read_u8()?, front.len().into_u64()))
+    Ok((found, distance, after.read_u8()?, front.len().into_u64()))
 }
 
 /// Which calls are refused, whether the buffer stays as it was, and how many bytes are left after all of them.
