@@ -3,9 +3,7 @@
 use std::fmt::Debug;
 use std::process::Abort;
 
-/// A value is the one that is wanted.
-///
-/// A call of it is proved in a fraction of the time that the macro in its place takes.
+/// A value is the one that is wanted. A call is proved in a fraction of the time that the macro takes.
 pub fn check_equal<T: Copy + PartialEq + Debug>(rt: &impl Abort, found: T, wanted: T) {
     assert_eq!(rt; found, wanted);
 }

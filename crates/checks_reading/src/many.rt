@@ -46,9 +46,7 @@ fn check_copies<R: Reader>(rt: &impl Abort, program: IncompleteLineProgram<R>) -
 }
 
 fn steps_of_copies(rt: &impl Abort, alloc: Global) -> Result<()> {
-    let Ok(unit) = bytes_of_tables(alloc) else {
-        return Err(Error::OutOfMemory);
-    };
+    let unit = bytes_of_tables(alloc).map_err(|_| Error::OutOfMemory)?;
     check_copies(rt, program(alloc, slice(&unit))?)
 }
 
@@ -75,16 +73,19 @@ fn bytes_of_sequences(alloc: Global) -> std::result::Result<Vec<u8>, AllocError>
 
 /// The unit of this program.
 fn unit_of_sequences(alloc: Global) -> Result<Vec<u8>> {
-    match bytes_of_sequences(alloc) {
-        Ok(program) => unit(alloc, HEADER, [&program, b""]),
-        Err(_) => Err(Error::OutOfMemory),
-    }
+    let program = bytes_of_sequences(alloc).map_err(|_| Error::OutOfMemory)?;
+    unit(alloc, HEADER, [&program, b""])
 }
 
 /// Line 1 begins at each second row of the first sequence, and at the row of each other.
 fn check_addresses(rt: &impl Abort, found: Option<Addresses>) {
-    let found = found.map(|found| (found.line, found.addresses.len()));
-    check_equal(rt, found, Some((1, MANY / 2 + SEQUENCES)));
+    match found {
+        Some(found) => {
+            check_equal(rt, found.line, 1);
+            check_equal(rt, found.addresses.len(), MANY / 2 + SEQUENCES);
+        }
+        None => check_equal(rt, true, false),
+    }
 }
 
 /// A lookup of one program, and its call that no row makes.

@@ -32,14 +32,12 @@ fn join(
     header: &[u8],
     [front, rest]: [&[u8]; 2],
 ) -> std::result::Result<Vec<u8>, AllocError> {
-    let mut bytes = Vec::from_slice(alloc, &[0; 4])?;
+    let length = header.len().saturating_add(front.len());
+    let length = u32::try_from(length.saturating_add(rest.len())).unwrap_or(0);
+    let mut bytes = Vec::from_slice(alloc, &length.to_le_bytes())?;
     bytes.extend_from_slice(header)?;
     bytes.extend_from_slice(front)?;
     bytes.extend_from_slice(rest)?;
-    let length = u32::try_from(bytes.len()).unwrap_or(0);
-    for (place, byte) in bytes.iter_mut().zip(length.saturating_sub(4).to_le_bytes()) {
-        *place = byte;
-    }
     Ok(bytes)
 }
 
