@@ -1,23 +1,11 @@
-//! What each check calls: a condition that has to hold, and a value that has to be the one that is wanted.
+//! What each check calls: a value has to be the one that is wanted.
 
 use std::fmt::Debug;
 use std::process::Abort;
 
-/// A condition holds.
-///
-/// A call of it, as of `check_equal`, is proved in a fraction of the time that the macro in its place takes.
-pub fn check(rt: &impl Abort, holds: bool) {
-    assert!(rt; holds);
-}
-
-/// A value is the one that is wanted.
+/// A value is the one that is wanted. A call is proved in a fraction of the time that the macro takes.
 pub fn check_equal<T: Copy + PartialEq + Debug>(rt: &impl Abort, found: T, wanted: T) {
     assert_eq!(rt; found, wanted);
-}
-
-/// A condition holds at a place.
-pub fn check_at<P: Copy + Debug>(rt: &impl Abort, holds: bool, place: P) {
-    assert!(rt; holds, "at {place:?}");
 }
 
 /// A value is the one that is wanted at a place.

@@ -1,5 +1,6 @@
-//! Checks in code, of what no row of input and output can say of reading: a reader of one's own, copies, and what comes
-//! after an end or a refusal. That `==` is exact is a law of each crate, and what a lookup finds is its contract.
+//! Checks in code, of what no row of input and output can say of reading: a reader of one's own, single steps of the
+//! machine, what follows an overflow, and calls that no row makes, with many entries. That `==` is exact is a law of
+//! each crate, and what a clone is and what a lookup finds are contracts.
 //!
 //! They use public names alone. Each step is a function of its own, so that a proof stays short.
 #![tactic(auto)]
@@ -7,13 +8,9 @@
 #[cfg(test)]
 mod check;
 #[cfg(test)]
-mod errors;
-#[cfg(test)]
 mod headers;
 #[cfg(test)]
-mod instructions;
-#[cfg(test)]
-mod lookup;
+mod machine;
 #[cfg(test)]
 mod many;
 #[cfg(test)]
@@ -21,8 +18,4 @@ mod narrow;
 #[cfg(test)]
 mod readers;
 #[cfg(test)]
-mod rows;
-#[cfg(test)]
 mod units;
-#[cfg(test)]
-mod values;

@@ -1,248 +1,148 @@
-//! Many of a thing: tables of 129 and of 70,000 entries in each version, sequences, and the rows of a sequence. Memory
-//! for them is there, so a refusal by `OutOfMemory` would be wrong, which no contract tells.
+//! Many of a thing: files, sequences, rows of a sequence, and the addresses of a line. Memory for them is there, so a
+//! refusal by `OutOfMemory` would be wrong, which no contract tells. The calls here are made by no row.
 
-use crate::check::{check, check_equal, check_equal_at};
-use crate::units::{HEADER, file_count, is_directory, is_text, program, slice, unit, with_changes};
-use gimli_core::{Error, Reader, Result};
-use gimli_line::{LineProgramHeader, LineSequence, RowList};
+use crate::check::check_equal;
+use crate::units::{HEADER, program, slice, unit};
+use gimli_core::{EndianSlice, Endianity, Error, Reader, Result};
+use gimli_line::{DebugLine, IncompleteLineProgram};
+use gimli_lookup::{Addresses, Lookup, SectionLookup, StringSections};
 use std::alloc::{AllocError, Global};
 use std::process::Abort;
 
-// ---- tables
+/// Past each power of two that a length could stop at.
+const MANY: usize = 70_000;
 
-/// A unit with so many directories `d` and as many files `f`, opcode base 1, and no program.
-#[derive(Clone, Copy, Debug)]
-struct Tables {
-    /// The bytes in front of the tables, with lengths by hand.
-    header: &'static [u8],
-    count: usize,
-    /// The index of the last directory and of the last file.
-    last: u64,
-    /// The bytes in front of the entries of each table: from version 5 on a format and the count.
-    front: &'static [u8],
-    file: &'static [u8],
-    /// The bytes after the entries of each table: up to version 4 a zero byte.
-    end: &'static [u8],
-}
+/// How many sequences there are beside the one of many rows.
+const SEQUENCES: usize = 3000;
 
-/// Up to version 4 a table of `n` directories and `n` files has `7 * n + 2` bytes. In version 5 it has `4 * n` and six,
-/// and the bytes of both counts.
-const TABLES: [Tables; 8] = [
-    Tables {
-        header: b"\x94\x03\0\0\x02\0\x8e\x03\0\0\x01\x01\xfb\x0e\x01",
-        count: 129,
-        last: 129,
-        front: b"",
-        file: b"f\0\0\0\0",
-        end: b"\0",
-    },
-    Tables {
-        header: b"\x94\x03\0\0\x03\0\x8e\x03\0\0\x01\x01\xfb\x0e\x01",
-        count: 129,
-        last: 129,
-        front: b"",
-        file: b"f\0\0\0\0",
-        end: b"\0",
-    },
-    Tables {
-        header: b"\x95\x03\0\0\x04\0\x8f\x03\0\0\x01\x01\x01\xfb\x0e\x01",
-        count: 129,
-        last: 129,
-        front: b"",
-        file: b"f\0\0\0\0",
-        end: b"\0",
-    },
-    Tables {
-        header: b"\x1c\x02\0\0\x05\0\x04\0\x14\x02\0\0\x01\x01\x01\xfb\x0e\x01",
-        count: 129,
-        last: 128,
-        front: b"\x01\x01\x08\x81\x01",
-        file: b"f\0",
-        end: b"",
-    },
-    Tables {
-        header: b"\x1d\x7a\x07\0\x02\0\x17\x7a\x07\0\x01\x01\xfb\x0e\x01",
-        count: 70_000,
-        last: 70_000,
-        front: b"",
-        file: b"f\0\0\0\0",
-        end: b"\0",
-    },
-    Tables {
-        header: b"\x1d\x7a\x07\0\x03\0\x17\x7a\x07\0\x01\x01\xfb\x0e\x01",
-        count: 70_000,
-        last: 70_000,
-        front: b"",
-        file: b"f\0\0\0\0",
-        end: b"\0",
-    },
-    Tables {
-        header: b"\x1e\x7a\x07\0\x04\0\x18\x7a\x07\0\x01\x01\x01\xfb\x0e\x01",
-        count: 70_000,
-        last: 70_000,
-        front: b"",
-        file: b"f\0\0\0\0",
-        end: b"\0",
-    },
-    Tables {
-        header: b"\xda\x45\x04\0\x05\0\x04\0\xd2\x45\x04\0\x01\x01\x01\xfb\x0e\x01",
-        count: 70_000,
-        last: 69_999,
-        front: b"\x01\x01\x08\xf0\xa2\x04",
-        file: b"f\0",
-        end: b"",
-    },
-];
+/// The last address of the sequence of many rows.
+const LAST: u64 = 70_016;
 
-/// Puts a table of so many entries after the bytes.
-fn put_table(
-    bytes: &mut Vec<u8>,
-    tables: &Tables,
-    entry: &[u8],
-) -> std::result::Result<(), AllocError> {
-    bytes.extend_from_slice(tables.front)?;
-    for _ in 0..tables.count {
-        bytes.extend_from_slice(entry)?;
+// ---- copies of many files
+
+/// The bytes of a unit of version 5 with many directories and many files, whose paths are empty; it has no program.
+fn bytes_of_tables(alloc: Global) -> std::result::Result<Vec<u8>, AllocError> {
+    let header = b"\xfa\x22\x02\0\x05\0\x08\0\xf2\x22\x02\0\x01\x01\x01\xfb\x0e\x01";
+    let format = b"\x01\x01\x08\xf0\xa2\x04";
+    let mut unit = Vec::from_slice(alloc, header)?;
+    for _ in 0..2 {
+        unit.extend_from_slice(format)?;
+        unit.resize(unit.len().saturating_add(MANY), 0)?;
     }
-    bytes.extend_from_slice(tables.end)
+    Ok(unit)
 }
 
-/// The bytes of the unit.
-fn bytes_of_tables(alloc: Global, tables: &Tables) -> std::result::Result<Vec<u8>, AllocError> {
-    let mut bytes = Vec::from_slice(alloc, tables.header)?;
-    put_table(&mut bytes, tables, b"d\0")?;
-    put_table(&mut bytes, tables, tables.file)?;
-    Ok(bytes)
-}
-
-/// A header has as many directories and files, and the last of each.
-fn check_header<R: Reader>(rt: &impl Abort, header: &LineProgramHeader<R>, tables: &Tables) {
-    let found = (header.include_directories().len(), file_count(header));
-    check_equal_at(rt, found, (tables.count, tables.count), tables.header);
-    check(rt, is_directory(header, tables.last, b"d"));
-    let file = header.file(tables.last).map(|file| file.path_name());
-    check(rt, is_text(file, b"f"));
-}
-
-/// So has the header of a unit, and a copy of it.
-fn check_tables<R: Reader>(rt: &impl Abort, alloc: Global, unit: R, tables: &Tables) -> Result<()> {
-    let program = program(alloc, unit, 4)?;
-    check_header(rt, program.header(), tables);
-    check_header(rt, program.clone()?.header(), tables);
+/// A program, a run and a complete program have many files, and so have copies of them.
+fn check_copies<R: Reader>(rt: &impl Abort, program: IncompleteLineProgram<R>) -> Result<()> {
+    check_equal(rt, program.header().file_names().len(), MANY);
+    let copy = program.clone()?;
+    check_equal(rt, copy.header().include_directories().len(), MANY);
+    let copied_rows = copy.rows().clone()?;
+    check_equal(rt, copied_rows.header().file_names().len(), MANY);
+    let (complete, _) = program.sequences()?;
+    check_equal(rt, complete.clone()?.header().file_names().len(), MANY);
+    check_equal(rt, complete.header().clone()?.file_names().len(), MANY);
     Ok(())
 }
 
-fn steps_of_tables_of_many_entries(rt: &impl Abort, alloc: Global) -> Result<()> {
-    for tables in &TABLES {
-        let Ok(unit) = bytes_of_tables(alloc, tables) else {
-            return Err(Error::OutOfMemory);
-        };
-        check_tables(rt, alloc, slice(&unit), tables)?;
-    }
-    Ok(())
+fn steps_of_copies(rt: &impl Abort, alloc: Global) -> Result<()> {
+    let unit = bytes_of_tables(alloc).map_err(|_| Error::OutOfMemory)?;
+    check_copies(rt, program(alloc, slice(&unit))?)
 }
 
 #[test]
-fn tables_of_many_entries(rt: HostRuntime) {
-    check_equal(
-        &rt,
-        steps_of_tables_of_many_entries(&rt, rt.alloc()),
-        Ok(()),
-    );
+fn copies(rt: HostRuntime) {
+    check_equal(&rt, steps_of_copies(&rt, rt.alloc()), Ok(()));
 }
 
-// ---- rows and sequences
+// ---- many rows and sequences
 
-/// The same bytes so many times, between others.
-fn bytes_of_many(
-    alloc: Global,
-    first: &[u8],
-    count: usize,
-    each: &[u8],
-    last: &[u8],
-) -> std::result::Result<Vec<u8>, AllocError> {
-    let mut bytes = Vec::from_slice(alloc, first)?;
-    for _ in 0..count {
-        bytes.extend_from_slice(each)?;
+/// A program of a sequence of many rows, at 0x11 and each address after it, by turns of line 2 and of line 1, and
+/// an end; then sequences of a row of line 1 at 0 and an end at 1.
+fn bytes_of_sequences(alloc: Global) -> std::result::Result<Vec<u8>, AllocError> {
+    let mut program = Vec::from_slice(alloc, b"\0\x05\x02\x10\0\0\0")?;
+    for _ in 0..MANY / 2 {
+        program.extend_from_slice(b"\x21\x1f")?;
     }
-    bytes.extend_from_slice(last)?;
-    Ok(bytes)
+    program.extend_from_slice(b"\x02\x01\0\x01\x01")?;
+    for _ in 0..SEQUENCES {
+        program.extend_from_slice(b"\x01\x02\x01\0\x01\x01")?;
+    }
+    Ok(program)
 }
 
-/// A unit of this program, whose length is by hand.
-fn unit_of_many(
-    alloc: Global,
-    program: std::result::Result<Vec<u8>, AllocError>,
-    length: [u8; 2],
-) -> Result<Vec<u8>> {
-    let Ok(program) = program else {
-        return Err(Error::OutOfMemory);
+/// The unit of this program.
+fn unit_of_sequences(alloc: Global) -> Result<Vec<u8>> {
+    let program = bytes_of_sequences(alloc).map_err(|_| Error::OutOfMemory)?;
+    unit(alloc, HEADER, [&program, b""])
+}
+
+/// Line 1 begins at each second row of the first sequence, and at the row of each other.
+fn check_addresses(rt: &impl Abort, found: Option<Addresses>) {
+    match found {
+        Some(found) => {
+            check_equal(rt, found.line, 1);
+            check_equal(rt, found.addresses.len(), MANY / 2 + SEQUENCES);
+        }
+        None => check_equal(rt, true, false),
+    }
+}
+
+/// A lookup of one program, and its call that no row makes.
+fn check_lookup<R: Reader>(rt: &impl Abort, program: IncompleteLineProgram<R>) -> Result<()> {
+    let (_, sequences) = program.clone()?.sequences()?;
+    check_equal(rt, sequences.len(), SEQUENCES + 1);
+    let lookup = Lookup::new(program)?;
+    check_equal(rt, lookup.sequences().len(), SEQUENCES + 1);
+    let found = lookup.find(LAST).map(|(row, _)| row.address());
+    check_equal(rt, found, Some(LAST));
+    check_addresses(rt, lookup.addresses_of_file(1, 1)?);
+    Ok(())
+}
+
+/// A lookup of a section, from a line to addresses.
+fn check_section<R: Reader>(rt: &impl Abort, lookup: &SectionLookup<R>, nothing: R) -> Result<()> {
+    let sections = StringSections {
+        debug_line_str: nothing,
+        debug_str: nothing,
     };
-    let unit = unit(alloc, HEADER, &program)?;
-    with_changes(alloc, &unit, &[(0, length[0]), (1, length[1])])
+    check_addresses(rt, lookup.addresses_of(&sections, b"a.c", 1)?);
+    check_equal(rt, lookup.units().len(), 1);
+    if 0 < lookup.units().len() {
+        check_addresses(rt, lookup.addresses_of_file(0, 1, 1)?);
+    }
+    Ok(())
 }
 
-/// What `sequences_with_rows` returns of its sequences.
-type Kept<R> = (Vec<LineSequence<R>>, Vec<RowList>);
-
-/// The sequences of a unit, and their rows.
-fn keep<R: Reader>(alloc: Global, unit: R) -> Result<Kept<R>> {
-    let (_, sequences, rows) = program(alloc, unit, 4)?.sequences_with_rows()?;
-    Ok((sequences, rows))
-}
-
-/// As many sequences as there have to be, from this address to that one, each of as many rows.
-fn check_kept<R: Reader>(
+/// Without its headers a lookup of a section finds the same rows.
+fn check_bare<E: Endianity>(
     rt: &impl Abort,
-    kept: &Kept<R>,
-    count: usize,
-    ends: (u64, u64),
-    rows: usize,
-) {
-    check_equal(rt, (kept.0.len(), kept.1.len()), (count, count));
-    for sequence in &kept.0 {
-        check_equal(rt, (sequence.start, sequence.end), ends);
-    }
-    for found in &kept.1 {
-        check_equal(rt, found.len(), rows);
-    }
-}
-
-/// Special opcode 0x20 advances one byte: rows at the 2,999 addresses from 0x11 on, and an end. The unit has
-/// 37 + 7 + 2,999 + 5 bytes.
-fn steps_of_three_thousand_rows(rt: &impl Abort, alloc: Global) -> Result<()> {
-    let program = bytes_of_many(
-        alloc,
-        b"\0\x05\x02\x10\0\0\0",
-        2999,
-        b"\x20",
-        b"\x02\x01\0\x01\x01",
-    );
-    let unit = unit_of_many(alloc, program, [0xe4, 0x0b])?;
-    let kept = keep(alloc, slice(&unit))?;
-    check_kept(rt, &kept, 1, (0x11, 0xbc8), 3000);
+    lookup: SectionLookup<EndianSlice<'_, E>>,
+) -> Result<()> {
+    let bare = lookup.without_headers()?;
+    let found = bare.find(LAST).map(|found| found.row.address());
+    check_equal(rt, found, Some(LAST));
     Ok(())
 }
 
-#[test]
-fn three_thousand_rows(rt: HostRuntime) {
-    check_equal(&rt, steps_of_three_thousand_rows(&rt, rt.alloc()), Ok(()));
-}
-
-/// A row at 0, and an end at 1, three thousand times: 37 + 18,000 bytes.
-fn steps_of_three_thousand_sequences(rt: &impl Abort, alloc: Global) -> Result<()> {
-    let program = bytes_of_many(alloc, b"", 3000, b"\x01\x02\x01\0\x01\x01", b"");
-    let unit = unit_of_many(alloc, program, [0x71, 0x46])?;
-    let kept = keep(alloc, slice(&unit))?;
-    check_kept(rt, &kept, 3000, (0, 1), 2);
-    Ok(())
+fn steps_of_lookup(rt: &impl Abort, alloc: Global) -> Result<()> {
+    let unit = unit_of_sequences(alloc)?;
+    check_lookup(rt, program(alloc, slice(&unit))?)
 }
 
 #[test]
-fn three_thousand_sequences(rt: HostRuntime) {
-    check_equal(
-        &rt,
-        steps_of_three_thousand_sequences(&rt, rt.alloc()),
-        Ok(()),
-    );
+fn lookup(rt: HostRuntime) {
+    check_equal(&rt, steps_of_lookup(&rt, rt.alloc()), Ok(()));
+}
+
+fn steps_of_section_lookup(rt: &impl Abort, alloc: Global) -> Result<()> {
+    let unit = unit_of_sequences(alloc)?;
+    let lookup = SectionLookup::new(&DebugLine::from(slice(&unit)), alloc, 4, 0)?;
+    check_section(rt, &lookup, slice(b""))?;
+    check_bare(rt, lookup)
+}
+
+#[test]
+fn section_lookup(rt: HostRuntime) {
+    check_equal(&rt, steps_of_section_lookup(&rt, rt.alloc()), Ok(()));
 }
