@@ -1,6 +1,9 @@
 //! Conversions call by call: reads of both kinds, addresses that no map knows, and the tables after
 //! a start that is refused.
 
+ghost use Rattle.std.specs.Prelude.{IsTrue, IfSome};
+ghost use Rattle.gimli_core.specs.Numbers.{is_address_size};
+
 use crate::check::{check, check_equal};
 use gimli_core::{
     DebugLineOffset, Encoding, EndianSlice, Format, LittleEndian, Reader, ReaderOffset,
@@ -19,6 +22,13 @@ const TWO_ADDRESSES: &[u8] =
     b"\x38\0\0\0\x04\0\x1b\0\0\0\x01\x01\x01\xfb\x0e\x0d\0\x01\x01\x01\x01\0\0\0\x01\0\0\x01\0\
       a.c\0\0\0\0\0\0\x05\x02\x10\0\0\0\x01\x02\x04\0\x05\x02\x20\0\0\0\x01\x02\x04\0\x01\x01";
 
+/// The encoding of a program of version 5.
+pub const VERSION_5: Encoding = Encoding {
+    address_size: 4,
+    format: Format::Dwarf32,
+    version: 5,
+};
+
 /// A reader of bytes.
 pub fn slice(bytes: &[u8]) -> EndianSlice<'_, LittleEndian> {
     EndianSlice::new(bytes, LittleEndian)
@@ -34,19 +44,16 @@ pub fn program_of<R: Reader>(
     DebugLine::from(unit).program(alloc, offset, 4, directory, None)
 }
 
-/// A conversion of a program, of this version or of its own. All texts stand in its header.
+/// A conversion of a program, to this encoding or to its own. All texts stand in its header.
 pub fn conversion_of<'a, 'b, R: Reader>(
     program: IncompleteLineProgram<R>,
-    version: Option<u16>,
+    encoding: Option<Encoding>,
     line_strings: &'a mut LineStringTable,
     strings: &'b mut StringTable,
-) -> ConvertResult<ConvertLineProgram<'a, 'b, R>> {
+) -> ConvertResult<ConvertLineProgram<'a, 'b, R>>
+    requires { IfSome encoding (λ e. IsTrue (is_address_size e.address_size)) }
+{
     let texts = program.header().raw_program_buf();
-    let encoding = version.map(|version| Encoding {
-        address_size: 4,
-        format: Format::Dwarf32,
-        version,
-    });
     ConvertLineProgram::new(
         texts,
         texts,
@@ -126,7 +133,7 @@ fn refusal_in_version_5<R: Reader>(
     line_strings: &mut LineStringTable,
     strings: &mut StringTable,
 ) -> Option<ConvertError> {
-    conversion_of(program, Some(5), line_strings, strings).err()
+    conversion_of(program, Some(VERSION_5), line_strings, strings).err()
 }
 
 /// Tables begin with the text that stood before.

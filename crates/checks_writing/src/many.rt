@@ -1,13 +1,12 @@
 //! Many of each thing that is written, built or converted. Memory for them is there, so a refusal by
 //! `OutOfMemory` would be wrong, which no contract tells.
 
-ghost use Rattle.std.specs.Prelude.{◌≢◌, All, IsTrue, IfOk};
-ghost use Rattle.gimli_build.specs.Conditions.{is_address_size};
-ghost use Rattle.gimli_write.specs.convert.KeptTables.{IsWritable};
+ghost use Rattle.std.specs.Prelude.{◌≢◌, All, IsTrue};
+ghost use Rattle.gimli_core.specs.Numbers.{is_address_size};
 
 use crate::check::{check, check_equal};
-use crate::conversions::{conversion_of, program_of, slice};
-use gimli_core::{BigEndian, DebugLineOffset, Encoding, Format, LittleEndian, Reader};
+use crate::conversions::{VERSION_5, conversion_of, program_of, slice};
+use gimli_core::{BigEndian, DebugLineOffset, Encoding, LittleEndian, Reader};
 use gimli_line::IncompleteLineProgram;
 use gimli_write::conversion_laws::converted_programs_can_be_written;
 use gimli_write::{
@@ -18,11 +17,11 @@ use gimli_write::{
 use std::alloc::{AllocError, Global};
 use std::process::Abort;
 
-/// How many numbers, texts and rows there are.
+/// How many numbers and texts there are.
 const MANY: usize = 70_000;
 
-/// How many directories, files and short sequences there are.
-const ENTRIES: usize = 5_000;
+/// How many directories, files, sequences and rows the unit has of each.
+const ENTRIES: usize = 3_000;
 
 /// The text of a number, each of another.
 fn text_of(number: usize) -> [u8; 3]
@@ -96,9 +95,9 @@ fn tables(rt: HostRuntime) {
 
 // ---- a unit of many entries, sequences and rows
 
-/// The front of a unit of version 4: its length is 280,029, and its header's 55,020.
+/// The front of a unit of version 4: its length is 129,029, and its header's 33,020.
 const FRONT: &[u8] =
-    b"\xdd\x45\x04\0\x04\0\xec\xd6\0\0\x01\x01\x01\xfb\x0e\x0d\0\x01\x01\x01\x01\0\0\0\x01\0\0\x01";
+    b"\x05\xf8\x01\0\x04\0\xfc\x80\0\0\x01\x01\x01\xfb\x0e\x0d\0\x01\x01\x01\x01\0\0\0\x01\0\0\x01";
 
 /// A file that is defined, an address of 0x10 with a row, an address of 0x20 with a row, and an
 /// end: what stands before the name of the file, and after it.
@@ -130,13 +129,13 @@ fn many_entries(alloc: Global) -> std::result::Result<Vec<u8>, AllocError> {
     put_each(&mut unit, b"", b"\0\x01\0\0")?;
     unit.push(0)?;
     put_each(&mut unit, BEFORE_NAME, AFTER_NAME)?;
-    unit.extend_from_slice(&vec![in alloc; 1; MANY]?)?;
+    unit.extend_from_slice(&vec![in alloc; 1; ENTRIES]?)?;
     unit.extend_from_slice(b"\0\x01\x01")?;
     Ok(unit)
 }
 
 /// How many items it has: five in each short sequence, then the rows and an end.
-const ITEMS: usize = 5 * ENTRIES + MANY + 1;
+const ITEMS: usize = 6 * ENTRIES + 1;
 
 // ---- conversions of it
 
@@ -200,20 +199,20 @@ fn built_at_once<R: Reader>(
 
 /// What is built by `convert_program`, in an encoding, and what is read back of it.
 fn built_and_read_back<R: Reader>(
-    program: IncompleteLineProgram<R>,
+    source: IncompleteLineProgram<R>,
     name: R,
     encoding: Encoding,
     section: &mut DebugLine<EndianVec<LittleEndian>>,
     line_strings: &mut LineStringTable,
     strings: &mut StringTable,
-) -> ConvertResult<(LineProgram, RoundTrip)>
+) -> ConvertResult<(LineProgram, Vec<FileId>, RoundTrip)>
     requires { IsTrue (is_address_size encoding.address_size) }
 {
     converted_programs_can_be_written();
-    let (program, _files) = convert_program(
+    let (program, files) = convert_program(
         name,
         name,
-        program,
+        source,
         Some(name),
         Some(encoding),
         None,
@@ -222,7 +221,7 @@ fn built_and_read_back<R: Reader>(
         |address| Some(Address::Constant(address)),
     )?;
     let answer = round_trip(&program, section, program.encoding(), line_strings, strings)?;
-    Ok((program, answer))
+    Ok((program, files, answer))
 }
 
 /// How many items a program has.
@@ -253,27 +252,23 @@ fn check_version_5(
     line_strings: &mut LineStringTable,
     strings: &mut StringTable,
 ) -> ConvertResult<()> {
-    let encoding = Encoding {
-        address_size: 4,
-        format: Format::Dwarf32,
-        version: 5,
-    };
     let program = program_of(alloc, slice(unit), Some(slice(b"/w")))?;
     let mut section = DebugLine::from(EndianVec::new(alloc, LittleEndian));
     section.0.write(b"\xaa\xbb\xcc")?;
     let name = slice(b"a.c");
-    let (program, answer) = built_and_read_back(
+    let (program, files, answer) = built_and_read_back(
         program,
         name,
-        encoding,
+        VERSION_5,
         &mut section,
         line_strings,
         strings,
     )?;
+    check_equal(rt, files.len(), 2 * ENTRIES + 1);
     check_equal(rt, answer.offset, DebugLineOffset(3));
     check_equal(rt, answer.directories.len(), ENTRIES + 1);
     check_equal(rt, answer.files.len(), 2 * ENTRIES + 1);
-    check_equal(rt, answer.rows.len(), 3 * ENTRIES + MANY + 1);
+    check_equal(rt, answer.rows.len(), 4 * ENTRIES + 1);
     check_equal(rt, item_count(&program.clone()?), ITEMS);
     Ok(())
 }
@@ -290,7 +285,7 @@ fn steps_of_conversions(
     let program = program_of(alloc, slice(&unit), None)?;
     check_built(rt, built_at_once(program, line_strings, strings));
     let program = program_of(alloc, slice(&unit), None)?;
-    check_equal(rt, last_row_count(program, line_strings, strings)?, MANY);
+    check_equal(rt, last_row_count(program, line_strings, strings)?, ENTRIES);
     check_version_5(rt, alloc, &unit, line_strings, strings)
 }
 

@@ -1,7 +1,7 @@
 //! A writer of the caller's own: it doesn't keep an address or an offset as the number that it is,
 //! and fails with an error of its own.
 
-ghost use Rattle.std.specs.Prelude.{◌≡◌, true, false, IsTrue, IfOk, OnOk};
+ghost use Rattle.std.specs.Prelude.{◌≡◌, false, IsTrue, IfOk, OnOk};
 ghost use Rattle.gimli_write.specs.StringTables.{texts_in};
 ghost use Rattle.gimli_write.specs.Conditions.{CanWrite};
 ghost use Rattle.gimli_write.specs.LineText.{line_text, HasNoZero, IsWithin};
