@@ -1,5 +1,5 @@
-//! Conversions call by call: reads of both kinds, addresses that no map knows, and the tables after
-//! a start that is refused.
+//! Conversions call by call: reads of both kinds, a map that doesn't know an address, and the tables
+//! after a start that is refused.
 
 ghost use Rattle.std.specs.Prelude.{IsTrue, IfSome};
 ghost use Rattle.gimli_core.specs.Numbers.{is_address_size};
@@ -66,26 +66,30 @@ pub fn conversion_of<'a, 'b, R: Reader>(
     )
 }
 
-// ---- reads of both kinds
-
 /// An address that `read_row` gave isn't given again, and the one that ends a sequence comes next.
 fn check_mixed_reads<R: Reader>(
     rt: &impl Abort,
+    alloc: Global,
     program: IncompleteLineProgram<R>,
-    line_strings: &mut LineStringTable,
-    strings: &mut StringTable,
 ) -> ConvertResult<()> {
-    let mut conversion = conversion_of(program, None, line_strings, strings)?;
-    let read = conversion.read_row()?;
-    check_equal(rt, read, Some(ConvertLineRow::SetAddress(0x10)));
+    let mut line_strings = LineStringTable::default(alloc);
+    let mut strings = StringTable::default(alloc);
+    let mut conversion = conversion_of(program, None, &mut line_strings, &mut strings)?;
+    check_equal(
+        rt,
+        conversion.read_row()?,
+        Some(ConvertLineRow::SetAddress(0x10)),
+    );
     let Some(sequence) = conversion.read_sequence()? else {
         return Err(ConvertError::MissingLineEndSequence);
     };
-    check_equal(rt, sequence.start, None);
-    check_equal(rt, sequence.rows.len(), 1);
+    check_equal(rt, (sequence.start, sequence.rows.len()), (None, 1));
     check_equal(rt, sequence.end, ConvertLineSequenceEnd::Address(0x20));
-    let read = conversion.read_row()?;
-    check_equal(rt, read, Some(ConvertLineRow::SetAddress(0x20)));
+    check_equal(
+        rt,
+        conversion.read_row()?,
+        Some(ConvertLineRow::SetAddress(0x20)),
+    );
     check(
         rt,
         matches!(conversion.read_row()?, Some(ConvertLineRow::Row(_))),
@@ -100,22 +104,6 @@ fn check_mixed_reads<R: Reader>(
     Ok(())
 }
 
-// ---- addresses that no map knows
-
-/// What `convert` refuses by this map.
-fn refusal_by<R: Reader, F: Fn(u64) -> Option<Address>>(
-    program: IncompleteLineProgram<R>,
-    line_strings: &mut LineStringTable,
-    strings: &mut StringTable,
-    convert_address: F,
-) -> ConvertResult<()>
-    requires { F.IsAlwaysCallable convert_address }
-{
-    let conversion = conversion_of(program, None, line_strings, strings)?;
-    conversion.convert(convert_address)?;
-    Ok(())
-}
-
 /// The addresses up to 0x10.
 fn below_17(address: u64) -> Option<Address> {
     if address <= 0x10 {
@@ -125,55 +113,49 @@ fn below_17(address: u64) -> Option<Address> {
     }
 }
 
-// ---- a start that is refused
-
-/// What a conversion to version 5 refuses at its start.
-fn refusal_in_version_5<R: Reader>(
+/// The second address isn't mapped to another.
+fn check_map<R: Reader>(
+    rt: &impl Abort,
+    alloc: Global,
     program: IncompleteLineProgram<R>,
-    line_strings: &mut LineStringTable,
-    strings: &mut StringTable,
-) -> Option<ConvertError> {
-    conversion_of(program, Some(VERSION_5), line_strings, strings).err()
+) -> ConvertResult<()> {
+    let mut line_strings = LineStringTable::default(alloc);
+    let mut strings = StringTable::default(alloc);
+    let conversion = conversion_of(program, None, &mut line_strings, &mut strings)?;
+    let refused = conversion.convert(below_17).err();
+    check_equal(rt, refused, Some(ConvertError::InvalidAddress));
+    Ok(())
 }
 
-/// Tables begin with the text that stood before.
-fn check_old_texts(rt: &impl Abort, line_strings: &LineStringTable, strings: &StringTable) {
+/// A start that is refused after the working directory was added to a table. No clause says that
+/// the old texts are still the first.
+fn check_refused_start<R: Reader>(
+    rt: &impl Abort,
+    alloc: Global,
+    program: IncompleteLineProgram<R>,
+) -> ConvertResult<()> {
+    let mut line_strings = LineStringTable::default(alloc);
+    let mut strings = StringTable::default(alloc);
+    line_strings.add(b"old")?;
+    strings.add(b"old")?;
+    let refused = conversion_of(program, Some(VERSION_5), &mut line_strings, &mut strings).err();
+    check_equal(rt, refused, Some(ConvertError::MissingCompilationName));
     check(rt, line_strings.count() > 0 && strings.count() > 0);
     if line_strings.count() > 0 && strings.count() > 0 {
         check_equal(rt, line_strings.get(LineStringId(0)), b"old".as_slice());
         check_equal(rt, strings.get(StringId(0)), b"old".as_slice());
     }
+    Ok(())
 }
 
-/// Each conversion is begun in the same tables.
-fn steps_of_conversions(
-    rt: &impl Abort,
-    alloc: Global,
-    line_strings: &mut LineStringTable,
-    strings: &mut StringTable,
-) -> ConvertResult<()> {
+fn steps_of_conversions(rt: &impl Abort, alloc: Global) -> ConvertResult<()> {
     let source = slice(TWO_ADDRESSES);
-    let program = program_of(alloc, source, None)?;
-    check_mixed_reads(rt, program, line_strings, strings)?;
-    let program = program_of(alloc, source, None)?;
-    let refused = refusal_by(program, line_strings, strings, |_| None);
-    check_equal(rt, refused, Err(ConvertError::InvalidAddress));
-    let program = program_of(alloc, source, None)?;
-    let refused = refusal_by(program, line_strings, strings, below_17);
-    check_equal(rt, refused, Err(ConvertError::InvalidAddress));
-    line_strings.add(b"old")?;
-    strings.add(b"old")?;
-    let program = program_of(alloc, source, Some(slice(b"/w")))?;
-    let refused = refusal_in_version_5(program, line_strings, strings);
-    check_equal(rt, refused, Some(ConvertError::MissingCompilationName));
-    check_old_texts(rt, line_strings, strings);
-    Ok(())
+    check_mixed_reads(rt, alloc, program_of(alloc, source, None)?)?;
+    check_map(rt, alloc, program_of(alloc, source, None)?)?;
+    check_refused_start(rt, alloc, program_of(alloc, source, Some(slice(b"/w")))?)
 }
 
 #[test]
 fn conversions(rt: HostRuntime) {
-    let mut line_strings = LineStringTable::default(rt.alloc());
-    let mut strings = StringTable::default(rt.alloc());
-    let steps = steps_of_conversions(&rt, rt.alloc(), &mut line_strings, &mut strings);
-    check_equal(&rt, steps, Ok(()));
+    check_equal(&rt, steps_of_conversions(&rt, rt.alloc()), Ok(()));
 }

@@ -2,7 +2,7 @@
 
 use crate::check::check_equal;
 use gimli_core::{DwEhPe, Error as ReadError};
-use gimli_write::{ConvertError, ConvertResult, Error, Result};
+use gimli_write::{ConvertError, Error};
 use std::alloc::{AllocError, Global};
 use std::fmt::{Display, Write};
 use std::process::Abort;
@@ -140,23 +140,11 @@ fn texts(rt: HostRuntime) {
     check_equal(&rt, steps_of_texts(&rt, rt.alloc()), Ok(()));
 }
 
-fn of_read(error: ReadError) -> ConvertResult<()> {
-    let result: std::result::Result<(), ReadError> = Err(error);
-    result?;
-    Ok(())
-}
-
-fn of_write(error: Error) -> ConvertResult<()> {
-    let result: Result<()> = Err(error);
-    result?;
-    Ok(())
-}
-
 /// A refusal of reading or writing becomes the converter's own variant of it.
 #[test]
 fn errors_turned_into_others(rt: HostRuntime) {
     let read = ReadError::LineRangeZero;
-    check_equal(&rt, of_read(read), Err(ConvertError::Read(read)));
+    check_equal(&rt, ConvertError::from(read), ConvertError::Read(read));
     let write = Error::UnsupportedVersion(6);
-    check_equal(&rt, of_write(write), Err(ConvertError::Write(write)));
+    check_equal(&rt, ConvertError::from(write), ConvertError::Write(write));
 }

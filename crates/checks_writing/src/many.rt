@@ -10,9 +10,9 @@ use gimli_core::{BigEndian, DebugLineOffset, Encoding, LittleEndian, Reader};
 use gimli_line::IncompleteLineProgram;
 use gimli_write::conversion_laws::converted_programs_can_be_written;
 use gimli_write::{
-    Address, ConvertLineProgram, ConvertLineRow, ConvertResult, DebugLine, EndianVec, FileId,
-    FileInfo, LineProgram, LineString, LineStringTable, PieceVec, Result, RoundTrip, StringTable,
-    Writer, convert_program, round_trip,
+    Address, ConvertLineProgram, ConvertLineRow, ConvertResult, DebugLine, EndianVec, FileInfo,
+    LineProgram, LineString, LineStringTable, PieceVec, Result, StringTable, Writer,
+    convert_program, round_trip,
 };
 use std::alloc::{AllocError, Global};
 use std::process::Abort;
@@ -21,7 +21,7 @@ use std::process::Abort;
 const MANY: usize = 70_000;
 
 /// How many directories, files, sequences and rows the unit has of each.
-const ENTRIES: usize = 3_000;
+const ENTRIES: usize = 5_000;
 
 /// The text of a number, each of another.
 fn text_of(number: usize) -> [u8; 3]
@@ -72,11 +72,6 @@ fn steps_of_writers(rt: &impl Abort, alloc: Global) -> Result<()> {
     Ok(())
 }
 
-#[test]
-fn writers(rt: HostRuntime) {
-    check_equal(&rt, steps_of_writers(&rt, rt.alloc()), Ok(()));
-}
-
 fn steps_of_tables(rt: &impl Abort, alloc: Global) -> Result<()> {
     let mut strings = StringTable::default(alloc);
     let mut line_strings = LineStringTable::default(alloc);
@@ -89,15 +84,16 @@ fn steps_of_tables(rt: &impl Abort, alloc: Global) -> Result<()> {
 }
 
 #[test]
-fn tables(rt: HostRuntime) {
+fn writers_and_tables(rt: HostRuntime) {
+    check_equal(&rt, steps_of_writers(&rt, rt.alloc()), Ok(()));
     check_equal(&rt, steps_of_tables(&rt, rt.alloc()), Ok(()));
 }
 
 // ---- a unit of many entries, sequences and rows
 
-/// The front of a unit of version 4: its length is 129,029, and its header's 33,020.
+/// The front of a unit of version 4: its length is 215,029, and its header's 55,020.
 const FRONT: &[u8] =
-    b"\x05\xf8\x01\0\x04\0\xfc\x80\0\0\x01\x01\x01\xfb\x0e\x0d\0\x01\x01\x01\x01\0\0\0\x01\0\0\x01";
+    b"\xf5\x47\x03\0\x04\0\xec\xd6\0\0\x01\x01\x01\xfb\x0e\x0d\0\x01\x01\x01\x01\0\0\0\x01\0\0\x01";
 
 /// A file that is defined, an address of 0x10 with a row, an address of 0x20 with a row, and an
 /// end: what stands before the name of the file, and after it.
@@ -120,22 +116,22 @@ fn put_each(
     Ok(())
 }
 
-/// Many directories, many files of the first one, many sequences with a file of the second one, and
-/// a sequence of many rows.
+/// Many directories, many files of the first one, a sequence of many rows, and many sequences with a
+/// file of the second one.
 fn many_entries(alloc: Global) -> std::result::Result<Vec<u8>, AllocError> {
     let mut unit = Vec::from_slice(alloc, FRONT)?;
     put_each(&mut unit, b"", b"\0")?;
     unit.push(0)?;
     put_each(&mut unit, b"", b"\0\x01\0\0")?;
     unit.push(0)?;
-    put_each(&mut unit, BEFORE_NAME, AFTER_NAME)?;
     unit.extend_from_slice(&vec![in alloc; 1; ENTRIES]?)?;
     unit.extend_from_slice(b"\0\x01\x01")?;
+    put_each(&mut unit, BEFORE_NAME, AFTER_NAME)?;
     Ok(unit)
 }
 
-/// How many items it has: five in each short sequence, then the rows and an end.
-const ITEMS: usize = 6 * ENTRIES + 1;
+/// How many items the short sequences have.
+const ITEMS: usize = 5 * ENTRIES;
 
 // ---- conversions of it
 
@@ -156,74 +152,6 @@ fn build_item<R: Reader>(
     }
 }
 
-/// What is built by these calls.
-fn built_by_calls<R: Reader>(
-    program: IncompleteLineProgram<R>,
-    line_strings: &mut LineStringTable,
-    strings: &mut StringTable,
-) -> ConvertResult<(LineProgram, Vec<FileId>)> {
-    let mut conversion = conversion_of(program, None, line_strings, strings)?;
-    for _ in 0..ITEMS {
-        if let Some(item) = conversion.read_row()? {
-            build_item(&mut conversion, item)?;
-        }
-    }
-    Ok(conversion.program())
-}
-
-/// How many rows the last sequence has, of so many as there are.
-fn last_row_count<R: Reader>(
-    program: IncompleteLineProgram<R>,
-    line_strings: &mut LineStringTable,
-    strings: &mut StringTable,
-) -> ConvertResult<usize> {
-    let mut conversion = conversion_of(program, None, line_strings, strings)?;
-    let mut count = 0;
-    for _ in 0..2 * ENTRIES + 1 {
-        if let Some(sequence) = conversion.read_sequence()? {
-            count = sequence.rows.len();
-        }
-    }
-    Ok(count)
-}
-
-/// What is built by `convert`.
-fn built_at_once<R: Reader>(
-    program: IncompleteLineProgram<R>,
-    line_strings: &mut LineStringTable,
-    strings: &mut StringTable,
-) -> ConvertResult<(LineProgram, Vec<FileId>)> {
-    let conversion = conversion_of(program, None, line_strings, strings)?;
-    conversion.convert(|address| Some(Address::Constant(address)))
-}
-
-/// What is built by `convert_program`, in an encoding, and what is read back of it.
-fn built_and_read_back<R: Reader>(
-    source: IncompleteLineProgram<R>,
-    name: R,
-    encoding: Encoding,
-    section: &mut DebugLine<EndianVec<LittleEndian>>,
-    line_strings: &mut LineStringTable,
-    strings: &mut StringTable,
-) -> ConvertResult<(LineProgram, Vec<FileId>, RoundTrip)>
-    requires { IsTrue (is_address_size encoding.address_size) }
-{
-    converted_programs_can_be_written();
-    let (program, files) = convert_program(
-        name,
-        name,
-        source,
-        Some(name),
-        Some(encoding),
-        None,
-        line_strings,
-        strings,
-        |address| Some(Address::Constant(address)),
-    )?;
-    let answer = round_trip(&program, section, program.encoding(), line_strings, strings)?;
-    Ok((program, files, answer))
-}
-
 /// How many items a program has.
 fn item_count(program: &LineProgram) -> usize {
     let mut count: usize = 0;
@@ -233,66 +161,79 @@ fn item_count(program: &LineProgram) -> usize {
     count
 }
 
-/// Each has all that the unit has.
-fn check_built(rt: &impl Abort, built: ConvertResult<(LineProgram, Vec<FileId>)>) {
-    let Ok((program, files)) = built else {
-        check(rt, false);
-        return;
-    };
-    check_equal(rt, files.len(), 2 * ENTRIES + 1);
-    check_equal(rt, item_count(&program), ITEMS);
-}
-
-/// In version 5 the texts stand in a table, and the directory `/w` and the file `a.c` come first. The
-/// unit is written after three bytes.
-fn check_version_5(
+/// The first sequence is read, half of the items of the others are built by these calls, and the
+/// rest by `convert`.
+fn check_parts<R: Reader>(
     rt: &impl Abort,
     alloc: Global,
-    unit: &[u8],
-    line_strings: &mut LineStringTable,
-    strings: &mut StringTable,
+    source: IncompleteLineProgram<R>,
 ) -> ConvertResult<()> {
-    let program = program_of(alloc, slice(unit), Some(slice(b"/w")))?;
-    let mut section = DebugLine::from(EndianVec::new(alloc, LittleEndian));
-    section.0.write(b"\xaa\xbb\xcc")?;
-    let name = slice(b"a.c");
-    let (program, files, answer) = built_and_read_back(
-        program,
-        name,
-        VERSION_5,
-        &mut section,
-        line_strings,
-        strings,
-    )?;
+    let mut line_strings = LineStringTable::default(alloc);
+    let mut strings = StringTable::default(alloc);
+    let mut conversion = conversion_of(source, None, &mut line_strings, &mut strings)?;
+    let row_count = conversion
+        .read_sequence()?
+        .map(|sequence| sequence.rows.len());
+    check_equal(rt, row_count, Some(ENTRIES));
+    for _ in 0..ITEMS / 2 {
+        if let Some(item) = conversion.read_row()? {
+            build_item(&mut conversion, item)?;
+        }
+    }
+    let (program, files) = conversion.convert(|address| Some(Address::Constant(address)))?;
     check_equal(rt, files.len(), 2 * ENTRIES + 1);
-    check_equal(rt, answer.offset, DebugLineOffset(3));
-    check_equal(rt, answer.directories.len(), ENTRIES + 1);
-    check_equal(rt, answer.files.len(), 2 * ENTRIES + 1);
-    check_equal(rt, answer.rows.len(), 4 * ENTRIES + 1);
-    check_equal(rt, item_count(&program.clone()?), ITEMS);
+    check_equal(rt, item_count(&program), ITEMS);
     Ok(())
 }
 
-fn steps_of_conversions(
+/// In version 5 texts stand in a table, and this name and the working directory come first. The unit
+/// is written after three bytes.
+fn check_version_5<R: Reader>(
     rt: &impl Abort,
     alloc: Global,
-    line_strings: &mut LineStringTable,
-    strings: &mut StringTable,
-) -> ConvertResult<()> {
+    source: IncompleteLineProgram<R>,
+    name: R,
+    encoding: Encoding,
+) -> ConvertResult<()>
+    requires { IsTrue (is_address_size encoding.address_size) }
+{
+    let mut texts = LineStringTable::default(alloc);
+    let mut strings = StringTable::default(alloc);
+    let mut section = DebugLine::from(EndianVec::new(alloc, LittleEndian));
+    section.0.write(b"\xaa\xbb\xcc")?;
+    converted_programs_can_be_written();
+    let (program, files) = convert_program(
+        name,
+        name,
+        source,
+        Some(name),
+        Some(encoding),
+        None,
+        &mut texts,
+        &mut strings,
+        |address| Some(Address::Constant(address)),
+    )?;
+    let answer = round_trip(&program, &mut section, encoding, &mut texts, &mut strings)?;
+    check_equal(rt, files.len(), 2 * ENTRIES + 1);
+    check_equal(rt, answer.offset, DebugLineOffset(3));
+    check_equal(
+        rt,
+        (answer.directories.len(), answer.files.len()),
+        (ENTRIES + 1, 2 * ENTRIES + 1),
+    );
+    check_equal(rt, answer.rows.len(), 4 * ENTRIES + 1);
+    check_equal(rt, item_count(&program.clone()?), ITEMS + ENTRIES + 1);
+    Ok(())
+}
+
+fn steps_of_conversions(rt: &impl Abort, alloc: Global) -> ConvertResult<()> {
     let unit = many_entries(alloc)?;
-    let program = program_of(alloc, slice(&unit), None)?;
-    check_built(rt, built_by_calls(program, line_strings, strings));
-    let program = program_of(alloc, slice(&unit), None)?;
-    check_built(rt, built_at_once(program, line_strings, strings));
-    let program = program_of(alloc, slice(&unit), None)?;
-    check_equal(rt, last_row_count(program, line_strings, strings)?, ENTRIES);
-    check_version_5(rt, alloc, &unit, line_strings, strings)
+    check_parts(rt, alloc, program_of(alloc, slice(&unit), None)?)?;
+    let source = program_of(alloc, slice(&unit), Some(slice(b"/w")))?;
+    check_version_5(rt, alloc, source, slice(b"a.c"), VERSION_5)
 }
 
 #[test]
 fn conversions(rt: HostRuntime) {
-    let mut line_strings = LineStringTable::default(rt.alloc());
-    let mut strings = StringTable::default(rt.alloc());
-    let steps = steps_of_conversions(&rt, rt.alloc(), &mut line_strings, &mut strings);
-    check_equal(&rt, steps, Ok(()));
+    check_equal(&rt, steps_of_conversions(&rt, rt.alloc()), Ok(()));
 }

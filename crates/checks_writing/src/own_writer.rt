@@ -7,9 +7,9 @@ ghost use Rattle.gimli_write.specs.Conditions.{CanWrite};
 ghost use Rattle.gimli_write.specs.LineText.{line_text, HasNoZero, IsWithin};
 
 use crate::check::{check, check_equal};
+use crate::conversions::VERSION_5;
 use gimli_core::{
-    DW_EH_PE_udata2, DebugLineOffset, DwEhPe, Encoding, Format, LineEncoding, LittleEndian,
-    SectionId,
+    DW_EH_PE_udata2, DebugLineOffset, DwEhPe, Format, LineEncoding, LittleEndian, SectionId,
 };
 use gimli_write::{
     Address, DebugLine, EndianVec, Error, InitialLengthOffset, LineProgram, LineString,
@@ -85,25 +85,18 @@ impl Writer for OwnWriter {
     fn write_address(&mut self, address: Address, size: u8) -> Result<()> {
         match address {
             Address::Constant(_) => self.write(&[b'C', size]),
-            Address::Symbol { symbol, .. } => self.write(&[b'Y', size, low_byte(symbol)]),
+            Address::Symbol { symbol, .. } => self.write(&[b'Y', size, (symbol & 0xff) as u8]),
         }
     }
 
     fn write_offset(&mut self, val: usize, section: SectionId, size: u8) -> Result<()> {
-        self.write(&[letter(section), size, low_byte(val)])
+        let letter = if section == SectionId::DebugStr {
+            b'S'
+        } else {
+            b'L'
+        };
+        self.write(&[letter, size, (val & 0xff) as u8])
     }
-}
-
-fn letter(section: SectionId) -> u8 {
-    match section {
-        SectionId::DebugStr => b'S',
-        SectionId::DebugLineStr => b'L',
-        _ => b'?',
-    }
-}
-
-fn low_byte(number: usize) -> u8 {
-    (number & 0xff) as u8
 }
 
 // ---- the calls that have a body
@@ -200,19 +193,22 @@ fn referring(
     requires source_file { HasNoZero (line_text source_file) }
     ensures { IfOk result (λ program. CanWrite program (texts_in strings.now line_strings.now)) }
 {
-    let encoding = Encoding {
-        address_size: 8,
-        format: Format::Dwarf32,
-        version: 5,
-    };
     let lines = LineEncoding::default();
-    if !LineProgram::accepts(encoding, lines)
+    if !LineProgram::accepts(VERSION_5, lines)
         || !is_within(strings, line_strings, &working_dir)
         || !is_within(strings, line_strings, &source_file)
     {
         return Err(Error::InvalidReference);
     }
-    let program = LineProgram::new(alloc, encoding, lines, working_dir, None, source_file, None)?;
+    let program = LineProgram::new(
+        alloc,
+        VERSION_5,
+        lines,
+        working_dir,
+        None,
+        source_file,
+        None,
+    )?;
     Ok(program)
 }
 
@@ -236,10 +232,16 @@ fn add_addresses(
     Ok(())
 }
 
-/// What `write` returns of a directory in the line strings, a file in the strings and the two
-/// addresses, with what stands in the section then. The writer takes so many calls, and has three
-/// bytes.
-fn write_unit(alloc: Global, calls: usize) -> Result<(Result<DebugLineOffset>, Vec<u8>)> {
+/// DWARF 5, section 6.2.4, by hand, with what is asked of the writer for each text and address.
+const UNIT: &[u8] =
+    b"\xaa\xbb\xcc\x39\0\0\0\x05\0\x04\0\x23\0\0\0\x01\x01\x01\xfb\x0e\x0d\0\x01\x01\x01\x01\0\0\0\
+      \x01\0\0\x01\x01\x01\x1f\x01L\x04\x02\x02\x01\x0e\x02\x0f\x01S\x04\x03\0\
+      \0\x05\x02C\x04\0\x05\x02Y\x04\x07\0\x01\x01";
+
+/// Whether a unit is written whole after three bytes, by a writer of so many calls: a directory in
+/// the line strings, a file in the strings, and two addresses. Else the error is the writer's own,
+/// and the three bytes stand first.
+fn is_written(rt: &impl Abort, alloc: Global, calls: usize) -> Result<bool> {
     let mut strings = StringTable::default(alloc);
     let mut line_strings = LineStringTable::default(alloc);
     strings.add(b"pp")?;
@@ -252,26 +254,13 @@ fn write_unit(alloc: Global, calls: usize) -> Result<(Result<DebugLineOffset>, V
     section.0.section.write(b"\xaa\xbb\xcc")?;
     let encoding = program.encoding();
     let answer = program.write(&mut section, encoding, &mut line_strings, &mut strings);
-    let OwnWriter { section, .. } = section.0;
-    Ok((answer, section.into_vec()))
-}
-
-/// DWARF 5, section 6.2.4, by hand, with what is asked of the writer for each text and address.
-const UNIT: &[u8] =
-    b"\xaa\xbb\xcc\x39\0\0\0\x05\0\x08\0\x23\0\0\0\x01\x01\x01\xfb\x0e\x0d\0\x01\x01\x01\x01\0\0\0\
-      \x01\0\0\x01\x01\x01\x1f\x01L\x04\x02\x02\x01\x0e\x02\x0f\x01S\x04\x03\0\
-      \0\x09\x02C\x08\0\x09\x02Y\x08\x07\0\x01\x01";
-
-/// Whether the unit is written whole by a writer of so many calls. Else the error is the writer's
-/// own, and the three bytes still stand first.
-fn is_written(rt: &impl Abort, alloc: Global, calls: usize) -> Result<bool> {
-    let (answer, bytes) = write_unit(alloc, calls)?;
-    check(rt, bytes.as_slice().starts_with(b"\xaa\xbb\xcc"));
+    let bytes = section.0.section.slice();
     if answer.is_ok() {
         check_equal(rt, answer, Ok(DebugLineOffset(3)));
-        check_equal(rt, bytes.as_slice(), UNIT);
+        check_equal(rt, bytes, UNIT);
     } else {
         check_equal(rt, answer, Err(OWN));
+        check(rt, bytes.starts_with(b"\xaa\xbb\xcc"));
     }
     Ok(answer.is_ok())
 }
