@@ -30,12 +30,11 @@ fn check_initial(rt: &impl Abort, row: LineRow, version: u16, is_statement: bool
     check_equal(rt, (row.address_offset, row.op_index), (0, 0));
     check_equal(rt, (row.file.raw(version), row.line), (1, 1));
     check_equal(rt, (row.column, row.discriminator, row.isa), (0, 0, 0));
-    check_equal(
+    check_equal(rt, row.is_statement, is_statement);
+    check(
         rt,
-        (row.is_statement, row.basic_block),
-        (is_statement, false),
+        !row.basic_block && !row.prologue_end && !row.epilogue_begin,
     );
-    check_equal(rt, (row.prologue_end, row.epilogue_begin), (false, false));
 }
 
 /// After a row what stands for one row alone is cleared, after an address in a sequence its place,
@@ -43,7 +42,7 @@ fn check_initial(rt: &impl Abort, row: LineRow, version: u16, is_statement: bool
 fn check_rows(rt: &impl Abort, program: &mut LineProgram, first: LineRow) -> Result<()>
     requires { program.old.is_none ≡ false }
 {
-    let row = LineRow {
+    let mut row = LineRow {
         address_offset: 4,
         line: 7,
         column: 8,
@@ -66,11 +65,8 @@ fn check_rows(rt: &impl Abort, program: &mut LineProgram, first: LineRow) -> Res
     program.generate_row()?;
     check_equal(rt, *program.row(), row);
     program.set_address(Address::Constant(32))?;
-    let here = LineRow {
-        address_offset: 0,
-        ..row
-    };
-    check_equal(rt, *program.row(), here);
+    row.address_offset = 0;
+    check_equal(rt, *program.row(), row);
     if !program.can_end_sequence(8) {
         return Err(Error::InvalidRange);
     }

@@ -66,6 +66,12 @@ pub fn conversion_of<'a, 'b, R: Reader>(
     )
 }
 
+const FIRST: Option<ConvertLineRow> = Some(ConvertLineRow::SetAddress(0x10));
+
+const SECOND: Option<ConvertLineRow> = Some(ConvertLineRow::SetAddress(0x20));
+
+const END: Option<ConvertLineRow> = Some(ConvertLineRow::EndSequence(4));
+
 /// An address that `read_row` gave isn't given again, and the one that ends a sequence comes next.
 fn check_mixed_reads<R: Reader>(
     rt: &impl Abort,
@@ -75,30 +81,16 @@ fn check_mixed_reads<R: Reader>(
     let mut line_strings = LineStringTable::default(alloc);
     let mut strings = StringTable::default(alloc);
     let mut conversion = conversion_of(program, None, &mut line_strings, &mut strings)?;
-    check_equal(
-        rt,
-        conversion.read_row()?,
-        Some(ConvertLineRow::SetAddress(0x10)),
-    );
+    check_equal(rt, conversion.read_row()?, FIRST);
     let Some(sequence) = conversion.read_sequence()? else {
         return Err(ConvertError::MissingLineEndSequence);
     };
     check_equal(rt, (sequence.start, sequence.rows.len()), (None, 1));
     check_equal(rt, sequence.end, ConvertLineSequenceEnd::Address(0x20));
-    check_equal(
-        rt,
-        conversion.read_row()?,
-        Some(ConvertLineRow::SetAddress(0x20)),
-    );
-    check(
-        rt,
-        matches!(conversion.read_row()?, Some(ConvertLineRow::Row(_))),
-    );
-    check_equal(
-        rt,
-        conversion.read_row()?,
-        Some(ConvertLineRow::EndSequence(4)),
-    );
+    check_equal(rt, conversion.read_row()?, SECOND);
+    let row = conversion.read_row()?;
+    check(rt, matches!(row, Some(ConvertLineRow::Row(_))));
+    check_equal(rt, conversion.read_row()?, END);
     check_equal(rt, conversion.read_row()?, None);
     check(rt, conversion.read_sequence()?.is_none());
     Ok(())

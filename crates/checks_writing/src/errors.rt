@@ -2,8 +2,8 @@
 
 use crate::check::check_equal;
 use gimli_core::{DwEhPe, Error as ReadError};
-use gimli_write::{ConvertError, Error};
-use std::alloc::{AllocError, Global};
+use gimli_write::{ConvertError, Error, Result};
+use std::alloc::Global;
 use std::fmt::{Display, Write};
 use std::process::Abort;
 
@@ -108,10 +108,7 @@ A requested feature requires a DWARF version 4.
 ";
 
 /// What errors print, a line each.
-fn printed<T: Copy + Display>(
-    alloc: Global,
-    errors: &[T],
-) -> std::result::Result<String, AllocError> {
+fn printed<T: Copy + Display>(alloc: Global, errors: &[T]) -> Result<String> {
     let mut text = String::new(alloc);
     for error in errors {
         writeln!(text, "{error}")?;
@@ -120,7 +117,7 @@ fn printed<T: Copy + Display>(
 }
 
 /// A pointer encoding, and a refusal of reading, print as they do by themselves.
-fn steps_of_texts(rt: &impl Abort, alloc: Global) -> std::result::Result<(), AllocError> {
+fn steps_of_texts(rt: &impl Abort, alloc: Global) -> Result<()> {
     let text = printed(alloc, &ERRORS_OF_WRITING)?;
     check_equal(rt, text.as_str(), TEXTS_OF_WRITING);
     let text = printed(alloc, &ERRORS_OF_CONVERSION)?;

@@ -14,7 +14,7 @@ use gimli_write::{
     LineProgram, LineString, LineStringTable, PieceVec, Result, StringTable, Writer,
     convert_program, round_trip,
 };
-use std::alloc::{AllocError, Global};
+use std::alloc::Global;
 use std::process::Abort;
 
 /// How many numbers and texts there are.
@@ -50,10 +50,9 @@ fn steps_of_writers(rt: &impl Abort, alloc: Global) -> Result<()> {
     let mut section = EndianVec::new(alloc, BigEndian);
     fill(&mut section)?;
     check_equal(rt, section.len(), 4 * MANY);
-    check_equal(
+    check(
         rt,
         section.slice().ends_with(b"\0\x01\x11\x6e\0\x01\x11\x6f"),
-        true,
     );
     let copy = section.clone()?;
     check(rt, copy.slice() == section.slice());
@@ -95,19 +94,13 @@ fn writers_and_tables(rt: HostRuntime) {
 const FRONT: &[u8] =
     b"\xf5\x47\x03\0\x04\0\xec\xd6\0\0\x01\x01\x01\xfb\x0e\x0d\0\x01\x01\x01\x01\0\0\0\x01\0\0\x01";
 
-/// A file that is defined, an address of 0x10 with a row, an address of 0x20 with a row, and an
-/// end: what stands before the name of the file, and after it.
-const BEFORE_NAME: &[u8] = b"\0\x08\x03";
-
+/// A file that is defined, after its name, and a sequence: an address of 0x10 with a row, an address
+/// of 0x20 with a row, and an end.
 const AFTER_NAME: &[u8] =
     b"\0\x02\0\0\0\x05\x02\x10\0\0\0\x01\0\x05\x02\x20\0\0\0\x01\x02\x04\0\x01\x01";
 
 /// Appends an entry for each number, with its text between these bytes.
-fn put_each(
-    unit: &mut Vec<u8>,
-    before: &[u8],
-    after: &[u8],
-) -> std::result::Result<(), AllocError> {
+fn put_each(unit: &mut Vec<u8>, before: &[u8], after: &[u8]) -> ConvertResult<()> {
     for number in 0..ENTRIES {
         unit.extend_from_slice(before)?;
         unit.extend_from_slice(&text_of(number))?;
@@ -118,7 +111,7 @@ fn put_each(
 
 /// Many directories, many files of the first one, a sequence of many rows, and many sequences with a
 /// file of the second one.
-fn many_entries(alloc: Global) -> std::result::Result<Vec<u8>, AllocError> {
+fn many_entries(alloc: Global) -> ConvertResult<Vec<u8>> {
     let mut unit = Vec::from_slice(alloc, FRONT)?;
     put_each(&mut unit, b"", b"\0")?;
     unit.push(0)?;
@@ -126,7 +119,7 @@ fn many_entries(alloc: Global) -> std::result::Result<Vec<u8>, AllocError> {
     unit.push(0)?;
     unit.extend_from_slice(&vec![in alloc; 1; ENTRIES]?)?;
     unit.extend_from_slice(b"\0\x01\x01")?;
-    put_each(&mut unit, BEFORE_NAME, AFTER_NAME)?;
+    put_each(&mut unit, b"\0\x08\x03", AFTER_NAME)?;
     Ok(unit)
 }
 
@@ -216,11 +209,8 @@ fn check_version_5<R: Reader>(
     let answer = round_trip(&program, &mut section, encoding, &mut texts, &mut strings)?;
     check_equal(rt, files.len(), 2 * ENTRIES + 1);
     check_equal(rt, answer.offset, DebugLineOffset(3));
-    check_equal(
-        rt,
-        (answer.directories.len(), answer.files.len()),
-        (ENTRIES + 1, 2 * ENTRIES + 1),
-    );
+    check_equal(rt, answer.directories.len(), ENTRIES + 1);
+    check_equal(rt, answer.files.len(), 2 * ENTRIES + 1);
     check_equal(rt, answer.rows.len(), 4 * ENTRIES + 1);
     check_equal(rt, item_count(&program.clone()?), ITEMS + ENTRIES + 1);
     Ok(())

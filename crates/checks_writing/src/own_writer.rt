@@ -90,11 +90,8 @@ impl Writer for OwnWriter {
     }
 
     fn write_offset(&mut self, val: usize, section: SectionId, size: u8) -> Result<()> {
-        let letter = if section == SectionId::DebugStr {
-            b'S'
-        } else {
-            b'L'
-        };
+        let is_str = section == SectionId::DebugStr;
+        let letter = if is_str { b'S' } else { b'L' };
         self.write(&[letter, size, (val & 0xff) as u8])
     }
 }
@@ -145,11 +142,8 @@ const OVERWRITTEN: &[u8] =
 #[test]
 fn calls_that_have_a_body(rt: HostRuntime) {
     for calls in 0..13 {
-        check_equal(
-            &rt,
-            append_each(&mut OwnWriter::new(rt.alloc(), calls)),
-            Err(OWN),
-        );
+        let mut writer = OwnWriter::new(rt.alloc(), calls);
+        check_equal(&rt, append_each(&mut writer), Err(OWN));
     }
     let mut writer = OwnWriter::new(rt.alloc(), 13);
     check_equal(&rt, append_each(&mut writer), Ok(50));
@@ -161,11 +155,8 @@ fn calls_that_have_a_body(rt: HostRuntime) {
     writer.calls = 8;
     check_equal(&rt, overwrite_each(&mut writer), Ok(()));
     check_equal(&rt, writer.section.slice(), OVERWRITTEN);
-    check_equal(
-        &rt,
-        writer.write_reference(1, 4),
-        Err(Error::InvalidReference),
-    );
+    let answer = writer.write_reference(1, 4);
+    check_equal(&rt, answer, Err(Error::InvalidReference));
 }
 
 // ---- a unit
@@ -193,22 +184,14 @@ fn referring(
     requires source_file { HasNoZero (line_text source_file) }
     ensures { IfOk result (λ program. CanWrite program (texts_in strings.now line_strings.now)) }
 {
-    let lines = LineEncoding::default();
-    if !LineProgram::accepts(VERSION_5, lines)
+    let (encoding, lines) = (VERSION_5, LineEncoding::default());
+    if !LineProgram::accepts(encoding, lines)
         || !is_within(strings, line_strings, &working_dir)
         || !is_within(strings, line_strings, &source_file)
     {
         return Err(Error::InvalidReference);
     }
-    let program = LineProgram::new(
-        alloc,
-        VERSION_5,
-        lines,
-        working_dir,
-        None,
-        source_file,
-        None,
-    )?;
+    let program = LineProgram::new(alloc, encoding, lines, working_dir, None, source_file, None)?;
     Ok(program)
 }
 
