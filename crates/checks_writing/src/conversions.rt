@@ -93,19 +93,12 @@ fn check_mixed_reads<R: Reader>(
     check_equal(rt, conversion.read_row()?, END);
     check_equal(rt, conversion.read_row()?, None);
     check(rt, conversion.read_sequence()?.is_none());
+    let (built, files) = conversion.program();
+    check_equal(rt, (built.is_empty(), files.len()), (true, 2));
     Ok(())
 }
 
-/// The addresses up to 0x10.
-fn below_17(address: u64) -> Option<Address> {
-    if address <= 0x10 {
-        Some(Address::Constant(address))
-    } else {
-        None
-    }
-}
-
-/// The second address isn't mapped to another.
+/// A map that doesn't know the second address.
 fn check_map<R: Reader>(
     rt: &impl Abort,
     alloc: Global,
@@ -114,7 +107,8 @@ fn check_map<R: Reader>(
     let mut line_strings = LineStringTable::default(alloc);
     let mut strings = StringTable::default(alloc);
     let conversion = conversion_of(program, None, &mut line_strings, &mut strings)?;
-    let refused = conversion.convert(below_17).err();
+    let map = |address| (address == 0x10).then_some(Address::Constant(address));
+    let refused = conversion.convert(map).err();
     check_equal(rt, refused, Some(ConvertError::InvalidAddress));
     Ok(())
 }
