@@ -190,7 +190,7 @@ fn check_version_5<R: Reader>(
 ) -> ConvertResult<()>
     requires { IsTrue (is_address_size encoding.address_size) }
 {
-    let mut texts = LineStringTable::default(alloc);
+    let mut line_strings = LineStringTable::default(alloc);
     let mut strings = StringTable::default(alloc);
     let mut section = DebugLine::from(EndianVec::new(alloc, LittleEndian));
     section.0.write(b"\xaa\xbb\xcc")?;
@@ -202,11 +202,17 @@ fn check_version_5<R: Reader>(
         Some(name),
         Some(encoding),
         None,
-        &mut texts,
+        &mut line_strings,
         &mut strings,
         |address| Some(Address::Constant(address)),
     )?;
-    let answer = round_trip(&program, &mut section, encoding, &mut texts, &mut strings)?;
+    let answer = round_trip(
+        &program,
+        &mut section,
+        encoding,
+        &mut line_strings,
+        &mut strings,
+    )?;
     check_equal(rt, files.len(), 2 * ENTRIES + 1);
     check_equal(rt, answer.offset, DebugLineOffset(3));
     check_equal(rt, answer.directories.len(), ENTRIES + 1);

@@ -15,8 +15,8 @@ round_trip-requires g c =
     let done : DoneConversion = record {
       convert_address = itself;
       source = source_of g.R.Reader.bytes c.args.name c.args.name c.args.source (Some c.args.name) (Some c.args.encoding) None;
-      line_strings = c.texts.now;
-      outcome = outcome_with (c.in_ok-program.program, c.in_ok-program.files) c.convert_program.new.texts;
+      line_strings = c.line_strings;
+      outcome = outcome_with (c.in_ok-program.program, c.in_ok-program.files) c.convert_program.new.line_strings;
       is = c.in_ok-program.ensures.outcome.converts itself (λ a r post. search rules);
     } in
     c.converted_programs_can_be_written.ensures done c.convert_program.new.strings
