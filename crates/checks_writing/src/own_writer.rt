@@ -1,7 +1,7 @@
 //! A writer of the caller's own: it doesn't keep an address or an offset as the number that it is,
 //! and fails with an error of its own.
 
-ghost use Rattle.std.specs.Prelude.{◌≡◌, false, IsTrue, IfOk, OnOk};
+ghost use Rattle.std.specs.Prelude.{false, IsTrue, IfOk, OnOk};
 ghost use Rattle.gimli_write.specs.StringTables.{texts_in};
 ghost use Rattle.gimli_write.specs.Conditions.{CanWrite};
 ghost use Rattle.gimli_write.specs.LineText.{line_text, HasNoZero, IsWithin};
@@ -36,17 +36,6 @@ impl OwnWriter {
             calls,
         }
     }
-
-    /// Counts a call.
-    fn take_call(&mut self) -> Result<()>
-        ensures { self.new.section ≡ self.old.section }
-    {
-        if self.calls == 0 {
-            return Err(OWN);
-        }
-        self.calls -= 1;
-        Ok(())
-    }
 }
 
 impl Sink for OwnWriter {
@@ -73,12 +62,12 @@ impl Writer for OwnWriter {
     }
 
     fn write(&mut self, bytes: &[u8]) -> Result<()> {
-        self.take_call()?;
+        self.calls = self.calls.checked_sub(1).ok_or(OWN)?;
         self.section.write(bytes)
     }
 
     fn write_at(&mut self, offset: usize, bytes: &[u8]) -> Result<()> {
-        self.take_call()?;
+        self.calls = self.calls.checked_sub(1).ok_or(OWN)?;
         self.section.write_at(offset, bytes)
     }
 
@@ -95,8 +84,6 @@ impl Writer for OwnWriter {
         self.write(&[letter, size, (val & 0xff) as u8])
     }
 }
-
-// ---- the calls that have a body
 
 /// Appends by each of them, and returns where the length of the last one stands.
 fn append_each<W: Writer>(w: &mut W) -> Result<usize> {
@@ -158,8 +145,6 @@ fn calls_that_have_a_body(rt: HostRuntime) {
     let answer = writer.write_reference(1, 4);
     check_equal(&rt, answer, Err(Error::InvalidReference));
 }
-
-// ---- a unit
 
 /// Whether a text is in one of these tables, or in the program.
 fn is_within(strings: &StringTable, line_strings: &LineStringTable, text: &LineString) -> bool
