@@ -1,3 +1,4 @@
+-- A converted program can be written.
 use Rattle.std.proofs.Common.{rules, ℕ}
 use Rattle.std.specs.Prelude.{Option, Some, None}
 use Rattle.gimli_bytes.specs.declared.address.Address.{Address}
@@ -15,7 +16,7 @@ round_trip-requires g c =
     let done : DoneConversion = record {
       convert_address = itself;
       source = source_of g.R.Reader.bytes c.args.name c.args.name c.args.source (Some c.args.name) (Some c.args.encoding) None;
-      line_strings = c.line_strings;
+      line_strings = c.default-line_strings.result;
       outcome = outcome_with (c.in_ok-program.program, c.in_ok-program.files) c.convert_program.new.line_strings;
       is = c.in_ok-program.ensures.outcome.converts itself (λ a r post. search rules);
     } in
