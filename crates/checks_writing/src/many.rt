@@ -1,0 +1,221 @@
+//! Many of each thing that is written, built or converted. Memory for them is there, so a refusal by
+//! `OutOfMemory` would be wrong, which no contract tells.
+
+ghost use Rattle.std.specs.Prelude.{◌≢◌, All, IsTrue};
+ghost use Rattle.gimli_core.specs.Numbers.{is_address_size};
+
+use crate::check::{check, check_equal};
+use crate::conversions::{VERSION_5, conversion_of, program_of, slice};
+use gimli_core::{BigEndian, DebugLineOffset, Encoding, LittleEndian, Reader};
+use gimli_line::IncompleteLineProgram;
+use gimli_write::conversion_laws::converted_programs_can_be_written;
+use gimli_write::{
+    Address, ConvertLineProgram, ConvertLineRow, ConvertResult, DebugLine, EndianVec, FileInfo,
+    LineProgram, LineString, LineStringTable, PieceVec, Result, StringTable, Writer,
+    convert_program, round_trip,
+};
+use std::alloc::Global;
+use std::process::Abort;
+
+/// How many numbers and texts there are.
+const MANY: usize = 70_000;
+
+/// How many directories, files, sequences and rows the unit has of each.
+const ENTRIES: usize = 5_000;
+
+/// The text of a number, each of another.
+fn text_of(number: usize) -> [u8; 3]
+    ensures { All (λ b. b ≢ 0) result }
+{
+    [digit(number), digit(number / 128), digit(number / 16384)]
+}
+
+fn digit(number: usize) -> u8
+    ensures { result ≢ 0 }
+{
+    (number % 128) as u8 + 1
+}
+
+/// Appends so many numbers.
+fn fill<W: Writer>(w: &mut W) -> Result<()> {
+    for number in 0..MANY {
+        w.write_udata(number as u64, 4)?;
+    }
+    Ok(())
+}
+
+fn steps_of_writers_and_tables(rt: &impl Abort, alloc: Global) -> Result<()> {
+    let mut section = EndianVec::new(alloc, BigEndian);
+    fill(&mut section)?;
+    check_equal(rt, section.len(), 4 * MANY);
+    check(
+        rt,
+        section.slice().ends_with(b"\0\x01\x11\x6e\0\x01\x11\x6f"),
+    );
+    let copy = section.clone()?;
+    check(rt, copy.slice() == section.slice());
+    let mut pieces: PieceVec<BigEndian, 16> = PieceVec::new(alloc, BigEndian);
+    fill(&mut pieces)?;
+    check(rt, pieces.into_vec()?.as_slice() == section.slice());
+    let text = LineString::String(section.into_vec());
+    check(rt, text.clone()? == text);
+    let mut info = FileInfo::default();
+    info.source = Some(text);
+    check(rt, info.clone()? == info);
+    let mut strings = StringTable::default(alloc);
+    let mut line_strings = LineStringTable::default(alloc);
+    for number in 0..MANY {
+        let text = text_of(number);
+        check_equal(rt, strings.add(&text)?.0, number);
+        check_equal(rt, line_strings.add(&text)?.0, number);
+    }
+    Ok(())
+}
+
+#[test]
+fn writers_and_tables(rt: HostRuntime) {
+    let steps = steps_of_writers_and_tables(&rt, rt.alloc());
+    check_equal(&rt, steps, Ok(()));
+}
+
+/// The front of a unit of version 4: its length is 215,029, and its header's 55,020.
+const FRONT: &[u8] =
+    b"\xf5\x47\x03\0\x04\0\xec\xd6\0\0\x01\x01\x01\xfb\x0e\x0d\0\x01\x01\x01\x01\0\0\0\x01\0\0\x01";
+
+/// A file that is defined, after its name, and a sequence: an address of 0x10 with a row, an address
+/// of 0x20 with a row, and an end.
+const AFTER_NAME: &[u8] =
+    b"\0\x02\0\0\0\x05\x02\x10\0\0\0\x01\0\x05\x02\x20\0\0\0\x01\x02\x04\0\x01\x01";
+
+/// Appends an entry for each number, with its text between these bytes.
+fn put_each(unit: &mut Vec<u8>, before: &[u8], after: &[u8]) -> ConvertResult<()> {
+    for number in 0..ENTRIES {
+        unit.extend_from_slice(before)?;
+        unit.extend_from_slice(&text_of(number))?;
+        unit.extend_from_slice(after)?;
+    }
+    Ok(())
+}
+
+/// Many directories, many files of the first one, a sequence of many rows, and many sequences with a
+/// file of the second one.
+fn many_entries(alloc: Global) -> ConvertResult<Vec<u8>> {
+    let mut unit = Vec::from_slice(alloc, FRONT)?;
+    put_each(&mut unit, b"", b"\0")?;
+    unit.push(0)?;
+    put_each(&mut unit, b"", b"\0\x01\0\0")?;
+    unit.push(0)?;
+    unit.extend_from_slice(&vec![in alloc; 1; ENTRIES]?)?;
+    unit.extend_from_slice(b"\0\x01\x01")?;
+    put_each(&mut unit, b"\0\x08\x03", AFTER_NAME)?;
+    Ok(unit)
+}
+
+/// How many items the short sequences have.
+const ITEMS: usize = 5 * ENTRIES;
+
+/// Hands an item to a builder call of the conversion's own.
+fn build_item<R: Reader>(
+    conversion: &mut ConvertLineProgram<'_, '_, R>,
+    item: ConvertLineRow,
+) -> ConvertResult<()> {
+    match item {
+        ConvertLineRow::SetAddress(address) if conversion.in_sequence() => {
+            conversion.set_address(Address::Constant(address))
+        }
+        ConvertLineRow::SetAddress(address) => {
+            conversion.begin_sequence(Some(Address::Constant(address)))
+        }
+        ConvertLineRow::Row(row) => conversion.generate_row(row),
+        ConvertLineRow::EndSequence(length) => conversion.end_sequence(length),
+    }
+}
+
+/// How many items a program has.
+fn item_count(program: &LineProgram) -> usize {
+    let mut count: usize = 0;
+    for _ in program.items() {
+        count = count.wrapping_add(1);
+    }
+    count
+}
+
+/// The first sequence is read, half of the items of the others are built by these calls, and the
+/// rest by `convert`.
+fn check_parts<R: Reader>(
+    rt: &impl Abort,
+    alloc: Global,
+    source: IncompleteLineProgram<R>,
+) -> ConvertResult<()> {
+    let mut line_strings = LineStringTable::default(alloc);
+    let mut strings = StringTable::default(alloc);
+    let mut conversion = conversion_of(source, None, &mut line_strings, &mut strings)?;
+    let row_count = conversion
+        .read_sequence()?
+        .map(|sequence| sequence.rows.len());
+    check_equal(rt, row_count, Some(ENTRIES));
+    for _ in 0..ITEMS / 2 {
+        if let Some(item) = conversion.read_row()? {
+            build_item(&mut conversion, item)?;
+        }
+    }
+    let (program, files) = conversion.convert(|address| Some(Address::Constant(address)))?;
+    check_equal(rt, files.len(), 2 * ENTRIES + 1);
+    check_equal(rt, item_count(&program), ITEMS);
+    Ok(())
+}
+
+/// In version 5 texts stand in a table, and this name and the working directory come first. The unit
+/// is written after three bytes.
+fn check_version_5<R: Reader>(
+    rt: &impl Abort,
+    alloc: Global,
+    source: IncompleteLineProgram<R>,
+    name: R,
+    encoding: Encoding,
+) -> ConvertResult<()>
+    requires { IsTrue (is_address_size encoding.address_size) }
+{
+    let mut line_strings = LineStringTable::default(alloc);
+    let mut strings = StringTable::default(alloc);
+    let mut unit = DebugLine::from(EndianVec::new(alloc, LittleEndian));
+    unit.0.write(b"\xaa\xbb\xcc")?;
+    converted_programs_can_be_written();
+    let (program, files) = convert_program(
+        name,
+        name,
+        source,
+        Some(name),
+        Some(encoding),
+        None,
+        &mut line_strings,
+        &mut strings,
+        |address| Some(Address::Constant(address)),
+    )?;
+    let answer = round_trip(
+        &program,
+        &mut unit,
+        encoding,
+        &mut line_strings,
+        &mut strings,
+    )?;
+    check_equal(rt, files.len(), 2 * ENTRIES + 1);
+    check_equal(rt, answer.offset, DebugLineOffset(3));
+    check_equal(rt, answer.directories.len(), ENTRIES + 1);
+    check_equal(rt, answer.files.len(), 2 * ENTRIES + 1);
+    check_equal(rt, answer.rows.len(), 4 * ENTRIES + 1);
+    check_equal(rt, item_count(&program.clone()?), ITEMS + ENTRIES + 1);
+    Ok(())
+}
+
+fn steps_of_conversions(rt: &impl Abort, alloc: Global) -> ConvertResult<()> {
+    let unit = many_entries(alloc)?;
+    check_parts(rt, alloc, program_of(alloc, slice(&unit), None)?)?;
+    let source = program_of(alloc, slice(&unit), Some(slice(b"/w")))?;
+    check_version_5(rt, alloc, source, slice(b"a.c"), VERSION_5)
+}
+
+#[test]
+fn conversions(rt: HostRuntime) {
+    check_equal(&rt, steps_of_conversions(&rt, rt.alloc()), Ok(()));
+}
