@@ -10,6 +10,8 @@ mod check;
 #[cfg(test)]
 mod conversions;
 #[cfg(test)]
+mod demo;
+#[cfg(test)]
 mod errors;
 #[cfg(test)]
 mod many;

@@ -8,6 +8,7 @@ ghost use Rattle.gimli_write.specs.LineText.{line_text, HasNoZero, IsWithin};
 
 use crate::check::{check, check_equal};
 use crate::conversions::VERSION_5;
+use crate::demo::demo;
 use gimli_core::{
     DW_EH_PE_udata2, DebugLineOffset, DwEhPe, Format, LineEncoding, LittleEndian, SectionId,
 };
@@ -222,15 +223,53 @@ fn is_written(rt: &impl Abort, alloc: Global, calls: usize) -> Result<bool> {
     section.0.section.write(b"\xaa\xbb\xcc")?;
     let encoding = program.encoding();
     let answer = program.write(&mut section, encoding, &mut line_strings, &mut strings);
-    let bytes = section.0.section.slice();
+    check_answer(rt, answer, section.0.section.slice(), UNIT);
+    Ok(answer.is_ok())
+}
+
+/// An answer of `write` after three bytes is their number, and then the section holds these; else it
+/// is the writer's own error, and the three bytes stand first.
+fn check_answer(
+    rt: &impl Abort,
+    answer: Result<DebugLineOffset>,
+    section: &[u8],
+    wanted: &'static [u8],
+) {
     if answer.is_ok() {
         check_equal(rt, answer, Ok(DebugLineOffset(3)));
-        check_equal(rt, bytes, UNIT);
+        check_equal(rt, section, wanted);
     } else {
         check_equal(rt, answer, Err(OWN));
-        check(rt, bytes.starts_with(b"\xaa\xbb\xcc"));
+        check(rt, section.starts_with(b"\xaa\xbb\xcc"));
     }
+}
+
+/// The demo unit, of version 4, by hand, with what is asked of the writer for its address.
+const DEMO: &[u8] =
+    b"\xaa\xbb\xcc\x2d\0\0\0\x04\0\x1b\0\0\0\x01\x01\x01\xfb\x0e\x0d\0\x01\x01\x01\x01\0\0\0\
+      \x01\0\0\x01\0a.c\0\0\0\0\0\0\x05\x02C\x04\x01\x4c\x02\x04\0\x01\x01";
+
+/// The same of the demo unit, which has rows.
+fn is_demo_written(rt: &impl Abort, alloc: Global, calls: usize) -> Result<bool> {
+    let mut strings = StringTable::default(alloc);
+    let mut line_strings = LineStringTable::default(alloc);
+    let program = demo(alloc)?;
+    let mut section = DebugLine::from(OwnWriter::new(alloc, calls));
+    section.0.section.write(b"\xaa\xbb\xcc")?;
+    let encoding = program.encoding();
+    let answer = program.write(&mut section, encoding, &mut line_strings, &mut strings);
+    check_answer(rt, answer, section.0.section.slice(), DEMO);
     Ok(answer.is_ok())
+}
+
+/// How many calls are refused, where those before this one are and this one is refused or not.
+fn refused_with(rt: &impl Abort, written: Result<bool>, calls: usize, refused: usize) -> usize {
+    check(rt, written.is_ok());
+    if written != Ok(false) {
+        return refused;
+    }
+    check_equal(rt, refused, calls);
+    calls.saturating_add(1)
 }
 
 /// A unit is written by the writer's own `write_address` and `write_offset`, and each call of the
@@ -238,13 +277,11 @@ fn is_written(rt: &impl Abort, alloc: Global, calls: usize) -> Result<bool> {
 #[test]
 fn unit_by_own_calls(rt: HostRuntime) {
     let mut refused = 0;
+    let mut of_demo = 0;
     for calls in 0..100 {
-        let written = is_written(&rt, rt.alloc(), calls);
-        check(&rt, written.is_ok());
-        if written == Ok(false) {
-            check_equal(&rt, refused, calls);
-            refused = calls + 1;
-        }
+        refused = refused_with(&rt, is_written(&rt, rt.alloc(), calls), calls, refused);
+        of_demo = refused_with(&rt, is_demo_written(&rt, rt.alloc(), calls), calls, of_demo);
     }
     check(&rt, 20 < refused && refused < 100);
+    check(&rt, 20 < of_demo && of_demo < 100);
 }
