@@ -14,7 +14,8 @@ import sys
 
 CRATE = os.path.join(os.path.dirname(os.path.abspath(__file__)), "..")
 HEAD = "//! Exports of gimli_c, made by exports.py.\n\n"
-CALL = re.compile(r'((?:^///[^\n]*\n)*^#\[unsafe\(no_mangle\)\]\npub extern "C" fn (\w+)\(([^)]*)\).*?)\n\{\n', re.M | re.S)
+MARK = "#[unsafe(no_mangle)]"
+CALL = re.compile(r'((?:^///[^\n]*\n)*^' + re.escape(MARK) + r'\npub extern "C" fn (\w+)\(([^)]*)\).*?)\n\{\n', re.M | re.S)
 
 
 def named(text, pattern):
@@ -22,9 +23,11 @@ def named(text, pattern):
     return sorted(set(re.findall(pattern, text)))
 
 
-def module(source):
+def module(path, source):
     """The exports of the calls of one file, with what their signatures and clauses name."""
     calls = CALL.findall(source)
+    if len(calls) != source.count(MARK):
+        sys.exit(f"{path}: a call for C isn't laid out as this script reads it")
     lines = re.findall(r"^ghost use [^;]*;\n", source, re.M)
     told = re.sub(r"///.*", "", "".join(signature for signature, _, _ in calls))
     statuses = [name for name in named(told, r"\b[A-Z][A-Z0-9_]+\b") if name != "VERSION"]
@@ -41,8 +44,8 @@ def main(folder):
     modules = {}
     for path in sorted(glob.glob(f"{CRATE}/src/**/*.rt", recursive=True)):
         source = open(path).read()
-        if CALL.search(source):
-            modules[os.path.relpath(path, f"{CRATE}/src")[:-3].replace("/", "_")] = module(source)
+        if MARK in source:
+            modules[os.path.relpath(path, f"{CRATE}/src")[:-3].replace("/", "_")] = module(path, source)
     os.makedirs(f"{folder}/src")
     for name, text in modules.items():
         open(f"{folder}/src/{name}.rt", "w").write(text)
