@@ -27,7 +27,8 @@ impl Read for Stream {
     }
 }
 
-/// The demo unit: set address 0x1000, a row, a row 4 bytes and 2 lines further on, and an end 4 bytes later.
+/// The demo unit: set address 0x1000, a row, a row 4 bytes and 2 lines further on, and an end 4 bytes
+/// later.
 const DEMO_UNIT: [u8; 51] = [
     0x2f, 0, 0, 0, 4, 0, 0x1b, 0, 0, 0, 1, 1, 1, 0xfb, 0x0e, 0x0d, 0, 1, 1, 1, 1, 0, 0, 0, 1, 0, 0,
     1, 0, b'a', b'.', b'c', 0, 0, 0, 0, 0, 0, 5, 2, 0, 0x10, 0, 0, 1, 0x4c, 2, 4, 0, 1, 1,
@@ -62,8 +63,8 @@ const CASES: [Case; 6] = [
     ),
 ];
 
-/// Runs on words over a reader, with so much room on both writers. Returns the status, and how many bytes
-/// stand on each.
+/// Runs on words over a reader, with so much room on both writers. Returns the status, and how many
+/// bytes stand on each.
 fn run_with(
     alloc: Global,
     words: &[&str],

@@ -76,11 +76,13 @@ fn print_rows(rows: &[LineRow], text: &mut String) -> Result<(), AllocError> {
 /// can't be moved so far is refused by `InvalidAddress`, and a row that lies too far after one by
 /// `AddressOverflow`, when it is read.
 pub fn shift<'i>(alloc: Global, unit: Unit<'i>, by: u64) -> ConvertResult<RoundTrip> {
-    let reader = |text| EndianSlice::new(text, LittleEndian);
+    let directory = unit
+        .directory
+        .map(|text| EndianSlice::new(text, LittleEndian));
+    let name = unit.name.map(|text| EndianSlice::new(text, LittleEndian));
     let section = DebugLine::new(unit.section, LittleEndian);
-    let offset = DebugLineOffset(unit.offset);
-    let source = section.program(alloc, offset, 8, unit.directory.map(reader), None)?;
-    shift_program(alloc, source, unit.name.map(reader), reader(b""), by)
+    let source = section.program(alloc, DebugLineOffset(unit.offset), 8, directory, None)?;
+    shift_program(alloc, source, name, EndianSlice::new(b"", LittleEndian), by)
 }
 
 /// The same of the program of any reader, and the name of its unit. `no_texts` is a reader of no
