@@ -12,8 +12,7 @@ use elf_sections::{Elf, ElfError};
 use gimli_core::{EndianSlice, RunTimeEndian};
 use gimli_line::DebugLine;
 use gimli_lookup::StringSections;
-use rows_reading::Slice;
-use rows_reading::AddressSize;
+use rows_reading::{AddressSize, Slice};
 
 /// How the bytes of a file are read.
 #[derive(Clone, Copy, Debug, PartialEq, Eq)]

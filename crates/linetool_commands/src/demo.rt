@@ -13,8 +13,7 @@ use gimli_write::{
     Address, DebugLine, EndianVec, Error, LineProgram, LineString, LineStringTable, PieceVec,
     RoundTrip, StringTable, Writer, round_trip,
 };
-use rows_reading::UnitLocation;
-use rows_reading::{AddressSize, print_bytes};
+use rows_reading::{AddressSize, UnitLocation, print_bytes};
 use std::alloc::Global;
 use std::io::Write;
 

@@ -5,8 +5,7 @@ ghost use Rattle.std.specs.Prelude.{◌≡◌, ◌≢◌, Err, IfErr, IsNone};
 use crate::refusal::Refusal;
 use gimli_core::{DebugLineOffset, EndianSlice, Reader, RunTimeEndian};
 use gimli_line::{DebugLine, IncompleteLineProgram};
-use rows_reading::UnitLocation;
-use rows_reading::AddressSize;
+use rows_reading::{AddressSize, UnitLocation};
 use std::alloc::Global;
 use std::io::Read;
 
