@@ -55,7 +55,7 @@ impl<const N: usize> Section for PieceVec<RunTimeEndian, N> {
     }
 }
 
-impl<const N: usize> Target for PieceVec<RunTimeEndian, N> {
+impl Target for PieceVec<RunTimeEndian, 4> {
     fn empty(alloc: Global, order: RunTimeEndian) -> Self {
         PieceVec::new(alloc, order)
     }

@@ -84,13 +84,27 @@ fn print_file<R: Lender>(index: u64, file: &FileEntry<R>, lines: &mut Lines<'_>)
     let path = file.path_name();
     let source = file.source();
     let source = source.as_ref().map(Value::new);
+    let numbers = [file.directory_index(), file.timestamp(), file.size()];
+    print_file_line(index, Value::new(&path), numbers, file.md5(), source, lines);
+}
+
+/// Prints the line of a file.
+fn print_file_line(
+    index: u64,
+    path: Value<'_>,
+    numbers: [u64; 3],
+    md5: &[u8],
+    source: Option<Value<'_>>,
+    lines: &mut Lines<'_>,
+) {
+    let [directory, timestamp, size] = numbers;
     lines.put(FileLine {
         index,
-        path: Value::new(&path),
-        directory: file.directory_index(),
-        timestamp: file.timestamp(),
-        size: file.size(),
-        md5: Digits(file.md5()),
+        path,
+        directory,
+        timestamp,
+        size,
+        md5: Digits(md5),
         source: Optional("", source, "-"),
     });
 }

@@ -15,6 +15,9 @@ pub struct Lines<'o> {
 }
 
 impl<'o> Lines<'o> {
+    ghost use Rattle.std.specs.Prelude.{◌≡◌, IfErr};
+    ghost use Rattle.rows_reading.specs.declared.stop.Stop.TheVariants.{Memory};
+
     /// Lines after what the vector holds.
     pub fn new(out: &'o mut Vec<u8>) -> Lines<'o> {
         Lines {
@@ -62,7 +65,9 @@ impl<'o> Lines<'o> {
     }
 
     /// Whether memory was refused to a line.
-    pub fn finish(self) -> Result<(), Stop> {
+    pub fn finish(self) -> Result<(), Stop>
+        ensures { IfErr result (λ stop. stop ≡ Memory) }
+    {
         if self.is_refused {
             Err(Stop::Memory)
         } else {

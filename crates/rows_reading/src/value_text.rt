@@ -113,7 +113,7 @@ impl<D: fmt::Display> fmt::Display for Optional<D> {
 
 /// The line of a file: its values, in the order of the tables of version 5.
 #[derive(Clone, Copy)]
-pub struct FileLine<'a, P> {
+pub struct FileLine<'a, P, S> {
     /// The index of the file.
     pub index: u64,
     /// The path.
@@ -127,10 +127,10 @@ pub struct FileLine<'a, P> {
     /// The MD5 digest.
     pub md5: Digits<'a>,
     /// The source.
-    pub source: Optional<P>,
+    pub source: Optional<S>,
 }
 
-impl<P: fmt::Display> fmt::Display for FileLine<'_, P> {
+impl<P: fmt::Display, S: fmt::Display> fmt::Display for FileLine<'_, P, S> {
     fn fmt<W: fmt::Write>(&self, f: &mut fmt::Formatter<W>) -> fmt::Result {
         let index = self.index;
         let path = &self.path;

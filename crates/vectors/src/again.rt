@@ -16,42 +16,33 @@ pub fn watch_rows(alloc: Global, section: &[u8], location: UnitLocation, lines: 
     let Ok(program) = unit.program(alloc, Attempts::Two) else {
         return;
     };
-    if let Some((call, Left::Broken)) = refused_call(program.rows()) {
+    if let Some((call, false)) = refused_call(program.rows()) {
         lines.put(format_args!("state {call}"));
     }
 }
 
-/// What a refused call left.
-#[derive(Clone, Copy, Debug, PartialEq, Eq)]
-enum Left {
-    /// What must stand.
-    AsBefore,
-    /// Something else.
-    Broken,
-}
-
-/// The count of the call that memory was refused to, and what it left; None where there is none.
-fn refused_call<R: Reader, P: LineProgram<R> + Drop>(rows: LineRows<R, P>) -> Option<(u64, Left)> {
+/// The count of the call that memory was refused to, and whether what must stand does; None where there is none.
+fn refused_call<R: Reader, P: LineProgram<R> + Drop>(rows: LineRows<R, P>) -> Option<(u64, bool)> {
     let mut rows = rows;
     for call in 1..u64::MAX {
         let files = rows.header().file_names().len();
         match rows.next_row() {
             Ok(Some(_)) => {}
             Ok(None) => return None,
-            Err(Error::OutOfMemory) => return Some((call, left_by(rows, files))),
+            Err(Error::OutOfMemory) => return Some((call, stands(rows, files))),
             Err(_) => return None,
         }
     }
     None
 }
 
-/// What a refused call left, after which there must be so many files and no row.
-fn left_by<R: Reader, P: LineProgram<R> + Drop>(rows: LineRows<R, P>, files: usize) -> Left {
+/// Whether there are so many files after a refused call, and no row.
+fn stands<R: Reader, P: LineProgram<R> + Drop>(rows: LineRows<R, P>, files: usize) -> bool {
     let mut rows = rows;
     for _ in 0..3 {
         if rows.header().file_names().len() != files || !matches!(rows.next_row(), Ok(None)) {
-            return Left::Broken;
+            return false;
         }
     }
-    Left::AsBefore
+    true
 }

@@ -29,7 +29,7 @@ mod rows;
 mod run;
 
 use check::check_rows;
-use files::{SectionFiles, split_words};
+use files::{SectionFiles, WORDS};
 use rows::{Fault, parse_rows};
 use rows_reading::{Attempts, Request, Stop};
 use run::run_over;
@@ -83,11 +83,12 @@ fn start(rt: &HostRuntime) -> io::Result<u8> {
 
 /// Prints what a command gives of a unit of a file.
 fn print_unit(rt: &HostRuntime, command: &str, file: &str, words: &[&str]) -> io::Result<u8> {
-    let (words, texts) = match command {
-        "header" | "instructions" => (words, [].as_slice()),
-        "convert" | "convert_sequences" => split_words(words),
+    let count = match command {
+        "header" | "instructions" => words.len(),
+        "convert" | "convert_sequences" => words.len().min(WORDS),
         _ => return Ok(tell(rt, "no such words", MALFORMED)),
     };
+    let (words, texts) = words.split_at(count);
     let files = SectionFiles::read(rt, file, texts)?;
     let mut out = Vec::new(rt.alloc());
     let done = run_over(request(rt, words), command, files.sections(), &mut out);
