@@ -1,0 +1,39 @@
+-- The values of the attributes that are asked for, with lists of bytes in place of readers.
+use Rattle.std.specs.Prelude.{ℕ, nat_eq, if◌then◌else◌, List, Option, Some, None}
+use Rattle.gimli_compilation.specs.declared.form.Kind.TheVariants.{SectionOffset}
+use Rattle.gimli_compilation.specs.declared.form.Value.{Value}
+use Rattle.gimli_compilation.specs.declared.form.Value.TheVariants.{Number, Text, Passed}
+use Rattle.gimli_compilation.specs.declared.attributes.Attributes.{Attributes}
+
+-- a value, its text seen by bytes
+abbrev pub value_seen : {R : Type 0} → (R → List ℕ) → Value R → Value (List ℕ)
+value_seen bytes (Number kind n) = Number kind n
+value_seen bytes (Text text) = Text (bytes text)
+value_seen bytes Passed = Passed
+
+-- the number of a value that is an offset into a section
+abbrev pub section_offset : {R : Type 0} → Value R → Option ℕ
+section_offset (Number SectionOffset n) = Some n
+section_offset v = None
+
+-- none of the attributes
+abbrev pub no_attributes : {R : Type 0} → Attributes R
+no_attributes = record { stmt_list = Passed; comp_dir = Passed; name = Passed; str_offsets_base = Passed }
+
+-- one more attribute, by its name (DWARF 5, section 7.5.4): where two have one name, the last counts
+abbrev pub attributes_with : {R : Type 0} → Attributes R → ℕ → Value R → Attributes R
+attributes_with before name value = record {
+  stmt_list = if nat_eq name 0x10 then value else before.stmt_list;
+  comp_dir = if nat_eq name 0x1b then value else before.comp_dir;
+  name = if nat_eq name 0x03 then value else before.name;
+  str_offsets_base = if nat_eq name 0x72 then value else before.str_offsets_base;
+}
+
+-- the attributes, their texts seen by bytes
+abbrev pub attributes_seen : {R : Type 0} → (R → List ℕ) → Attributes R → Attributes (List ℕ)
+attributes_seen bytes attributes = record {
+  stmt_list = value_seen bytes attributes.stmt_list;
+  comp_dir = value_seen bytes attributes.comp_dir;
+  name = value_seen bytes attributes.name;
+  str_offsets_base = value_seen bytes attributes.str_offsets_base;
+}
