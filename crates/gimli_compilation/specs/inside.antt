@@ -1,7 +1,0 @@
--- What no public clause reaches: private functions and proofs alone speak of it.
-pub mod FormReading
-pub mod AbbreviationReading
-pub mod AttributesReading
-pub mod HeaderReading
-pub mod UnitReading
-pub mod Seen
