@@ -103,7 +103,7 @@ fn print_unit_of<O: Write>(
     print_part(program_at(alloc, section, location)?, part, out)
 }
 
-/// Prints a part of a program.
+/// Prints a part of a program, and flushes what was printed.
 fn print_part<R: Reader, O: Write>(
     program: IncompleteLineProgram<R>,
     part: Part,
@@ -111,12 +111,23 @@ fn print_part<R: Reader, O: Write>(
 ) -> Result<(), Refusal>
     ensures refusal { IfErr result (λ r. r ≢ Refusal.Usage) }
 {
-    let outcome = match part {
+    let outcome = print_lines(program, part, out);
+    finish(outcome, out)
+}
+
+/// Prints the lines of a part of a program.
+fn print_lines<R: Reader, O: Write>(
+    program: IncompleteLineProgram<R>,
+    part: Part,
+    out: &mut O,
+) -> Result<(), Refusal>
+    ensures refusal { IfErr result (λ r. r ≢ Refusal.Usage) }
+{
+    match part {
         Part::Rows => print_program(program, out),
         Part::Sequences => print_sequences(program, out),
         Part::Pair(address) => print_pair(program, address, out),
-    };
-    finish(outcome, out)
+    }
 }
 
 /// Prints the sequences of a program. Nothing is printed where it can't be cut.

@@ -40,6 +40,7 @@ impl Refusal {
     pub fn of_unit(error: Error, fault: Refusal) -> Refusal
         ensures memory { error ≡ Error.OutOfMemory → result ≡ Refusal.Memory }
         ensures fault { error ≢ Error.OutOfMemory → result ≡ fault }
+        ensures usage { fault ≢ Refusal.Usage → result ≢ Refusal.Usage }
     {
         match error {
             Error::OutOfMemory => Refusal::Memory,
