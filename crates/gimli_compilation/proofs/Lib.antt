@@ -1,0 +1,13 @@
+pub mod Shapes
+pub mod Sizes
+pub mod Until
+pub mod Guards
+pub mod FormLaws
+pub mod AbbreviationLaws
+pub mod Specifications
+pub mod Declarations
+pub mod AttributeRuns
+pub mod HeaderLaws
+pub mod UnitLaws
+pub mod Answered
+pub mod DirectoryRuns

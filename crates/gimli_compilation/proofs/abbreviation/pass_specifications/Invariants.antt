@@ -1,0 +1,9 @@
+use Rattle.std.proofs.Common.{◌≡◌, length}
+use Rattle.gimli_compilation.specs.inside.AbbreviationReading.{specifications_passed}
+use Rattle.gimli_compilation.proofs.abbreviation.pass_specifications.Given as goal
+
+abbrev pub invariant-loop-specification : goal.invariant-loop-specification
+invariant-loop-specification g l = specifications_passed (g.R.Reader.bytes l.input) ≡ specifications_passed (g.R.Reader.bytes l.initial.input)
+
+abbrev pub decreases-loop-specification : goal.decreases-loop-specification
+decreases-loop-specification g l = length (g.R.Reader.bytes l.input)

@@ -1,0 +1,5 @@
+use Rattle.gimli_compilation.proofs.Sizes.{known_size}
+use Rattle.gimli_compilation.proofs.header.UnitHeader.parse_old.Goals as goal
+
+pub returns-clause-size : goal.returns-clause-size
+returns-clause-size g c = known_size _ _ _ c.in_ok-address_size.ensures.read

@@ -1,0 +1,15 @@
+-- What private calls return, their readers seen by bytes and their offsets by numbers.
+use Rattle.std.specs.Prelude.{ℕ, List}
+use Rattle.gimli_core.specs.declared.common.Format.{Format}
+use Rattle.gimli_compilation.specs.Header.{Header}
+use Rattle.gimli_compilation.specs.declared.header.UnitHeader.{UnitHeader}
+
+abbrev pub frame_seen : {R : Type 0} → (R → List ℕ) → R × Format → List ℕ × Format
+frame_seen bytes unit = (bytes unit.0, unit.1)
+
+abbrev pub header_seen : {R Endian Offset : Type 0} → (Offset → ℕ) → UnitHeader R Endian Offset → Header
+header_seen number header = record {
+  encoding = header.encoding;
+  unit_type = header.unit_type.0;
+  abbreviations = number header.abbreviations;
+}

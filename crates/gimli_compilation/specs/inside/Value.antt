@@ -1,0 +1,20 @@
+-- The values of attributes, with lists of bytes in place of readers.
+use Rattle.std.specs.Prelude.{ℕ, List}
+use Rattle.gimli_compilation.specs.declared.form.Value.{Value}
+use Rattle.gimli_compilation.specs.declared.form.Value.TheVariants.{Number, Text, Passed}
+use Rattle.gimli_compilation.specs.declared.attributes.Attributes.{Attributes}
+
+-- a value, its text seen by bytes
+abbrev pub value_seen : {R : Type 0} → (R → List ℕ) → Value R → Value (List ℕ)
+value_seen bytes (Number kind n) = Number kind n
+value_seen bytes (Text text) = Text (bytes text)
+value_seen bytes Passed = Passed
+
+-- the attributes, their texts seen by bytes
+abbrev pub attributes_seen : {R : Type 0} → (R → List ℕ) → Attributes R → Attributes (List ℕ)
+attributes_seen bytes attributes = record {
+  stmt_list = value_seen bytes attributes.stmt_list;
+  comp_dir = value_seen bytes attributes.comp_dir;
+  name = value_seen bytes attributes.name;
+  str_offsets_base = value_seen bytes attributes.str_offsets_base;
+}

@@ -1,0 +1,301 @@
+//! The sections from which compilations are read, and what a unit says of its own.
+
+ghost use Rattle.std.specs.Prelude.{◌≡◌, ℕ, List, IfErr, IfOk, IfSome, IsTrue, drop, option_map};
+ghost use Rattle.gimli_core.specs.Notation.{notation_of};
+ghost use Rattle.gimli_core.specs.Numbers.{is_address_size};
+ghost use Rattle.gimli_core.specs.Reading.{result_map};
+ghost use Rattle.gimli_compilation.specs.inside.AbbreviationReading.{IsListed, listed};
+ghost use Rattle.gimli_compilation.specs.inside.UnitReading.{place_of, string_offset_at, table_at};
+ghost use Rattle.gimli_compilation.specs.inside.UnitReading.{text_from_at};
+
+use crate::abbreviation::find_abbreviation;
+use crate::attributes::{Attributes, parse_attributes};
+use crate::form::{Kind, Value};
+use crate::header::{UnitHeader, split_unit};
+use crate::refusal::Refusal;
+use gimli_core::{Encoding, Error, Format, Reader, ReaderOffset, Result};
+
+/// The sections from which compilations are read; empty where a program has none.
+#[derive(Clone, Copy, Debug)]
+pub struct CompilationSections<R> {
+    /// `.debug_info`
+    pub debug_info: R,
+    /// `.debug_abbrev`
+    pub debug_abbrev: R,
+    /// `.debug_str`
+    pub debug_str: R,
+    /// `.debug_line_str`
+    pub debug_line_str: R,
+    /// `.debug_str_offsets`
+    pub debug_str_offsets: R,
+}
+
+/// What the first entry of a unit says of its compilation.
+#[derive(Clone, Copy, Debug, PartialEq, Eq)]
+pub struct Compilation<R> {
+    /// The version of the unit.
+    pub version: u16,
+    /// The offset of the line program in `.debug_line`.
+    pub stmt_list: Option<u64>,
+    /// The directory in which the compiler ran. None where it stands in another file.
+    pub comp_dir: Option<R>,
+    /// The name of the primary source file. None where it stands in another file.
+    pub name: Option<R>,
+}
+
+/// What comes of a unit whose bytes could be read.
+#[derive(Drop)]
+enum Outcome<R> {
+    Found(Compilation<R>),
+    UnknownUnitType(u8),
+    MissingAbbreviation(u64),
+}
+
+impl<R> Value<R> {
+    ghost use Rattle.gimli_compilation.specs.Value.{section_offset};
+
+    /// The number of a value that is an offset into a section.
+    fn section_offset(&self) -> Option<u64>
+        ensures { result ≡ section_offset self.now }
+    {
+        match *self {
+            Value::Number(Kind::SectionOffset, offset) => Some(offset),
+            _ => None,
+        }
+    }
+}
+
+impl<R> Outcome<R> {
+    ghost use Rattle.gimli_compilation.specs.inside.UnitReading.{answer_of};
+
+    /// What a user has of an outcome.
+    fn answer(outcome: Result<Outcome<R>>) -> std::result::Result<Compilation<R>, Refusal>
+        ensures { result ≡ answer_of outcome }
+    {
+        match outcome {
+            Ok(Outcome::Found(compilation)) => Ok(compilation),
+            Ok(Outcome::UnknownUnitType(number)) => Err(Refusal::UnknownUnitType(number)),
+            Ok(Outcome::MissingAbbreviation(code)) => Err(Refusal::MissingAbbreviation(code)),
+            Err(error) => Err(Refusal::Bytes(error)),
+        }
+    }
+}
+
+/// The text that begins at an offset of a section. Refused by `UnexpectedEof` where the section
+/// ends before the offset or before the zero byte of the text, and by `UnsupportedOffset` where the
+/// offset type is too narrow.
+#[tactic(auto, unfolding(crate::specs::inside::UnitReading::text_from_at))]
+fn text_from<R: Reader>(section: &R, offset: u64) -> Result<R>
+    ensures { result_map R.bytes result
+        ≡ (text_from_at R.Offset.limit offset (R.bytes section.now)).0 }
+{
+    let mut input = *section;
+    let offset = R::Offset::from_u64(offset)?;
+    input.split(offset)?;
+    input.read_null_terminated_slice()
+}
+
+/// The place of an index in a table that begins at a base. Refused by `UnsupportedOffset` where it
+/// has more than 64 bits.
+fn place_of(base: u64, index: u64, size: u8) -> Result<u64>
+    ensures { result ≡ place_of base index size }
+{
+    match index.checked_mul(u64::from(size)) {
+        Some(distance) => match base.checked_add(distance) {
+            Some(place) => Ok(place),
+            None => Err(Error::UnsupportedOffset),
+        },
+        None => Err(Error::UnsupportedOffset),
+    }
+}
+
+/// The string offset of an index.
+#[tactic(auto, unfolding(crate::specs::inside::UnitReading::string_offset_at))]
+fn string_offset<R: Reader>(section: &R, format: Format, base: u64, index: u64) -> Result<u64>
+    ensures { result ≡ (string_offset_at (notation_of (R.big section.now) R.Offset.limit) format
+        base index (R.bytes section.now)).0 }
+{
+    let size = format.word_size();
+    let place = R::Offset::from_u64(place_of(base, index, size)?)?;
+    let mut input = *section;
+    input.split(place)?;
+    input.read_uint(usize::from(size))
+}
+
+/// The specifications of a code in the table of declarations at an offset.
+#[tactic(auto, unfolding(crate::specs::inside::UnitReading::table_at))]
+fn specifications_of<R: Reader>(section: &R, offset: R::Offset, code: u64) -> Result<Option<R>>
+    ensures found { result_map (option_map (λ found. listed (R.bytes found))) result
+        ≡ (table_at (R.Offset.number offset) code (R.bytes section.now)).0 }
+    ensures listed { IfOk result (λ found. IfSome found (λ part. IsListed (R.bytes part))) }
+{
+    let mut input = *section;
+    input.split(offset)?;
+    find_abbreviation(&mut input, code)
+}
+
+impl<R: Reader> CompilationSections<R> {
+    ghost use Rattle.gimli_compilation.specs.Sections.{compilation_seen, sections_of};
+    ghost use Rattle.gimli_compilation.specs.Unit.{HasCompilationAt, HasRefusalAt};
+    ghost use Rattle.gimli_compilation.specs.inside.Value.{attributes_seen, value_seen};
+    ghost use Rattle.gimli_compilation.specs.inside.Seen.{header_seen};
+    ghost use Rattle.gimli_compilation.specs.inside.UnitReading.{compilation_at, content_at};
+    ghost use Rattle.gimli_compilation.specs.inside.UnitReading.{entry_at, found_entry_at};
+    ghost use Rattle.gimli_compilation.specs.inside.UnitReading.{outcome_seen, text_by_at};
+    ghost use Rattle.gimli_compilation.specs.inside.UnitReading.{text_of_at, unit_at};
+
+    /// The compilation of the unit that begins at an offset of `.debug_info`; an offset past the
+    /// end leaves no bytes. Refused as the first part that isn't met says: the header, the table of
+    /// declarations up to the code of the first entry, the attributes of this, and the texts that
+    /// they refer to.
+    pub fn compilation(&self, offset: R::Offset) -> std::result::Result<Compilation<R>, Refusal>
+        ensures compilation { IfOk result (λ compilation.
+            HasCompilationAt (sections_of R.bytes R.big R.Offset.limit self.now)
+            (R.Offset.number offset) (compilation_seen R.bytes compilation)) }
+        ensures refusal { IfErr result
+            (HasRefusalAt (sections_of R.bytes R.big R.Offset.limit self.now)
+            (R.Offset.number offset)) }
+    {
+        let mut input = self.info_at(offset);
+        Outcome::answer(self.parse_unit(&mut input))
+    }
+
+    /// The bytes of `.debug_info` from an offset on; none where it is past the end.
+    pub(crate) fn info_at(&self, offset: R::Offset) -> R
+        ensures bytes { R.bytes result
+            ≡ drop (R.Offset.number offset) (R.bytes self.now.debug_info) }
+        ensures order { R.big result ≡ R.big self.now.debug_info }
+    {
+        let mut input = self.debug_info;
+        if input.skip(offset).is_err() {
+            input.empty();
+        }
+        input
+    }
+
+    /// Takes a unit, and reads its first entry.
+    fn parse_unit(&self, input: &mut R) -> Result<Outcome<R>>
+        requires { R.big input.old ≡ R.big self.now.debug_info }
+        ensures { (result_map (outcome_seen (compilation_seen R.bytes)) result, R.bytes input.new)
+            ≡ unit_at (sections_of R.bytes R.big R.Offset.limit self.now) (R.bytes input.old) }
+    {
+        let (mut unit, format) = split_unit(input)?;
+        self.parse_content(&mut unit, format)
+    }
+
+    /// Takes the content of a unit up to its first entry.
+    #[tactic(auto, unfolding(crate::specs::inside::UnitReading::content_at))]
+    fn parse_content(&self, unit: &mut R, format: Format) -> Result<Outcome<R>>
+        requires { R.big unit.old ≡ R.big self.now.debug_info }
+        ensures { (result_map (outcome_seen (compilation_seen R.bytes)) result, R.bytes unit.new)
+            ≡ content_at (sections_of R.bytes R.big R.Offset.limit self.now) format
+            (R.bytes unit.old) }
+    {
+        let header = UnitHeader::parse(unit, format)?;
+        if !header.unit_type.is_known() {
+            return Ok(Outcome::UnknownUnitType(header.unit_type.0));
+        }
+        self.parse_entry(unit, header)
+    }
+
+    /// Takes the first entry of a unit.
+    #[tactic(auto, unfolding(crate::specs::inside::UnitReading::entry_at))]
+    fn parse_entry(&self, unit: &mut R, header: UnitHeader<R>) -> Result<Outcome<R>>
+        requires order { R.big unit.old ≡ R.big self.now.debug_info }
+        requires size { IsTrue (is_address_size header.encoding.address_size) }
+        ensures { (result_map (outcome_seen (compilation_seen R.bytes)) result, R.bytes unit.new)
+            ≡ entry_at (sections_of R.bytes R.big R.Offset.limit self.now)
+            (header_seen R.Offset.number header) (R.bytes unit.old) }
+    {
+        let code = unit.read_uleb128()?;
+        let found = specifications_of(&self.debug_abbrev, header.abbreviations, code)?;
+        match found {
+            None => Ok(Outcome::MissingAbbreviation(code)),
+            Some(specifications) => self.parse_found(unit, header.encoding, specifications),
+        }
+    }
+
+    /// Takes an entry whose specifications are known.
+    #[tactic(auto, unfolding(crate::specs::inside::UnitReading::found_entry_at))]
+    fn parse_found(&self, unit: &mut R, encoding: Encoding, specifications: R) -> Result<Outcome<R>>
+        requires order { R.big unit.old ≡ R.big self.now.debug_info }
+        requires size { IsTrue (is_address_size encoding.address_size) }
+        requires closed { IsListed (R.bytes specifications) }
+        ensures { (result_map (outcome_seen (compilation_seen R.bytes)) result, R.bytes unit.new)
+            ≡ found_entry_at (sections_of R.bytes R.big R.Offset.limit self.now) encoding
+            (listed (R.bytes specifications)) (R.bytes unit.old) }
+    {
+        let attributes = parse_attributes(unit, encoding, specifications)?;
+        let compilation = self.compilation_of(encoding, &attributes)?;
+        Ok(Outcome::Found(compilation))
+    }
+
+    /// What the attributes of an entry say.
+    #[tactic(auto, unfolding(crate::specs::inside::UnitReading::compilation_at))]
+    fn compilation_of(
+        &self,
+        encoding: Encoding,
+        attributes: &Attributes<R>,
+    ) -> Result<Compilation<R>>
+        ensures { (bytes : List ℕ) → (result_map (compilation_seen R.bytes) result, bytes)
+            ≡ compilation_at (sections_of R.bytes R.big R.Offset.limit self.now) encoding
+            (attributes_seen R.bytes attributes.now) bytes }
+    {
+        let base = attributes.str_offsets_base.section_offset();
+        let comp_dir = self.text_of(encoding.format, base, &attributes.comp_dir)?;
+        let name = self.text_of(encoding.format, base, &attributes.name)?;
+        Ok(Compilation {
+            version: encoding.version,
+            stmt_list: attributes.stmt_list.section_offset(),
+            comp_dir,
+            name,
+        })
+    }
+
+    /// The text of a value; None where it is none, or stands in another file.
+    fn text_of(&self, format: Format, base: Option<u64>, value: &Value<R>) -> Result<Option<R>>
+        ensures { (bytes : List ℕ) → (result_map (option_map R.bytes) result, bytes)
+            ≡ text_of_at (sections_of R.bytes R.big R.Offset.limit self.now) format base
+            (value_seen R.bytes value.now) bytes }
+    {
+        match *value {
+            Value::Text(text) => Ok(Some(text)),
+            Value::Number(kind, number) => self.text_by(format, base, kind, number),
+            Value::Passed => Ok(None),
+        }
+    }
+
+    /// The text that a number refers to.
+    #[tactic(auto, unfolding(crate::specs::inside::UnitReading::text_by_at))]
+    fn text_by(
+        &self,
+        format: Format,
+        base: Option<u64>,
+        kind: Kind,
+        number: u64,
+    ) -> Result<Option<R>>
+        ensures { (bytes : List ℕ) → (result_map (option_map R.bytes) result, bytes)
+            ≡ text_by_at (sections_of R.bytes R.big R.Offset.limit self.now) format base kind
+            number bytes }
+    {
+        match kind {
+            Kind::StringOffset => {
+                let text = text_from(&self.debug_str, number)?;
+                Ok(Some(text))
+            }
+            Kind::LineStringOffset => {
+                let text = text_from(&self.debug_line_str, number)?;
+                Ok(Some(text))
+            }
+            Kind::StringIndex => match base {
+                Some(base) => {
+                    let offset = string_offset(&self.debug_str_offsets, format, base, number)?;
+                    let text = text_from(&self.debug_str, offset)?;
+                    Ok(Some(text))
+                }
+                None => Ok(None),
+            },
+            _ => Ok(None),
+        }
+    }
+}

@@ -1,0 +1,106 @@
+//! The units of `.debug_info`, one after the other.
+
+ghost use Rattle.std.specs.Prelude.{◌≡◌};
+ghost use Rattle.gimli_core.specs.Notation.{notation_of};
+ghost use Rattle.gimli_compilation.specs.inside.HeaderReading.{after_frame, frame_at};
+
+use crate::header::split_unit;
+use crate::refusal::Refusal;
+use crate::sections::{Compilation, CompilationSections};
+use gimli_core::{Reader, ReaderOffset};
+use std::marker::Model;
+
+/// Lets the unit in front go; all bytes where they begin with no unit.
+fn skip_unit<R: Reader>(input: &mut R)
+    ensures { R.bytes input.new
+        ≡ after_frame (frame_at (notation_of (R.big input.old) R.Offset.limit)
+        (R.bytes input.old)) }
+{
+    if split_unit(input).is_err() {
+        input.empty();
+    }
+}
+
+/// A unit of `.debug_info`.
+#[derive(Clone, Copy, Debug)]
+pub struct CompilationUnit<R> {
+    /// The offset of the unit in the section.
+    pub offset: u64,
+    /// What its first entry says, or why it can't be read.
+    pub compilation: std::result::Result<Compilation<R>, Refusal>,
+}
+
+/// The units of `.debug_info` that are still to come, in order.
+#[derive(Drop)]
+pub struct CompilationUnits<R: Reader> {
+    sections: CompilationSections<R>,
+    /// Where the next unit begins.
+    offset: R::Offset,
+}
+
+impl<R: Reader> Model for CompilationUnits<R> {
+    ghost use Rattle.gimli_compilation.specs.Sections.{sections_of};
+    ghost use Rattle.gimli_compilation.specs.Unit.{Walk};
+
+    ghost Value = { Walk };
+
+    ghost view = { λ a. record {
+      sections = sections_of R.bytes R.big R.Offset.limit a.sections;
+      offset = R.Offset.number a.offset;
+    } };
+}
+
+impl<R: Reader> CompilationSections<R> {
+    ghost use Rattle.std.specs.Prelude.{◌≡◌};
+    ghost use Rattle.gimli_compilation.specs.Sections.{sections_of};
+
+    /// The units of `.debug_info`, from its start on.
+    pub fn units(&self) -> CompilationUnits<R>
+        ensures sections { result.sections ≡ sections_of R.bytes R.big R.Offset.limit self.now }
+        ensures offset { result.offset ≡ 0 }
+    {
+        CompilationUnits {
+            sections: *self,
+            offset: R::Offset::from_u8(0),
+        }
+    }
+}
+
+impl<R: Reader> CompilationUnits<R> {
+    ghost use Rattle.std.specs.Prelude.{◌<◌, ◌≡◌, ◌≤◌, [], drop, length, IfErr, IfNone, IfOk};
+    ghost use Rattle.std.specs.Prelude.{IfSome};
+    ghost use Rattle.gimli_compilation.specs.Sections.{compilation_seen};
+    ghost use Rattle.gimli_compilation.specs.Unit.{HasCompilationAt, HasRefusalAt, IsNextOffset};
+
+    /// The next unit; None where no bytes are left. A unit that is refused is given with its
+    /// refusal, and the next one begins after it; where its length can't be read or says more bytes
+    /// than there are, it is the last one.
+    pub fn next(&mut self) -> Option<CompilationUnit<R>>
+        ensures end { IfNone result (drop self.old.offset self.old.sections.info ≡ []) }
+        ensures stays { IfNone result (self.new ≡ self.old) }
+        ensures sections { self.new.sections ≡ self.old.sections }
+        ensures offset { IfSome result (λ unit. unit.offset ≡ self.old.offset) }
+        ensures next { IfSome result
+            (λ unit. IsNextOffset self.old.sections self.old.offset self.new.offset) }
+        ensures onward { IfSome result (λ unit. self.old.offset < self.new.offset) }
+        ensures within { IfSome result (λ unit. self.new.offset ≤ length self.old.sections.info) }
+        ensures compilation { IfSome result (λ unit. IfOk unit.compilation (λ compilation.
+            HasCompilationAt self.old.sections unit.offset
+            (compilation_seen R.bytes compilation))) }
+        ensures refusal { IfSome result (λ unit. IfErr unit.compilation
+            (HasRefusalAt self.old.sections unit.offset)) }
+    {
+        let offset = self.offset;
+        let mut rest = self.sections.info_at(offset);
+        if rest.is_empty() {
+            return None;
+        }
+        let compilation = self.sections.compilation(offset);
+        skip_unit(&mut rest);
+        self.offset = rest.offset_from(&self.sections.debug_info);
+        Some(CompilationUnit {
+            offset: offset.into_u64(),
+            compilation,
+        })
+    }
+}
