@@ -10,6 +10,11 @@ use gimli_line::{IncompleteLineProgram, LineUnit, LineUnits};
 use std::alloc::Global;
 use std::io::Write;
 
+/// The offset of a unit in its section.
+fn offset_of<R: Reader>(unit: &LineUnit<R>) -> u64 {
+    unit.offset.0.into_u64()
+}
+
 /// The chosen units of a section, one after the other.
 #[derive(Drop)]
 pub(crate) struct Walk<R: Reader> {
@@ -43,7 +48,7 @@ impl<R: Reader> Walk<R> {
     ) -> Option<LineUnit<R>> {
         for _ in 0..u64::MAX {
             let unit = self.next_of_all(output)?;
-            let offset = unit.offset.0.into_u64();
+            let offset = offset_of(&unit);
             self.progress.show(offset, output);
             if self.choice.includes(offset) {
                 self.is_found = true;
@@ -61,7 +66,7 @@ impl<R: Reader> Walk<R> {
     ) -> Option<(u64, IncompleteLineProgram<R>)> {
         for _ in 0..u64::MAX {
             let unit = self.next(output)?;
-            let offset = unit.offset.0.into_u64();
+            let offset = offset_of(&unit);
             match unit.program {
                 Ok(program) => return Some((offset, program)),
                 Err(refusal) => output.tell_of_unit(offset, refusal),
