@@ -175,9 +175,9 @@ impl Builder {
     /// Adds a directory.
     fn add_directory(&mut self, text: &Text) -> Result<(), CallError> {
         let text = self.text(text, self.encoding())?;
+        self.directories.reserve(1)?;
         let id = programs::add_directory(&mut self.program, &self.tables, text)?;
-        self.keep();
-        self.directories.push(id)?;
+        self.directories.push_reserved(id);
         Ok(())
     }
 
