@@ -136,13 +136,25 @@ fn check_executed<R: Reader>(
     Ok(())
 }
 
+/// Cases of programs of this header with this front, after the unit of the program before.
+fn check_cases(
+    rt: &impl Abort,
+    alloc: Global,
+    before: &[u8],
+    (header, front): (&'static [u8], &'static [u8]),
+    cases: &'static [Case],
+) -> Result<()> {
+    for case in cases {
+        let unit = unit(alloc, header, [front, case.0])?;
+        check_executed(rt, alloc, (slice(before), slice(&unit)), case)?;
+    }
+    Ok(())
+}
+
 fn steps_of_executed(rt: &impl Abort, alloc: Global) -> Result<()> {
     for (before, header, front, cases) in EXECUTED {
         let before = unit(alloc, HEADER_OF_THREE, [before, b""])?;
-        for case in cases {
-            let unit = unit(alloc, header, [front, case.0])?;
-            check_executed(rt, alloc, (slice(&before), slice(&unit)), case)?;
-        }
+        check_cases(rt, alloc, &before, (header, front), cases)?;
     }
     Ok(())
 }

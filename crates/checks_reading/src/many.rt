@@ -1,6 +1,8 @@
 //! Many of a thing: files, sequences, rows of a sequence, and the addresses of a line. Memory for them is there, so a
 //! refusal by `OutOfMemory` would be wrong, which no contract tells. The calls here are made by no row.
 
+ghost use Rattle.std.specs.Prelude.{◌<◌, IsTrue, length};
+
 use crate::check::check_equal;
 use crate::units::{HEADER, program, slice, unit};
 use gimli_core::{EndianSlice, Endianity, Error, Reader, Result};
@@ -108,10 +110,18 @@ fn check_section<R: Reader>(rt: &impl Abort, lookup: &SectionLookup<R>, nothing:
     };
     check_addresses(rt, lookup.addresses_of(&sections, b"a.c", 1)?);
     check_equal(rt, lookup.units().len(), 1);
-    if 0 < lookup.units().len() {
+    if has_unit(lookup) {
         check_addresses(rt, lookup.addresses_of_file(0, 1, 1)?);
     }
     Ok(())
+}
+
+/// Whether a lookup has a unit.
+fn has_unit<R: Reader>(lookup: &SectionLookup<R>) -> bool
+    ensures { IsTrue result → 0 < length lookup.now }
+{
+    let count = lookup.units().len();
+    0 < count
 }
 
 /// Without its headers a lookup of a section finds the same rows.
