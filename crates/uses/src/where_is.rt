@@ -8,7 +8,7 @@ ghost use Rattle.gimli_lookup.specs.Section.{all_sequences};
 use anyhow::{Result, bail};
 use elf_sections::Elf;
 use gimli_core::{EndianSlice, LittleEndian, Reader};
-use gimli_line::{ColumnType, DebugLine};
+use gimli_line::{ColumnType, DebugLine, LineRow};
 use gimli_lookup::{PathError, Paths, SectionLookup, StringSections};
 use std::alloc::Global;
 use std::fmt::Write;
@@ -126,10 +126,27 @@ pub fn source_at<R: Reader>(
         return Err(PathError::InvalidFileIndex(found.row.file_index()));
     };
     let path = Paths::new(header, sections, None).of_row(alloc, &found.row)?;
-    let line = found.row.line().map_or(0, |line| line.get());
-    let column = match found.row.column() {
+    let line = line_of(&found.row);
+    let column = column_of(&found.row);
+    Ok(Some(Source { path, line, column }))
+}
+
+/// The line of a row, 0 where none is known.
+fn line_of(row: &LineRow) -> u64
+    ensures { result ≡ row.now.line }
+{
+    match row.line() {
+        Some(line) => line.get(),
+        None => 0,
+    }
+}
+
+/// The column of a row, 0 for the left edge.
+fn column_of(row: &LineRow) -> u64
+    ensures { result ≡ row.now.column }
+{
+    match row.column() {
         ColumnType::LeftEdge => 0,
         ColumnType::Column(column) => column.get(),
-    };
-    Ok(Some(Source { path, line, column }))
+    }
 }
