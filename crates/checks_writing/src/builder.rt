@@ -26,7 +26,7 @@ fn program(alloc: Global, version: u16, lines: LineEncoding) -> Result<LineProgr
 }
 
 /// The initial registers of a sequence: DWARF 5, section 6.2.2.
-fn check_initial(rt: &impl Abort, row: LineRow, version: u16, is_statement: bool) {
+fn check_initial(rt: &impl Abort, row: &LineRow, version: u16, is_statement: bool) {
     check_equal(rt, (row.address_offset, row.op_index), (0, 0));
     check_equal(rt, (row.file.raw(version), row.line), (1, 1));
     check_equal(rt, (row.column, row.discriminator, row.isa), (0, 0, 0));
@@ -37,51 +37,65 @@ fn check_initial(rt: &impl Abort, row: LineRow, version: u16, is_statement: bool
     );
 }
 
+/// A row with all that stands for one row alone.
+fn marked(row: &LineRow) -> LineRow {
+    LineRow {
+        discriminator: 5,
+        basic_block: true,
+        prologue_end: true,
+        epilogue_begin: true,
+        ..*row
+    }
+}
+
+/// A row at the address that was set.
+fn at_start(row: &LineRow) -> LineRow {
+    LineRow {
+        address_offset: 0,
+        ..*row
+    }
+}
+
 /// After a row what stands for one row alone is cleared, after an address in a sequence its place,
 /// and after an end all; an address outside a sequence changes nothing.
-fn check_rows(rt: &impl Abort, program: &mut LineProgram, first: LineRow) -> Result<()>
+fn check_rows(rt: &impl Abort, program: &mut LineProgram, first: &LineRow) -> Result<()>
     requires { program.old.is_none ≡ false }
 {
-    let mut row = LineRow {
+    let row = LineRow {
         address_offset: 4,
         line: 7,
         column: 8,
         isa: 9,
         is_statement: !first.is_statement,
-        ..first
+        ..*first
     };
-    *program.row() = LineRow {
-        discriminator: 5,
-        basic_block: true,
-        prologue_end: true,
-        epilogue_begin: true,
-        ..row
-    };
+    *program.row() = marked(&row);
     program.set_address(Address::Constant(16))?;
     check_equal(rt, program.row().address_offset, 4);
     if !program.can_generate_row() {
         return Err(Error::InvalidRange);
     }
     program.generate_row()?;
-    check_equal(rt, *program.row(), row);
+    check(rt, *program.row() == row);
     program.set_address(Address::Constant(32))?;
-    row.address_offset = 0;
-    check_equal(rt, *program.row(), row);
+    check(rt, *program.row() == at_start(&row));
     if !program.can_end_sequence(8) {
         return Err(Error::InvalidRange);
     }
     program.end_sequence(8)?;
-    check_equal(rt, *program.row(), first);
+    check(rt, *program.row() == *first);
     Ok(())
 }
 
 fn steps_of_current_rows(rt: &impl Abort, alloc: Global, version: u16) -> Result<()> {
-    let mut lines = LineEncoding::default();
-    lines.default_is_stmt = version == 4;
+    let lines = LineEncoding {
+        default_is_stmt: version == 4,
+        ..LineEncoding::default()
+    };
     let mut program = program(alloc, version, lines)?;
     let first = *program.row();
-    check_initial(rt, first, version, version == 4);
-    check_rows(rt, &mut program, first)
+    check_initial(rt, &first, version, version == 4);
+    check_rows(rt, &mut program, &first)
 }
 
 #[test]

@@ -1,8 +1,10 @@
 //! Many of each thing that is written, built or converted. Memory for them is there, so a refusal by
 //! `OutOfMemory` would be wrong, which no contract tells.
 
-ghost use Rattle.std.specs.Prelude.{◌≢◌, All, IsTrue};
+ghost use Rattle.std.specs.Prelude.{◌≢◌, All, IfOk, IsTrue};
 ghost use Rattle.gimli_core.specs.Numbers.{is_address_size};
+ghost use Rattle.gimli_write.specs.Conditions.{CanWrite};
+ghost use Rattle.gimli_write.specs.StringTables.{texts_in};
 
 use crate::check::{check, check_equal};
 use crate::conversions::{VERSION_5, conversion_of, program_of, slice};
@@ -165,8 +167,55 @@ fn check_parts<R: Reader>(
     Ok(())
 }
 
-/// In version 5 texts stand in a table, and this name and the working directory come first. The unit
-/// is written after three bytes.
+/// The program that a source is converted to, in version 5: texts stand in a table.
+fn converted<R: Reader>(
+    rt: &impl Abort,
+    source: IncompleteLineProgram<R>,
+    name: R,
+    encoding: Encoding,
+    line_strings: &mut LineStringTable,
+    strings: &mut StringTable,
+) -> ConvertResult<LineProgram>
+    requires { IsTrue (is_address_size encoding.address_size) }
+    ensures { IfOk result (λ program. CanWrite program (texts_in strings.new line_strings.new)) }
+{
+    converted_programs_can_be_written();
+    let (program, files) = convert_program(
+        name,
+        name,
+        source,
+        Some(name),
+        Some(encoding),
+        None,
+        line_strings,
+        strings,
+        |address| Some(Address::Constant(address)),
+    )?;
+    check_equal(rt, files.len(), 2 * ENTRIES + 1);
+    Ok(program)
+}
+
+/// A program is written after three bytes, and read back. The working directory and the name come first.
+fn check_written(
+    rt: &impl Abort,
+    alloc: Global,
+    program: &LineProgram,
+    line_strings: &mut LineStringTable,
+    strings: &mut StringTable,
+) -> ConvertResult<()>
+    requires { CanWrite program.now (texts_in strings.old line_strings.old) }
+{
+    let mut unit = DebugLine::from(EndianVec::new(alloc, LittleEndian));
+    unit.0.write(b"\xaa\xbb\xcc")?;
+    let encoding = program.encoding();
+    let answer = round_trip(program, &mut unit, encoding, line_strings, strings)?;
+    check_equal(rt, answer.offset, DebugLineOffset(3));
+    check_equal(rt, answer.directories.len(), ENTRIES + 1);
+    check_equal(rt, answer.files.len(), 2 * ENTRIES + 1);
+    check_equal(rt, answer.rows.len(), 4 * ENTRIES + 1);
+    Ok(())
+}
+
 fn check_version_5<R: Reader>(
     rt: &impl Abort,
     alloc: Global,
@@ -178,33 +227,10 @@ fn check_version_5<R: Reader>(
 {
     let mut line_strings = LineStringTable::default(alloc);
     let mut strings = StringTable::default(alloc);
-    let mut unit = DebugLine::from(EndianVec::new(alloc, LittleEndian));
-    unit.0.write(b"\xaa\xbb\xcc")?;
-    converted_programs_can_be_written();
-    let (program, files) = convert_program(
-        name,
-        name,
-        source,
-        Some(name),
-        Some(encoding),
-        None,
-        &mut line_strings,
-        &mut strings,
-        |address| Some(Address::Constant(address)),
-    )?;
-    let answer = round_trip(
-        &program,
-        &mut unit,
-        encoding,
-        &mut line_strings,
-        &mut strings,
-    )?;
-    check_equal(rt, files.len(), 2 * ENTRIES + 1);
-    check_equal(rt, answer.offset, DebugLineOffset(3));
-    check_equal(rt, answer.directories.len(), ENTRIES + 1);
-    check_equal(rt, answer.files.len(), 2 * ENTRIES + 1);
-    check_equal(rt, answer.rows.len(), 4 * ENTRIES + 1);
-    check_equal(rt, item_count(&program.clone()?), ITEMS + ENTRIES + 1);
+    let program = converted(rt, source, name, encoding, &mut line_strings, &mut strings)?;
+    check_written(rt, alloc, &program, &mut line_strings, &mut strings)?;
+    let copy = program.clone()?;
+    check_equal(rt, item_count(&copy), ITEMS + ENTRIES + 1);
     Ok(())
 }
 
