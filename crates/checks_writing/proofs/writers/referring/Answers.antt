@@ -6,7 +6,7 @@ use Rattle.gimli_write.specs.LineText.{LineText, line_text, IsWithin, HasNoZero}
 use Rattle.gimli_write.specs.Tables.{File}
 use Rattle.gimli_write.specs.Built.{Built}
 use Rattle.gimli_write.specs.Conditions.{CanWrite}
-use Rattle.checks_writing.proofs.own_writer.referring.Goals as goal
+use Rattle.checks_writing.proofs.writers.referring.Goals as goal
 
 one : {A : Type 0} (P : A → Type 0) (xs : List A) (x : A) → xs ≡ x ∷ [] → P x → All P xs
 one P xs x is p = subst (All P) (sym is) (All-cons P x [] p (All-nil P))
