@@ -3,7 +3,8 @@
 use std::fmt::Debug;
 use std::process::Abort;
 
-/// A value is the one that is wanted. A call is proved in a fraction of the time that the macro takes.
+/// A value is the one that is wanted. A call is proved in a fraction of the time that the macro
+/// takes.
 pub fn check_equal<T: Copy + PartialEq + Debug>(rt: &impl Abort, found: T, wanted: T) {
     assert_eq!(rt; found, wanted);
 }

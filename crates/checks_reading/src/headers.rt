@@ -1,4 +1,5 @@
-//! Headers: how many bytes were left where more are needed, and a reader whose offsets have 32 bits.
+//! Headers: how many bytes were left where more are needed, and a reader whose offsets have 32
+//! bits.
 
 use crate::check::{check_equal, check_equal_at};
 use crate::narrow::NarrowReader;
@@ -17,8 +18,9 @@ fn refusal<R: Reader>(alloc: Global, unit: R) -> Option<Error> {
 
 // ---- how many bytes were left
 
-/// Units, and how many bytes were left where more are needed: in the section, in a unit for its version and for its
-/// header, and in a header for operand counts, for the end of a text and for the end of a number.
+/// Units, and how many bytes were left where more are needed: in the section, in a unit for its
+/// version and for its header, and in a header for operand counts, for the end of a text and for
+/// the end of a number.
 const LEFT: [(&[u8], u64); 6] = [
     (b"\x04\0\0\0\x05\0\x08", 3),
     (b"\x01\0\0\0\x05\0", 1),
@@ -41,7 +43,8 @@ fn bytes_left(rt: HostRuntime) {
 
 // ---- numbers that offsets of 32 bits don't hold
 
-/// A unit of version 5 and 64-bit DWARF with these directories and no file, in a header of 64 bytes.
+/// A unit of version 5 and 64-bit DWARF with these directories and no file, in a header of 64
+/// bytes.
 fn unit_of(alloc: Global, directories: &[u8]) -> std::result::Result<Vec<u8>, AllocError> {
     let lengths = b"\xff\xff\xff\xff\x4c\0\0\0\0\0\0\0\x05\0\x04\0\x40\0\0\0\0\0\0\0";
     let mut unit = Vec::from_slice(alloc, lengths)?;
@@ -52,8 +55,9 @@ fn unit_of(alloc: Global, directories: &[u8]) -> std::result::Result<Vec<u8>, Al
     Ok(unit)
 }
 
-/// Tables of directories: an offset of a text, of a line text and of a section, and the index of a text; each first
-/// one that is too large for 32 bits, then the greatest that they hold. The last is a block that is too long.
+/// Tables of directories: an offset of a text, of a line text and of a section, and the index of a
+/// text; each first one that is too large for 32 bits, then the greatest that they hold. The last
+/// is a block that is too long.
 const VALUES: [(&[u8], bool); 9] = [
     (b"\x01\x01\x0e\x01\0\0\0\0\x01\0\0\0", false),
     (b"\x01\x01\x0e\x01\xff\xff\xff\xff\0\0\0\0", true),

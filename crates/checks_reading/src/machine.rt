@@ -1,5 +1,5 @@
-//! Steps of the machine that no row shows: on a row under a tombstone, on a row of another program, and after an
-//! address that overflows.
+//! Steps of the machine that no row shows: on a row under a tombstone, on a row of another program,
+//! and after an address that overflows.
 
 use crate::check::{check_equal, check_equal_at};
 use crate::units::{HEADER, HEADER_OF_THREE, program, slice, unit};
@@ -17,7 +17,8 @@ fn place_of(row: &LineRow) -> [u64; 3] {
 
 // ---- executed
 
-/// Executes the instructions of a program on a row, up to eight, and returns what the last one answered.
+/// Executes the instructions of a program on a row, up to eight, and returns what the last one
+/// answered.
 fn execute<R: Reader>(row: &mut LineRow, program: &mut IncompleteLineProgram<R>) -> Result<bool> {
     let mut instructions = program.header().instructions();
     let mut last = Ok(false);
@@ -34,13 +35,13 @@ fn execute<R: Reader>(row: &mut LineRow, program: &mut IncompleteLineProgram<R>)
 /// The rest of a program, what its last instruction answers, and the place after it.
 type Case = (&'static [u8], Result<bool>, [u64; 3]);
 
-/// A program of three operations in an instruction, which is executed first; then on its row programs of this header,
-/// each of them with this front.
+/// A program of three operations in an instruction, which is executed first; then on its row
+/// programs of this header, each of them with this front.
 type Cases = (&'static [u8], &'static [u8], &'static [u8], &'static [Case]);
 
 const EXECUTED: [Cases; 5] = [
-    // Operation 2 of address 0, and a tombstone: no advance moves the address or op_index, until an address is set that
-    // is one.
+    // Operation 2 of address 0, and a tombstone: no advance moves the address or op_index, until an
+    // address is set that is one.
     (
         b"\x02\x02",
         HEADER_OF_THREE,
@@ -56,7 +57,8 @@ const EXECUTED: [Cases; 5] = [
             (b"\x02\x02\0\x05\x02\x10\0\0\0", Ok(false), [16, 0, 1]),
         ],
     ),
-    // Operation 2 of address 2: an address that goes back is a tombstone too, and an equal one isn't.
+    // Operation 2 of address 2: an address that goes back is a tombstone too, and an equal one
+    // isn't.
     (
         b"\x02\x08",
         HEADER_OF_THREE,
@@ -66,7 +68,8 @@ const EXECUTED: [Cases; 5] = [
             (b"\x02\0\0\0\x02\x01", Ok(false), [2, 1, 1]),
         ],
     ),
-    // Operation 2, where an instruction has one: each advance of the address sets op_index to 0, also one of no bytes.
+    // Operation 2, where an instruction has one: each advance of the address sets op_index to 0,
+    // also one of no bytes.
     (
         b"\x02\x02",
         HEADER,
@@ -119,8 +122,8 @@ fn executed<R: Reader>(
     Ok((last, row))
 }
 
-/// A unit answers this, and leaves this place of the row that another one leaves; it is 0 after `rebase`, and under no
-/// tombstone.
+/// A unit answers this, and leaves this place of the row that another one leaves; it is 0 after
+/// `rebase`, and under no tombstone.
 fn check_executed<R: Reader>(
     rt: &impl Abort,
     alloc: Global,
@@ -179,8 +182,9 @@ const TOP: Next = Ok(Some([0xffff_fffd, 0, 1]));
 
 const TOP_OF_LINE_2: Next = Ok(Some([0xffff_fffd, 0, 2]));
 
-/// Programs from the highest address on that is no tombstone, and the answers of four calls. After an address that
-/// overflows the run goes on, and nothing comes after an instruction that is refused.
+/// Programs from the highest address on that is no tombstone, and the answers of four calls. After
+/// an address that overflows the run goes on, and nothing comes after an instruction that is
+/// refused.
 const RUNS: [(&[u8], [Next; 4]); 5] = [
     (b"\x01", [TOP, DONE, DONE, DONE]),
     (b"\x01\x02\x80", [TOP, MISSING, DONE, DONE]),

@@ -1,5 +1,6 @@
-//! Many of a thing: files, sequences, rows of a sequence, and the addresses of a line. Memory for them is there, so a
-//! refusal by `OutOfMemory` would be wrong, which no contract tells. The calls here are made by no row.
+//! Many of a thing: files, sequences, rows of a sequence, and the addresses of a line. Memory for
+//! them is there, so a refusal by `OutOfMemory` would be wrong, which no contract tells. The calls
+//! here are made by no row.
 
 ghost use Rattle.std.specs.Prelude.{◌<◌, IsTrue, length};
 
@@ -22,7 +23,8 @@ const LAST: u64 = 70_016;
 
 // ---- copies of many files
 
-/// The bytes of a unit of version 5 with many directories and many files, whose paths are empty; it has no program.
+/// The bytes of a unit of version 5 with many directories and many files, whose paths are empty; it
+/// has no program.
 fn bytes_of_tables(alloc: Global) -> std::result::Result<Vec<u8>, AllocError> {
     let header = b"\xfa\x22\x02\0\x05\0\x08\0\xf2\x22\x02\0\x01\x01\x01\xfb\x0e\x01";
     let format = b"\x01\x01\x08\xf0\xa2\x04";
@@ -59,8 +61,8 @@ fn copies(rt: HostRuntime) {
 
 // ---- many rows and sequences
 
-/// A program of a sequence of many rows, at 0x11 and each address after it, by turns of line 2 and of line 1, and
-/// an end; then sequences of a row of line 1 at 0 and an end at 1.
+/// A program of a sequence of many rows, at 0x11 and each address after it, by turns of line 2 and
+/// of line 1, and an end; then sequences of a row of line 1 at 0 and an end at 1.
 fn bytes_of_sequences(alloc: Global) -> std::result::Result<Vec<u8>, AllocError> {
     let mut program = Vec::from_slice(alloc, b"\0\x05\x02\x10\0\0\0")?;
     for _ in 0..MANY / 2 {

@@ -1,4 +1,5 @@
-//! Each call of a reader, over a reader of one's own that has the default bodies alone; and orders of bytes as types.
+//! Each call of a reader, over a reader of one's own that has the default bodies alone; and orders
+//! of bytes as types.
 
 use crate::check::check_equal;
 use crate::narrow::{Narrow, NarrowReader};
@@ -70,8 +71,8 @@ fn parts<R: Reader>(mut reader: R, two: R::Offset) -> Result<(u16, u64, u64, boo
     Ok((number, text, before, reader.is_empty()))
 }
 
-/// Where the first zero byte stands, how far a skip of one goes and the byte after it, and how many bytes a front of two
-/// has.
+/// Where the first zero byte stands, how far a skip of one goes and the byte after it, and how many
+/// bytes a front of two has.
 fn places<R: Reader>(reader: R, one: R::Offset, two: R::Offset) -> Result<(u64, u64, u8, u64)> {
     let found = reader.find(0)?.into_u64();
     let mut after = reader;
@@ -118,7 +119,8 @@ fn parts_of_readers(rt: HostRuntime) {
 
 // ---- orders
 
-/// Whether an order is big, and little; numbers as it reads them; and the bytes that it writes of others.
+/// Whether an order is big, and little; numbers as it reads them; and the bytes that it writes of
+/// others.
 fn order_of<E: Endianity>(order: E) -> ([bool; 2], u16, u128, [u8; 16]) {
     let mut bytes = *b"\x01\x02\x03\x04\x05\x06\x07\x08\x09\x0a\x0b\x0c\x0d\x0e\x0f\x10";
     let is = [order.is_big_endian(), order.is_little_endian()];

@@ -275,8 +275,8 @@ pub fn equal_programs_look_same<R: Reader + PartialEq>()
     equal_headers_look_same::<R>();
 }
 
-/// What `clone` makes of a file or of an instruction is the same, and of a section, of instructions to come or of a
-/// sequence, if this is so of readers.
+/// What `clone` makes of a file or of an instruction is the same, and of a section, of instructions
+/// to come or of a sequence, if this is so of readers.
 pub fn clones_are_same<R: Reader>()
     ensures files { IsSameClone ⟦<FileEntry<R> as Clone>⟧.is_clone }
     ensures instructions { IsSameClone ⟦<LineInstruction<R> as Clone>⟧.is_clone }
@@ -287,7 +287,8 @@ pub fn clones_are_same<R: Reader>()
         → IsSameClone ⟦<LineSequence<R> as Clone>⟧.is_clone }
 {}
 
-/// `clone` of a file or of an instruction is never refused, nor is that of the others, if this is so of readers.
+/// `clone` of a file or of an instruction is never refused, nor is that of the others, if this is
+/// so of readers.
 pub fn clones_are_given<R: Reader>()
     ensures files { AreAlwaysCloned ⟦<FileEntry<R> as Clone>⟧.is_infallible }
     ensures instructions { AreAlwaysCloned ⟦<LineInstruction<R> as Clone>⟧.is_infallible }

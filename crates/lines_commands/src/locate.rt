@@ -167,7 +167,9 @@ fn print_json<O: Write, E: Write>(
     let discriminator = found.row.discriminator();
     let flags = JsonFlags(found.row);
     output.print(format_args!(
-        "{{\"address\":\"0x{address:x}\",\"path\":{path},\"line\":{line},\"column\":{column},\"range\":[\"0x{start:x}\",\"0x{end:x}\"],\"discriminator\":{discriminator},\"flags\":{flags}}}"
+        "{{\"address\":\"0x{address:x}\",\"path\":{path},\"line\":{line},\
+         \"column\":{column},\"range\":[\"0x{start:x}\",\"0x{end:x}\"],\
+         \"discriminator\":{discriminator},\"flags\":{flags}}}"
     ));
 }
 

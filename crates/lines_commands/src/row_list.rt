@@ -160,6 +160,8 @@ fn print_json<O: Write, E: Write>(
     let isa = row.isa();
     let flags = JsonFlags(*row);
     output.print(format_args!(
-        "{{\"unit\":\"0x{offset:x}\",\"address\":\"0x{address:x}\",\"op_index\":{op_index},\"path\":{path},\"file\":{file},\"line\":{line},\"column\":{column},\"discriminator\":{discriminator},\"isa\":{isa},\"flags\":{flags}}}"
+        "{{\"unit\":\"0x{offset:x}\",\"address\":\"0x{address:x}\",\"op_index\":{op_index},\
+         \"path\":{path},\"file\":{file},\"line\":{line},\"column\":{column},\
+         \"discriminator\":{discriminator},\"isa\":{isa},\"flags\":{flags}}}"
     ));
 }

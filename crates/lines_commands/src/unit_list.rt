@@ -48,6 +48,7 @@ fn print_line<R: Reader, O: Write, E: Write>(
     let rows = total.rows;
     let bytes = header.unit_length().into_u64().saturating_add(length_size);
     output.print(format_args!(
-        "0x{offset:08x}  {version:>7}  {format}  {address_size:>7}  {files:>5}  {sequences:>9}  {rows:>8}  {bytes:>8}"
+        "0x{offset:08x}  {version:>7}  {format}  {address_size:>7}  \
+         {files:>5}  {sequences:>9}  {rows:>8}  {bytes:>8}"
     ));
 }

@@ -27,16 +27,21 @@ impl Read for Stream {
     }
 }
 
-/// The demo unit: set address 0x1000, a row, a row 4 bytes and 2 lines further on, and an end 4 bytes
-/// later.
+/// The demo unit: set address 0x1000, a row, a row 4 bytes and 2 lines further on, and an end 4
+/// bytes later.
 const DEMO_UNIT: [u8; 51] = [
     0x2f, 0, 0, 0, 4, 0, 0x1b, 0, 0, 0, 1, 1, 1, 0xfb, 0x0e, 0x0d, 0, 1, 1, 1, 1, 0, 0, 0, 1, 0, 0,
     1, 0, b'a', b'.', b'c', 0, 0, 0, 0, 0, 0, 5, 2, 0, 0x10, 0, 0, 1, 0x4c, 2, 4, 0, 1, 1,
 ];
 
 /// What `demo` prints, and `demo pieces` too.
-const DEMO_OUT: &str =
-    "2f 00 00 00 04 00 1b 00 00 00 01 01 01 fb 0e 0d\n00 01 01 01 01 00 00 00 01 00 00 01 00 61 2e 63\n00 00 00 00 00 00 05 02 00 10 00 00 01 4c 02 04\n00 01 01\n0000000000001000 0 1 1 0 0 0 s\n0000000000001004 0 1 3 0 0 0 s\n0000000000001008 0 1 3 0 0 0 se\n";
+const DEMO_OUT: &str = "2f 00 00 00 04 00 1b 00 00 00 01 01 01 fb 0e 0d\n\
+     00 01 01 01 01 00 00 00 01 00 00 01 00 61 2e 63\n\
+     00 00 00 00 00 00 05 02 00 10 00 00 01 4c 02 04\n\
+     00 01 01\n\
+     0000000000001000 0 1 1 0 0 0 s\n\
+     0000000000001004 0 1 3 0 0 0 s\n\
+     0000000000001008 0 1 3 0 0 0 se\n";
 
 /// A command: its words, and what it prints of the demo unit.
 type Case = (&'static [&'static str], &'static str);
@@ -47,11 +52,16 @@ const CASES: [Case; 6] = [
     (&["demo", "pieces"], DEMO_OUT),
     (
         &["rows", "line.bin", "little", "4", "0"],
-        "0000000000001000 0 1 1 0 0 0 s\n0000000000001004 0 1 3 0 0 0 s\n0000000000001008 0 1 3 0 0 0 se\n",
+        "0000000000001000 0 1 1 0 0 0 s\n\
+         0000000000001004 0 1 3 0 0 0 s\n\
+         0000000000001008 0 1 3 0 0 0 se\n",
     ),
     (
         &["sequences", "line.bin", "little", "4", "0"],
-        "sequence 0000000000001000 0000000000001008 3\n0000000000001000 0 1 1 0 0 0 s\n0000000000001004 0 1 3 0 0 0 s\n0000000000001008 0 1 3 0 0 0 se\n",
+        "sequence 0000000000001000 0000000000001008 3\n\
+         0000000000001000 0 1 1 0 0 0 s\n\
+         0000000000001004 0 1 3 0 0 0 s\n\
+         0000000000001008 0 1 3 0 0 0 se\n",
     ),
     (
         &["units", "line.bin", "little", "4"],

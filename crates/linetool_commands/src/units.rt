@@ -48,8 +48,8 @@ impl UnitLine {
     }
 }
 
-/// Prints the line of each unit of a file, from the start of the section to its end. The first fault stops it, before
-/// the line of its unit.
+/// Prints the line of each unit of a file, from the start of the section to its end. The first
+/// fault stops it, before the line of its unit.
 pub(crate) fn print_units<F: Read + Drop, O: Write>(
     alloc: Global,
     file: Option<F>,

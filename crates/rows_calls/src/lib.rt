@@ -1,5 +1,5 @@
-//! Scripts of calls of readers, numbers, writers and string tables: the commands `read`, `bytes` and `pieces` of `vectors`.
-//! `docs/ROWS.md` has their words and what they print.
+//! Scripts of calls of readers, numbers, writers and string tables: the commands `read`, `bytes`
+//! and `pieces` of `vectors`. `docs/ROWS.md` has their words and what they print.
 #![tactic(auto)]
 
 mod answer;

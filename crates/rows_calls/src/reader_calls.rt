@@ -53,8 +53,8 @@ fn look<'w, R: Reader<Offset = usize>>(
     }
 }
 
-/// What a call returns that takes a number of a fixed size. A number of `n` bytes has eight at most, and an address has
-/// one, two, four or eight.
+/// What a call returns that takes a number of a fixed size. A number of `n` bytes has eight at
+/// most, and an address has one, two, four or eight.
 fn read_fixed<'w, R: Reader<Offset = usize>>(
     reader: &mut R,
     name: &str,

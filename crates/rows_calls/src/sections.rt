@@ -12,9 +12,10 @@ use rows_reading::{Attempts, Request, Stop};
 use std::alloc::Global;
 use std::{fmt, mem, result};
 
-/// Runs a script of calls of a section of this type, and of the string tables `str` and `line_str`. Each call that writes
-/// has a line: `ok`, `place N` or `error NAME`, with ` + ` and the bytes that it appended, or with ` = ` and all bytes where
-/// it changed others. `next` makes the section and the tables anew, and prints `--`.
+/// Runs a script of calls of a section of this type, and of the string tables `str` and `line_str`.
+/// Each call that writes has a line: `ok`, `place N` or `error NAME`, with ` + ` and the bytes that
+/// it appended, or with ` = ` and all bytes where it changed others. `next` makes the section and
+/// the tables anew, and prints `--`.
 pub fn write_section<W: Target>(
     request: Request<'_>,
     input: &str,

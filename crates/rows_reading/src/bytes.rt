@@ -6,8 +6,8 @@ use crate::numbers::parse_number;
 use crate::stop::Stop;
 use std::alloc::Global;
 
-/// A text: `%` and two hexadecimal digits are a byte, and `%` alone is the empty text. No word that is empty, or has
-/// other letters after a `%`, is one.
+/// A text: `%` and two hexadecimal digits are a byte, and `%` alone is the empty text. No word that
+/// is empty, or has other letters after a `%`, is one.
 pub fn parse_text(alloc: Global, word: &str) -> Result<Vec<u8>, Stop> {
     let mut text = Vec::new(alloc);
     push_text(&mut text, word)?;
@@ -49,7 +49,8 @@ fn push_quoted(text: &mut Vec<u8>, part: &[u8]) -> Result<(), Stop> {
     Ok(())
 }
 
-/// Appends bytes in two hexadecimal digits each, with blanks and line breaks between, where `N*HH` is N times a byte.
+/// Appends bytes in two hexadecimal digits each, with blanks and line breaks between, where `N*HH`
+/// is N times a byte.
 pub fn push_bytes(bytes: &mut Vec<u8>, text: &str) -> Result<(), Stop> {
     for word in text.split_whitespace() {
         match word.split_once('*') {

@@ -22,8 +22,9 @@ pub enum Part {
     Instructions,
 }
 
-/// Prints a part of a unit, or why its header is refused. The words are the order of bytes, the size of an address and
-/// the offset of the unit; for a header then the directory and the name that are handed in.
+/// Prints a part of a unit, or why its header is refused. The words are the order of bytes, the
+/// size of an address and the offset of the unit; for a header then the directory and the name that
+/// are handed in.
 pub fn print_unit(
     request: Request<'_>,
     part: Part,
@@ -80,7 +81,8 @@ pub struct Unit<'i> {
 }
 
 impl<'i> Unit<'i> {
-    /// The program of the unit. Where memory was refused it is made once more, if that is asked for.
+    /// The program of the unit. Where memory was refused it is made once more, if that is asked
+    /// for.
     pub fn program(
         self,
         alloc: Global,

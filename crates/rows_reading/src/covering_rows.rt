@@ -11,8 +11,8 @@ use gimli_line::DebugLine;
 use gimli_lookup::{SectionLookup, UnitLookup};
 use std::alloc::Global;
 
-/// Prints the units of a section, and for each address the rows that cover it. The words are the order of bytes, the size of
-/// an address, the lowest address of code, and the addresses.
+/// Prints the units of a section, and for each address the rows that cover it. The words are the
+/// order of bytes, the size of an address, the lowest address of code, and the addresses.
 pub fn places(request: Request<'_>, section: &[u8], out: &mut Vec<u8>) -> Result<(), Stop> {
     let [order, size, lowest, words @ ..] = request.words else {
         return Err(Stop::Bad);

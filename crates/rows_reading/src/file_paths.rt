@@ -10,9 +10,9 @@ use gimli_line::LineProgramHeader;
 use gimli_lookup::{PathError, Paths, StringSections};
 use std::alloc::Global;
 
-/// Prints the whole path of each file of a unit, or why it isn't known. The words are the order of bytes, the size of an
-/// address, the offset of the unit, the directory that is handed to the reader, and the directory of the compilation that
-/// is handed with each file.
+/// Prints the whole path of each file of a unit, or why it isn't known. The words are the order of
+/// bytes, the size of an address, the offset of the unit, the directory that is handed to the
+/// reader, and the directory of the compilation that is handed with each file.
 pub fn paths(request: Request<'_>, sections: Sections<'_>, out: &mut Vec<u8>) -> Result<(), Stop> {
     let [order, size, offset, directory, comp_dir] = request.words else {
         return Err(Stop::Bad);

@@ -1,5 +1,6 @@
-//! What is read, as text: headers, instructions and rows of units, and lookups over a section; and the words of rows and
-//! scripts, as they are read and printed. `docs/ROWS.md` has each line that is printed.
+//! What is read, as text: headers, instructions and rows of units, and lookups over a section; and
+//! the words of rows and scripts, as they are read and printed. `docs/ROWS.md` has each line that
+//! is printed.
 #![tactic(auto)]
 
 mod bytes;

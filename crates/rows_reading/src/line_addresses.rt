@@ -7,8 +7,9 @@ use crate::numbers::parse_number;
 use crate::request::{Request, Sections, UnitLocation};
 use crate::stop::Stop;
 
-/// Prints the addresses at which the code of a line begins, or of the next line that has any. The words are the order of
-/// bytes, the size of an address, the lowest address of code, the whole path of a file, and the line.
+/// Prints the addresses at which the code of a line begins, or of the next line that has any. The
+/// words are the order of bytes, the size of an address, the lowest address of code, the whole path
+/// of a file, and the line.
 pub fn addresses(
     request: Request<'_>,
     sections: Sections<'_>,

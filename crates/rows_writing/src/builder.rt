@@ -247,7 +247,8 @@ impl Builder {
         marks[0].stands(&self.tables) && marks[1].stands(&self.tables)
     }
 
-    /// The bytes of a table; by a second call, where memory is refused to the first and attempts are two.
+    /// The bytes of a table; by a second call, where memory is refused to the first and attempts
+    /// are two.
     pub fn table_bytes(&self, kind: Kind) -> Result<Vec<u8>, Error> {
         match self.tables.bytes(self.alloc, kind) {
             Err(_) if self.attempts == Attempts::Two => self.tables.bytes(self.alloc, kind),

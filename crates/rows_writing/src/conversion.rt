@@ -36,8 +36,8 @@ pub(crate) struct Conversion<'i> {
 }
 
 impl<'i> Conversion<'i> {
-    /// Prints what is read, and after items and a line `==` what is built of them. Where the header is refused or the target
-    /// breaks a condition, no conversion can be asked for.
+    /// Prints what is read, and after items and a line `==` what is built of them. Where the header
+    /// is refused or the target breaks a condition, no conversion can be asked for.
     pub fn print(self, kind: Kind, lines: &mut Lines<'_>) -> Result<(), AllocError> {
         match self.unit.program(self.alloc, self.attempts) {
             Err(error) => lines.put_refusal(error),

@@ -9,9 +9,10 @@ use crate::target::Target;
 use gimli_core::EndianSlice;
 use rows_reading::{Handed, Lines, Request, Sections, Stop, Unit, UnitLocation, parse_optional};
 
-/// Prints what a conversion reads, by items or by sequences, and after items what is built of them. The words are the
-/// order of bytes, the size of an address, the offset of the unit, the directory and the name that are handed to the
-/// reader, the name of the unit, and the encodings of the program that is built.
+/// Prints what a conversion reads, by items or by sequences, and after items what is built of them.
+/// The words are the order of bytes, the size of an address, the offset of the unit, the directory
+/// and the name that are handed to the reader, the name of the unit, and the encodings of the
+/// program that is built.
 pub fn convert(
     request: Request<'_>,
     kind: Kind,

@@ -3,8 +3,8 @@
 use gimli_write::Error;
 use std::alloc::{AllocError, AllocFailed};
 
-/// Why a call isn't made, or the error that it returns. Where memory is refused to the script itself on its way to a call,
-/// that stands for the call's own `OutOfMemory`.
+/// Why a call isn't made, or the error that it returns. Where memory is refused to the script
+/// itself on its way to a call, that stands for the call's own `OutOfMemory`.
 #[derive(Clone, Copy, PartialEq)]
 pub(crate) enum CallError {
     /// A condition of the call isn't met.

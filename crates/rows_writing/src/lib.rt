@@ -1,5 +1,5 @@
-//! What is written, as text: builder scripts, which make a line program by the calls that a text names, and conversions.
-//! `docs/ROWS.md` has their words and what they print.
+//! What is written, as text: builder scripts, which make a line program by the calls that a text
+//! names, and conversions. `docs/ROWS.md` has their words and what they print.
 #![tactic(auto)]
 
 mod array_section;

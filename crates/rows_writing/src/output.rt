@@ -32,8 +32,8 @@ fn print_files(files: &[RoundTripFile], lines: &mut Lines<'_>) {
     }
 }
 
-/// Why a conversion or a unit that is read back is refused: the variant, and for a refusal of reading or writing the
-/// variant of that.
+/// Why a conversion or a unit that is read back is refused: the variant, and for a refusal of
+/// reading or writing the variant of that.
 #[derive(Clone, Copy)]
 pub(crate) struct Refused(pub ConvertError);
 

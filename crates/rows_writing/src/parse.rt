@@ -132,8 +132,8 @@ fn parse_form(word: &str) -> (Form, &str) {
     (Form::Usual, word)
 }
 
-/// What a program begins with: its encodings, two texts, the directory of the source file after `in`, and what else is
-/// known of that file.
+/// What a program begins with: its encodings, two texts, the directory of the source file after
+/// `in`, and what else is known of that file.
 fn parse_start(alloc: Global, words: &[&str]) -> Result<Start, Stop> {
     if words.len() < 10 {
         return Err(Stop::Bad);

@@ -229,7 +229,8 @@ pub(crate) fn add_file(
 
 // ---- items
 
-/// Sets what a call sets before it builds an item: the current row, its operation, or what is written of files.
+/// Sets what a call sets before it builds an item: the current row, its operation, or what is
+/// written of files.
 pub(crate) fn set_parts(program: &mut LineProgram, call: &Call<'_>, file: Option<FileId>)
     ensures { program.new.directories ≡ program.old.directories }
 {

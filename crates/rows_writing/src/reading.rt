@@ -64,8 +64,8 @@ pub(crate) struct Ending {
 }
 
 impl Ending {
-    /// Prints a refusal, which is how a conversion ends that was begun or wasn't, and in which something must stand where it
-    /// is for memory.
+    /// Prints a refusal, which is how a conversion ends that was begun or wasn't, and in which
+    /// something must stand where it is for memory.
     fn refused(error: ConvertError, is_begun: bool, stands: bool, lines: &mut Lines<'_>) -> Ending {
         lines.put(Refused(error));
         let memory = match error {
@@ -93,8 +93,8 @@ impl Ending {
     }
 }
 
-/// Prints what is read after a header, up to its end or to the first refusal. After a refusal for memory the next read must
-/// be refused for it too.
+/// Prints what is read after a header, up to its end or to the first refusal. After a refusal for
+/// memory the next read must be refused for it too.
 pub(crate) fn print_after_header<R: Reader>(
     kind: Kind,
     header: ConvertLineHeader<R>,

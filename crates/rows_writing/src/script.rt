@@ -16,8 +16,9 @@ use rows_calls::{Kind, Section, Tables};
 use rows_reading::{Attempts, BytesLine, Lines, Request, Stop, parse_order, push_bytes};
 use std::alloc::{AllocError, Global};
 
-/// Builds the programs of a text's scripts and writes them; appends what is printed, and returns the status: 1 where
-/// a program is refused or a condition isn't met. Of a bad script nothing is printed.
+/// Builds the programs of a text's scripts and writes them; appends what is printed, and returns
+/// the status: 1 where a program is refused or a condition isn't met. Of a bad script nothing is
+/// printed.
 pub fn write(request: Request<'_>, input: &str, out: &mut Vec<u8>) -> Result<u8, Stop> {
     if !request.words.is_empty() {
         return Err(Stop::Bad);
@@ -200,7 +201,8 @@ impl Script {
         }
     }
 
-    /// Ends the script, and returns its status: 1 where its program is refused or a condition isn't met.
+    /// Ends the script, and returns its status: 1 where its program is refused or a condition isn't
+    /// met.
     fn finish(&mut self, lines: &mut Lines<'_>) -> Result<u8, Stop> {
         if !self.has_program {
             return Err(Stop::Bad);
@@ -214,7 +216,8 @@ impl Script {
         }
     }
 
-    /// Writes the program, and prints what that gives; false where it is refused or a condition isn't met.
+    /// Writes the program, and prints what that gives; false where it is refused or a condition
+    /// isn't met.
     fn print_written(&mut self, lines: &mut Lines<'_>) -> Result<bool, AllocError> {
         let encoding = self.unit.unwrap_or(self.builder.encoding());
         let (bytes, done) = self.written(encoding, lines)?;
@@ -230,7 +233,8 @@ impl Script {
         Ok(done.is_ok() && is_read)
     }
 
-    /// The section of the program, by a second call where memory is refused to the first and attempts are two.
+    /// The section of the program, by a second call where memory is refused to the first and
+    /// attempts are two.
     fn written(
         &mut self,
         encoding: Encoding,
@@ -241,7 +245,8 @@ impl Script {
         if !self.is_made_again(done) {
             return Ok((bytes, done));
         }
-        // The old bytes are a beginning of the section, or where they weren't all written the section one of them.
+        // The old bytes are a beginning of the section, or where they weren't all written the
+        // section one of them.
         let begins = bytes.starts_with(&self.prefix) || self.prefix.starts_with(&bytes);
         let takes_memory = !matches!(self.target, Target::Array(_));
         if !begins || !takes_memory || !self.builder.tables_stand(marks) {
@@ -297,8 +302,8 @@ impl Script {
     }
 }
 
-/// Prints what is written of a program in an order of bytes, the tables that aren't empty, and what is read back, as a
-/// script does. Requires directories that are in these tables.
+/// Prints what is written of a program in an order of bytes, the tables that aren't empty, and what
+/// is read back, as a script does. Requires directories that are in these tables.
 pub(crate) fn print_program(
     alloc: Global,
     program: LineProgram,

@@ -17,8 +17,9 @@ impl Target {
     ghost use Rattle.std.specs.Prelude.{IsTrue};
     ghost use Rattle.rows_writing.specs.Taken.{IsTaken};
 
-    /// The target that a word names: `-` for the source's own, or the version, the format and the size of an address, and
-    /// after them what lines are encoded by, if it isn't as in the source. All are numbers with commas between.
+    /// The target that a word names: `-` for the source's own, or the version, the format and the
+    /// size of an address, and after them what lines are encoded by, if it isn't as in the source.
+    /// All are numbers with commas between.
     pub fn parse(alloc: Global, word: &str) -> Result<Target, Stop> {
         let numbers: Vec<&str> = word.split(',').collect(alloc)?;
         let (encoding, line_encoding) = match numbers.as_slice() {
@@ -36,7 +37,8 @@ impl Target {
         })
     }
 
-    /// Whether a conversion takes it. Without numbers of lines it is judged with those that are usual.
+    /// Whether a conversion takes it. Without numbers of lines it is judged with those that are
+    /// usual.
     pub fn is_taken(self) -> bool
         ensures { IsTrue result → IsTaken self }
     {

@@ -21,7 +21,8 @@ pub fn watch_rows(alloc: Global, section: &[u8], location: UnitLocation, lines: 
     }
 }
 
-/// The count of the call that memory was refused to, and whether what must stand does; None where there is none.
+/// The count of the call that memory was refused to, and whether what must stand does; None where
+/// there is none.
 fn refused_call<R: Reader, P: LineProgram<R> + Drop>(rows: LineRows<R, P>) -> Option<(u64, bool)> {
     let mut rows = rows;
     for call in 1..u64::MAX {

@@ -97,8 +97,8 @@ impl<'t> Draft<'t> {
         }
     }
 
-    /// Takes a line after a command: a further command, as long as no input stands there, a line of the input, or the one
-    /// that ends it.
+    /// Takes a line after a command: a further command, as long as no input stands there, a line of
+    /// the input, or the one that ends it.
     fn take_input(&mut self, alloc: Global, parts: &Parts<'_>, line: &'t str) -> Result<(), Stop> {
         match (line.strip_prefix("> "), line) {
             (_, "<") => self.end_input(alloc, parts),
@@ -134,8 +134,8 @@ struct RowsReader<'t> {
 }
 
 impl<'t> RowsReader<'t> {
-    /// Takes a line. Refused where it can't stand there: a part can't in an output, whose lines are all that a command
-    /// gives.
+    /// Takes a line. Refused where it can't stand there: a part can't in an output, whose lines are
+    /// all that a command gives.
     fn take_line(&mut self, line: &'t str) -> Result<(), Stop> {
         if let Some(name) = line.strip_prefix("== ") {
             self.end_row()?;
@@ -198,7 +198,8 @@ fn input_of(alloc: Global, parts: &Parts<'_>, words: &str, text: &str) -> Result
     Ok(Input::Section(section, named_parts(alloc, parts, words, order)?))
 }
 
-/// The bytes of the parts that a command with texts names after its other words. Another command names none.
+/// The bytes of the parts that a command with texts names after its other words. Another command
+/// names none.
 fn named_parts(
     alloc: Global,
     parts: &Parts<'_>,
