@@ -70,8 +70,9 @@ pub(crate) fn program<'a>(alloc: Global) -> Result<Command<'a>, AllocError> {
         .version(VERSION)
         .about("Looks into the line tables (.debug_line) of a program, DWARF versions 2 to 5.")
         .after_help(
-            "FILE is an ELF program or library, or with --raw a section that objcopy --dump-section \
-             wrote.\nThe status is 0, or 1 where something was refused or found, or 2 for other words.",
+            "FILE is an ELF program or library, or with --raw a section that objcopy \
+             --dump-section wrote.\nThe status is 0, or 1 where something was refused or found, \
+             or 2 for other words.",
         )
         .subcommand_required(true)
         .arg_required_else_help(true)
