@@ -8,7 +8,7 @@ use Rattle.gimli_line.specs.header.Orders.{HeaderOrders}
 use Rattle.gimli_line.specs.header.Header.{Header, without_files}
 use Rattle.gimli_line.specs.run.Instruction.{Ins, makes_row, files_after}
 use Rattle.gimli_line.specs.header.File.{File}
-use Rattle.gimli_line.specs.declared.run.instruction.LineInstruction.TheVariants.{DefineFile}
+use Rattle.gimli_line.specs.declared.run.instruction.LineInstruction.TheVariants.{Special, Copy, EndSequence, DefineFile}
 use Rattle.gimli_line.specs.run.OperationPointer.{is_under_tombstone, overflows}
 use Rattle.gimli_line.specs.run.Events.{row, row_at, events_at, past_at_end}
 use Rattle.gimli_line.specs.run.Progress.{files_from}
@@ -16,7 +16,9 @@ use Rattle.gimli_line.specs.run.Machine.{initial, reset_row, step_of, is_refused
 use Rattle.gimli_line.specs.run.EventsWithFiles.{EventWithFiles, EventsWithFiles, FilesAtEnd, with_files, files_at, events_with_files_after, step_events, next_registers, registers_after, events_with_files_from}
 use Rattle.gimli_line.specs.run.InstructionGrammar.{Decodes}
 use Rattle.gimli_line.specs.run.InstructionReading.{decoded_at}
+use Rattle.gimli_line.specs.run.Made.{made_row, made_at, made_after, made_step, made_from, Makes}
 use Rattle.gimli_line.specs.run.Rows.{events_left, files_at_end, start_of_run}
+use Rattle.gimli_line.specs.run.AnyRows.{made_left}
 use Rattle.gimli_line.specs.run.Unread.{Unread}
 use Rattle.gimli_line.proofs.InstructionLaws.{is_decoded}
 use Rattle.gimli_line.proofs.Runs.{bare_decoding}
@@ -68,6 +70,30 @@ pub events_with_files_start : (a : Bool) (h : Header) (list : List Ins) (end : O
 events_with_files_start true h list end = events_with_files_are true h [] list end
 events_with_files_start false h list end = events_with_files_are false h [] list end
 
+-- ---- what it makes
+
+made_row_is : (h : Parameters) (past : List Ins) (i : Ins) → makes_row i ≡ true → step_of h i (registers h past) ≡ made_row h past i
+made_row_is h past (Special o) loud = refl
+made_row_is h past Copy loud = refl
+made_row_is h past EndSequence loud = refl
+made_row_is h past i loud = absurd cc
+
+makes : (h : Parameters) (past : List Ins) (i : Ins) (o m : Bool) → overflows h past i ≡ o → makes_row i ≡ m
+    → made_step h i (registers h past) ≡ made_at h past i
+makes h past i true m large loud = rw large refl
+makes h past i false true fits loud = rw (fits, loud) (ap (λ (r : LineRow). row r ∷ []) (made_row_is h past i loud))
+makes h past i false false fits quiet = rw (fits, quiet) refl
+
+made_are : (a : Bool) (h : Header) (past list : List Ins) (end : Option Error) → made_from a h.parameters (registers h.parameters past) (files_at a h.files past) list end ≡ made_after a h past list end
+made_are a h past [] end = refl
+made_are a h past (i ∷ list) end =
+    rw (makes h.parameters past i (overflows h.parameters past i) (makes_row i) refl refl, goes h.parameters past i (overflows h.parameters past i) (makes_row i) refl refl, files_go a h.files past i)
+    (ap (λ (rest : List EventWithFiles). with_files (files_at a h.files past) (made_at h.parameters past i) ++ rest) (made_are a h (i ∷ past) list end))
+
+made_start : (a : Bool) (h : Header) (list : List Ins) (end : Option Error) → made_from a h.parameters (reset_row h.parameters (initial h.parameters)) h.files list end ≡ made_after a h [] list end
+made_start true h list end = made_are true h [] list end
+made_start false h list end = made_are false h [] list end
+
 -- rows at the start of a sequence, by the bytes that are to come
 module _ (a : Bool) (h : Header) (o : Notation) (offset : ℕ) (w : HeaderOrders) (s : Unread) where
   abbrev parts : List Ins × Option Error
@@ -78,6 +104,9 @@ module _ (a : Bool) (h : Header) (o : Notation) (offset : ℕ) (w : HeaderOrders
 
   pub started_events : EventsWithFiles s.notation a h s.bytes (events_left (start_of_run a h o offset w s))
   started_events = record { list = parts.0; end = parts.1; decoding = decoding; given = events_with_files_start a h parts.0 parts.1 }
+
+  pub started_made : Makes s.notation a h s.bytes (made_left (start_of_run a h o offset w s))
+  started_made = record { list = parts.0; end = parts.1; decoding = decoding; made = made_start a h parts.0 parts.1 }
 
   pub started_files : FilesAtEnd s.notation a h s.bytes (files_at_end (start_of_run a h o offset w s))
   started_files = record { list = parts.0; end = parts.1; decoding = decoding; given = files_from_start a h.files parts.0 }

@@ -14,14 +14,14 @@ use Rattle.gimli_line.specs.header.Header.{Header}
 use Rattle.gimli_line.specs.header.Parameters.{Parameters}
 use Rattle.gimli_line.specs.run.Instruction.{Ins, makes_row, defines_file, files_after}
 use Rattle.gimli_line.specs.run.InstructionReading.{standard_at, ins_at}
-use Rattle.gimli_line.specs.run.Machine.{step_of, is_refused, reset_row}
+use Rattle.gimli_line.specs.run.Machine.{step_of, is_refused}
 use Rattle.gimli_line.specs.run.Registers.{advanced_line}
 use Rattle.gimli_line.specs.inside.run.Execution.{Executed, ExecutedWell}
-use Rattle.gimli_line.specs.run.Rows.{FaultIs}
+use Rattle.gimli_line.specs.run.AnyRows.{AnyFaultIs}
 use Rattle.gimli_line.specs.inside.run.Rows.{StepIs}
 use Rattle.gimli_line.specs.run.Unread.{Unread}
 use Rattle.gimli_line.proofs.InstructionLaws.{reads_instruction}
-use Rattle.gimli_line.proofs.Runs.{state, after_quiet, after_tombstone, after_seen, after_overflow, is_shorter, passes_quiet, passes_tombstone, passes_seen}
+use Rattle.gimli_line.proofs.Runs.{state, after_quiet, after_made, after_overflow, is_shorter, passes_quiet, passes_made}
 
 -- ---- the standard opcodes that are executed so, from the bytes after them
 
@@ -106,32 +106,17 @@ module _ (a : Bool) (h k : Header) (same : k ≡ h) (o : Notation) (n : ℕ) (w 
           passes_quiet a h k same o o n n w w r s s2 notation x.instruction f.0 f.1 f.2 h r2 kept fits (sym made) step,
         )
 
-    pub executed_seen : true ≡ makes_row x.instruction → r2.tombstone ≡ false → StepIs (state a h o n w r s) (state a h o n w r2 s2) Made
-    executed_seen made seen =
+    pub executed_made : true ≡ makes_row x.instruction → StepIs (state a h o n w r s) (state a h o n w r2 s2) Made
+    executed_made made =
         let f = (reads_instruction s.notation k).found s.bytes x.instruction s2.bytes x.reading in
         let kept = files_kept a h x.instruction x.defines in
         let fits = subst (λ (j : Header). is_refused j.parameters x.instruction r ≡ false) same x.refusal in
-        let step = subst (λ (j : Header). r2 ≡ step_of j.parameters x.instruction r) same x.registers in
-        let seen = sym (ap (λ (q : LineRow). q.tombstone) step) ∙ seen in (
-          after_seen a h k same o o n n w w r s s2 notation x.instruction f.0 f.1 f.2 h r2 kept fits (sym made) seen step,
-          passes_seen a h k same o o n n w w r s s2 notation x.instruction f.0 f.1 f.2 h r2 kept fits (sym made) seen step,
+        let step = subst (λ (j : Header). r2 ≡ step_of j.parameters x.instruction r) same x.registers in (
+          after_made a h k same o o n n w w r s s2 notation x.instruction f.0 f.1 f.2 h r2 kept fits (sym made) step,
+          passes_made a h k same o o n n w w r s s2 notation x.instruction f.0 f.1 f.2 h r2 kept fits (sym made) step,
         )
 
-    pub executed_under_tombstone : true ≡ makes_row x.instruction → r2.tombstone ≡ true → (r3 : LineRow) → r3 ≡ reset_row h.parameters r2
-        → StepIs (state a h o n w r s) (state a h o n w r3 s2) More
-    executed_under_tombstone made tombstone r3 again =
-        let f = (reads_instruction s.notation k).found s.bytes x.instruction s2.bytes x.reading in
-        let kept = files_kept a h x.instruction x.defines in
-        let fits = subst (λ (j : Header). is_refused j.parameters x.instruction r ≡ false) same x.refusal in
-        let step = subst (λ (j : Header). r2 ≡ step_of j.parameters x.instruction r) same x.registers in
-        let tombstone = sym (ap (λ (q : LineRow). q.tombstone) step) ∙ tombstone in
-        let again = again ∙ ap (λ (q : LineRow). reset_row h.parameters q) step in (
-          after_tombstone a h k same o o n n w w r s s2 notation x.instruction f.0 f.1 f.2 h r3 kept fits (sym made) tombstone again,
-          is_shorter a h k same o o n n w w r s s2 notation x.instruction f.0 f.1 f.2,
-          passes_tombstone a h k same o o n n w w r s s2 notation x.instruction f.0 f.1 f.2 h r3 kept fits (sym made) tombstone again,
-        )
-
-  pub executed_overflow : Executed k.parameters (ins_at s.notation k s.bytes) s2.bytes r r2 true → FaultIs (state a h o n w r s) (state a h o n w r2 s2) AddressOverflow
+  pub executed_overflow : Executed k.parameters (ins_at s.notation k s.bytes) s2.bytes r r2 true → AnyFaultIs (state a h o n w r s) (state a h o n w r2 s2) AddressOverflow
   executed_overflow x =
       let f = (reads_instruction s.notation k).found s.bytes x.instruction s2.bytes x.reading in
       let over = subst (λ (j : Header). is_refused j.parameters x.instruction r ≡ true) same x.refusal in

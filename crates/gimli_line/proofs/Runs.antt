@@ -15,13 +15,15 @@ use Rattle.gimli_line.specs.run.Instruction.{Ins, makes_row, defines_file}
 use Rattle.gimli_line.specs.header.File.{File}
 use Rattle.gimli_line.specs.run.InstructionGrammar.{SpellsInstruction, instruction_production, IsEnd, Decodes}
 use Rattle.gimli_line.specs.run.InstructionReading.{decoded_upto, decoded_at}
-use Rattle.gimli_line.specs.run.Events.{Event, row}
+use Rattle.gimli_line.specs.run.Events.{Event, row, fault}
 use Rattle.gimli_line.specs.run.Machine.{step_of, reset_row, is_refused}
 use Rattle.gimli_line.specs.run.EventsWithFiles.{EventWithFiles, step_events, next_registers}
+use Rattle.gimli_line.specs.run.Made.{given_of}
 use Rattle.gimli_line.specs.run.Unread.{Unread}
 use Rattle.gimli_line.specs.run.RunState.{RunState}
 use Rattle.gimli_line.specs.run.Progress.{Progress, with_reset_row, events_from, registers_from, files_from}
-use Rattle.gimli_line.specs.run.Rows.{live_events, events_left, files_at_end, IsOfOneOrder, WantsMemory, FaultComes, FaultIs}
+use Rattle.gimli_line.specs.run.Rows.{live_events, events_left, files_at_end, IsOfOneOrder, WantsMemory, FaultIs}
+use Rattle.gimli_line.specs.run.AnyRows.{live_made, made_left, AnyFaultComes, AnyFaultIs}
 use Rattle.gimli_line.proofs.InstructionLaws.{is_decoded, one_decoding, takes_bytes}
 
 -- ---- what a program is decoded into, by its front
@@ -109,16 +111,22 @@ none_left a e = rw (decoded_none a.unread.notation a.fixed a.unread.bytes e) ref
 pub none_to_come : (a : RunState) → a.unread.bytes ≡ [] → events_left a ≡ []
 none_to_come a e = none_left (with_reset_row a) e
 
+pub none_made : (a : RunState) → a.unread.bytes ≡ [] → live_made a ≡ []
+none_made a e = rw (decoded_none a.unread.notation a.fixed a.unread.bytes e) refl
+
+pub none_to_make : (a : RunState) → a.unread.bytes ≡ [] → made_left a ≡ []
+none_to_make a e = none_made (with_reset_row a) e
+
 pub end_here : (a : RunState) → a.unread.bytes ≡ [] → files_at_end a ≡ a.files
 end_here a e = rw (decoded_none a.unread.notation a.fixed a.unread.bytes e) refl
 
 -- k is the header that was lent, s2 what was left of the instructions
 module _ (a : Bool) (h k : Header) (same : k ≡ h) (o o2 : Notation) (n n2 : ℕ) (w w2 : HeaderOrders) (r : LineRow) (s s2 : Unread) where
   pub after_fault : (e : Error) → s.bytes ≢ [] → s2.bytes ≡ [] → (instruction_production s.notation k).Fault s.bytes e → (r2 : LineRow)
-      → FaultComes (state a h o n w r s) (state a h o2 n2 w2 r2 s2) e
+      → AnyFaultComes (state a h o n w r s) (state a h o2 n2 w2 r2 s2) e
   after_fault e some empty f r2 =
       let last = decoded_fault s.notation (without_files h) s.bytes e some (rw same at f) in
-      (rw (last, none_to_come (state a h o2 n2 w2 r2 s2) empty) refl, rw (last, end_here (state a h o2 n2 w2 r2 s2) empty) refl, λ _. empty)
+      (rw (last, none_to_make (state a h o2 n2 w2 r2 s2) empty) refl, rw (last, end_here (state a h o2 n2 w2 r2 s2) empty) refl, λ _. empty)
 
   module _ (notation : s2.notation ≡ s.notation) (i : Ins) (front : List ℕ) (parts : s.bytes ≡ front ++ s2.bytes) (spelled : SpellsInstruction s.notation k front i) where
     first_decoded : decoded_at s.notation (without_files h) s.bytes ≡ (i ∷ (decoded_at s.notation (without_files h) s2.bytes).0, (decoded_at s.notation (without_files h) s2.bytes).1)
@@ -147,40 +155,28 @@ module _ (a : Bool) (h k : Header) (same : k ≡ h) (o o2 : Notation) (n n2 : �
       pub passes_quiet : makes_row i ≡ false → r2 ≡ step_of h.parameters i r → Progress (state a h o n w r s) (state a h2 o2 n2 w2 r2 s2) []
       passes_quiet made row_is = passes_one h2 r2 [] after (rw (fits, made) refl) (rw (fits, made) row_is)
 
-      pub passes_tombstone : makes_row i ≡ true → (step_of h.parameters i r).tombstone ≡ true → r2 ≡ reset_row h.parameters (step_of h.parameters i r) → Progress (state a h o n w r s) (state a h2 o2 n2 w2 r2 s2) []
-      passes_tombstone made tombstone row_is =
-          let was : r.tombstone ≡ true = sym (keeps_tombstone h.parameters i r made) ∙ tombstone in
-          passes_one h2 r2 [] after (rw (fits, made, was) refl) (rw (fits, made) row_is)
-
-      pub passes_seen : makes_row i ≡ true → (step_of h.parameters i r).tombstone ≡ false → r2 ≡ step_of h.parameters i r
-          → Progress (state a h o n w r s) (with_reset_row (state a h2 o2 n2 w2 r2 s2)) (row r2 ∷ [])
-      passes_seen made seen row_is =
-          let was : r.tombstone ≡ false = sym (keeps_tombstone h.parameters i r made) ∙ seen in
+      pub passes_made : makes_row i ≡ true → r2 ≡ step_of h.parameters i r
+          → Progress (state a h o n w r s) (with_reset_row (state a h2 o2 n2 w2 r2 s2)) (given_of r2)
+      passes_made made row_is =
           let parameters : h2.parameters ≡ h.parameters = ap (λ (k : Header). k.parameters) after in
-          let given : step_events h.parameters i r ≡ row r2 ∷ [] =
-          rw (fits, made) (ap (λ (b : Bool). if not b then row (step_of h.parameters i r) ∷ [] else []) was ∙ ap (λ (q : LineRow). row q ∷ []) (sym row_is)) in
-          passes_one h2 (reset_row h2.parameters r2) (row r2 ∷ []) after given (rw (fits, made, parameters, row_is) refl)
+          let given : step_events h.parameters i r ≡ given_of r2 =
+          rw (fits, made) (ap (λ (b : Bool). if not b then row (step_of h.parameters i r) ∷ [] else []) (sym (keeps_tombstone h.parameters i r made))
+          ∙ ap given_of (sym row_is)) in
+          passes_one h2 (reset_row h2.parameters r2) (given_of r2) after given (rw (fits, made, parameters, row_is) refl)
 
     module _ (h2 : Header) (r2 : LineRow) where
       pub after_quiet : h2 ≡ record h { files = files_after a i h.files } → is_refused h.parameters i r ≡ false → makes_row i ≡ false → r2 ≡ step_of h.parameters i r
-          → live_events (state a h o n w r s) ≡ live_events (state a h2 o2 n2 w2 r2 s2)
+          → live_made (state a h o n w r s) ≡ live_made (state a h2 o2 n2 w2 r2 s2)
       after_quiet after fits made row_is = rw (first_decoded, after, row_is, notation, fits, made) refl
 
-      pub after_tombstone : h2 ≡ record h { files = files_after a i h.files } → is_refused h.parameters i r ≡ false → makes_row i ≡ true → (step_of h.parameters i r).tombstone ≡ true
-          → r2 ≡ reset_row h.parameters (step_of h.parameters i r) → live_events (state a h o n w r s) ≡ live_events (state a h2 o2 n2 w2 r2 s2)
-      after_tombstone after fits made tombstone row_is =
-          let was : r.tombstone ≡ true = sym (keeps_tombstone h.parameters i r made) ∙ tombstone in
-          rw (first_decoded, after, row_is, notation, fits, made, was) refl
-
-      pub after_seen : h2 ≡ record h { files = files_after a i h.files } → is_refused h.parameters i r ≡ false → makes_row i ≡ true → (step_of h.parameters i r).tombstone ≡ false
-          → r2 ≡ step_of h.parameters i r → live_events (state a h o n w r s) ≡ events (row r2) h2 ∷ events_left (state a h2 o2 n2 w2 r2 s2)
-      after_seen after fits made tombstone row_is =
-          let was : r.tombstone ≡ false = sym (keeps_tombstone h.parameters i r made) ∙ tombstone in
+      pub after_made : h2 ≡ record h { files = files_after a i h.files } → is_refused h.parameters i r ≡ false → makes_row i ≡ true → r2 ≡ step_of h.parameters i r
+          → live_made (state a h o n w r s) ≡ events (row r2) h2 ∷ made_left (state a h2 o2 n2 w2 r2 s2)
+      after_made after fits made row_is =
           let files : files_after a i h.files ≡ h.files = no_file_at_row a i h.files made in
-          rw (first_decoded, after, row_is, notation, fits, made, was, files) refl
+          rw (first_decoded, after, row_is, notation, fits, made, files) refl
 
       pub after_overflow : h2 ≡ h → is_refused h.parameters i r ≡ true → r2 ≡ step_of h.parameters i r
-          → FaultComes (state a h o n w r s) (state a h2 o2 n2 w2 r2 s2) AddressOverflow
+          → AnyFaultComes (state a h o n w r s) (state a h2 o2 n2 w2 r2 s2) AddressOverflow
       after_overflow kept large row_is =
           let files : files_after a i h.files ≡ h.files = no_file_at_refusal a h.parameters i r h.files large in
           let after = (decoded_at s.notation (without_files h) s2.bytes).0 in
@@ -296,25 +292,29 @@ wants a h k same o o2 n n2 w w2 r s i front rest parts spelled defines h2 r2 s2 
 }
 
 -- a refusal after instructions that give nothing
+pub wants_after : (a b c : RunState) → Progress a b [] → WantsMemory b c → WantsMemory a c
+wants_after a b c passed m = record {
+  point = m.point;
+  passed = passes_both a b m.point [] [] passed m.passed;
+  definition = m.definition;
+  front = m.front;
+  rest = m.rest;
+  parts = m.parts;
+  spelled = m.spelled;
+  defines = m.defines;
+  appends = m.appends;
+  files = m.files;
+  none = m.none;
+  empty = m.empty;
+}
+
 pub refused_after : (a b c : RunState) (e : Error) → live_events a ≡ live_events b → Progress a b [] → FaultIs b c e → FaultIs a c e
-refused_after a b c e events passed (inl m) = inl (
-  m.0,
-  record {
-    point = m.1.point;
-    passed = passes_both a b m.1.point [] [] passed m.1.passed;
-    definition = m.1.definition;
-    front = m.1.front;
-    rest = m.1.rest;
-    parts = m.1.parts;
-    spelled = m.1.spelled;
-    defines = m.1.defines;
-    appends = m.1.appends;
-    files = m.1.files;
-    none = m.1.none;
-    empty = m.1.empty;
-  },
-)
+refused_after a b c e events passed (inl m) = inl (m.0, wants_after a b c passed m.1)
 refused_after a b c e events passed (inr f) = inr (events ∙ f.0, f.1 ∙ same_end a b [] passed, f.2)
+
+pub any_refused_after : (a b c : RunState) (e : Error) → live_made a ≡ live_made b → Progress a b [] → AnyFaultIs b c e → AnyFaultIs a c e
+any_refused_after a b c e made passed (inl m) = inl (m.0, wants_after a b c passed m.1)
+any_refused_after a b c e made passed (inr f) = inr (made ∙ f.0, f.1 ∙ same_end a b [] passed, f.2)
 
 -- where no bytes are left nothing is refused
 pub never_refused : (a b : RunState) (e : Error) → a.unread.bytes ≡ [] → FaultIs a b e → ⊥

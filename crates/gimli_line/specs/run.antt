@@ -12,9 +12,11 @@ pub mod Execution
 pub mod Row
 pub mod StoredRow
 pub mod EventsWithFiles
+pub mod Made
 pub mod RunState
 pub mod Progress
 pub mod Rows
+pub mod AnyRows
 pub mod Started
 pub mod Sequences
 pub mod NonDecreasing

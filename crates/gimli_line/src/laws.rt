@@ -1,7 +1,7 @@
 //! Laws of the two grammars: a unit has one header or one refusal, a program is decoded in one way. And laws of what
 //! a run gives.
 
-ghost use Rattle.std.specs.Prelude.{◌≡◌, ◌≢◌, ◌≤◌, ◌⊎◌, ◌+◌, ℕ, Bool, List, [], ◌∷◌, Option, Some, length, nat_eq, option_map};
+ghost use Rattle.std.specs.Prelude.{◌≡◌, ◌≢◌, ◌≤◌, ◌⊎◌, ◌+◌, ℕ, Bool, List, [], ◌∷◌, Option, Some, filter, length, nat_eq, option_map};
 ghost use Rattle.std.specs.Ordering.{nat_cmp};
 ghost use Rattle.gimli_core.specs.Equality.{AreAlwaysCloned, ClonesGiveSame, ComparesBy, IsExact, IsSameClone, both};
 ghost use Rattle.gimli_core.specs.Notation.{Notation};
@@ -21,6 +21,8 @@ ghost use Rattle.gimli_line.specs.run.InstructionReading.{decoded_at};
 ghost use Rattle.gimli_line.specs.run.OperationPointer.{OperationPointer, IsPointerList, pointers, is_under_tombstone, overflows};
 ghost use Rattle.gimli_line.specs.run.RunState.{RunState};
 ghost use Rattle.gimli_line.specs.run.Rows.{events_left, start_of_run};
+ghost use Rattle.gimli_line.specs.run.Made.{is_given};
+ghost use Rattle.gimli_line.specs.run.AnyRows.{made_left};
 ghost use Rattle.gimli_line.specs.run.Started.{GivesEvents, GivesFiles};
 ghost use Rattle.gimli_line.specs.run.Unread.{Unread};
 ghost use Rattle.gimli_line.specs.run.Machine.{run, initial, is_refused};
@@ -119,6 +121,11 @@ pub fn machine_gives_events()
     ensures files { (appends : Bool) (h : Header) (notation : Notation) (o : ℕ)
         (orders : HeaderOrders) (unread : Unread)
         → GivesFiles appends h unread (start_of_run appends h notation o orders unread) }
+{}
+
+/// What a run still gives are the faults, and the rows that aren't under a tombstone, of what it still makes.
+pub fn given_rows_are_made()
+    ensures { (a : RunState) → events_left a ≡ filter (λ t. is_given t.event) (made_left a) }
 {}
 
 /// Between two ends of sequences, whether their rows are under a tombstone or not, and from the start to the first,

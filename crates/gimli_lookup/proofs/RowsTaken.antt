@@ -10,7 +10,8 @@ use Rattle.gimli_line.specs.run.Events.{row}
 use Rattle.gimli_line.specs.run.EventsWithFiles.{EventWithFiles}
 use Rattle.gimli_line.specs.run.Progress.{with_reset_row}
 use Rattle.gimli_line.specs.run.RunState.{RunState}
-use Rattle.gimli_line.specs.run.Rows.{events_left, files_at_end, KeepsHeader, RowIs, EndIs, FaultIs}
+use Rattle.gimli_line.specs.run.Rows.{files_at_end, KeepsHeader}
+use Rattle.gimli_line.specs.run.AnyRows.{made_left, AnyRowIs, NoneIs, AnyFaultIs}
 use Rattle.gimli_line.specs.run.Sequences.{events_of}
 use Rattle.gimli_lookup.specs.inside.SequenceCut.{SequenceCut, with_row, with_rows}
 use Rattle.gimli_lookup.specs.inside.RowsTaken.{AreTaken}
@@ -20,7 +21,7 @@ pub record TakesIn (old new : RunState) (from to : SequenceCut) : Type 0 where
   pub rows : List LineRow
   pub front : List EventWithFiles
   pub rows_are : events_of front ≡ map row rows
-  pub to_come : events_left old ≡ front ++ events_left new
+  pub to_come : made_left old ≡ front ++ made_left new
   pub files : files_at_end new ≡ files_at_end old
   pub taken : to ≡ with_rows rows from
   pub keeps : KeepsHeader old new
@@ -52,20 +53,20 @@ with_more [] r a = refl
 with_more (s ∷ rows) r a = with_more rows r (with_row s a)
 
 pub one_more : (first old new : RunState) (from to : SequenceCut) (r : LineRow) (files : List File) → TakesIn first old from to
-    → KeepsHeader old new → RowIs old new r files → TakesIn first new from (with_row r to)
+    → KeepsHeader old new → AnyRowIs old new r files → TakesIn first new from (with_row r to)
 one_more first old new from to r files t keeps next =
     let event : EventWithFiles = record { event = row r; files = files } in
     record {
       rows = t.rows ++ r ∷ [];
       front = t.front ++ event ∷ [];
       rows_are = map-append (λ (e : EventWithFiles). e.event) t.front (event ∷ []) ∙ ap (λ es. es ++ row r ∷ []) t.rows_are ∙ sym (map-append row t.rows (r ∷ []));
-      to_come = t.to_come ∙ ap (λ es. t.front ++ es) next.0 ∙ sym (append_assoc t.front (event ∷ []) (events_left new));
+      to_come = t.to_come ∙ ap (λ es. t.front ++ es) next.0 ∙ sym (append_assoc t.front (event ∷ []) (made_left new));
       files = next.2 ∙ t.files;
       taken = ap (with_row r) t.taken ∙ sym (with_more t.rows r from);
       keeps = keeps_both first old new t.keeps keeps;
     }
 
-pub to_end : (first old new : RunState) (from to : SequenceCut) → TakesIn first old from to → KeepsHeader old new → EndIs old new
+pub to_end : (first old new : RunState) (from to : SequenceCut) → TakesIn first old from to → KeepsHeader old new → NoneIs old new
     → AreTaken first new None from to
 to_end first old new from to t keeps next = record {
   rows = t.rows;
@@ -77,23 +78,23 @@ to_end first old new from to t keeps next = record {
 }
 
 pub to_fault : (first old new : RunState) (from to : SequenceCut) (e : Error) → TakesIn first old from to → KeepsHeader old new → (e ≡ OutOfMemory → ⊥)
-    → FaultIs (with_reset_row old) new e → AreTaken first new (Some e) from to
+    → AnyFaultIs (with_reset_row old) new e → AreTaken first new (Some e) from to
 to_fault first old new from to e t keeps other (inl memory) = absurd (other memory.0)
 to_fault first old new from to e t keeps other (inr comes) = record {
   rows = t.rows;
   front = t.front;
   rows_are = t.rows_are;
-  stops = (events_left new, t.to_come ∙ ap (λ es. t.front ++ es) comes.0);
+  stops = (made_left new, t.to_come ∙ ap (λ es. t.front ++ es) comes.0);
   taken = t.taken;
   keeps = keeps_both first old new t.keeps keeps;
 }
 
-pub fewer : (old new : RunState) (r : LineRow) (files : List File) → RowIs old new r files → length (events_left new) < length (events_left old)
+pub fewer : (old new : RunState) (r : LineRow) (files : List File) → AnyRowIs old new r files → length (made_left new) < length (made_left old)
 fewer old new r files next = omega (arith, ap length next.0)
 
 -- a refusal that isn't for memory is the first fault
 pub fault_taken : (first old new : RunState) (from to : SequenceCut) (e : Error) (answer : Result (Option Error) Error) → TakesIn first old from to → KeepsHeader old new
-    → FaultIs (with_reset_row old) new e → IfOk answer (λ found. (found ≡ Some e) × (e ≢ OutOfMemory)) → IfOk answer (λ found. AreTaken first new found from to)
+    → AnyFaultIs (with_reset_row old) new e → IfOk answer (λ found. (found ≡ Some e) × (e ≢ OutOfMemory)) → IfOk answer (λ found. AreTaken first new found from to)
 fault_taken first old new from to e (Ok found) t keeps is as_is =
     subst (λ (o : Option Error). AreTaken first new o from to) (sym as_is.0) (to_fault first old new from to e t keeps as_is.1 is)
 fault_taken first old new from to e (Err d) t keeps is as_is = tt

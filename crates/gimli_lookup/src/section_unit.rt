@@ -75,7 +75,7 @@ impl<R: Reader> UnitLookup<R> {
                 });
             }
         };
-        append(unit_run.sequences, sequences)?;
+        append(unit_run.parts, sequences)?;
         Ok(UnitLookup {
             offset,
             run: Some(unit_run.run),

@@ -13,12 +13,13 @@ use gimli_core::{Error, Reader, ReaderOffset, Result};
 use gimli_line::{IncompleteLineProgram, OneShotLineRows};
 use std::alloc::Global;
 
-/// What is kept of a run: where it stands after its last row before the first fault, this fault, and its sequences.
+/// What is kept of a run: where it stands after its last row before the first fault, this fault, and the parts of its
+/// sequences.
 #[derive(Drop)]
 pub(crate) struct UnitRun<R: Reader> {
     pub(crate) run: OneShotLineRows<R>,
     pub(crate) fault: Option<Error>,
-    pub(crate) sequences: Vec<KeptRows>,
+    pub(crate) parts: Vec<KeptRows>,
 }
 
 /// A refusal of a run as its fault, unless memory was missing.
@@ -32,7 +33,8 @@ fn as_fault(e: Error) -> Result<Option<Error>>
     }
 }
 
-/// Takes in the rows to come up to the first fault, which it returns. Fails only with `OutOfMemory`.
+/// Takes in the rows to come, those under a tombstone too, up to the first fault, which it returns. Fails only with
+/// `OutOfMemory`.
 fn take_rows<R: Reader>(
     run: &mut OneShotLineRows<R>,
     cut: &mut SequenceCut,
@@ -41,7 +43,7 @@ fn take_rows<R: Reader>(
     ensures err { IfErr result (λ e. e ≡ Error.OutOfMemory) }
 {
     'rows: loop {
-        match run.next_row() {
+        match run.next_any_row() {
             Ok(Some((_, row))) => cut.row(row)?,
             Ok(None) => return Ok(None),
             Err(e) => return as_fault(e),
@@ -49,15 +51,15 @@ fn take_rows<R: Reader>(
     }
 }
 
-/// Runs a program up to its first fault, and keeps the sequences that have ended before it and don't begin below an
-/// address. Fails only with `OutOfMemory`.
+/// Runs a program up to its first fault, and keeps of the sequences that have ended before it the parts that stand: rows
+/// side by side that are neither under a tombstone nor below an address. Fails only with `OutOfMemory`.
 pub(crate) fn run_unit<R: Reader>(
     alloc: Global,
     program: IncompleteLineProgram<R>,
     lowest: u64,
 ) -> Result<UnitRun<R>>
     ensures kept { IfOk result (λ unit. IsKept program.notation lowest program.meaning
-        (header_of unit.run) unit.fault unit.sequences.items) }
+        (header_of unit.run) unit.fault unit.parts.items) }
     ensures notation { IfOk result (λ unit. unit.run.notation ≡ program.notation) }
     ensures offset { IfOk result (λ unit. unit.run.offset ≡ R.Offset.number program.offset.0) }
     ensures order { HasOneOrder R.big program → IfOk result (λ unit. IsOfOneOrder unit.run) }
@@ -69,6 +71,6 @@ pub(crate) fn run_unit<R: Reader>(
     Ok(UnitRun {
         run,
         fault,
-        sequences: cut.into_sequences(),
+        parts: cut.into_parts(),
     })
 }

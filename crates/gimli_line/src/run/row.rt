@@ -362,15 +362,6 @@ impl LineRow {
         }
     }
 
-    /// Does what `reset` does, out of line, for rows that are under a tombstone: so the loop over common instructions
-    /// is short.
-    #[inline(never)]
-    pub(crate) fn reset_apart<R: Reader>(&mut self, header: &LineProgramHeader<R>)
-        ensures { self.new ≡ reset_row header.now.meaning.parameters self.old }
-    {
-        self.reset(header);
-    }
-
     /// Sets the address and op_index to 0, and the row is under no tombstone then, so that addresses count from a set
     /// address. Nothing else changes.
     pub fn rebase(&mut self)

@@ -11,9 +11,9 @@ use std::marker::Model;
 enum Step {
     /// Nothing: there was no instruction.
     Done,
-    /// A row was made that isn't under a tombstone.
+    /// A row was made, which may be under a tombstone.
     Made,
-    /// Instructions were executed, and no such row was made.
+    /// Instructions were executed, and no row was made.
     More,
 }
 
@@ -71,6 +71,8 @@ impl<R: Reader, P: LineProgram<R>> LineRows<R, P> {
     ghost use Rattle.gimli_line.specs.header.Orders.{header_orders};
     ghost use Rattle.gimli_line.specs.run.Progress.{with_reset_row, Progress};
     ghost use Rattle.gimli_line.specs.run.Rows.{start_of_run, GivesRowsAlone, IsOfOneOrder, KeepsHeader, NextIs, RowIs, EndIs, FaultIs};
+    ghost use Rattle.gimli_line.specs.run.Made.{given_of};
+    ghost use Rattle.gimli_line.specs.run.AnyRows.{AnyFaultIs, AnyRowIs, NextAnyIs, NoneIs};
     ghost use Rattle.gimli_line.specs.inside.run.Rows.{StepIs};
 
     /// The rows of these instructions of a program, from the start of a sequence on.
@@ -125,6 +127,30 @@ impl<R: Reader, P: LineProgram<R>> LineRows<R, P> {
         }
     }
 
+    /// The next row, one under a tombstone too ([`LineRow::is_under_tombstone`]), with the header as it is there; None
+    /// where the program makes no more. What `next_row` returns are those of them that aren't under a tombstone. So
+    /// the end of a sequence is told also where a linker dropped its code. Refused as `next_row` is.
+    pub fn next_any_row(&mut self) -> Result<Option<(&LineProgramHeader<R>, &LineRow)>>
+        ensures* after { sem 𝓛 (Rests ⟦<LineRows<R, P> as Lent>⟧.lent self.entry
+            (λ new. KeepsHeader self.old new × NextAnyIs self.old new result)) }
+        ensures header { IfOk result (λ found. IfSome found
+            (λ next. without_files next.0.now.meaning ≡ self.old.fixed)) }
+        ensures notation { IfOk result (λ found. IfSome found
+            (λ next. next.0.now.notation ≡ self.old.notation)) }
+        ensures offset { IfOk result (λ found. IfSome found
+            (λ next. R.Offset.number next.0.now.offset.0 ≡ self.old.offset)) }
+        ensures order { IsOfOneOrder self.old → IfOk result (λ found. IfSome found
+            (λ next. HasOneOrder R.big next.0.now)) }
+        ensures handed { IfOk result (λ found. IfSome found
+            (λ next. (header_orders R.big next.0.now).handed ≡ self.old.orders.handed)) }
+    {
+        match self.advance_any() {
+            Err(e) => Err(e),
+            Ok(false) => Ok(None),
+            Ok(true) => Ok(Some(self.current())),
+        }
+    }
+
     /// The row, as it is.
     pub(crate) fn row(&self) -> &LineRow
         ensures { result.now ≡ self.now.row }
@@ -167,6 +193,36 @@ impl<R: Reader, P: LineProgram<R>> LineRows<R, P> {
             (Progress (with_reset_row self.old) (with_reset_row self.new) (row_event self.new.row ∷ []))
             ((self.new.unread.bytes ≡ []) × Progress (with_reset_row self.old) self.new [])) }
     {
+        'rows: loop {
+            match self.advance_any() {
+                Err(e) => return Err(e),
+                Ok(false) => return Ok(false),
+                Ok(true) => {
+                    if !self.row().is_under_tombstone() {
+                        return Ok(true);
+                    }
+                }
+            }
+        }
+    }
+
+    /// Executes instructions up to the next row, one under a tombstone too, and says whether there is one.
+    #[inline(always)]
+    fn advance_any(&mut self) -> Result<bool>
+        ensures row { IfOk result (λ found. MatchBool found
+            (AnyRowIs self.old self.new self.new.row self.new.files)
+            (NoneIs self.old self.new)) }
+        ensures err { IfErr result (AnyFaultIs (with_reset_row self.old) self.new) }
+        ensures fixed { self.new.fixed ≡ self.old.fixed }
+        ensures appends { self.new.appends ≡ self.old.appends }
+        ensures notation { self.new.notation ≡ self.old.notation }
+        ensures offset { self.new.offset ≡ self.old.offset }
+        ensures order { IsOfOneOrder self.old → IsOfOneOrder self.new }
+        ensures handed { self.new.orders.handed ≡ self.old.orders.handed }
+        ensures passes { IfOk result (λ found. MatchBool found
+            (Progress (with_reset_row self.old) (with_reset_row self.new) (given_of self.new.row))
+            ((self.new.unread.bytes ≡ []) × Progress (with_reset_row self.old) self.new [])) }
+    {
         self.row.reset(self.program.header());
         'instructions: loop {
             match self.step() {
@@ -178,13 +234,13 @@ impl<R: Reader, P: LineProgram<R>> LineRows<R, P> {
         }
     }
 
-    /// Executes instructions that are met most, from their bytes, up to the first row that isn't under a tombstone,
-    /// or up to one of another kind, and that one too. What is read from stands in a variable of its
-    /// own over the loop, so that it stays in the processor's registers.
+    /// Executes instructions that are met most, from their bytes, up to the first row, or up to one of
+    /// another kind, and that one too. What is read from stands in a variable of its own over the
+    /// loop, so that it stays in the processor's registers.
     #[inline(always)]
     fn step(&mut self) -> Result<Step>
         ensures ok { IfOk result (StepIs self.old self.new) }
-        ensures err { IfErr result (FaultIs self.old self.new) }
+        ensures err { IfErr result (AnyFaultIs self.old self.new) }
         ensures fixed { self.new.fixed ≡ self.old.fixed }
         ensures appends { self.new.appends ≡ self.old.appends }
         ensures notation { self.new.notation ≡ self.old.notation }
@@ -203,11 +259,8 @@ impl<R: Reader, P: LineProgram<R>> LineRows<R, P> {
                 Ok(None) => break,
                 Ok(Some(false)) => {}
                 Ok(Some(true)) => {
-                    if !self.row.is_under_tombstone() {
-                        self.instructions = instructions;
-                        return Ok(Step::Made);
-                    }
-                    self.row.reset_apart(self.program.header());
+                    self.instructions = instructions;
+                    return Ok(Step::Made);
                 }
             }
         }
@@ -220,7 +273,7 @@ impl<R: Reader, P: LineProgram<R>> LineRows<R, P> {
     #[inline(always)]
     fn step_apart(&mut self) -> Result<Step>
         ensures ok { IfOk result (StepIs self.old self.new) }
-        ensures err { IfErr result (FaultIs self.old self.new) }
+        ensures err { IfErr result (AnyFaultIs self.old self.new) }
         ensures fixed { self.new.fixed ≡ self.old.fixed }
         ensures appends { self.new.appends ≡ self.old.appends }
         ensures notation { self.new.notation ≡ self.old.notation }
@@ -235,7 +288,7 @@ impl<R: Reader, P: LineProgram<R>> LineRows<R, P> {
     /// as it is parsed.
     fn step_rarer(&mut self) -> Result<Step>
         ensures ok { IfOk result (StepIs self.old self.new) }
-        ensures err { IfErr result (FaultIs self.old self.new) }
+        ensures err { IfErr result (AnyFaultIs self.old self.new) }
         ensures fixed { self.new.fixed ≡ self.old.fixed }
         ensures appends { self.new.appends ≡ self.old.appends }
         ensures notation { self.new.notation ≡ self.old.notation }
@@ -252,17 +305,13 @@ impl<R: Reader, P: LineProgram<R>> LineRows<R, P> {
         if !made {
             return Ok(Step::More);
         }
-        if !self.row.is_under_tombstone() {
-            return Ok(Step::Made);
-        }
-        self.row.reset(self.program.header());
-        Ok(Step::More)
+        Ok(Step::Made)
     }
 
     /// Executes one instruction: a definition of a file from its bytes, any other as it is parsed.
     fn step_define_file(&mut self) -> Result<Step>
         ensures ok { IfOk result (StepIs self.old self.new) }
-        ensures err { IfErr result (FaultIs self.old self.new) }
+        ensures err { IfErr result (AnyFaultIs self.old self.new) }
         ensures fixed { self.new.fixed ≡ self.old.fixed }
         ensures appends { self.new.appends ≡ self.old.appends }
         ensures notation { self.new.notation ≡ self.old.notation }
@@ -286,7 +335,7 @@ impl<R: Reader, P: LineProgram<R>> LineRows<R, P> {
     /// Executes one instruction of any kind.
     fn step_any(&mut self) -> Result<Step>
         ensures ok { IfOk result (StepIs self.old self.new) }
-        ensures err { IfErr result (FaultIs self.old self.new) }
+        ensures err { IfErr result (AnyFaultIs self.old self.new) }
         ensures fixed { self.new.fixed ≡ self.old.fixed }
         ensures appends { self.new.appends ≡ self.old.appends }
         ensures notation { self.new.notation ≡ self.old.notation }
@@ -312,11 +361,7 @@ impl<R: Reader, P: LineProgram<R>> LineRows<R, P> {
         if !made {
             return Ok(Step::More);
         }
-        if !self.row.is_under_tombstone() {
-            return Ok(Step::Made);
-        }
-        self.row.reset(self.program.header());
-        Ok(Step::More)
+        Ok(Step::Made)
     }
 
     /// The header and the row, as they are.
@@ -370,11 +415,14 @@ impl<R: Reader> IncompleteLineProgram<R> {
     ghost use Rattle.gimli_line.specs.header.Orders.{header_orders};
     ghost use Rattle.gimli_line.specs.run.Rows.{events_left, files_at_end, whole_run, IsOfOneOrder};
     ghost use Rattle.gimli_line.specs.run.EventsWithFiles.{EventsWithFiles, FilesAtEnd};
+    ghost use Rattle.gimli_line.specs.run.Made.{Makes};
+    ghost use Rattle.gimli_line.specs.run.AnyRows.{made_left};
 
     /// The rows of the program, from its start to its end.
     pub fn rows(self) -> OneShotLineRows<R>
         ensures events { EventsWithFiles self.notation true self.meaning self.meaning.program
             (events_left result) }
+        ensures made { Makes self.notation true self.meaning self.meaning.program (made_left result) }
         ensures files { FilesAtEnd self.notation true self.meaning self.meaning.program
             (files_at_end result) }
         ensures start { result ≡ whole_run self.meaning self.notation

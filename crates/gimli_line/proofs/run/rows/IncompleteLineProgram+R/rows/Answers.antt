@@ -2,7 +2,7 @@ use Rattle.std.proofs.Common.{true, refl, ap, ◌∙◌}
 use Rattle.gimli_line.specs.header.Orders.{header_orders}
 use Rattle.gimli_line.specs.run.Unread.{Unread}
 use Rattle.gimli_line.proofs.Order.{are_one_order}
-use Rattle.gimli_line.proofs.EventsWithFilesLaws.{started_events, started_files}
+use Rattle.gimli_line.proofs.EventsWithFilesLaws.{started_events, started_files, started_made}
 use Rattle.gimli_line.proofs.run.rows.IncompleteLineProgram+R.rows.Goals as goal
 
 pub returns-clause-events : goal.returns-clause-events
@@ -10,6 +10,12 @@ returns-clause-events g c =
     let s : Unread = record { bytes = c.args.self.meaning.program; notation = c.args.self.notation } in
     rw (c.start.ensures, c.instructions-instructions.ensures ∙ ap (λ v. (let s : Unread = record { bytes = v.meaning.program; notation = v.notation } in s)) c.self.view_is)
     (started_events true c.args.self.meaning c.args.self.notation (g.R.Offset.ReaderOffset.number c.args.self.offset.0) (header_orders g.R.Reader.big c.args.self) s)
+
+pub returns-clause-made : goal.returns-clause-made
+returns-clause-made g c =
+    let s : Unread = record { bytes = c.args.self.meaning.program; notation = c.args.self.notation } in
+    rw (c.start.ensures, c.instructions-instructions.ensures ∙ ap (λ v. (let s : Unread = record { bytes = v.meaning.program; notation = v.notation } in s)) c.self.view_is)
+    (started_made true c.args.self.meaning c.args.self.notation (g.R.Offset.ReaderOffset.number c.args.self.offset.0) (header_orders g.R.Reader.big c.args.self) s)
 
 pub returns-clause-files : goal.returns-clause-files
 returns-clause-files g c =

@@ -1,124 +1,77 @@
-use Rattle.std.proofs.Common.{rules, [], ◌∷◌, refl, sym, ap, ◌∙◌}
+use Rattle.std.proofs.Common.{List, [], ◌∷◌, ◌≡◌, refl, sym, ap, subst, ◌∙◌}
 use Rattle.gimli_line.specs.declared.run.row.LineRow.{LineRow}
-use Rattle.gimli_line.specs.header.Header.{Header}
-use Rattle.gimli_line.specs.run.Events.{row}
-use Rattle.gimli_line.specs.run.Machine.{reset_row}
-use Rattle.gimli_line.specs.run.Progress.{with_reset_row}
-use Rattle.gimli_line.proofs.Runs.{state, keeps_order, none_to_come, end_here, same_end, passes_none, passes_both, refused_after}
+use Rattle.gimli_line.specs.run.Events.{Event, row}
+use Rattle.gimli_line.specs.run.Made.{given_of}
+use Rattle.gimli_line.specs.run.Progress.{with_reset_row, Progress}
+use Rattle.gimli_line.proofs.GivenRows.{fault_given, fewer_made, hidden, none_given, seen}
+use Rattle.gimli_line.proofs.Runs.{passes_none, passes_both, refused_after, same_end}
 use Rattle.gimli_line.proofs.run.rows.LineRows.advance.Goals as goal
 
-pub instructions-init : goal.instructions-init
-instructions-init g c =
-    let h = g.P.LineProgram.meaning c.self.inside.program in
-    let at_row = λ (r : LineRow). state g.P.LineProgram.appends h (g.P.LineProgram.notation c.self.inside.program) (g.P.LineProgram.offset c.self.inside.program) (g.P.LineProgram.orders c.self.inside.program) r c.self.inside.instructions in
-    record {
-      events = search rules;
-      fixed = rw (← c.self.view_is) refl;
-      appends = rw (← c.self.view_is) refl;
-      notation = rw (← c.self.view_is) refl;
-      offset = rw (← c.self.view_is) refl;
-      order = rw (← c.self.view_is) (keeps_order (at_row c.self.inside.row) (at_row c.reset.new.self) refl refl refl (λ so. so.readers));
-      handed = rw (← c.self.view_is) refl;
-      passes = rw (← c.self.view_is) (passes_none (with_reset_row (at_row c.self.inside.row)) (at_row c.reset.new.self) (ap at_row (c.reset.ensures ∙ ap (λ (k : Header). reset_row k.parameters c.self.inside.row) c.header.ensures.meaning)));
-    }
+pub rows-init : goal.rows-init
+rows-init g c = record {
+  events = refl;
+  fixed = refl;
+  appends = refl;
+  notation = refl;
+  offset = refl;
+  order = λ so. so;
+  handed = refl;
+  passes = passes_none (with_reset_row c.args.self.now) (with_reset_row c.args.self.now) refl;
+}
 
 pub returns-in-Err-clause-err : goal.returns-in-Err-clause-err
 returns-in-Err-clause-err g c =
-    refused_after (with_reset_row c.args.self.now) c.instructions.self c.step.new.self c.in-Err.e c.instructions.invariant.events c.instructions.invariant.passes c.in-Err.ensures.err
+    refused_after (with_reset_row c.args.self.now) (with_reset_row c.rows.self) c.advance_any.new.self c.in-Err.e c.rows.invariant.events c.rows.invariant.passes
+    (fault_given (with_reset_row c.rows.self) c.advance_any.new.self c.in-Err.e c.in-Err.ensures.err)
 
-pub returns-in-Ok-Done-clause-row : goal.returns-in-Ok-Done-clause-row
-returns-in-Ok-Done-clause-row g c =
-    let d = rw c.in-Ok-Done.field-0-is at c.in-Ok-Done.ensures.ok in
-    let passed = passes_both (with_reset_row c.args.self.now) c.instructions.self c.step.new.self [] [] c.instructions.invariant.passes d.2 in (
-      c.instructions.invariant.events ∙ d.0,
-      none_to_come c.step.new.self d.1,
-      d.1,
-      sym (end_here c.step.new.self d.1) ∙ same_end (with_reset_row c.args.self.now) c.step.new.self [] passed,
-    )
+pub returns-then-not-is_under_tombstone-clause-row : goal.returns-then-not-is_under_tombstone-clause-row
+returns-then-not-is_under_tombstone-clause-row g c =
+    let next = rw c.in-Ok-true.field-0-test at c.in-Ok-true.ensures.row in
+    let shown = ap (λ (r : LineRow). r.tombstone) (sym c.row.ensures) ∙ sym c.is_under_tombstone.ensures ∙ c.if-not-is_under_tombstone.true in
+    let s = seen c.rows.self c.advance_any.new.self _ _ next shown in
+    (c.rows.invariant.events ∙ s.0, s.1, s.2 ∙ same_end (with_reset_row c.args.self.now) (with_reset_row c.rows.self) [] c.rows.invariant.passes)
 
-pub returns-in-Ok-Done-clause-passes : goal.returns-in-Ok-Done-clause-passes
-returns-in-Ok-Done-clause-passes g c =
-    let d = rw c.in-Ok-Done.field-0-is at c.in-Ok-Done.ensures.ok in
-    (d.1, passes_both (with_reset_row c.args.self.now) c.instructions.self c.step.new.self [] [] c.instructions.invariant.passes d.2)
+pub returns-then-not-is_under_tombstone-clause-passes : goal.returns-then-not-is_under_tombstone-clause-passes
+returns-then-not-is_under_tombstone-clause-passes g c =
+    let passes = rw c.in-Ok-true.field-0-test at c.in-Ok-true.ensures.passes in
+    let shown = ap (λ (r : LineRow). r.tombstone) (sym c.row.ensures) ∙ sym c.is_under_tombstone.ensures ∙ c.if-not-is_under_tombstone.true in
+    let given : given_of c.advance_any.new.self.row ≡ row c.advance_any.new.self.row ∷ [] = rw shown refl in
+    subst (λ (es : List Event). Progress (with_reset_row c.args.self.now) (with_reset_row c.advance_any.new.self) es) given
+    (passes_both (with_reset_row c.args.self.now) (with_reset_row c.rows.self) (with_reset_row c.advance_any.new.self) [] (given_of c.advance_any.new.self.row) c.rows.invariant.passes passes)
 
-pub returns-in-Ok-Made-clause-row : goal.returns-in-Ok-Made-clause-row
-returns-in-Ok-Made-clause-row g c =
-    let m = rw c.in-Ok-Made.field-0-is at c.in-Ok-Made.ensures.ok in
-    let events = row c.step.new.self.row ∷ [] in
-    let passed = passes_both (with_reset_row c.args.self.now) c.instructions.self (with_reset_row c.step.new.self) [] events c.instructions.invariant.passes m.1 in
-    (c.instructions.invariant.events ∙ m.0, refl, same_end (with_reset_row c.args.self.now) (with_reset_row c.step.new.self) events passed)
+pub rows-smaller : goal.rows-smaller
+rows-smaller g c =
+    let next = rw c.in-Ok-true.field-0-test at c.in-Ok-true.ensures.row in
+    fewer_made c.rows.self c.advance_any.new.self _ _ next
 
-pub returns-in-Ok-Made-clause-passes : goal.returns-in-Ok-Made-clause-passes
-returns-in-Ok-Made-clause-passes g c =
-    let m = rw c.in-Ok-Made.field-0-is at c.in-Ok-Made.ensures.ok in
-    passes_both (with_reset_row c.args.self.now) c.instructions.self (with_reset_row c.step.new.self) [] (row c.step.new.self.row ∷ []) c.instructions.invariant.passes m.1
-
-pub instructions-preserved : goal.instructions-preserved
-instructions-preserved g c =
-    let m = rw c.in-Ok-More.field-0-is at c.in-Ok-More.ensures.ok in
+pub rows-preserved : goal.rows-preserved
+rows-preserved g c =
+    let next = rw c.in-Ok-true.field-0-test at c.in-Ok-true.ensures.row in
+    let passes = rw c.in-Ok-true.field-0-test at c.in-Ok-true.ensures.passes in
+    let under = ap (λ (r : LineRow). r.tombstone) (sym c.row.ensures) ∙ sym c.is_under_tombstone.ensures ∙ c.if-not-is_under_tombstone.false in
+    let given : given_of c.advance_any.new.self.row ≡ [] = rw under refl in
     record {
-      events = c.instructions.invariant.events ∙ m.0;
-      fixed = c.in-Ok-More.ensures.fixed ∙ c.instructions.invariant.fixed;
-      appends = c.in-Ok-More.ensures.appends ∙ c.instructions.invariant.appends;
-      notation = c.in-Ok-More.ensures.notation ∙ c.instructions.invariant.notation;
-      offset = c.in-Ok-More.ensures.offset ∙ c.instructions.invariant.offset;
-      order = λ so. c.in-Ok-More.ensures.order (c.instructions.invariant.order so);
-      handed = c.in-Ok-More.ensures.handed ∙ c.instructions.invariant.handed;
-      passes = passes_both (with_reset_row c.args.self.now) c.instructions.self c.step.new.self [] [] c.instructions.invariant.passes m.2;
+      events = c.rows.invariant.events ∙ hidden c.rows.self c.advance_any.new.self _ _ next under;
+      fixed = c.in-Ok-true.ensures.fixed ∙ c.rows.invariant.fixed;
+      appends = c.in-Ok-true.ensures.appends ∙ c.rows.invariant.appends;
+      notation = c.in-Ok-true.ensures.notation ∙ c.rows.invariant.notation;
+      offset = c.in-Ok-true.ensures.offset ∙ c.rows.invariant.offset;
+      order = λ so. c.in-Ok-true.ensures.order (c.rows.invariant.order so);
+      handed = c.in-Ok-true.ensures.handed ∙ c.rows.invariant.handed;
+      passes = subst (λ (es : List Event). Progress (with_reset_row c.args.self.now) (with_reset_row c.advance_any.new.self) es) given
+      (passes_both (with_reset_row c.args.self.now) (with_reset_row c.rows.self) (with_reset_row c.advance_any.new.self) [] (given_of c.advance_any.new.self.row) c.rows.invariant.passes passes);
     }
 
--- what stays as it was
+pub returns-in-Ok-false-clause-row : goal.returns-in-Ok-false-clause-row
+returns-in-Ok-false-clause-row g c =
+    let none = rw c.in-Ok-false.field-0-test at c.in-Ok-false.ensures.row in (
+      c.rows.invariant.events ∙ none_given c.rows.self none.0,
+      none_given c.advance_any.new.self none.1,
+      none.2,
+      none.3 ∙ same_end (with_reset_row c.args.self.now) (with_reset_row c.rows.self) [] c.rows.invariant.passes,
+    )
 
-pub returns-in-Err-clause-fixed : goal.returns-in-Err-clause-fixed
-returns-in-Err-clause-fixed g c = c.in-Err.ensures.fixed ∙ c.instructions.invariant.fixed
-
-pub returns-in-Err-clause-appends : goal.returns-in-Err-clause-appends
-returns-in-Err-clause-appends g c = c.in-Err.ensures.appends ∙ c.instructions.invariant.appends
-
-pub returns-in-Err-clause-notation : goal.returns-in-Err-clause-notation
-returns-in-Err-clause-notation g c = c.in-Err.ensures.notation ∙ c.instructions.invariant.notation
-
-pub returns-in-Err-clause-offset : goal.returns-in-Err-clause-offset
-returns-in-Err-clause-offset g c = c.in-Err.ensures.offset ∙ c.instructions.invariant.offset
-
-pub returns-in-Ok-Done-clause-fixed : goal.returns-in-Ok-Done-clause-fixed
-returns-in-Ok-Done-clause-fixed g c = c.in-Ok-Done.ensures.fixed ∙ c.instructions.invariant.fixed
-
-pub returns-in-Ok-Done-clause-appends : goal.returns-in-Ok-Done-clause-appends
-returns-in-Ok-Done-clause-appends g c = c.in-Ok-Done.ensures.appends ∙ c.instructions.invariant.appends
-
-pub returns-in-Ok-Done-clause-notation : goal.returns-in-Ok-Done-clause-notation
-returns-in-Ok-Done-clause-notation g c = c.in-Ok-Done.ensures.notation ∙ c.instructions.invariant.notation
-
-pub returns-in-Ok-Done-clause-offset : goal.returns-in-Ok-Done-clause-offset
-returns-in-Ok-Done-clause-offset g c = c.in-Ok-Done.ensures.offset ∙ c.instructions.invariant.offset
-
-pub returns-in-Ok-Made-clause-fixed : goal.returns-in-Ok-Made-clause-fixed
-returns-in-Ok-Made-clause-fixed g c = c.in-Ok-Made.ensures.fixed ∙ c.instructions.invariant.fixed
-
-pub returns-in-Ok-Made-clause-appends : goal.returns-in-Ok-Made-clause-appends
-returns-in-Ok-Made-clause-appends g c = c.in-Ok-Made.ensures.appends ∙ c.instructions.invariant.appends
-
-pub returns-in-Ok-Made-clause-notation : goal.returns-in-Ok-Made-clause-notation
-returns-in-Ok-Made-clause-notation g c = c.in-Ok-Made.ensures.notation ∙ c.instructions.invariant.notation
-
-pub returns-in-Ok-Made-clause-offset : goal.returns-in-Ok-Made-clause-offset
-returns-in-Ok-Made-clause-offset g c = c.in-Ok-Made.ensures.offset ∙ c.instructions.invariant.offset
-
-pub returns-in-Err-clause-order : goal.returns-in-Err-clause-order
-returns-in-Err-clause-order g c = λ so. c.in-Err.ensures.order (c.instructions.invariant.order so)
-
-pub returns-in-Ok-Done-clause-order : goal.returns-in-Ok-Done-clause-order
-returns-in-Ok-Done-clause-order g c = λ so. c.in-Ok-Done.ensures.order (c.instructions.invariant.order so)
-
-pub returns-in-Ok-Made-clause-order : goal.returns-in-Ok-Made-clause-order
-returns-in-Ok-Made-clause-order g c = λ so. c.in-Ok-Made.ensures.order (c.instructions.invariant.order so)
-
-pub returns-in-Err-clause-handed : goal.returns-in-Err-clause-handed
-returns-in-Err-clause-handed g c = c.in-Err.ensures.handed ∙ c.instructions.invariant.handed
-
-pub returns-in-Ok-Done-clause-handed : goal.returns-in-Ok-Done-clause-handed
-returns-in-Ok-Done-clause-handed g c = c.in-Ok-Done.ensures.handed ∙ c.instructions.invariant.handed
-
-pub returns-in-Ok-Made-clause-handed : goal.returns-in-Ok-Made-clause-handed
-returns-in-Ok-Made-clause-handed g c = c.in-Ok-Made.ensures.handed ∙ c.instructions.invariant.handed
+pub returns-in-Ok-false-clause-passes : goal.returns-in-Ok-false-clause-passes
+returns-in-Ok-false-clause-passes g c =
+    let passes = rw c.in-Ok-false.field-0-test at c.in-Ok-false.ensures.passes in
+    (passes.0, passes_both (with_reset_row c.args.self.now) (with_reset_row c.rows.self) c.advance_any.new.self [] [] c.rows.invariant.passes passes.1)

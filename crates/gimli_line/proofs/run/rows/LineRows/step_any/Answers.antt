@@ -1,9 +1,7 @@
 use Rattle.std.proofs.Common.{◌≡◌, inl, inr, refl, sym, ap, subst, ◌∙◌}
-use Rattle.gimli_line.specs.header.Header.{Header}
 use Rattle.gimli_line.specs.run.Instruction.{InsHasOrder}
-use Rattle.gimli_line.specs.run.Machine.{reset_row}
 use Rattle.gimli_line.specs.run.Unread.{Unread}
-use Rattle.gimli_line.proofs.Runs.{state, keeps_order, none_left, after_fault, after_quiet, after_tombstone, after_seen, after_overflow, is_shorter, only_overflow, passes_none, passes_quiet, passes_tombstone, passes_seen, source_same, wants}
+use Rattle.gimli_line.proofs.Runs.{state, keeps_order, none_made, after_fault, after_quiet, after_made, after_overflow, is_shorter, only_overflow, passes_none, passes_quiet, passes_made, source_same, wants}
 use Rattle.gimli_line.proofs.run.rows.LineRows.step_any.Goals as goal
 
 pub returns-in-Err-clause-err : goal.returns-in-Err-clause-err
@@ -18,7 +16,7 @@ returns-in-Ok-None-clause-ok g c =
     let after = state g.P.LineProgram.appends (g.P.LineProgram.meaning c.self.inside.program) (g.P.LineProgram.notation c.self.inside.program) (g.P.LineProgram.offset c.self.inside.program) (g.P.LineProgram.orders c.self.inside.program) c.self.inside.row c.next_instruction.new.self in
     let nothing : c.next_instruction.new.self ≡ c.self.inside.instructions =
     source_same _ _ (n.1 ∙ sym n.0) c.in-Ok-None.ensures.notation in
-    rw (← c.self.view_is) (none_left before n.0, n.1, passes_none before after (ap (λ (s : Unread). state g.P.LineProgram.appends (g.P.LineProgram.meaning c.self.inside.program) (g.P.LineProgram.notation c.self.inside.program) (g.P.LineProgram.offset c.self.inside.program) (g.P.LineProgram.orders c.self.inside.program) c.self.inside.row s) nothing))
+    rw (← c.self.view_is) (none_made before n.0, n.1, passes_none before after (ap (λ (s : Unread). state g.P.LineProgram.appends (g.P.LineProgram.meaning c.self.inside.program) (g.P.LineProgram.notation c.self.inside.program) (g.P.LineProgram.offset c.self.inside.program) (g.P.LineProgram.orders c.self.inside.program) c.self.inside.row s) nothing))
 
 pub returns-then-not-made-clause-ok : goal.returns-then-not-made-clause-ok
 returns-then-not-made-clause-ok g c =
@@ -29,24 +27,12 @@ returns-then-not-made-clause-ok g c =
       passes_quiet g.P.LineProgram.appends _ _ c.header.ensures.meaning (g.P.LineProgram.notation c.self.inside.program) (g.P.LineProgram.notation c.execute.new.program) (g.P.LineProgram.offset c.self.inside.program) (g.P.LineProgram.offset c.execute.new.program) (g.P.LineProgram.orders c.self.inside.program) (g.P.LineProgram.orders c.execute.new.program) _ _ _ c.in-Ok-Some.ensures.notation _ n.0 n.1 n.2 _ _ c.in-Ok.ensures.files c.in-Ok.ensures.fits (sym c.in-Ok.ensures.made ∙ c.if-not-made.true) c.in-Ok.ensures.step,
     )
 
-pub returns-then-not-is_under_tombstone-clause-ok : goal.returns-then-not-is_under_tombstone-clause-ok
-returns-then-not-is_under_tombstone-clause-ok g c =
-    let n = rw c.in-Ok-Some.field-0-is at c.in-Ok-Some.ensures.next in
-    let seen = rw c.in-Ok.ensures.step at (sym c.is_under_tombstone.ensures ∙ c.if-not-is_under_tombstone.true) in
-    rw (← c.self.view_is) (
-      after_seen g.P.LineProgram.appends _ _ c.header.ensures.meaning (g.P.LineProgram.notation c.self.inside.program) (g.P.LineProgram.notation c.execute.new.program) (g.P.LineProgram.offset c.self.inside.program) (g.P.LineProgram.offset c.execute.new.program) (g.P.LineProgram.orders c.self.inside.program) (g.P.LineProgram.orders c.execute.new.program) _ _ _ c.in-Ok-Some.ensures.notation _ n.0 n.1 n.2 _ _ c.in-Ok.ensures.files c.in-Ok.ensures.fits (sym c.in-Ok.ensures.made ∙ c.if-not-made.false) seen c.in-Ok.ensures.step,
-      passes_seen g.P.LineProgram.appends _ _ c.header.ensures.meaning (g.P.LineProgram.notation c.self.inside.program) (g.P.LineProgram.notation c.execute.new.program) (g.P.LineProgram.offset c.self.inside.program) (g.P.LineProgram.offset c.execute.new.program) (g.P.LineProgram.orders c.self.inside.program) (g.P.LineProgram.orders c.execute.new.program) _ _ _ c.in-Ok-Some.ensures.notation _ n.0 n.1 n.2 _ _ c.in-Ok.ensures.files c.in-Ok.ensures.fits (sym c.in-Ok.ensures.made ∙ c.if-not-made.false) seen c.in-Ok.ensures.step,
-    )
-
 pub returns-clause-ok : goal.returns-clause-ok
 returns-clause-ok g c =
     let n = rw c.in-Ok-Some.field-0-is at c.in-Ok-Some.ensures.next in
-    let tombstone = rw c.in-Ok.ensures.step at (sym c.is_under_tombstone.ensures ∙ c.if-not-is_under_tombstone.false) in
-    let again = c.reset.ensures ∙ ap (λ (h : Header). reset_row h.parameters c.execute.new.self) (c.header-2.ensures.meaning ∙ c.in-Ok.ensures.files) ∙ ap (λ r. reset_row (g.P.LineProgram.meaning c.self.inside.program).parameters r) c.in-Ok.ensures.step in
     rw (← c.self.view_is) (
-      after_tombstone g.P.LineProgram.appends _ _ c.header.ensures.meaning (g.P.LineProgram.notation c.self.inside.program) (g.P.LineProgram.notation c.execute.new.program) (g.P.LineProgram.offset c.self.inside.program) (g.P.LineProgram.offset c.execute.new.program) (g.P.LineProgram.orders c.self.inside.program) (g.P.LineProgram.orders c.execute.new.program) _ _ _ c.in-Ok-Some.ensures.notation _ n.0 n.1 n.2 _ _ c.in-Ok.ensures.files c.in-Ok.ensures.fits (sym c.in-Ok.ensures.made ∙ c.if-not-made.false) tombstone again,
-      is_shorter g.P.LineProgram.appends _ _ c.header.ensures.meaning (g.P.LineProgram.notation c.self.inside.program) (g.P.LineProgram.notation c.execute.new.program) (g.P.LineProgram.offset c.self.inside.program) (g.P.LineProgram.offset c.execute.new.program) (g.P.LineProgram.orders c.self.inside.program) (g.P.LineProgram.orders c.execute.new.program) c.self.inside.row _ _ c.in-Ok-Some.ensures.notation _ n.0 n.1 n.2,
-      passes_tombstone g.P.LineProgram.appends _ _ c.header.ensures.meaning (g.P.LineProgram.notation c.self.inside.program) (g.P.LineProgram.notation c.execute.new.program) (g.P.LineProgram.offset c.self.inside.program) (g.P.LineProgram.offset c.execute.new.program) (g.P.LineProgram.orders c.self.inside.program) (g.P.LineProgram.orders c.execute.new.program) _ _ _ c.in-Ok-Some.ensures.notation _ n.0 n.1 n.2 _ _ c.in-Ok.ensures.files c.in-Ok.ensures.fits (sym c.in-Ok.ensures.made ∙ c.if-not-made.false) tombstone again,
+      after_made g.P.LineProgram.appends _ _ c.header.ensures.meaning (g.P.LineProgram.notation c.self.inside.program) (g.P.LineProgram.notation c.execute.new.program) (g.P.LineProgram.offset c.self.inside.program) (g.P.LineProgram.offset c.execute.new.program) (g.P.LineProgram.orders c.self.inside.program) (g.P.LineProgram.orders c.execute.new.program) _ _ _ c.in-Ok-Some.ensures.notation _ n.0 n.1 n.2 _ _ c.in-Ok.ensures.files c.in-Ok.ensures.fits (sym c.in-Ok.ensures.made ∙ c.if-not-made.false) c.in-Ok.ensures.step,
+      passes_made g.P.LineProgram.appends _ _ c.header.ensures.meaning (g.P.LineProgram.notation c.self.inside.program) (g.P.LineProgram.notation c.execute.new.program) (g.P.LineProgram.offset c.self.inside.program) (g.P.LineProgram.offset c.execute.new.program) (g.P.LineProgram.orders c.self.inside.program) (g.P.LineProgram.orders c.execute.new.program) _ _ _ c.in-Ok-Some.ensures.notation _ n.0 n.1 n.2 _ _ c.in-Ok.ensures.files c.in-Ok.ensures.fits (sym c.in-Ok.ensures.made ∙ c.if-not-made.false) c.in-Ok.ensures.step,
     )
 
 pub returns-in-OutOfMemory-clause-err : goal.returns-in-OutOfMemory-clause-err
@@ -112,18 +98,6 @@ returns-then-not-made-clause-notation g c = rw (← c.self.view_is) c.execute.en
 pub returns-then-not-made-clause-offset : goal.returns-then-not-made-clause-offset
 returns-then-not-made-clause-offset g c = rw (← c.self.view_is) c.execute.ensures.offset
 
-pub returns-then-not-is_under_tombstone-clause-fixed : goal.returns-then-not-is_under_tombstone-clause-fixed
-returns-then-not-is_under_tombstone-clause-fixed g c = rw (c.in-Ok.ensures.files, ← c.self.view_is) refl
-
-pub returns-then-not-is_under_tombstone-clause-appends : goal.returns-then-not-is_under_tombstone-clause-appends
-returns-then-not-is_under_tombstone-clause-appends g c = rw (← c.self.view_is) refl
-
-pub returns-then-not-is_under_tombstone-clause-notation : goal.returns-then-not-is_under_tombstone-clause-notation
-returns-then-not-is_under_tombstone-clause-notation g c = rw (← c.self.view_is) c.execute.ensures.notation
-
-pub returns-then-not-is_under_tombstone-clause-offset : goal.returns-then-not-is_under_tombstone-clause-offset
-returns-then-not-is_under_tombstone-clause-offset g c = rw (← c.self.view_is) c.execute.ensures.offset
-
 pub returns-clause-fixed : goal.returns-clause-fixed
 returns-clause-fixed g c = rw (c.in-Ok.ensures.files, ← c.self.view_is) refl
 
@@ -156,12 +130,6 @@ returns-in-OutOfMemory-clause-order g c =
 
 pub returns-then-not-made-clause-order : goal.returns-then-not-made-clause-order
 returns-then-not-made-clause-order g c =
-    rw (← c.self.view_is) (keeps_order (state g.P.LineProgram.appends (g.P.LineProgram.meaning c.self.inside.program) (g.P.LineProgram.notation c.self.inside.program) (g.P.LineProgram.offset c.self.inside.program) (g.P.LineProgram.orders c.self.inside.program) c.self.inside.row c.self.inside.instructions) _ c.in-Ok.ensures.notation refl c.in-Ok-Some.ensures.notation (λ so.
-    let operands = rw c.in-Ok-Some.field-0-is at c.in-Ok-Some.ensures.operands in
-    c.in-Ok.ensures.order (g.P.LineProgram.notation c.self.inside.program).big (λ adds. subst (λ order. InsHasOrder g.R.Reader.big order c.in-Ok-Some.instruction) (so.unread adds) operands) so.readers))
-
-pub returns-then-not-is_under_tombstone-clause-order : goal.returns-then-not-is_under_tombstone-clause-order
-returns-then-not-is_under_tombstone-clause-order g c =
     rw (← c.self.view_is) (keeps_order (state g.P.LineProgram.appends (g.P.LineProgram.meaning c.self.inside.program) (g.P.LineProgram.notation c.self.inside.program) (g.P.LineProgram.offset c.self.inside.program) (g.P.LineProgram.orders c.self.inside.program) c.self.inside.row c.self.inside.instructions) _ c.in-Ok.ensures.notation refl c.in-Ok-Some.ensures.notation (λ so.
     let operands = rw c.in-Ok-Some.field-0-is at c.in-Ok-Some.ensures.operands in
     c.in-Ok.ensures.order (g.P.LineProgram.notation c.self.inside.program).big (λ adds. subst (λ order. InsHasOrder g.R.Reader.big order c.in-Ok-Some.instruction) (so.unread adds) operands) so.readers))

@@ -1,7 +1,5 @@
-use Rattle.std.proofs.Common.{refl, sym, ap, ◌∙◌}
-use Rattle.gimli_line.specs.header.Header.{Header}
-use Rattle.gimli_line.specs.run.Machine.{reset_row}
-use Rattle.gimli_line.proofs.Executions.{executed_quiet, executed_seen, executed_under_tombstone, executed_overflow}
+use Rattle.std.proofs.Common.{refl, sym, ◌∙◌}
+use Rattle.gimli_line.proofs.Executions.{executed_quiet, executed_made, executed_overflow}
 use Rattle.gimli_line.proofs.run.rows.LineRows.step_rarer.Goals as goal
 
 pub returns-in-Err-clause-err : goal.returns-in-Err-clause-err
@@ -14,16 +12,10 @@ returns-then-not-made-clause-ok g c =
     let x = rw c.in-Ok-Some.field-0-is at c.in-Ok-Some.ensures.ok in
     rw (← c.self.view_is) (executed_quiet g.P.LineProgram.appends _ _ c.header-header.ensures.meaning (g.P.LineProgram.notation c.self.inside.program) (g.P.LineProgram.offset c.self.inside.program) (g.P.LineProgram.orders c.self.inside.program) _ _ _ _ c.in-Ok-Some.ensures.notation x.0 (sym c.if-not-made.true ∙ x.1))
 
-pub returns-then-not-is_under_tombstone-clause-ok : goal.returns-then-not-is_under_tombstone-clause-ok
-returns-then-not-is_under_tombstone-clause-ok g c =
-    let x = rw c.in-Ok-Some.field-0-is at c.in-Ok-Some.ensures.ok in
-    rw (← c.self.view_is) (executed_seen g.P.LineProgram.appends _ _ c.header-header.ensures.meaning (g.P.LineProgram.notation c.self.inside.program) (g.P.LineProgram.offset c.self.inside.program) (g.P.LineProgram.orders c.self.inside.program) _ _ _ _ c.in-Ok-Some.ensures.notation x.0 (sym c.if-not-made.false ∙ x.1) (sym c.is_under_tombstone.ensures ∙ c.if-not-is_under_tombstone.true))
-
 pub returns-clause-ok : goal.returns-clause-ok
 returns-clause-ok g c =
     let x = rw c.in-Ok-Some.field-0-is at c.in-Ok-Some.ensures.ok in
-    let again = c.reset.ensures ∙ ap (λ (h : Header). reset_row h.parameters c.execute_rarer.new.row) c.header.ensures.meaning in
-    rw (← c.self.view_is) (executed_under_tombstone g.P.LineProgram.appends _ _ c.header-header.ensures.meaning (g.P.LineProgram.notation c.self.inside.program) (g.P.LineProgram.offset c.self.inside.program) (g.P.LineProgram.orders c.self.inside.program) _ _ _ _ c.in-Ok-Some.ensures.notation x.0 (sym c.if-not-made.false ∙ x.1) (sym c.is_under_tombstone.ensures ∙ c.if-not-is_under_tombstone.false) _ again)
+    rw (← c.self.view_is) (executed_made g.P.LineProgram.appends _ _ c.header-header.ensures.meaning (g.P.LineProgram.notation c.self.inside.program) (g.P.LineProgram.offset c.self.inside.program) (g.P.LineProgram.orders c.self.inside.program) _ _ _ _ c.in-Ok-Some.ensures.notation x.0 (sym c.if-not-made.false ∙ x.1))
 
 -- what stays as it was
 
@@ -50,18 +42,6 @@ returns-then-not-made-clause-notation g c = rw (← c.self.view_is) refl
 
 pub returns-then-not-made-clause-offset : goal.returns-then-not-made-clause-offset
 returns-then-not-made-clause-offset g c = rw (← c.self.view_is) refl
-
-pub returns-then-not-is_under_tombstone-clause-fixed : goal.returns-then-not-is_under_tombstone-clause-fixed
-returns-then-not-is_under_tombstone-clause-fixed g c = rw (← c.self.view_is) refl
-
-pub returns-then-not-is_under_tombstone-clause-appends : goal.returns-then-not-is_under_tombstone-clause-appends
-returns-then-not-is_under_tombstone-clause-appends g c = rw (← c.self.view_is) refl
-
-pub returns-then-not-is_under_tombstone-clause-notation : goal.returns-then-not-is_under_tombstone-clause-notation
-returns-then-not-is_under_tombstone-clause-notation g c = rw (← c.self.view_is) refl
-
-pub returns-then-not-is_under_tombstone-clause-offset : goal.returns-then-not-is_under_tombstone-clause-offset
-returns-then-not-is_under_tombstone-clause-offset g c = rw (← c.self.view_is) refl
 
 pub returns-clause-fixed : goal.returns-clause-fixed
 returns-clause-fixed g c = rw (← c.self.view_is) refl
