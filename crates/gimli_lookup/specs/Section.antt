@@ -1,4 +1,5 @@
--- What a lookup keeps of a section: its units, and the sequences of each.
+-- What a lookup keeps of a section: its units, and the sequences of each, which are the parts of those of its program
+-- that stand (`UnitRun.antt`).
 use Rattle.std.specs.Prelude.{◌≡◌, ◌≤◌, ◌-◌, ℕ, List, [], ◌∷◌, take, drop, Option, Some, None, All, slice_get}
 use Rattle.std.specs.List.{flat_map}
 use Rattle.gimli_core.specs.Notation.{Notation}
