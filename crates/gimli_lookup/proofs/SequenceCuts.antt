@@ -1,6 +1,6 @@
 -- Rows that are taken in one after the other are cut at their ends, and each sequence into its parts that stand.
 use Rattle.std.proofs.Common.{◌≡◌, ℕ, Bool, true, false, not, if◌then◌else◌, List, [], ◌∷◌, ◌++◌, length, take, refl, sym, ap, subst, ◌∙◌, append_assoc}
-use Rattle.std.specs.List.{AllByRecursion, filter, flat_map, slice_split}
+use Rattle.std.specs.List.{AllByRecursion, filter, flat_map, onto_first, slice_split}
 use Rattle.std.proofs.lemmas.List.{append-nil}
 use Rattle.std.proofs.Math.Seq.{take-append_seam}
 use Rattle.std.proofs.lemmas.List.Elements.{filter-append}
@@ -14,10 +14,10 @@ use Rattle.gimli_lookup.specs.inside.SequenceCut.{SequenceCut, no_rows, with_par
 
 module _ {X : Type 0} (p : X → Bool) where
   -- the parts that have ended, and the open one, after one more element
-  split_step : List (List X) × List X → X → List (List X) × List X
+  abbrev pub split_step : List (List X) × List X → X → List (List X) × List X
   split_step s x = if p x then (s.0 ++ s.1 ∷ [], []) else (s.0, s.1 ++ x ∷ [])
 
-  split_from : List (List X) × List X → List X → List (List X) × List X
+  abbrev pub split_from : List (List X) × List X → List X → List (List X) × List X
   split_from s [] = s
   split_from s (x ∷ xs) = split_from (split_step s x) xs
 
@@ -26,7 +26,7 @@ module _ {X : Type 0} (p : X → Bool) where
   split_more s (y ∷ xs) x = split_more (split_step s y) xs x
 
   -- elements in front of the first part
-  onto : List X → List (List X) → List (List X)
+  abbrev onto : List X → List (List X) → List (List X)
   onto front [] = front ∷ []
   onto front (part ∷ parts) = (front ++ part) ∷ parts
 
@@ -40,40 +40,40 @@ module _ {X : Type 0} (p : X → Bool) where
       at_test false is rest = (x ∷ rest.0, rest.1, rw (is, rest.2) refl)
 
   onto_none : (xs : List X) → onto [] (slice_split p xs) ≡ slice_split p xs
-  onto_none xs = let s = some_part xs in rw s.2 refl
+  onto_none xs = let s = some_part xs in ap (onto []) s.2 ∙ sym s.2
 
   onto_more : (part : List X) (x : X) (xs : List X) → p x ≡ false → onto (part ++ x ∷ []) (slice_split p xs) ≡ onto part (slice_split p (x ∷ xs))
   onto_more part x xs is =
-      let s = some_part xs in rw (is, s.2) (ap (λ (first : List X). first ∷ s.1) (append_assoc part (x ∷ []) s.0))
+      let s = some_part xs in
+      let here : onto (part ++ x ∷ []) (slice_split p xs) ≡ onto part (onto_first x (slice_split p xs)) =
+      rw s.2 (ap (λ (first : List X). first ∷ s.1) (append_assoc part (x ∷ []) s.0)) in
+      here ∙ rw is refl
 
-  split_is : (open : List (List X)) (part : List X) (xs : List X)
-      → (split_from (open, part) xs).0 ++ (split_from (open, part) xs).1 ∷ [] ≡ open ++ onto part (slice_split p xs)
-  split_is open part [] = ap (λ (last : List X). open ++ last ∷ []) (sym (append-nil part))
-  split_is open part (x ∷ xs) = at_test (p x) refl
+  split_is : (past : List (List X)) (part : List X) (xs : List X)
+      → (split_from (past, part) xs).0 ++ (split_from (past, part) xs).1 ∷ [] ≡ past ++ onto part (slice_split p xs)
+  split_is past part [] = ap (λ (last : List X). past ++ last ∷ []) (sym (append-nil part))
+  split_is past part (x ∷ xs) = at_test (p x) refl (split_is (past ++ part ∷ []) [] xs) (split_is past (part ++ x ∷ []) xs)
     where
-      goes : (b : Bool) → p x ≡ b → split_from (open, part) (x ∷ xs) ≡ split_from (if b then (open ++ part ∷ [], []) else (open, part ++ x ∷ [])) xs
-      goes b is = ap (λ (b : Bool). split_from (if b then (open ++ part ∷ [], []) else (open, part ++ x ∷ [])) xs) is
-
       at_test : (b : Bool) → p x ≡ b
-          → (split_from (open, part) (x ∷ xs)).0 ++ (split_from (open, part) (x ∷ xs)).1 ∷ [] ≡ open ++ onto part (slice_split p (x ∷ xs))
-      at_test true is =
-          rw (goes true is) (split_is (open ++ part ∷ []) [] xs ∙ append_assoc open (part ∷ []) (onto [] (slice_split p xs)) ∙ ap (λ (parts : List (List X)). open ++ part ∷ parts) (onto_none xs)
-          ∙ ap (λ (parts : List (List X)). open ++ parts) (rw is (ap (λ (first : List X). first ∷ slice_split p xs) (sym (append-nil part)))))
-      at_test false is =
-          rw (goes false is) (split_is open (part ++ x ∷ []) xs ∙ ap (λ (parts : List (List X)). open ++ parts) (onto_more part x xs is))
+          → (split_from (past ++ part ∷ [], []) xs).0 ++ (split_from (past ++ part ∷ [], []) xs).1 ∷ [] ≡ (past ++ part ∷ []) ++ onto [] (slice_split p xs)
+          → (split_from (past, part ++ x ∷ []) xs).0 ++ (split_from (past, part ++ x ∷ []) xs).1 ∷ [] ≡ past ++ onto (part ++ x ∷ []) (slice_split p xs)
+          → (split_from (past, part) (x ∷ xs)).0 ++ (split_from (past, part) (x ∷ xs)).1 ∷ [] ≡ past ++ onto part (slice_split p (x ∷ xs))
+      at_test true is ended goes =
+          let first : (split_from (past, part) (x ∷ xs)).0 ++ (split_from (past, part) (x ∷ xs)).1 ∷ [] ≡ (split_from (past ++ part ∷ [], []) xs).0 ++ (split_from (past ++ part ∷ [], []) xs).1 ∷ []
+          = ap (λ (b : Bool). let s = split_from (if b then (past ++ part ∷ [], []) else (past, part ++ x ∷ [])) xs in s.0 ++ s.1 ∷ []) is in
+          let last : past ++ part ∷ slice_split p xs ≡ past ++ onto part (slice_split p (x ∷ xs))
+          = rw is (ap (λ (last : List X). past ++ last ∷ slice_split p xs) (sym (append-nil part))) in
+          first ∙ ended ∙ append_assoc past (part ∷ []) (onto [] (slice_split p xs)) ∙ ap (λ (parts : List (List X)). past ++ part ∷ parts) (onto_none xs) ∙ last
+      at_test false is ended goes =
+          let first : (split_from (past, part) (x ∷ xs)).0 ++ (split_from (past, part) (x ∷ xs)).1 ∷ [] ≡ (split_from (past, part ++ x ∷ []) xs).0 ++ (split_from (past, part ++ x ∷ []) xs).1 ∷ []
+          = ap (λ (b : Bool). let s = split_from (if b then (past ++ part ∷ [], []) else (past, part ++ x ∷ [])) xs in s.0 ++ s.1 ∷ []) is in
+          first ∙ goes ∙ ap (λ (parts : List (List X)). past ++ parts) (onto_more part x xs is)
 
   -- from the start, the parts and the open one are those of `slice_split`
   pub split_whole : (xs : List X) → (split_from ([], []) xs).0 ++ (split_from ([], []) xs).1 ∷ [] ≡ slice_split p xs
   split_whole xs = split_is [] [] xs ∙ onto_none xs
 
 -- ---- rows that were taken in
-
--- a row doesn't stand
-falls : ℕ → LineRow → Bool
-falls lowest r = not (stands lowest r)
-
-parts_in : ℕ → List (List LineRow) → List (List LineRow)
-parts_in lowest sequences = flat_map (standing_parts lowest) sequences
 
 -- rows were cut into these sequences and rows that no end follows yet, and these into their parts
 pub record IsCut (rows : List LineRow) (a : SequenceCut) : Type 0 where
@@ -101,16 +101,13 @@ joined_more done all unended r is =
 
 -- a row goes to the open part, or ends it
 module _ (done : List LineRow) (r : LineRow) (a : SequenceCut) (is : IsCut done a) where
-  p : LineRow → Bool
-  p q = not (stands a.lowest q)
-
-  before : List (List LineRow) × List LineRow
+  abbrev before : List (List LineRow) × List LineRow
   before = split_from (λ (q : LineRow). not (stands a.lowest q)) ([], []) is.unended
 
-  after : List (List LineRow) × List LineRow
+  abbrev after : List (List LineRow) × List LineRow
   after = split_from (λ (q : LineRow). not (stands a.lowest q)) ([], []) (is.unended ++ r ∷ [])
 
-  kept : List (List LineRow)
+  abbrev kept : List (List LineRow)
   kept = flat_map (standing_parts a.lowest) is.sequences
 
   step : (b : Bool) → stands a.lowest r ≡ b → after ≡ (if not b then (before.0 ++ before.1 ∷ [], []) else (before.0, before.1 ++ r ∷ []))
@@ -208,8 +205,8 @@ starts_cut lowest = record { sequences = []; unended = []; joined = refl; each =
 pub parts_kept : (rows : List LineRow) (a : SequenceCut) (is : IsCut rows a) → take a.ended a.parts ≡ flat_map (standing_parts a.lowest) is.sequences
 parts_kept rows a is =
     let kept = flat_map (standing_parts a.lowest) is.sequences in
-    let open = filter has_rows (split_from (λ (r : LineRow). not (stands a.lowest r)) ([], []) is.unended).0 in
-    ap (λ (n : ℕ). take n a.parts) is.ended ∙ ap (λ (parts : List (List LineRow)). take (length kept) parts) is.parts ∙ take-append_seam kept open
+    let past = filter has_rows (split_from (λ (r : LineRow). not (stands a.lowest r)) ([], []) is.unended).0 in
+    ap (λ (n : ℕ). take n a.parts) is.ended ∙ ap (λ (parts : List (List LineRow)). take (length kept) parts) is.parts ∙ take-append_seam kept past
 
 -- ---- the lowest address stays
 
