@@ -1,0 +1,109 @@
+#!/usr/bin/env bash
+# Asks every address of code of many programs of `lines where`, addr2line, eu-addr2line and llvm-symbolizer, and prints on how
+# many addresses each two agree, and each difference from the majority. Outside the gate.
+#
+#     compare/places.sh [--columns] [--each] [PROGRAM..]     LINES=FILE takes another program `lines`, PLACES=N asks N addresses
+#
+# It builds programs of compare/sources by each compiler at hand, and then asks the programs that are named too. It needs python3,
+# gcc or clang, and on Debian: apt-get install binutils elfutils llvm. A build that a compiler can't do is passed over, and counted.
+#
+# What the rows of llvm-dwarfdump say of an address decides: where `lines` says it and a peer does not, the peer's fault has to
+# be one of these, which are counted. A row covers the addresses from its own up to the next row's, in its sequence; a sequence
+# below the lowest section of code was dropped.
+#   addr2line, a file without a line where no row is: it takes the file of a symbol. No row covers the address, and its line is `?`.
+#   addr2line, `?` for a row of line 0: such a row covers the address, and its line is `?`.
+#   addr2line, file 0 for file 1 of version 5: each row of the sequence so far has file 1, as the register begins, and it says the
+#     path of file 0 with the row's line.
+#   eu-addr2line, no place outside .debug_aranges: no range of that section has the address, and it says `??`. clang writes none.
+#   llvm-symbolizer, no place outside the units' ranges: no unit's ranges in .debug_info have the address, and it says `??`.
+#   another of the rows that cover the address: two sequences do, and each says a row of one of them.
+# Where `lines` does not say what the rows say, the difference is printed with its cause, if that is known:
+#   no answer: it refuses the file, by this message.
+#   code merged with dropped code is lost: it says `??`, and the sequence before, in the unit, was dropped and its addresses go down.
+#   a relative path stays relative: the line is the row's, and the row's path ends with its path.
+# The status is 1 where there is such a difference, or one that no rule explains.
+set -eu
+here=$(cd "$(dirname "$0")" && pwd)
+top=$(dirname "$here")
+for tool in python3 readelf objcopy llvm-dwarfdump addr2line eu-addr2line llvm-symbolizer; do
+    command -v "$tool" >/dev/null || { echo "places: $tool is missing"; exit 1; }
+done
+lines=${LINES-$top/crates/lines/out/lines}
+if [ ! -x "$lines" ]; then
+    (cd "$top/crates/lines" && rt run -- --version >/dev/null)
+fi
+options=()
+while [ "${1-}" = --columns ] || [ "${1-}" = --each ]; do
+    options+=("$1")
+    shift
+done
+work=$(mktemp -d)
+trap 'rm -rf "$work"' EXIT
+passed_over=0
+programs=()
+
+# tried NAME COMMAND..: the command makes the program NAME.
+tried() {
+    local name=$1
+    shift
+    if (cd "$here/sources" && "$@") >"$work/told" 2>&1; then
+        programs+=("$work/$name")
+    else
+        passed_over=$((passed_over + 1))
+    fi
+}
+
+# A program of C, the faults of C++, whose units differ in their flags so that the linker drops functions of the second, and lists.
+c_program() {
+    tried "$1" "$2" "${@:3}" -o "$work/$1" main.c sums.c
+}
+lists_program() {
+    tried "$1" "$2" "${@:3}" -o "$work/$1" main.cpp lists.cpp
+}
+faults() {
+    local out=$1 compiler=$2
+    shift 2
+    "$compiler" "$@" -c faults_first.cpp -o "$out.1.o" && "$compiler" "$@" -c faults_main.cpp -o "$out.3.o" &&
+        "$compiler" "$@" -fPIC -fstack-protector-strong -c faults_second.cpp -o "$out.2.o" &&
+        "$compiler" "$@" "$out".[123].o -o "$out"
+}
+faults_program() {
+    tried "$1" faults "$work/$1" "${@:2}"
+}
+stripped() {
+    objcopy --only-keep-debug "$1" "$2.debug" && objcopy --strip-debug --add-gnu-debuglink="$2.debug" "$1" "$2"
+}
+
+for compiler in gcc clang; do
+    command -v $compiler >/dev/null || continue
+    plus=${compiler/gcc/g}++
+    for version in 2 3 4 5; do
+        for level in -O0 -O2; do
+            flags=(-g "-gdwarf-$version" "$level")
+            c_program "$compiler-$version$level" $compiler "${flags[@]}"
+            lists_program "$plus-$version$level-lists" "$plus" "${flags[@]}"
+            faults_program "$plus-$version$level-faults" "$plus" "${flags[@]}"
+        done
+    done
+    for version in 4 5; do
+        flags=(-g "-gdwarf-$version" -O2)
+        whole=$plus-$version-O2
+        c_program "$compiler-$version-no-pie" $compiler "${flags[@]}" -no-pie
+        c_program "$compiler-$version-shared" $compiler "${flags[@]}" -fPIC -shared
+        lists_program "$plus-$version-static" "$plus" "${flags[@]}" -static
+        faults_program "$plus-$version-gc" "$plus" "${flags[@]}" -ffunction-sections -Wl,--gc-sections
+        faults_program "$plus-$version-lld-gc" "$plus" "${flags[@]}" -ffunction-sections -Wl,--gc-sections -fuse-ld=lld
+        lists_program "$plus-$version-zlib" "$plus" "${flags[@]}" -gz=zlib
+        tried "$plus-$version-zlib-gnu" objcopy --compress-debug-sections=zlib-gnu "$work/$whole-lists" "$work/$plus-$version-zlib-gnu"
+        tried "$plus-$version-stripped" stripped "$work/$whole-lists" "$work/$plus-$version-stripped"
+        tried "$compiler-$version.o" $compiler "${flags[@]}" -c sums.c -o "$work/$compiler-$version.o"
+    done
+done
+if command -v rustc >/dev/null; then
+    for version in 2 4 5; do
+        tried "rustc-$version" rustc -g -C opt-level=2 -C "dwarf-version=$version" -o "$work/rustc-$version" counts.rs
+    done
+    tried rustc-5-debug rustc -g -o "$work/rustc-5-debug" counts.rs
+fi
+echo "${#programs[@]} programs built, $passed_over passed over"
+python3 "$here/places.py" "${options[@]}" "$lines" "${programs[@]}" "$@"
