@@ -18,14 +18,13 @@ import subprocess
 import sys
 import tempfile
 
+# Of an object file its section .text is asked; `lines` gets such addresses as .text+0x10.
 OBJECT_SECTION = ".text"
 PEERS = {
-    "addr2line": lambda program, is_object: ["addr2line", *["-j", OBJECT_SECTION] * is_object, "-e", program],
-    "eu-addr2line": lambda program, _: ["eu-addr2line", "-A", "-e", program],
+    "addr2line": lambda program, flags: ["addr2line", *flags, "-e", program],
+    "eu-addr2line": lambda program, flags: ["eu-addr2line", "-A", *flags, "-e", program],
     "llvm-symbolizer": lambda program, _: ["llvm-symbolizer", f"--obj={program}", "--no-inlines", "--functions=none"],
 }
-# How an address of an object file is written; else it is the number alone.
-OBJECT_WORDS = {"lines": f"{OBJECT_SECTION}+0x%x", "eu-addr2line": f"({OBJECT_SECTION})0x%x"}
 SHORT = {"lines": "l", "addr2line": "a", "eu-addr2line": "e", "llvm-symbolizer": "s"}
 PAIRS = list(itertools.combinations(SHORT, 2))
 ANSWER = re.compile(r"(.*?):(\d+|\?)(?::(\d+))?(?: \(discriminator \d+\))?$")
@@ -44,6 +43,7 @@ class Code:
 
     def __init__(self, program):
         header = ran(["readelf", "-hSW", program]).stdout
+        self.has_old_ranges = ".zdebug_rnglists" in header
         self.is_object = "REL (Relocatable" in header
         self.parts, self.starts, self.count = [], [], 0
         for name, low, size in re.findall(r"\] (\S+) +(?:PROGBITS|NOBITS) +(\w+) \w+ (\w+) \w+ +\w*X", header):
@@ -90,8 +90,9 @@ class Ranges:
 class Table:
     """What llvm-dwarfdump prints of a file: rows, ranges of units, and ranges of .debug_aranges."""
 
-    def __init__(self, program, lowest):
-        self.lowest, self.folders, self.paths, self.known = lowest, {}, {}, {}
+    def __init__(self, program, code):
+        self.lowest, self.has_old_ranges = code.lowest, code.has_old_ranges
+        self.folders, self.paths, self.known = {}, {}, {}
         self.rows, self.unit_ranges, self.listed = Ranges(), Ranges(), Ranges()
         for unit in ran(["llvm-dwarfdump", "--debug-info", "--recurse-depth=0", program]).stdout.split("Unit: ")[1:]:
             place, folder = re.search(r"DW_AT_stmt_list\s+\((\w+)", unit), re.search(r'DW_AT_comp_dir\s+\("(.*)"', unit)
@@ -165,6 +166,8 @@ class Table:
             return "a file without a line where no row is"
         if peer == "addr2line" and answer[1] == NO_LINE and 0 in lines:
             return "`?` for a row of line 0"
+        if peer == "addr2line" and (answer == NOWHERE or answer[1] == NO_LINE) and self.has_old_ranges:
+            return "no line where the ranges stand in .zdebug_rnglists"
         if peer == "addr2line" and any(answer[:2] == (row.file_zero, row.line) for row in rows):
             return "file 0 for file 1 of version 5"
         if peer == "eu-addr2line" and answer == NOWHERE and not self.listed.at(address):
@@ -197,8 +200,7 @@ def answers(text, count):
     return found if len(found) == count else None
 
 
-def asked(tool, command, addresses, is_object):
-    words = OBJECT_WORDS.get(tool, "0x%x") if is_object else "0x%x"
+def asked(command, words, addresses):
     with tempfile.TemporaryFile() as given:
         given.write("".join(words % it + "\n" for it in addresses).encode())
         given.seek(0)
@@ -226,13 +228,15 @@ class Comparison:
         addresses = code.chosen(int(os.environ.get("PLACES", "1000000")))
         found, silent = {}, {}
         for tool in SHORT:
-            command = [self.lines, "where", program] if tool == "lines" else PEERS[tool](program, code.is_object)
-            told, why = asked(tool, command, addresses, code.is_object)
-            found[tool] = told
-            if told is None:
+            if tool == "lines":
+                command, words = [self.lines, "where", program], f"{OBJECT_SECTION}+0x%x" if code.is_object else "0x%x"
+            else:
+                command, words = PEERS[tool](program, ["-j", OBJECT_SECTION] * code.is_object), "0x%x"
+            found[tool], why = asked(command, words, addresses)
+            if found[tool] is None:
                 silent[tool] = why
         beside = program + ".debug"
-        table = Table(beside if os.path.exists(beside) else program, code.lowest)
+        table = Table(beside if os.path.exists(beside) else program, code)
         pairs, differ, groups = collections.Counter(), 0, {}
         given = [found[tool] or itertools.repeat(None, len(addresses)) for tool in SHORT]
         for address, *told in zip(addresses, *given):

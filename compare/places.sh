@@ -2,7 +2,7 @@
 # Asks every address of code of many programs of `lines where`, addr2line, eu-addr2line and llvm-symbolizer, and prints on how
 # many addresses each two agree, and each difference from the majority. Outside the gate.
 #
-#     compare/places.sh [--columns] [--each] [PROGRAM..]     LINES=FILE takes another program `lines`, PLACES=N asks N addresses
+#     compare/places.sh [--columns] [--each] [PROGRAM..]     LINES_PROGRAM=FILE is asked in place of crates/lines, PLACES=N of each
 #
 # It builds programs of compare/sources by each compiler at hand, and then asks the programs that are named too. It needs python3,
 # gcc or clang, and on Debian: apt-get install binutils elfutils llvm. A build that a compiler can't do is passed over, and counted.
@@ -12,6 +12,7 @@
 # below the lowest section of code was dropped.
 #   addr2line, a file without a line where no row is: it takes the file of a symbol. No row covers the address, and its line is `?`.
 #   addr2line, `?` for a row of line 0: such a row covers the address, and its line is `?`.
+#   addr2line, no line where the ranges stand in .zdebug_rnglists: the file has this section, and it says no line.
 #   addr2line, file 0 for file 1 of version 5: each row of the sequence so far has file 1, as the register begins, and it says the
 #     path of file 0 with the row's line.
 #   eu-addr2line, no place outside .debug_aranges: no range of that section has the address, and it says `??`. clang writes none.
@@ -28,7 +29,7 @@ top=$(dirname "$here")
 for tool in python3 readelf objcopy llvm-dwarfdump addr2line eu-addr2line llvm-symbolizer; do
     command -v "$tool" >/dev/null || { echo "places: $tool is missing"; exit 1; }
 done
-lines=${LINES-$top/crates/lines/out/lines}
+lines=${LINES_PROGRAM-$top/crates/lines/out/lines}
 if [ ! -x "$lines" ]; then
     (cd "$top/crates/lines" && rt run -- --version >/dev/null)
 fi
@@ -87,15 +88,14 @@ for compiler in gcc clang; do
     done
     for version in 4 5; do
         flags=(-g "-gdwarf-$version" -O2)
-        whole=$plus-$version-O2
         c_program "$compiler-$version-no-pie" $compiler "${flags[@]}" -no-pie
         c_program "$compiler-$version-shared" $compiler "${flags[@]}" -fPIC -shared
         lists_program "$plus-$version-static" "$plus" "${flags[@]}" -static
         faults_program "$plus-$version-gc" "$plus" "${flags[@]}" -ffunction-sections -Wl,--gc-sections
         faults_program "$plus-$version-lld-gc" "$plus" "${flags[@]}" -ffunction-sections -Wl,--gc-sections -fuse-ld=lld
         lists_program "$plus-$version-zlib" "$plus" "${flags[@]}" -gz=zlib
-        tried "$plus-$version-zlib-gnu" objcopy --compress-debug-sections=zlib-gnu "$work/$whole-lists" "$work/$plus-$version-zlib-gnu"
-        tried "$plus-$version-stripped" stripped "$work/$whole-lists" "$work/$plus-$version-stripped"
+        tried "$plus-$version-zlib-gnu" objcopy --compress-debug-sections=zlib-gnu "$work/$plus-$version-O2-lists" "$work/$plus-$version-zlib-gnu"
+        tried "$plus-$version-stripped" stripped "$work/$plus-$version-O2-lists" "$work/$plus-$version-stripped"
         tried "$compiler-$version.o" $compiler "${flags[@]}" -c sums.c -o "$work/$compiler-$version.o"
     done
 done
