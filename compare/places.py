@@ -1,11 +1,10 @@
 #!/usr/bin/env python3
-"""Asks `lines where` and its peers for the place of every address of code of a program (compare/places.sh has the rules).
+"""Asks `lines where` and its peers for the place of every address of code of programs; compare/places.sh has the rules.
 
     places.py [--columns] [--each] LINES PROGRAM..
 
-Every address of the sections of code is asked, a million at random (PLACES=N) where there are more. A program PROGRAM.debug
-beside a program without lines has them. The rows of llvm-dwarfdump say which of two answers is the table's own. `--columns`
-compares columns too, where both have one; `--each` prints each difference, else the first three of each cause.
+Of more than a million addresses, or PLACES, that many are chosen at random, always the same. A program's lines are in
+PROGRAM.debug, where there is such a file.
 """
 import array
 import bisect
@@ -30,7 +29,8 @@ PAIRS = list(itertools.combinations(SHORT, 2))
 ANSWER = re.compile(r"(.*?):(\d+|\?)(?::(\d+))?(?: \(discriminator \d+\))?$")
 NOWHERE = (None, 0, 0)
 NO_LINE = -1
-# A row of the table, with the path of file 0 where its unit is of version 5 and the sequence has named no file but 1 so far.
+# A row, with the path of file 0 where its unit is of version 5 and its sequence has named no file but 1 so far, and whether
+# the sequence before, in its unit, was dropped and has addresses that go down.
 Row = collections.namedtuple("Row", "path line column file_zero follows_dropped")
 
 
@@ -102,7 +102,8 @@ class Table:
                 r"DW_AT_low_pc\s+\(0x(\w+)\)\s+DW_AT_high_pc\s+\(0x(\w+)\)", unit
             ):
                 self.unit_ranges.add(int(low, 16), int(high, 16), True)
-        for low, high in re.findall(r"\[0x(\w+), 0x(\w+)\)", ran(["llvm-dwarfdump", "--debug-aranges", program]).stdout):
+        dumped = ran(["llvm-dwarfdump", "--debug-aranges", program]).stdout
+        for low, high in re.findall(r"\[0x(\w+), 0x(\w+)\)", dumped):
             self.listed.add(int(low, 16), int(high, 16), True)
         self.read_rows(program)
         for it in (self.rows, self.unit_ranges, self.listed):
@@ -250,7 +251,7 @@ class Comparison:
         self.print_groups(groups)
 
     def compare(self, address, told, table, pairs, groups, silent):
-        """Counts the pairs that agree, and tells each difference by its cause; answers whether the majority differs from ours."""
+        """Counts the pairs that agree and the differences by their causes; whether two peers agree on another answer."""
         for pair in PAIRS:
             one, other = (told[it] for it in pair)
             pairs[pair] += bool(one and other and self.agree(one, other))
@@ -296,23 +297,26 @@ class Comparison:
             print(f"    {cause}: {len(found)} addresses, {len(merged)} stretches")
             for low, high, told, rows in merged if "--each" in self.options else merged[:3]:
                 said = ", ".join(f"{tool} {shown(answer)}" for tool, answer in told.items() if answer)
-                print(f"        0x{low:x} ({high - low}): {said}; rows {' '.join(shown(row[:3]) for row in rows) or 'none'}")
+                rows = " ".join(shown(row[:3]) for row in rows) or "none"
+                print(f"        0x{low:x} ({high - low}): {said}; rows {rows}")
 
     def row(self, program, count, agreed, differ):
         self.total.update(dict(zip(("count", *PAIRS, "differ"), (count, *agreed, differ))))
-        print(f"{os.path.basename(program):36}{count:9}" + "".join(f"{it:9}" for it in agreed) + f"{differ:9}", flush=True)
+        print(f"{os.path.basename(program):36}" + "".join(f"{it:9}" for it in (count, *agreed, differ)), flush=True)
 
 
 def main():
     options = [it for it in sys.argv[1:] if it.startswith("--")]
     lines, *programs = [it for it in sys.argv[1:] if not it.startswith("--")]
-    print("l is lines, a addr2line, e eu-addr2line, s llvm-symbolizer: addresses on which two agree; majority: two peers agree, lines differs")
-    print(f"{'program':36}{'asked':>9}" + "".join(f"{SHORT[it] + '=' + SHORT[to]:>9}" for it, to in PAIRS) + f"{'majority':>9}")
+    print("On how many addresses two agree: l is lines, a addr2line, e eu-addr2line, s llvm-symbolizer.")
+    print("majority: on how many two peers agree, and lines differs")
+    titles = ["asked", *(f"{SHORT[it]}={SHORT[to]}" for it, to in PAIRS), "majority"]
+    print(f"{'program':36}" + "".join(f"{it:>9}" for it in titles), flush=True)
     comparison = Comparison(lines, options)
     for program in programs:
         comparison.program(program)
     total = comparison.total
-    print(f"{'total':36}{total['count']:9}" + "".join(f"{total[it]:9}" for it in PAIRS) + f"{total['differ']:9}")
+    print(f"{'total':36}" + "".join(f"{total[it]:9}" for it in ("count", *PAIRS, "differ")))
     for title, counts in (
         ("known faults of peers, where lines says what the rows say", comparison.faults),
         ("causes of lines, by addresses", comparison.causes),

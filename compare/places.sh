@@ -1,26 +1,38 @@
 #!/usr/bin/env bash
-# Asks every address of code of many programs of `lines where`, addr2line, eu-addr2line and llvm-symbolizer, and prints on how
-# many addresses each two agree, and each difference from the majority. Outside the gate.
+# Asks `lines where`, addr2line, eu-addr2line and llvm-symbolizer for every address of code of many
+# programs. Prints on how many addresses each two agree, and each difference of `lines`. Outside the
+# gate.
 #
-#     compare/places.sh [--columns] [--each] [PROGRAM..]     LINES_PROGRAM=FILE is asked in place of crates/lines, PLACES=N of each
+#     compare/places.sh [--columns] [--each] [PROGRAM..]
 #
-# It builds programs of compare/sources by each compiler at hand, and then asks the programs that are named too. It needs python3,
-# gcc or clang, and on Debian: apt-get install binutils elfutils llvm. A build that a compiler can't do is passed over, and counted.
+# It builds programs of compare/sources by each compiler at hand, and asks these and the programs
+# that are named. --columns compares columns too, --each prints each difference, PLACES=N asks N
+# addresses of each program in place of a million, and LINES_PROGRAM=FILE is asked in place of
+# crates/lines. It needs python3, gcc or clang, and on Debian: apt-get install binutils elfutils
+# llvm. A build that a compiler can't do is passed over, and counted.
 #
-# What the rows of llvm-dwarfdump say of an address decides: where `lines` says it and a peer does not, the peer's fault has to
-# be one of these, which are counted. A row covers the addresses from its own up to the next row's, in its sequence; a sequence
-# below the lowest section of code was dropped.
-#   addr2line, a file without a line where no row is: it takes the file of a symbol. No row covers the address, and its line is `?`.
-#   addr2line, `?` for a row of line 0: such a row covers the address, and its line is `?`.
-#   addr2line, no line where the ranges stand in .zdebug_rnglists: the file has this section, and it says no line.
-#   addr2line, file 0 for file 1 of version 5: each row of the sequence so far has file 1, as the register begins, and it says the
-#     path of file 0 with the row's line.
-#   eu-addr2line, no place outside .debug_aranges: no range of that section has the address, and it says `??`. clang writes none.
-#   llvm-symbolizer, no place outside the units' ranges: no unit's ranges in .debug_info have the address, and it says `??`.
-#   another of the rows that cover the address: two sequences do, and each says a row of one of them.
-# Where `lines` does not say what the rows say, the difference is printed with its cause, if that is known:
+# The rows that llvm-dwarfdump prints decide. A row covers the addresses from its own up to the next
+# row's, in its sequence; a sequence below the lowest section of code was dropped. Where `lines`
+# says what the rows say and a peer does not, the peer's fault has to be one of these, which are
+# counted:
+#   addr2line, a file without a line where no row is: no row covers the address, and it says `?` for
+#     the line of a symbol's file.
+#   addr2line, `?` for a row of line 0: such a row covers the address, and it says `?` for the line.
+#   addr2line, no line where the ranges stand in .zdebug_rnglists: the file has this section, and it
+#     says no line.
+#   addr2line, file 0 for file 1 of version 5: the row and all before it in its sequence name file
+#     1, with which the register begins, and it says the row's line and the path of file 0.
+#   eu-addr2line, no place outside .debug_aranges: no range there has the address, and it says `??`.
+#     clang and Go write none.
+#   llvm-symbolizer, no place outside the units' ranges: no unit's ranges in .debug_info have the
+#     address, and it says `??`.
+#   another of the rows that cover the address: two sequences do, and it says a row of the other
+#     one.
+# Where `lines` does not say what the rows say, the difference is printed with its cause, if that is
+# known:
 #   no answer: it refuses the file, by this message.
-#   code merged with dropped code is lost: it says `??`, and the sequence before, in the unit, was dropped and its addresses go down.
+#   code merged with dropped code is lost: it says `??`, and the sequence before, in the unit, was
+#     dropped and has addresses that go down.
 #   a relative path stays relative: the line is the row's, and the row's path ends with its path.
 # The status is 1 where there is such a difference, or one that no rule explains.
 set -eu
@@ -54,7 +66,8 @@ tried() {
     fi
 }
 
-# A program of C, the faults of C++, whose units differ in their flags so that the linker drops functions of the second, and lists.
+# A program of C, one of C++, and one whose units differ in their flags: the linker keeps the
+# templates of the first and drops those of the second.
 c_program() {
     tried "$1" "$2" "${@:3}" -o "$work/$1" main.c sums.c
 }
@@ -94,7 +107,8 @@ for compiler in gcc clang; do
         faults_program "$plus-$version-gc" "$plus" "${flags[@]}" -ffunction-sections -Wl,--gc-sections
         faults_program "$plus-$version-lld-gc" "$plus" "${flags[@]}" -ffunction-sections -Wl,--gc-sections -fuse-ld=lld
         lists_program "$plus-$version-zlib" "$plus" "${flags[@]}" -gz=zlib
-        tried "$plus-$version-zlib-gnu" objcopy --compress-debug-sections=zlib-gnu "$work/$plus-$version-O2-lists" "$work/$plus-$version-zlib-gnu"
+        tried "$plus-$version-zlib-gnu" objcopy --compress-debug-sections=zlib-gnu \
+            "$work/$plus-$version-O2-lists" "$work/$plus-$version-zlib-gnu"
         tried "$plus-$version-stripped" stripped "$work/$plus-$version-O2-lists" "$work/$plus-$version-stripped"
         tried "$compiler-$version.o" $compiler "${flags[@]}" -c sums.c -o "$work/$compiler-$version.o"
     done
