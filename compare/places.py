@@ -77,6 +77,10 @@ class Ranges:
         self.reach = array.array("Q", itertools.accumulate(self.highs, max))
         return self
 
+    def end_before(self, address):
+        it = bisect.bisect_right(self.lows, address) - 1
+        return self.reach[it] if it >= 0 else 0
+
     def at(self, address):
         """The values of all stretches that have an address, the last one first."""
         found, it = [], bisect.bisect_right(self.lows, address) - 1
@@ -93,6 +97,7 @@ class Table:
     def __init__(self, program, code):
         self.lowest, self.has_old_ranges = code.lowest, code.has_old_ranges
         self.folders, self.paths, self.known = {}, {}, {}
+        self.at_ends = collections.defaultdict(set)
         self.rows, self.unit_ranges, self.listed = Ranges(), Ranges(), Ranges()
         for unit in ran(["llvm-dwarfdump", "--debug-info", "--recurse-depth=0", program]).stdout.split("Unit: ")[1:]:
             place, folder = re.search(r"DW_AT_stmt_list\s+\((\w+)", unit), re.search(r'DW_AT_comp_dir\s+\("(.*)"', unit)
@@ -142,12 +147,15 @@ class Table:
         unit["dropped"] = min(places) < self.lowest and places != sorted(places)
         for row, low, high in zip(rows, places, places[1:]):
             is_first = is_first and row[3] == "1"
-            if self.lowest <= low < high:
+            if self.lowest <= low:
                 key = (unit["at"], *row[1:4], is_first, follows_dropped)
                 if key not in self.known:
                     zero = self.path(unit, 0) if is_first else None
                     self.known[key] = Row(self.path(unit, int(row[3])), int(row[1]), int(row[2]), zero, follows_dropped)
-                self.rows.add(low, high, self.known[key])
+                if low < high:
+                    self.rows.add(low, high, self.known[key])
+                elif low == places[-1]:
+                    self.at_ends[low].add(self.known[key][:2])
 
     def path(self, unit, number):
         key = (unit["at"], number)
@@ -173,6 +181,8 @@ class Table:
             return "file 0 for file 1 of version 5"
         if peer == "eu-addr2line" and answer == NOWHERE and not self.listed.at(address):
             return "no place outside .debug_aranges"
+        if peer == "eu-addr2line" and not rows and answer[:2] in self.at_ends[self.rows.end_before(address)]:
+            return "a row at the end of its sequence covers the gap after it"
         if peer == "llvm-symbolizer" and answer == NOWHERE and not self.unit_ranges.at(address):
             return "no place outside the units' ranges"
         return None

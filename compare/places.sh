@@ -24,6 +24,8 @@
 #     1, with which the register begins, and it says the row's line and the path of file 0.
 #   eu-addr2line, no place outside .debug_aranges: no range there has the address, and it says `??`.
 #     clang and Go write none.
+#   eu-addr2line, a row at the end of its sequence covers the gap after it: no row covers the
+#     address, and it says a row that has the address of the end of the sequence before.
 #   llvm-symbolizer, no place outside the units' ranges: no unit's ranges in .debug_info have the
 #     address, and it says `??`.
 #   another of the rows that cover the address: two sequences do, and it says a row of the other
