@@ -29,6 +29,7 @@ PAIRS = list(itertools.combinations(SHORT, 2))
 ANSWER = re.compile(r"(.*?):(\d+|\?)(?::(\d+))?(?: \(discriminator \d+\))?$")
 NOWHERE = (None, 0, 0)
 NO_LINE = -1
+NO_RULE = "no rule explains it"
 # A row, with the path of file 0 where its unit is of version 5 and its sequence has named no file but 1 so far, and whether
 # the sequence before, in its unit, was dropped and has addresses that go down.
 Row = collections.namedtuple("Row", "path line column file_zero follows_dropped")
@@ -169,7 +170,9 @@ class Table:
         return answer == NOWHERE and not rows or any(answer[:2] == row[:2] for row in rows)
 
     def fault(self, peer, address, answer, rows):
-        """The rule that tells a known fault of a peer, whose answer is not the table's."""
+        """The rule that tells why a peer says something else than `lines`, which says what a row says."""
+        if self.says(answer, rows):
+            return "another of the rows that cover the address" if len(rows) > 1 else None
         lines = {row.line for row in rows}
         if peer == "addr2line" and answer[1] == NO_LINE and not rows:
             return "a file without a line where no row is"
@@ -228,7 +231,7 @@ def shown(answer):
 class Comparison:
     def __init__(self, lines, options):
         self.lines, self.options = lines, options
-        self.faults, self.causes, self.open, self.total = (collections.Counter() for _ in range(4))
+        self.faults, self.causes, self.total = (collections.Counter() for _ in range(3))
 
     def agree(self, one, other):
         is_same = one[:2] == other[:2]
@@ -267,33 +270,22 @@ class Comparison:
             pairs[pair] += bool(one and other and self.agree(one, other))
         ours, peers = told["lines"], {peer: told[peer] for peer in PEERS if told[peer]}
         votes = collections.Counter(it[:2] for it in peers.values()).most_common(1)
-        major = votes[0][0] if votes and votes[0][1] > 1 else None
-        differs = major is not None and (ours is None or ours[:2] != major)
+        is_major = bool(votes) and votes[0][1] > 1 and (ours is None or ours[:2] != votes[0][0])
         if ours is None:
             self.causes["no answer: " + silent["lines"]] += 1
-            return differs
+            return is_major
         rows, causes = table.rows.at(address), set()
-        is_ours = table.says(ours, rows)
-        for peer, answer in peers.items():
-            if self.agree(ours, answer):
-                continue
-            if not is_ours:
-                kind, cause = self.causes, table.own_fault(ours, rows)
-            elif table.says(answer, rows):
-                kind, cause = self.faults, "another of the rows that cover the address" if len(rows) > 1 else None
+        for peer in (it for it in peers if not self.agree(ours, peers[it])):
+            if not table.says(ours, rows):
+                causes.add(table.own_fault(ours, rows) or NO_RULE)
+            elif fault := table.fault(peer, address, peers[peer], rows):
+                self.faults[f"{peer}: {fault}"] += 1
             else:
-                kind, cause = self.faults, table.fault(peer, address, answer, rows)
-            if cause is None:
-                self.open[peer] += 1
-                causes.add("no rule")
-            elif kind is self.faults:
-                self.faults[f"{peer}: {cause}"] += 1
-            else:
-                causes.add(cause)
-        self.causes.update(it for it in causes if it != "no rule")
+                causes.add(NO_RULE)
+        self.causes.update(causes)
         for cause in causes:
             groups.setdefault(cause, []).append((address, told, rows))
-        return differs
+        return is_major
 
     def print_groups(self, groups):
         """Each difference; addresses that follow one another with the same answers are one."""
@@ -329,13 +321,12 @@ def main():
     print(f"{'total':36}" + "".join(f"{total[it]:9}" for it in ("count", *PAIRS, "differ")))
     for title, counts in (
         ("known faults of peers, where lines says what the rows say", comparison.faults),
-        ("causes of lines, by addresses", comparison.causes),
-        ("differences from a peer that no rule explains", comparison.open),
+        ("addresses at which lines is wrong, or no rule explains a peer", comparison.causes),
     ):
         print(f"{title}: {sum(counts.values())}")
         for name, count in counts.most_common():
             print(f"{count:10}  {name}")
-    sys.exit(bool(comparison.causes or comparison.open))
+    sys.exit(bool(comparison.causes))
 
 
 main()
