@@ -1,7 +1,11 @@
 pub mod Steps
+pub mod Fault
+pub mod Gives
 pub mod Layout
 pub mod Header
 pub mod SectionHeader
+pub mod Compression
+pub mod SectionBytes
 pub mod Table
 pub mod File
 pub mod SectionTable

@@ -35,10 +35,13 @@ has_flag header bit = not (nat_eq (bit_and header.flags bit) 0)
 abbrev pub is_code : SectionHeader → Bool
 is_code header = has_flag header 2 && has_flag header 4 && not (nat_eq header.size 0)
 
--- the bytes of a section in its file: none where its kind is SHT_NOBITS; refused where it is compressed (SHF_COMPRESSED)
-abbrev pub section_bytes : List ℕ → SectionHeader → Result (List ℕ) ElfError
-section_bytes file header =
-    if has_flag header 0x800 then Err Compressed
-    else (if nat_eq header.kind 8 then Ok []
+-- the bytes of a section as they stand in its file: none where its kind is SHT_NOBITS
+abbrev pub stored_bytes : List ℕ → SectionHeader → Result (List ℕ) ElfError
+stored_bytes file header =
+    if nat_eq header.kind 8 then Ok []
     else (if nat_lt (length file) (header.offset + header.size) then Err SectionCut
-    else Ok (slice_range file header.offset (header.offset + header.size))))
+    else Ok (slice_range file header.offset (header.offset + header.size)))
+
+-- the bytes of a section that isn't compressed (SHF_COMPRESSED)
+abbrev pub section_bytes : List ℕ → SectionHeader → Result (List ℕ) ElfError
+section_bytes file header = if has_flag header 0x800 then Err Compressed else stored_bytes file header

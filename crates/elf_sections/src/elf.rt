@@ -1,20 +1,30 @@
 //! A file and its sections.
 
-ghost use Rattle.std.specs.Prelude.{◌≡◌, nat_eq, MatchOption, []};
-ghost use Rattle.std.specs.Option.{option_copied};
+ghost use Rattle.std.specs.Prelude.{◌≡◌, nat_eq, IfOk, IfErr, MatchOption, []};
+ghost use Rattle.std.specs.Option.{option_copied, option_map};
 ghost use Rattle.gimli_core.specs.Order.{is_big};
 ghost use Rattle.gimli_core.specs.Reading.{result_map};
 ghost use Rattle.elf_sections.specs.Layout.{address_size};
-ghost use Rattle.elf_sections.specs.File.{file_at, section_at, code_addresses, IsLeast};
+ghost use Rattle.elf_sections.specs.Gives.{Gives};
+ghost use Rattle.elf_sections.specs.Compression.{data_of, old_data_of, old_name};
+ghost use Rattle.elf_sections.specs.declared.error.ElfError.TheVariants.{OutOfMemory};
+ghost use Rattle.elf_sections.specs.File.{file_at, section_at, section_data_at, section_named, old_data_in, code_addresses, IsLeast};
 
+use crate::compression::{old_name, uncompressed, uncompressed_old};
 use crate::error::ElfError;
 use crate::header::Header;
 use crate::layout::Layout;
+use crate::section_bytes::SectionBytes;
+use crate::section_header::SectionHeader;
 use crate::section_table::SectionTable;
 use gimli_core::Endianity;
+use std::alloc::Global;
 
 /// An object file whose sections aren't linked yet (`ET_REL`).
 const REL: u16 = 1;
+
+/// How the names of sections begin that have an older form.
+const DEBUG: &[u8] = b".debug_";
 
 /// An ELF file, whose sections are looked up by their names.
 #[derive(Clone, Copy, Debug)]
@@ -28,6 +38,7 @@ pub struct Elf<'a> {
 
 impl<'a> Elf<'a> {
     ghost use Rattle.elf_sections.specs.Elf.{file_of};
+    ghost use Rattle.elf_sections.specs.SectionBytes.{bytes_of};
 
     /// Reads the header of a file, finds its section table and the names of its sections.
     ///
@@ -90,6 +101,86 @@ impl<'a> Elf<'a> {
             }
             None => Ok(None),
         }
+    }
+
+    /// What the first section of this name holds; None where there is none.
+    ///
+    /// A compressed section (`SHF_COMPRESSED`) is made whole, as large as its header says and no
+    /// larger. Where no section has the name, and it begins with `.debug_`, the section of the older
+    /// form is answered that GNU's tools wrote: `.zdebug_line` for `.debug_line`. Refuses a section
+    /// whose bytes aren't all in the file (`SectionCut`), one that ends within its header of
+    /// compression (`CompressionHeaderCut`), another way of compression than zlib's (`Zstd`,
+    /// `UnknownCompression`), a section of the older form without its first bytes (`NotZlib`) or
+    /// with `SHF_COMPRESSED` (`Compressed`), and one that doesn't hold what its header says
+    /// (`Decompression`). `OutOfMemory` is answered where there is no memory for what it makes.
+    pub fn section_data(
+        &self,
+        alloc: Global,
+        name: &[u8],
+    ) -> Result<Option<SectionBytes<'a>>, ElfError>
+        ensures { Gives (option_map bytes_of) result (section_data_at (file_of self.now) name.now) }
+    {
+        if let Some(header) = self.table.find(self.names, name) {
+            let data = self.data_of(alloc, &header)?;
+            return Ok(Some(data));
+        }
+        if name.starts_with(DEBUG) {
+            return self.old_section_data(alloc, name);
+        }
+        Ok(None)
+    }
+
+    /// What a section holds.
+    fn data_of(&self, alloc: Global, header: &SectionHeader) -> Result<SectionBytes<'a>, ElfError>
+        ensures { let file = file_of self.now in
+            Gives bytes_of result (data_of file.layout file.bytes header.now) }
+    {
+        let bytes = header.stored_in(self.bytes)?;
+        if header.is_compressed() {
+            let made = uncompressed(alloc, self.layout, bytes)?;
+            return Ok(SectionBytes::Made(made));
+        }
+        Ok(SectionBytes::Lent(bytes))
+    }
+
+    /// What the section holds that is the older form of a name's.
+    fn old_section_data(
+        &self,
+        alloc: Global,
+        name: &[u8],
+    ) -> Result<Option<SectionBytes<'a>>, ElfError>
+        ensures { let file = file_of self.now in Gives (option_map bytes_of) result
+            (old_data_in file.bytes (section_named file (old_name name.now))) }
+    {
+        let Some(header) = self.old_header(alloc, name)? else {
+            return Ok(None);
+        };
+        let data = self.old_data_of(alloc, &header)?;
+        Ok(Some(data))
+    }
+
+    /// The header of the section that is the older form of a name's.
+    fn old_header(&self, alloc: Global, name: &[u8]) -> Result<Option<SectionHeader>, ElfError>
+        ensures ok { IfOk result (λ found. found ≡
+            section_named (file_of self.now) (old_name name.now)) }
+        ensures err { IfErr result (λ e. e ≡ OutOfMemory) }
+    {
+        let old = old_name(alloc, name)?;
+        let found = self.table.find(self.names, old.as_slice());
+        Ok(found)
+    }
+
+    /// What a section of the older form holds.
+    fn old_data_of(
+        &self,
+        alloc: Global,
+        header: &SectionHeader,
+    ) -> Result<SectionBytes<'a>, ElfError>
+        ensures { Gives bytes_of result (old_data_of (file_of self.now).bytes header.now) }
+    {
+        let bytes = header.bytes_in(self.bytes)?;
+        let made = uncompressed_old(alloc, bytes)?;
+        Ok(SectionBytes::Made(made))
     }
 
     /// The lowest address of code (`sh_addr`), among the sections that are in memory when the

@@ -2,7 +2,7 @@
 
 ghost use Rattle.std.specs.Prelude.{◌≡◌, ◌≤◌, length};
 ghost use Rattle.gimli_core.specs.Reading.{result_map};
-ghost use Rattle.elf_sections.specs.SectionHeader.{section_header_size, section_header, is_active, has_flag, is_code, section_bytes};
+ghost use Rattle.elf_sections.specs.SectionHeader.{section_header_size, section_header, is_active, has_flag, is_code, stored_bytes, section_bytes};
 
 use crate::error::ElfError;
 use crate::layout::Layout;
@@ -76,13 +76,27 @@ impl SectionHeader {
         self.has_flag(ALLOC) && self.has_flag(EXECINSTR) && self.size != 0
     }
 
-    /// The section's bytes in its file.
+    /// Whether the section is compressed.
+    pub(crate) fn is_compressed(&self) -> bool
+        ensures { result ≡ has_flag self.now 0x800 }
+    {
+        self.has_flag(COMPRESSED)
+    }
+
+    /// The section's bytes in its file, if it isn't compressed.
     pub(crate) fn bytes_in<'a>(&self, file: &'a [u8]) -> Result<&'a [u8], ElfError>
         ensures { result_map (λ bytes. bytes.now) result ≡ section_bytes file.now self.now }
     {
-        if self.has_flag(COMPRESSED) {
+        if self.is_compressed() {
             return Err(ElfError::Compressed);
         }
+        self.stored_in(file)
+    }
+
+    /// The section's bytes in its file, as they stand.
+    pub(crate) fn stored_in<'a>(&self, file: &'a [u8]) -> Result<&'a [u8], ElfError>
+        ensures { result_map (λ bytes. bytes.now) result ≡ stored_bytes file.now self.now }
+    {
         if self.kind == NOBITS {
             return Ok(&[]);
         }
