@@ -1,5 +1,6 @@
 mod Names
 pub mod Worked
+pub mod WorkedCompression
 mod Headers
 mod Lowest
 mod TableNames
