@@ -2,5 +2,6 @@ mod Names
 pub mod Worked
 pub mod WorkedCompression
 mod Headers
+mod StepLaws
 mod Lowest
 mod TableNames

@@ -15,6 +15,8 @@ pub record File : Type 0 where
   pub layout : Layout
   -- e_type
   pub kind : ℕ
+  -- e_machine
+  pub machine : ℕ
   pub headers : List SectionHeader
   pub names : List ℕ
 
@@ -25,7 +27,14 @@ file_at bytes =
     header_at layout bytes >>= λ header.
     table_at layout header bytes >>= λ table.
     names_at bytes table >>= λ names.
-    Ok (record { bytes = bytes; layout = layout; kind = header.kind; headers = table.headers; names = names })
+    Ok (record {
+      bytes = bytes;
+      layout = layout;
+      kind = header.kind;
+      machine = header.machine;
+      headers = table.headers;
+      names = names;
+    })
 
 -- the headers of sections
 abbrev pub sections : File → List SectionHeader

@@ -8,5 +8,9 @@ pub mod Compression
 pub mod SectionBytes
 pub mod Table
 pub mod File
+pub mod Machine
+pub mod Relocation
+pub mod Entries
+pub mod Relocating
 pub mod SectionTable
 pub mod Elf

@@ -11,7 +11,8 @@ use Rattle.elf_sections.specs.declared.section_header.SectionHeader.{SectionHead
 abbrev pub section_header_size : Class → ℕ
 section_header_size class = 16 + 6 * address_size class
 
--- the section header that bytes begin with: sh_name, sh_type, sh_flags, sh_addr, sh_offset, sh_size, sh_link
+-- the section header that bytes begin with: sh_name, sh_type, sh_flags, sh_addr, sh_offset, sh_size, sh_link,
+-- sh_info, and sh_entsize after sh_addralign
 abbrev pub section_header : Layout → List ℕ → SectionHeader
 section_header layout bytes = record {
   name = number_at layout 4 0 bytes;
@@ -21,6 +22,8 @@ section_header layout bytes = record {
   offset = number_at layout (address_size layout.class) (8 + 2 * address_size layout.class) bytes;
   size = number_at layout (address_size layout.class) (8 + 3 * address_size layout.class) bytes;
   link = number_at layout 4 (8 + 4 * address_size layout.class) bytes;
+  info = number_at layout 4 (12 + 4 * address_size layout.class) bytes;
+  entry_size = number_at layout (address_size layout.class) (16 + 5 * address_size layout.class) bytes;
 }
 
 -- SHT_NULL: the header is inactive, and no section's

@@ -8,12 +8,15 @@ ghost use Rattle.elf_sections.specs.Layout.{address_size};
 ghost use Rattle.elf_sections.specs.Gives.{Gives};
 ghost use Rattle.elf_sections.specs.Compression.{data_of, old_data_of, old_name};
 ghost use Rattle.elf_sections.specs.declared.error.ElfError.TheVariants.{OutOfMemory};
+ghost use Rattle.elf_sections.specs.Relocating.{index_of, data_index, applied_at, relocated_at};
 ghost use Rattle.elf_sections.specs.File.{file_at, section_at, section_data_at, section_named, old_data_in, code_addresses, IsLeast};
 
 use crate::compression::{old_name, uncompressed, uncompressed_old};
 use crate::error::ElfError;
 use crate::header::Header;
 use crate::layout::Layout;
+use crate::place::SectionPlace;
+use crate::relocating::Relocator;
 use crate::section_bytes::SectionBytes;
 use crate::section_header::SectionHeader;
 use crate::section_table::SectionTable;
@@ -29,10 +32,11 @@ const DEBUG: &[u8] = b".debug_";
 /// An ELF file, whose sections are looked up by their names.
 #[derive(Clone, Copy, Debug)]
 pub struct Elf<'a> {
-    bytes: &'a [u8],
-    layout: Layout,
+    pub(crate) bytes: &'a [u8],
+    pub(crate) layout: Layout,
     kind: u16,
-    table: SectionTable<'a>,
+    pub(crate) machine: u16,
+    pub(crate) table: SectionTable<'a>,
     names: &'a [u8],
 }
 
@@ -59,6 +63,7 @@ impl<'a> Elf<'a> {
             bytes,
             layout,
             kind: header.kind,
+            machine: header.machine,
             table,
             names,
         })
@@ -128,6 +133,77 @@ impl<'a> Elf<'a> {
             return self.old_section_data(alloc, name);
         }
         Ok(None)
+    }
+
+    /// What the first section of this name holds, relocated; None where there is none.
+    ///
+    /// In an object file (`ET_REL`) the relocations (`SHT_REL`, `SHT_RELA`) of the section are applied
+    /// to what `section_data` answers, in order; in any other file none are. `place` says which
+    /// addresses count. It takes memory for a copy of the section alone. Refuses what `section_data`
+    /// refuses, a machine or a kind of relocations that isn't known (`UnknownMachine`,
+    /// `UnknownRelocation`), entries of relocations or symbols that are too short (`EntrySize`),
+    /// relocations without a symbol table (`NoSymbols`), and one with a symbol or a place that isn't
+    /// there (`SymbolOutside`, `RelocationOutside`). Where only one section's addresses count, a
+    /// symbol whose section's index is noted elsewhere is refused too (`SymbolSection`).
+    pub fn relocated(
+        &self,
+        alloc: Global,
+        name: &[u8],
+        place: SectionPlace,
+    ) -> Result<Option<SectionBytes<'a>>, ElfError>
+        ensures { Gives (option_map bytes_of) result
+            (relocated_at (file_of self.now) place name.now) }
+    {
+        let Some(section) = self.section_data(alloc, name)? else {
+            return Ok(None);
+        };
+        if !self.is_relocatable() {
+            return Ok(Some(section));
+        }
+        let relocated = self.applied(alloc, name, place, section)?;
+        Ok(Some(relocated))
+    }
+
+    /// What a section of a name holds, once its relocations are applied.
+    fn applied(
+        &self,
+        alloc: Global,
+        name: &[u8],
+        place: SectionPlace,
+        section: SectionBytes<'a>,
+    ) -> Result<SectionBytes<'a>, ElfError>
+        ensures { let file = file_of self.now in Gives bytes_of result
+            (applied_at file place (bytes_of section.entry) (data_index file name.now)) }
+    {
+        let Some(index) = self.data_index(alloc, name)? else {
+            return Ok(section);
+        };
+        let relocator = Relocator { elf: *self, place };
+        let made = relocator.relocated(alloc, index, section)?;
+        Ok(SectionBytes::Made(made))
+    }
+
+    /// The index of the first section of this name; None where there is none.
+    pub fn section_index(&self, name: &[u8]) -> Option<usize>
+        ensures { result ≡ index_of (file_of self.now) name.now }
+    {
+        self.table.index_of(self.names, name)
+    }
+
+    /// The index of the section that the data of a name are in.
+    fn data_index(&self, alloc: Global, name: &[u8]) -> Result<Option<usize>, ElfError>
+        ensures ok { IfOk result (λ index. index ≡ data_index (file_of self.now) name.now) }
+        ensures err { IfErr result (λ e. e ≡ OutOfMemory) }
+    {
+        if let Some(index) = self.section_index(name) {
+            return Ok(Some(index));
+        }
+        if !name.starts_with(DEBUG) {
+            return Ok(None);
+        }
+        let old = old_name(alloc, name)?;
+        let found = self.section_index(old.as_slice());
+        Ok(found)
     }
 
     /// What a section holds.

@@ -47,6 +47,21 @@ pub enum ElfError {
     Decompression(inflate::Error),
     /// There was no memory for what the section holds.
     OutOfMemory,
+    /// The relocations of the machine (`e_machine`) are unknown.
+    UnknownMachine(u16),
+    /// A kind of relocations (`ELF64_R_TYPE`) is unknown.
+    UnknownRelocation(u32),
+    /// The entries (`sh_entsize`) of a section of relocations, or of its symbol table, are shorter than
+    /// an entry of the class. It holds their size in bytes.
+    EntrySize(u64),
+    /// A section of relocations names no symbol table (`sh_link`, `SHT_SYMTAB`).
+    NoSymbols,
+    /// A symbol table has no symbol of this index.
+    SymbolOutside(u32),
+    /// The section of a symbol is noted elsewhere (`SHN_XINDEX`).
+    SymbolSection,
+    /// The place of a relocation isn't in the section.
+    RelocationOutside,
 }
 
 /// Why a section isn't made whole.
@@ -96,6 +111,20 @@ impl fmt::Display for ElfError {
             ElfError::NotZlib => write!(f, "the compressed section does not begin with ZLIB"),
             ElfError::Decompression(fault) => write!(f, "{fault}"),
             ElfError::OutOfMemory => write!(f, "out of memory"),
+            ElfError::UnknownMachine(machine) => {
+                write!(f, "the relocations of the machine {machine} are unknown")
+            }
+            ElfError::UnknownRelocation(kind) => write!(f, "the relocation type {kind} is unknown"),
+            ElfError::EntrySize(size) => {
+                write!(
+                    f,
+                    "the entries of a section of relocations or symbols have only {size} bytes"
+                )
+            }
+            ElfError::NoSymbols => write!(f, "a section of relocations has no symbol table"),
+            ElfError::SymbolOutside(index) => write!(f, "there is no symbol {index}"),
+            ElfError::SymbolSection => write!(f, "the section of a symbol is noted elsewhere"),
+            ElfError::RelocationOutside => write!(f, "a relocation is not in its section"),
         }
     }
 }
