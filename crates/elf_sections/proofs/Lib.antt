@@ -3,5 +3,6 @@ pub mod Worked
 pub mod WorkedCompression
 mod Headers
 mod StepLaws
+mod Written
 mod Lowest
 mod TableNames

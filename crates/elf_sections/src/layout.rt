@@ -129,12 +129,17 @@ impl Layout {
         requires { offset + size_of width ≤ length bytes.old }
         ensures { bytes.new ≡ with_number self (size_of width) offset number bytes.old }
     {
-        let place = &mut bytes[offset..];
         match width {
-            Width::One => place[0] = (number % 0x100) as u8,
-            Width::Two => self.order.write_u16(place, (number % 0x1_0000) as u16),
-            Width::Four => self.order.write_u32(place, (number % 0x1_0000_0000) as u32),
-            Width::Eight => self.order.write_u64(place, number),
+            Width::One => bytes[offset] = (number % 0x100) as u8,
+            Width::Two => {
+                let low = (number % 0x1_0000) as u16;
+                self.order.write_u16(&mut bytes[offset..], low);
+            }
+            Width::Four => {
+                let low = (number % 0x1_0000_0000) as u32;
+                self.order.write_u32(&mut bytes[offset..], low);
+            }
+            Width::Eight => self.order.write_u64(&mut bytes[offset..], number),
         }
     }
 }
