@@ -1,5 +1,5 @@
 -- Steps for the values of a function from an index on, and the first index of a value that passes a test.
-use Rattle.std.proofs.Common.{◌≡◌, refl, sym, ◌∙◌, ap, ℕ, ◌+◌, ◌<◌, ◌≤◌, List, [], ◌∷◌, Bool, true, false, cond, Option, Some, None, Result, Ok, Err, map, slice_get, arith}
+use Rattle.std.proofs.Common.{◌≡◌, sym, ◌∙◌, ap, ℕ, ◌+◌, ◌<◌, ◌≤◌, ◌∷◌, Bool, true, false, cond, Option, Some, None, Result, Ok, map, slice_get, arith}
 use Rattle.std.specs.List.{filter, position_from, range_with_len}
 use Rattle.elf_sections.specs.Steps.{◌>>=◌, steps}
 use Rattle.elf_sections.proofs.Headers.{values, values_step, values_end, get_from, get_past}

@@ -16,7 +16,6 @@ use Rattle.elf_sections.specs.declared.machine.Change.{Change}
 use Rattle.elf_sections.specs.declared.machine.Change.TheVariants.{Nothing, Number}
 use Rattle.elf_sections.specs.declared.machine.Operation.{Operation}
 use Rattle.elf_sections.specs.declared.machine.Operation.TheVariants.{Address}
-use Rattle.elf_sections.specs.declared.machine.Width.{Width}
 use Rattle.elf_sections.specs.declared.relocation.Form.{Form}
 use Rattle.elf_sections.specs.declared.relocation.Relocation.{Relocation}
 use Rattle.elf_sections.specs.declared.place.SectionPlace.{SectionPlace}
