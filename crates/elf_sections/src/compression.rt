@@ -40,7 +40,7 @@ fn check_kind(kind: u32) -> Result<(), ElfError>
     }
 }
 
-/// What a compressed section holds, whose header (`Elf32_Chdr`, `Elf64_Chdr`) says how much that is.
+/// What a compressed section holds. Its header (`Elf32_Chdr`, `Elf64_Chdr`) says how much that is.
 pub(crate) fn uncompressed(alloc: Global, layout: Layout, bytes: &[u8]) -> Result<Vec<u8>, ElfError>
     ensures { Gives (λ bytes. bytes.items) result (uncompressed layout bytes.now) }
 {

@@ -111,9 +111,8 @@ impl<'a> Elf<'a> {
     /// What the first section of this name holds; None where there is none.
     ///
     /// A compressed section (`SHF_COMPRESSED`) is made whole, as large as its header says and no
-    /// larger. Where no section has the name, and it begins with `.debug_`, the section of the older
-    /// form is answered that GNU's tools wrote: `.zdebug_line` for `.debug_line`. Refuses a section
-    /// whose bytes aren't all in the file (`SectionCut`), one that ends within its header of
+    /// larger. Where no section has the name, and it begins with `.debug_`, what the section of the
+    /// older form holds is answered, `.zdebug_line` for `.debug_line`. Refuses a section whose bytes aren't all in the file (`SectionCut`), one that ends within its header of
     /// compression (`CompressionHeaderCut`), another way of compression than zlib's (`Zstd`,
     /// `UnknownCompression`), a section of the older form without its first bytes (`NotZlib`) or
     /// with `SHF_COMPRESSED` (`Compressed`), and one that doesn't hold what its header says
@@ -137,14 +136,15 @@ impl<'a> Elf<'a> {
 
     /// What the first section of this name holds, relocated; None where there is none.
     ///
-    /// In an object file (`ET_REL`) the relocations (`SHT_REL`, `SHT_RELA`) of the section are applied
-    /// to what `section_data` answers, in order; in any other file none are. `place` says which
-    /// addresses count. It takes memory for a copy of the section alone. Refuses what `section_data`
+    /// In an object file (`ET_REL`) the relocations of the section (`SHT_REL`, `SHT_RELA`) are
+    /// applied to what `section_data` answers, in order; in any other file none are. `place` says
+    /// which addresses count. It takes memory for a copy of the section. Refuses what `section_data`
     /// refuses, a machine or a kind of relocations that isn't known (`UnknownMachine`,
     /// `UnknownRelocation`), entries of relocations or symbols that are too short (`EntrySize`),
-    /// relocations without a symbol table (`NoSymbols`), and one with a symbol or a place that isn't
-    /// there (`SymbolOutside`, `RelocationOutside`). Where only one section's addresses count, a
-    /// symbol whose section's index is noted elsewhere is refused too (`SymbolSection`).
+    /// relocations without a symbol table (`NoSymbols`), and one whose symbol or place isn't there
+    /// (`SymbolOutside`, `RelocationOutside`). Where one section's addresses count, a symbol whose
+    /// section's index is noted elsewhere is refused too (`SymbolSection`). Relocations and symbols
+    /// are refused as sections are by `section`.
     pub fn relocated(
         &self,
         alloc: Global,

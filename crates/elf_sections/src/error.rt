@@ -42,8 +42,8 @@ pub enum ElfError {
     Zstd,
     /// A section `.zdebug_` doesn't begin with the bytes of `ZLIB`.
     NotZlib,
-    /// What the section is compressed to isn't the zlib format, or doesn't hold as many bytes as the
-    /// header of compression says.
+    /// What the section is compressed to isn't the zlib format, or doesn't hold as many bytes as
+    /// the header of compression says.
     Decompression(inflate::Error),
     /// There was no memory for what the section holds.
     OutOfMemory,
@@ -51,8 +51,8 @@ pub enum ElfError {
     UnknownMachine(u16),
     /// A kind of relocations (`ELF64_R_TYPE`) is unknown.
     UnknownRelocation(u32),
-    /// The entries (`sh_entsize`) of a section of relocations, or of its symbol table, are shorter than
-    /// an entry of the class. It holds their size in bytes.
+    /// The entries (`sh_entsize`) of a section of relocations, or of its symbol table, are shorter
+    /// than an entry of the class. It holds their size in bytes.
     EntrySize(u64),
     /// A section of relocations names no symbol table (`sh_link`, `SHT_SYMTAB`).
     NoSymbols,

@@ -33,7 +33,7 @@ pub(crate) struct Relocator<'a> {
     pub(crate) place: SectionPlace,
 }
 
-/// A number and the addend of an entry, modulo 2^64. Without an addend, what stands at the place is it.
+/// A number and the addend of an entry, modulo 2^64. Without an addend it is what stands at the place.
 fn with_addend(addend: Option<u64>, old: u64, number: u64) -> u64
     ensures { result ≡ with_addend addend old number }
 {
@@ -53,7 +53,7 @@ fn address_value(addend: Option<u64>, old: u64, address: Option<u64>) -> u64
     }
 }
 
-/// The offset of a place of so many bytes in bytes.
+/// The offset of a place of so many bytes, which has to be within these bytes.
 fn offset_in(bytes: &[u8], offset: u64, width: Width) -> Result<usize, ElfError>
     ensures { result ≡ (if nat_lt (length bytes.now) (offset + size_of width)
         then Err RelocationOutside else Ok offset) }
@@ -68,7 +68,7 @@ impl<'a> Relocator<'a> {
     ghost use Rattle.elf_sections.specs.Elf.{file_of};
     ghost use Rattle.elf_sections.specs.SectionBytes.{bytes_of};
 
-    /// The bytes of the section of an index, relocated.
+    /// What the section of an index holds, relocated.
     pub(crate) fn relocated(
         &self,
         alloc: Global,
