@@ -3,6 +3,7 @@
 use crate::check::check_equal;
 use elf_sections::{Elf, ElfError, SectionBytes, SectionPlace};
 use std::alloc::Global;
+use std::process::Abort;
 
 /// An object file of 32-bit RISC-V, put together by hand. Its `.debug_line` is compressed by zlib
 /// (`SHF_COMPRESSED`): 01 00 00 00, 10 00, 2c, 00 00 00 00, 07. At 0 `.text.b` + 3 is to be, at 4
@@ -51,7 +52,7 @@ fn relocated(
 }
 
 /// Bytes are those that are wanted.
-fn check_bytes(rt: &HostRuntime, found: Result<Option<SectionBytes<'_>>, ElfError>, wanted: &[u8]) {
+fn check_bytes(rt: &impl Abort, found: Result<Option<SectionBytes<'_>>, ElfError>, wanted: &[u8]) {
     let same = match found {
         Ok(Some(section)) => section.as_slice() == wanted,
         _ => false,
