@@ -1,6 +1,7 @@
 mod Names
 pub mod Worked
 pub mod WorkedCompression
+pub mod WorkedRelocations
 mod Headers
 mod StepLaws
 mod Written
