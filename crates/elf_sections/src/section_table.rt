@@ -197,8 +197,8 @@ impl<'a> SectionTable<'a> {
             && is_name_at names.now header.name name.now) 0 (table_of self.now).headers }
     {
         for index in 0..self.count {
-            let header = self.header(index);
-            if header.is_active() && is_name_at(names, header.name, name) {
+            let found = self.header(index);
+            if found.is_active() && is_name_at(names, found.name, name) {
                 return Some(index);
             }
         }

@@ -18,8 +18,8 @@ returns-then-is_name_at c =
     sym (c.loop-index.invariant
     ∙ index_found (λ header. is_active header && is_name_at c.args.names.now header.name c.args.name.now)
     (header_of c.args.self.now.layout c.args.self.now.entry_size c.args.self.now.entries.now) c.args.self.now.count c.loop-index.index
-    c.header-header.result c.loop-index-test.true c.header-header.ensures
-    (ap (λ b. b && is_name_at c.args.names.now c.header-header.result.name c.args.name.now) (sym c.is_active.ensures ∙ c.if-is_active.true)
+    c.header-found.result c.loop-index-test.true c.header-found.ensures
+    (ap (λ b. b && is_name_at c.args.names.now c.header-found.result.name c.args.name.now) (sym c.is_active.ensures ∙ c.if-is_active.true)
     ∙ sym c.is_name_at.ensures ∙ c.if-is_name_at.true))
 
 pub loop-index-preserved : goal.loop-index-preserved
@@ -28,12 +28,12 @@ loop-index-preserved c =
     let f : ℕ → SectionHeader = header_of c.args.self.now.layout c.args.self.now.entry_size c.args.self.now.entries.now in
     elim c.else-is_active.branch [
       | else-is_active-via-then-is_active+else-is_name_at w ↦ c.loop-index.invariant
-          ∙ index_passed named f c.args.self.now.count c.loop-index.index c.header-header.result c.loop-index-test.true c.header-header.ensures
-          (ap (λ b. b && is_name_at c.args.names.now c.header-header.result.name c.args.name.now) (sym c.is_active.ensures ∙ w.if-is_active.true)
+          ∙ index_passed named f c.args.self.now.count c.loop-index.index c.header-found.result c.loop-index-test.true c.header-found.ensures
+          (ap (λ b. b && is_name_at c.args.names.now c.header-found.result.name c.args.name.now) (sym c.is_active.ensures ∙ w.if-is_active.true)
           ∙ sym w.is_name_at.ensures ∙ w.if-is_name_at.false)
       | else-is_active-via-else-is_active w ↦ c.loop-index.invariant
-          ∙ index_passed named f c.args.self.now.count c.loop-index.index c.header-header.result c.loop-index-test.true c.header-header.ensures
-          (ap (λ b. b && is_name_at c.args.names.now c.header-header.result.name c.args.name.now) (sym c.is_active.ensures ∙ w.if-is_active.false))
+          ∙ index_passed named f c.args.self.now.count c.loop-index.index c.header-found.result c.loop-index-test.true c.header-found.ensures
+          (ap (λ b. b && is_name_at c.args.names.now c.header-found.result.name c.args.name.now) (sym c.is_active.ensures ∙ w.if-is_active.false))
     ]
 
 pub returns : goal.returns
