@@ -19,4 +19,6 @@ mod narrow;
 #[cfg(test)]
 mod readers;
 #[cfg(test)]
+mod sections;
+#[cfg(test)]
 mod units;

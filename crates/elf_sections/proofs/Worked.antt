@@ -21,20 +21,20 @@ code_of bytes = file_at bytes >>= λ file. Ok (code_addresses file)
 -- ---- 336 bytes: 32 bits, the least significant byte first
 
 -- the header: the table at 0x60, six headers of 0x28 bytes, the names in the last
-abbrev header_32 : List ℕ
+abbrev pub header_32 : List ℕ
 header_32 =
     0x7f ∷ 0x45 ∷ 0x4c ∷ 0x46 ∷ 1 ∷ 1 ∷ 1 ∷ replicate 9 0
     ++ 2 ∷ 0 ∷ 3 ∷ 0 ∷ 1 ∷ 0 ∷ 0 ∷ 0 ∷ 0 ∷ 0x90 ∷ 4 ∷ 8 ∷ 0 ∷ 0 ∷ 0 ∷ 0 ∷ 0x60 ∷ 0 ∷ 0 ∷ 0 ∷ 0 ∷ 0 ∷ 0 ∷ 0
     ∷ 0x34 ∷ 0 ∷ 0x20 ∷ 0 ∷ 0 ∷ 0 ∷ 0x28 ∷ 0 ∷ 6 ∷ 0 ∷ 5 ∷ 0 ∷ []
 
 -- at 0x34 four bytes of code, at 0x38 three bytes, at 0x3b one, at 0x3c the names, and two bytes between
-abbrev contents_32 : List ℕ
+abbrev pub contents_32 : List ℕ
 contents_32 =
     0x31 ∷ 0xc0 ∷ 0xc3 ∷ 0x90 ∷ 0xaa ∷ 0xbb ∷ 0xcc ∷ 0xdd
     ∷ (0 ∷ codes ".text" ++ 0 ∷ codes ".bss" ++ 0 ∷ codes ".debug_line" ++ 0 ∷ codes ".shstrtab" ++ replicate 3 0)
 
 -- a section header: the lowest bytes of its fields, and the three higher ones of its address
-abbrev section_32 : ℕ → ℕ → ℕ → ℕ → ℕ → ℕ → ℕ → ℕ → List ℕ
+abbrev pub section_32 : ℕ → ℕ → ℕ → ℕ → ℕ → ℕ → ℕ → ℕ → List ℕ
 section_32 name kind flags low middle high offset size =
     name ∷ 0 ∷ 0 ∷ 0 ∷ kind ∷ 0 ∷ 0 ∷ 0 ∷ flags ∷ 0 ∷ 0 ∷ 0 ∷ 0 ∷ low ∷ middle ∷ high ∷ offset ∷ 0 ∷ 0 ∷ 0 ∷ size ∷ 0 ∷ 0 ∷ 0 ∷ replicate 16 0
 
@@ -48,7 +48,7 @@ table_32 =
     ++ section_32 12 1 0 0 0 0 0x3b 1
     ++ section_32 24 3 0 0 0 0 0x3c 0x22
 
-abbrev file_32 : List ℕ
+abbrev pub file_32 : List ℕ
 file_32 = header_32 ++ contents_32 ++ table_32
 
 -- the first of two sections of a name
