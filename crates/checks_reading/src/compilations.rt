@@ -346,30 +346,23 @@ fn directories_by_line_programs(rt: HostRuntime) {
 
 // ---- refusals
 
-/// A unit of version 5 and a type, with one entry.
-const fn short_unit(unit_type: u8, code: u8) -> [u8; 14] {
-    [
-        10, 0, 0, 0, // unit_length
-        5, 0, // version
-        unit_type, // unit_type
-        8, // address_size
-        0, 0, 0, 0, // debug_abbrev_offset
-        code, // the code of the entry
-        0, // DW_AT_comp_dir
-    ]
+/// A declaration: code 1, DW_TAG_compile_unit, no children; DW_AT_comp_dir in the form 2, which no
+/// version has.
+const NO_FORM: &[u8] = b"\x01\x11\x00\x1b\x02\x00\x00\x00";
+
+/// The refusal of a unit whose declaration is `NO_FORM`.
+fn check_refusal(rt: &impl Abort, info: &'static [u8], refusal: Refusal) {
+    check_first(rt, Little, info, NO_FORM, Err(refusal));
 }
 
 #[test]
 fn refusals(rt: HostRuntime) {
-    const NO_TYPE: [u8; 14] = short_unit(7, 1);
-    const NO_CODE: [u8; 14] = short_unit(1, 2);
-    const NO_FORM: [u8; 14] = short_unit(1, 1);
-    // DW_AT_comp_dir in a form 2, which the standard reserves
-    let abbreviations = b"\x01\x11\x00\x1b\x02\x00\x00\x00";
-    let wanted = Err(Refusal::UnknownUnitType(7));
-    check_first(&rt, Little, &NO_TYPE, abbreviations, wanted);
-    let wanted = Err(Refusal::MissingAbbreviation(2));
-    check_first(&rt, Little, &NO_CODE, abbreviations, wanted);
-    let wanted = Err(Refusal::Bytes(Error::UnknownForm(DwForm(2))));
-    check_first(&rt, Little, &NO_FORM, abbreviations, wanted);
+    // unit_length, version 5, unit_type, address_size 8, debug_abbrev_offset, the code of the entry
+    let unknown_type = b"\x09\0\0\0\x05\0\x07\x08\0\0\0\0\x01";
+    let missing_code = b"\x09\0\0\0\x05\0\x01\x08\0\0\0\0\x02";
+    let unknown_form = b"\x09\0\0\0\x05\0\x01\x08\0\0\0\0\x01";
+    check_refusal(&rt, unknown_type, Refusal::UnknownUnitType(7));
+    check_refusal(&rt, missing_code, Refusal::MissingAbbreviation(2));
+    let unknown = Refusal::Bytes(Error::UnknownForm(DwForm(2)));
+    check_refusal(&rt, unknown_form, unknown);
 }
