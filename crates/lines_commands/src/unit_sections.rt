@@ -45,8 +45,8 @@ impl<'i> UnitSections<'i> {
         order: RunTimeEndian,
         strings: StringSections<Slice<'i>>,
     ) -> CompilationSections<Slice<'i>>
-        ensures line_strings { result.debug_line_str ≡ strings.debug_line_str }
-        ensures strings { result.debug_str ≡ strings.debug_str }
+        ensures line_strings { result.debug_line_str ≡ strings.entry.debug_line_str }
+        ensures strings { result.debug_str ≡ strings.entry.debug_str }
     {
         CompilationSections {
             debug_info: EndianSlice::new(self.info, order),
