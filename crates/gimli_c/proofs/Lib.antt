@@ -9,6 +9,5 @@ pub mod SamePrograms
 pub mod Handles
 pub mod IndexHandles
 pub mod ReaderHandles
-pub mod CompDirs
 pub mod Indexes
 pub mod Readers
