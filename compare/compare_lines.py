@@ -5,9 +5,8 @@ For each program NAME beside its NAME.line: `lines where` at the address of each
 addr2line (path and line) and llvm-symbolizer (path, line and column); `lines units` against llvm-dwarfdump (offset, version,
 format, files, sequences, rows and bytes of each unit). A tool that is not there is passed over, and told.
 
-Up to version 4 the directory of the compilation stands in .debug_info alone, which lines does not read: a relative path is then
-compared with the end of the other tool's path. addr2line looks by .debug_info, so it knows no place where no function is: such
-an answer (??) counts apart.
+Paths are compared whole, in all versions. addr2line looks by .debug_info, so it knows no place where no function is: such an
+answer (??) counts apart.
 """
 import os
 import re
@@ -30,9 +29,7 @@ def row_addresses(lines, program):
 
 
 def is_same_path(ours, theirs):
-    theirs = os.path.normpath(theirs)
-    ours = os.path.normpath(ours)
-    return ours == theirs or (not ours.startswith("/") and theirs.endswith("/" + ours))
+    return os.path.normpath(ours) == os.path.normpath(theirs)
 
 
 def places(answer, columns):

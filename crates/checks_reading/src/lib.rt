@@ -9,6 +9,8 @@
 #[cfg(test)]
 mod check;
 #[cfg(test)]
+mod compilations;
+#[cfg(test)]
 mod headers;
 #[cfg(test)]
 mod machine;

@@ -4,6 +4,7 @@ use crate::check_unit::check_unit;
 use crate::input::Input;
 use crate::output::Output;
 use crate::overlaps::{Sequence, print_overlaps};
+use crate::path_sources::path_sources;
 use crate::progress::Printing;
 use crate::request::UnitChoice;
 use crate::walk::Walk;
@@ -17,6 +18,9 @@ pub(crate) fn print_check<R: Reader, O: Write, E: Write>(
     input: &Input<R>,
     output: &mut Output<'_, O, E>,
 ) {
+    let Some(sources) = path_sources(alloc, input, output) else {
+        return;
+    };
     let mut sequences: Vec<Sequence> = Vec::new(alloc);
     let mut walk = Walk::new(
         alloc,
@@ -31,7 +35,7 @@ pub(crate) fn print_check<R: Reader, O: Write, E: Write>(
             break;
         };
         count = count.saturating_add(1);
-        check_unit(alloc, input, unit, &mut sequences, output);
+        check_unit(alloc, input, &sources, unit, &mut sequences, output);
     }
     print_overlaps(&mut sequences, output);
     let found = output.found();

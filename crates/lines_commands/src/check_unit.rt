@@ -5,6 +5,7 @@ use crate::finding::Finding;
 use crate::input::Input;
 use crate::output::Output;
 use crate::overlaps::Sequence;
+use crate::path_sources::PathSources;
 use gimli_core::{Error, Reader, ReaderOffset};
 use gimli_line::{IncompleteLineProgram, LineInstruction, LineProgramHeader, LineRow, LineUnit};
 use std::alloc::Global;
@@ -14,6 +15,7 @@ use std::io::Write;
 pub(crate) fn check_unit<R: Reader, O: Write, E: Write>(
     alloc: Global,
     input: &Input<R>,
+    sources: &PathSources<R>,
     unit: LineUnit<R>,
     sequences: &mut Vec<Sequence>,
     output: &mut Output<'_, O, E>,
@@ -32,7 +34,7 @@ pub(crate) fn check_unit<R: Reader, O: Write, E: Write>(
         is_left_out: false,
     };
     check.run(&mut program, sequences, output);
-    check_files(alloc, offset, program.header(), &input.strings, output);
+    check_files(alloc, offset, program.header(), sources, output);
 }
 
 /// What is kept of the rows of a unit.

@@ -2,10 +2,11 @@
 
 use crate::finding::Finding;
 use crate::output::Output;
+use crate::path_sources::PathSources;
 use crate::paths_seen::{PathDigest, digest_of};
 use gimli_core::Reader;
 use gimli_line::LineProgramHeader;
-use gimli_lookup::{PathError, Paths, StringSections};
+use gimli_lookup::PathError;
 use std::alloc::Global;
 use std::io::Write;
 
@@ -21,11 +22,11 @@ pub(crate) fn check_files<R: Reader, O: Write, E: Write>(
     alloc: Global,
     unit: u64,
     header: &LineProgramHeader<R>,
-    strings: &StringSections<R>,
+    sources: &PathSources<R>,
     output: &mut Output<'_, O, E>,
 ) {
     let mut files = Vec::new(alloc);
-    digest_files(alloc, unit, header, strings, &mut files, output);
+    digest_files(alloc, unit, header, sources, &mut files, output);
     if files.sort().is_err() {
         return output.fail_for_memory();
     }
@@ -37,17 +38,16 @@ fn digest_files<R: Reader, O: Write, E: Write>(
     alloc: Global,
     unit: u64,
     header: &LineProgramHeader<R>,
-    strings: &StringSections<R>,
+    sources: &PathSources<R>,
     files: &mut Vec<DigestedFile>,
     output: &mut Output<'_, O, E>,
 ) {
-    let paths = Paths::new(header, *strings, None);
     let last = header.file_names().len() as u64;
     for index in 0..=last {
         let Some(file) = header.file(index) else {
             continue;
         };
-        match paths.of_file(alloc, file) {
+        match sources.of_file(alloc, header, file) {
             Ok(path) => {
                 let digest = digest_of(&path);
                 if files.push(DigestedFile { digest, index }).is_err() {

@@ -1,11 +1,12 @@
 //! The command `files`: the directories and files of a unit.
 
 use crate::output::Output;
+use crate::path_sources::PathSources;
 use crate::path_text::PathText;
 use crate::row_count::RowTotal;
 use gimli_core::{Reader, ReaderOffset};
 use gimli_line::{FileEntry, IncompleteLineProgram, LineProgramHeader};
-use gimli_lookup::{PathError, Paths, StringSections};
+use gimli_lookup::{PathError, StringSections};
 use rows_reading::Digits;
 use std::alloc::Global;
 use std::fmt;
@@ -17,7 +18,7 @@ pub(crate) fn print_files<R: Reader, O: Write, E: Write>(
     alloc: Global,
     offset: u64,
     program: IncompleteLineProgram<R>,
-    strings: &StringSections<R>,
+    sources: &PathSources<R>,
     output: &mut Output<'_, O, E>,
 ) {
     output.print_unit_heading(offset, program.header().version());
@@ -27,8 +28,8 @@ pub(crate) fn print_files<R: Reader, O: Write, E: Write>(
         output.tell_fault(offset, total.rows, fault);
     }
     let header = rows.header();
-    print_directories(offset, header, strings, output);
-    print_each_file(alloc, offset, header, strings, output);
+    print_directories(offset, header, sources.strings(), output);
+    print_each_file(alloc, offset, header, sources, output);
 }
 
 /// Prints the directories of a header, as they are written.
@@ -73,17 +74,16 @@ fn print_each_file<R: Reader, O: Write, E: Write>(
     alloc: Global,
     offset: u64,
     header: &LineProgramHeader<R>,
-    strings: &StringSections<R>,
+    sources: &PathSources<R>,
     output: &mut Output<'_, O, E>,
 ) {
-    let paths = Paths::new(header, *strings, None);
     let last = header.file_names().len() as u64;
     for index in 0..=last {
         let Some(file) = header.file(index) else {
             continue;
         };
-        let details = Details::new(header, file, strings);
-        match paths.of_file(alloc, file) {
+        let details = Details::new(header, file, sources.strings());
+        match sources.of_file(alloc, header, file) {
             Ok(path) => {
                 let path = PathText(&path);
                 output.print(format_args!("file {index}  {path}{details}"));

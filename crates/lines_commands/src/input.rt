@@ -6,7 +6,9 @@ ghost use Rattle.elf_sections.specs.Elf.{file_of};
 ghost use Rattle.lines_commands.specs.Lines.{HasLines};
 
 use crate::input_error::InputError;
+use crate::unit_sections::UnitSections;
 use elf_sections::{Elf, ElfError};
+use gimli_compilation::CompilationSections;
 use gimli_core::{EndianSlice, Reader, ReaderOffset, RunTimeEndian, Section};
 use gimli_line::DebugLine;
 use gimli_lookup::StringSections;
@@ -48,6 +50,8 @@ pub(crate) struct Input<R> {
     pub(crate) lines: DebugLine<R>,
     /// The sections of texts.
     pub(crate) strings: StringSections<R>,
+    /// The sections that say where compilations ran.
+    pub(crate) compilations: CompilationSections<R>,
     /// How wide an address is, where the unit doesn't say.
     pub(crate) address_size: AddressSize,
     /// An address below which there is no code, 0 where none is known.
@@ -74,6 +78,7 @@ impl<'i> Input<Slice<'i>> {
             Kind::Raw(notation) => Ok(Input::of_program(Program {
                 notation,
                 sections: files,
+                units: UnitSections::none(),
                 lowest: 0,
             })),
         }
@@ -83,12 +88,14 @@ impl<'i> Input<Slice<'i>> {
     fn of_program(program: Program<'i>) -> Input<Slice<'i>> {
         let order = program.notation.order;
         let sections = program.sections;
+        let strings = StringSections {
+            debug_line_str: EndianSlice::new(sections.line_str, order),
+            debug_str: EndianSlice::new(sections.strings, order),
+        };
         Input {
             lines: DebugLine::new(sections.file, order),
-            strings: StringSections {
-                debug_line_str: EndianSlice::new(sections.line_str, order),
-                debug_str: EndianSlice::new(sections.strings, order),
-            },
+            strings,
+            compilations: program.units.readers(order, strings),
             address_size: program.notation.address_size,
             lowest: program.lowest,
         }
@@ -101,6 +108,8 @@ struct Program<'i> {
     notation: Notation,
     /// The line programs, in place of a file, and the texts.
     sections: Files<'i>,
+    /// The sections of units.
+    units: UnitSections<'i>,
     /// An address below which there is no code, 0 where none is known.
     lowest: u64,
 }
@@ -123,6 +132,7 @@ impl<'i> Program<'i> {
         Ok(Program {
             notation: notation_of(&elf),
             sections,
+            units: UnitSections::of_elf(&elf),
             lowest: elf.lowest_code_address().unwrap_or(0),
         })
     }

@@ -21,6 +21,7 @@ mod lookup;
 mod numbers;
 mod output;
 mod overlaps;
+mod path_sources;
 mod path_text;
 mod paths_seen;
 mod perform;
@@ -31,6 +32,7 @@ mod row_count;
 mod row_list;
 mod screen;
 mod unit_list;
+mod unit_sections;
 mod walk;
 mod words;
 

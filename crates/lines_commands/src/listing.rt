@@ -3,6 +3,7 @@
 use crate::file_list::print_files;
 use crate::input::Input;
 use crate::output::Output;
+use crate::path_sources::path_sources;
 use crate::progress::Printing;
 use crate::request::{Form, UnitChoice};
 use crate::row_list::print_rows;
@@ -12,15 +13,31 @@ use gimli_core::Reader;
 use std::alloc::Global;
 use std::io::Write;
 
-/// What is printed of a unit.
+/// What is printed of a unit that has paths.
 #[derive(Clone, Copy, Debug, PartialEq, Eq)]
 pub(crate) enum Listing {
-    /// A line, under headings.
-    Line,
     /// Its directories and files.
     Files,
     /// Its rows.
     Rows(Form),
+}
+
+/// Prints a line for each unit whose header can be read, under headings. The fault of a unit is
+/// reported, and the next unit follows.
+pub(crate) fn print_units<R: Reader, O: Write, E: Write>(
+    alloc: Global,
+    input: &Input<R>,
+    output: &mut Output<'_, O, E>,
+) {
+    print_headings(output);
+    let screen = output.screen();
+    let mut walk = Walk::new(alloc, input, UnitChoice::All, screen, Printing::Steady);
+    for _ in 0..u64::MAX {
+        let Some((offset, program)) = walk.next_program(output) else {
+            break;
+        };
+        print_unit(offset, program, output);
+    }
 }
 
 /// Prints something of each chosen unit whose header can be read. The fault of a unit is reported,
@@ -32,19 +49,17 @@ pub(crate) fn print_each<R: Reader, O: Write, E: Write>(
     listing: Listing,
     output: &mut Output<'_, O, E>,
 ) {
-    if listing == Listing::Line {
-        print_headings(output);
-    }
-    let strings = &input.strings;
+    let Some(sources) = path_sources(alloc, input, output) else {
+        return;
+    };
     let mut walk = Walk::new(alloc, input, choice, output.screen(), Printing::Steady);
     for _ in 0..u64::MAX {
         let Some((offset, program)) = walk.next_program(output) else {
             break;
         };
         match listing {
-            Listing::Line => print_unit(offset, program, output),
-            Listing::Files => print_files(alloc, offset, program, strings, output),
-            Listing::Rows(form) => print_rows(alloc, offset, form, program, strings, output),
+            Listing::Files => print_files(alloc, offset, program, &sources, output),
+            Listing::Rows(form) => print_rows(alloc, offset, form, program, &sources, output),
         }
     }
 }

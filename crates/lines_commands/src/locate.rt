@@ -8,11 +8,12 @@ use crate::json_text::JsonPath;
 use crate::lookup::look_up;
 use crate::numbers::parse_address;
 use crate::output::Output;
+use crate::path_sources::{PathSources, path_sources};
 use crate::path_text::PathText;
 use crate::request::Form;
 use gimli_core::{Reader, ReaderOffset};
 use gimli_line::LineRow;
-use gimli_lookup::{CoveringRows, PathError, Paths, SectionLookup, StringSections, UnitLookup};
+use gimli_lookup::{CoveringRows, PathError, SectionLookup, UnitLookup};
 use std::alloc::Global;
 use std::io::{BufRead, Write};
 
@@ -28,10 +29,13 @@ pub(crate) fn print_places<R: Reader, I: BufRead, O: Write, E: Write>(
     let Some(lookup) = look_up(alloc, input, output) else {
         return;
     };
+    let Some(sources) = path_sources(alloc, input, output) else {
+        return;
+    };
     let places = Places {
         alloc,
         lookup,
-        strings: input.strings,
+        sources,
         form,
     };
     if addresses.is_empty() {
@@ -47,7 +51,7 @@ pub(crate) fn print_places<R: Reader, I: BufRead, O: Write, E: Write>(
 struct Places<R: Reader> {
     alloc: Global,
     lookup: SectionLookup<R>,
-    strings: StringSections<R>,
+    sources: PathSources<R>,
     form: Form,
 }
 
@@ -114,7 +118,7 @@ impl<R: Reader> Places<R> {
     /// The whole path of the file of a row. Refused as `PathError` says.
     fn path_of(&self, unit: &UnitLookup<R>, row: &LineRow) -> Result<Vec<u8>, PathError> {
         match unit.header() {
-            Some(header) => Paths::new(header, self.strings, None).of_row(self.alloc, row),
+            Some(header) => self.sources.of_row(self.alloc, header, row),
             None => Err(PathError::InvalidFileIndex(row.file_index())),
         }
     }

@@ -26,13 +26,8 @@ impl PathsSeen {
         }
     }
 
-    /// Whether no path was seen.
-    pub(crate) fn is_empty(&self) -> bool {
-        self.digests.is_empty()
-    }
-
-    /// Adds a path, and says whether it wasn't seen before.
-    pub(crate) fn add(&mut self, path: &[u8]) -> Result<bool, AllocError> {
-        Ok(self.digests.insert(digest_of(path))?)
+    /// Adds the path of a digest, and says whether it wasn't seen before.
+    pub(crate) fn add(&mut self, digest: PathDigest) -> Result<bool, AllocError> {
+        Ok(self.digests.insert(digest)?)
     }
 }

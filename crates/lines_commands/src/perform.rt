@@ -7,11 +7,11 @@ ghost use Rattle.lines_commands.specs.Lines.{HasLines};
 use crate::addresses::print_addresses;
 use crate::check::print_check;
 use crate::input::{Files, Input, Kind};
-use crate::listing::{Listing, print_each};
+use crate::listing::{Listing, print_each, print_units};
 use crate::locate::print_places;
 use crate::output::Output;
 use crate::report::Verdict;
-use crate::request::{Command, Request, UnitChoice};
+use crate::request::{Command, Request};
 use crate::screen::Screen;
 use gimli_core::Reader;
 use std::alloc::Global;
@@ -75,7 +75,7 @@ fn perform<R: Reader, I: BufRead, O: Write, E: Write>(
             print_places(alloc, sections, addresses, *form, input, output);
         }
         Command::At { path, line } => print_addresses(alloc, sections, path, *line, output),
-        Command::Units => print_each(alloc, sections, UnitChoice::All, Listing::Line, output),
+        Command::Units => print_units(alloc, sections, output),
         Command::Files(units) => print_each(alloc, sections, *units, Listing::Files, output),
         Command::Rows { units, form } => {
             print_each(alloc, sections, *units, Listing::Rows(*form), output);

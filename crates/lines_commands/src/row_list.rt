@@ -3,12 +3,13 @@
 use crate::fields::{FlagLetters, JsonFlags, column_of, line_of};
 use crate::json_text::JsonPath;
 use crate::output::Output;
+use crate::path_sources::PathSources;
 use crate::path_text::{PathText, last_part};
 use crate::request::Form;
 use crate::row_count::RowCount;
 use gimli_core::Reader;
 use gimli_line::{IncompleteLineProgram, LineProgramHeader, LineRow};
-use gimli_lookup::{PathError, Paths, StringSections};
+use gimli_lookup::PathError;
 use std::alloc::Global;
 use std::io::Write;
 
@@ -18,7 +19,7 @@ pub(crate) fn print_rows<R: Reader, O: Write, E: Write>(
     offset: u64,
     form: Form,
     program: IncompleteLineProgram<R>,
-    strings: &StringSections<R>,
+    sources: &PathSources<R>,
     output: &mut Output<'_, O, E>,
 ) {
     if form != Form::Json {
@@ -32,7 +33,7 @@ pub(crate) fn print_rows<R: Reader, O: Write, E: Write>(
         path: None,
         rows: 0,
     };
-    printer.print_program(program, strings, output);
+    printer.print_program(program, sources, output);
 }
 
 /// Prints what stands above rows.
@@ -60,7 +61,7 @@ impl RowPrinter {
     fn print_program<R: Reader, O: Write, E: Write>(
         &mut self,
         program: IncompleteLineProgram<R>,
-        strings: &StringSections<R>,
+        sources: &PathSources<R>,
         output: &mut Output<'_, O, E>,
     ) {
         let mut rows = program.rows();
@@ -68,7 +69,7 @@ impl RowPrinter {
             match rows.next_row() {
                 Ok(Some((header, row))) => {
                     let row = *row;
-                    self.look_up(header, &row, strings, output);
+                    self.look_up(header, &row, sources, output);
                     self.rows = self.rows.saturating_add(1);
                     self.print(&row, output);
                 }
@@ -90,14 +91,14 @@ impl RowPrinter {
         &mut self,
         header: &LineProgramHeader<R>,
         row: &LineRow,
-        strings: &StringSections<R>,
+        sources: &PathSources<R>,
         output: &mut Output<'_, O, E>,
     ) {
         if self.file == Some(row.file_index()) {
             return;
         }
         self.file = Some(row.file_index());
-        self.path = match Paths::new(header, *strings, None).of_row(self.alloc, row) {
+        self.path = match sources.of_row(self.alloc, header, row) {
             Ok(path) => Some(path),
             Err(PathError::OutOfMemory) => {
                 output.fail_for_memory();

@@ -7,8 +7,9 @@ ghost use Rattle.gimli_lookup.specs.Section.{all_sequences};
 
 use anyhow::{Result, bail};
 use elf_sections::Elf;
-use gimli_core::{EndianSlice, LittleEndian, Reader};
-use gimli_line::{ColumnType, DebugLine, LineRow};
+use gimli_compilation::{CompilationSections, Compilations};
+use gimli_core::{EndianSlice, Error, LittleEndian, Reader, ReaderOffset};
+use gimli_line::{ColumnType, DebugLine, LineProgramHeader, LineRow};
 use gimli_lookup::{PathError, Paths, SectionLookup, StringSections};
 use std::alloc::Global;
 use std::fmt::Write;
@@ -32,33 +33,80 @@ pub fn start(rt: &HostRuntime, words: &[String]) -> Result<()> {
 /// Adds a line for each address of an ELF file.
 fn print_places(alloc: Global, file: &[u8], addresses: &[String], text: &mut String) -> Result<()> {
     let elf = Elf::parse(file)?;
-    let lines = elf.section(b".debug_line")?.unwrap_or(&[]);
-    let line_strings = elf.section(b".debug_line_str")?.unwrap_or(&[]);
-    let sections = StringSections {
-        debug_line_str: EndianSlice::new(line_strings, LittleEndian),
-        debug_str: EndianSlice::new(b"", LittleEndian),
+    let lines = section(&elf, b".debug_line")?;
+    let sections = CompilationSections {
+        debug_info: section(&elf, b".debug_info")?,
+        debug_abbrev: section(&elf, b".debug_abbrev")?,
+        debug_str: section(&elf, b".debug_str")?,
+        debug_line_str: section(&elf, b".debug_line_str")?,
+        debug_str_offsets: section(&elf, b".debug_str_offsets")?,
     };
-    where_is(
-        alloc,
-        DebugLine::new(lines, LittleEndian),
-        sections,
-        addresses,
-        text,
-    )
+    let program = Program::new(alloc, DebugLine::from(lines), sections)?;
+    where_is(alloc, &program, addresses, text)
+}
+
+/// A section of an ELF file; no bytes where it has none of this name.
+fn section<'a>(elf: &Elf<'a>, name: &[u8]) -> Result<EndianSlice<'a, LittleEndian>> {
+    let bytes = elf.section(name)?.unwrap_or(&[]);
+    Ok(EndianSlice::new(bytes, LittleEndian))
+}
+
+/// What is kept of a program.
+#[derive(Drop)]
+pub struct Program<R: Reader> {
+    /// The rows of its line programs.
+    pub lookup: SectionLookup<R>,
+    /// Its texts.
+    pub strings: StringSections<R>,
+    /// The directories in which it was compiled.
+    pub compilations: Compilations<R>,
+}
+
+impl<R: Reader> Program<R> {
+    /// Reads the line programs and the units of a program whose addresses have 8 bytes.
+    fn new(
+        alloc: Global,
+        lines: DebugLine<R>,
+        sections: CompilationSections<R>,
+    ) -> std::result::Result<Self, Error> {
+        Ok(Program {
+            lookup: SectionLookup::new(&lines, alloc, 8, LOWEST)?,
+            strings: StringSections {
+                debug_line_str: sections.debug_line_str,
+                debug_str: sections.debug_str,
+            },
+            compilations: Compilations::new(alloc, &sections)?,
+        })
+    }
+
+    /// The whole path of a row's file.
+    fn path_of(
+        &self,
+        alloc: Global,
+        header: &LineProgramHeader<R>,
+        row: &LineRow,
+    ) -> std::result::Result<Vec<u8>, PathError> {
+        let offset = header.offset().0.into_u64();
+        let Some(directory) = self.compilations.directory_of(offset) else {
+            return Paths::new(header, self.strings, None).of_row(alloc, row);
+        };
+        let Ok(directory) = directory.to_slice() else {
+            return Err(PathError::OutOfMemory);
+        };
+        Paths::new(header, self.strings, Some(&directory)).of_row(alloc, row)
+    }
 }
 
 /// Adds a line for each address. Refused where a word is no address, where a file has no path, and
 /// where memory is missing.
 pub fn where_is<R: Reader>(
     alloc: Global,
-    section: DebugLine<R>,
-    sections: StringSections<R>,
+    program: &Program<R>,
     addresses: &[String],
     text: &mut String,
 ) -> Result<()> {
-    let lookup = SectionLookup::new(&section, alloc, 8, LOWEST)?;
     for address in addresses {
-        print_place(alloc, &lookup, sections, address.as_str(), text)?;
+        print_place(alloc, program, address.as_str(), text)?;
     }
     Ok(())
 }
@@ -66,13 +114,12 @@ pub fn where_is<R: Reader>(
 /// Adds the line of an address.
 fn print_place<R: Reader>(
     alloc: Global,
-    lookup: &SectionLookup<R>,
-    sections: StringSections<R>,
+    program: &Program<R>,
     address: &str,
     text: &mut String,
 ) -> Result<()> {
     let address = u64::from_str_radix(address.strip_prefix("0x").unwrap_or(address), 16)?;
-    match source_at(alloc, lookup, sections, address)? {
+    match source_at(alloc, program, address)? {
         Some(source) => print_source(alloc, address, &source, text)?,
         None => writeln!(text, "{address:#x} ??")?,
     }
@@ -108,24 +155,23 @@ fn print_source(
 /// covers it. Refused where its file has no path.
 pub fn source_at<R: Reader>(
     alloc: Global,
-    lookup: &SectionLookup<R>,
-    sections: StringSections<R>,
+    program: &Program<R>,
     address: u64,
 ) -> std::result::Result<Option<Source>, PathError>
     ensures none { IfOk result (λ source. source ≡ None
-        → All (HasNoPair address) (all_sequences lookup.now)) }
+        → All (HasNoPair address) (all_sequences program.now.lookup)) }
     ensures row { IfOk result (λ source. IfSome source (λ source. (row next : _)
-        × IsFirstPair address (all_sequences lookup.now) row next
+        × IsFirstPair address (all_sequences program.now.lookup) row next
         × (source.line ≡ row.line) × (source.column ≡ row.column))) }
 {
-    let Some(found) = lookup.find(address) else {
+    let Some(found) = program.lookup.find(address) else {
         return Ok(None);
     };
-    let unit = lookup.units().get(found.unit);
+    let unit = program.lookup.units().get(found.unit);
     let Some(header) = unit.and_then(|unit| unit.header()) else {
         return Err(PathError::InvalidFileIndex(found.row.file_index()));
     };
-    let path = Paths::new(header, sections, None).of_row(alloc, &found.row)?;
+    let path = program.path_of(alloc, header, &found.row)?;
     let line = line_of(&found.row);
     let column = column_of(&found.row);
     Ok(Some(Source { path, line, column }))
