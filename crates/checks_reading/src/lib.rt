@@ -21,4 +21,6 @@ mod narrow;
 #[cfg(test)]
 mod readers;
 #[cfg(test)]
+mod sections;
+#[cfg(test)]
 mod units;

@@ -26,7 +26,7 @@ values_end f n index h =
     let none : n - index ≡ 0 = omega arith in
     ap (λ k. map f (range_with_len index k)) none
 
-get_from : {X : Type 0} (f : ℕ → X) (n first index : ℕ) → index < n → slice_get (map f (range_with_len first n)) index ≡ Some (f (first + index))
+pub get_from : {X : Type 0} (f : ℕ → X) (n first index : ℕ) → index < n → slice_get (map f (range_with_len first n)) index ≡ Some (f (first + index))
 get_from f zero first index h = absurd (omega arith)
 get_from f (suc n) first zero h = let same : first ≡ first + 0 = omega arith in ap (λ k. Some (f k)) same
 get_from f (suc n) first (suc index) h =
@@ -34,7 +34,7 @@ get_from f (suc n) first (suc index) h =
     let less : index < n = omega arith in
     get_from f n (first + 1) index less ∙ ap (λ k. Some (f k)) same
 
-get_past : {X : Type 0} (f : ℕ → X) (n first index : ℕ) → n ≤ index → slice_get (map f (range_with_len first n)) index ≡ None
+pub get_past : {X : Type 0} (f : ℕ → X) (n first index : ℕ) → n ≤ index → slice_get (map f (range_with_len first n)) index ≡ None
 get_past f zero first index h = refl
 get_past f (suc n) first zero h = absurd (omega arith)
 get_past f (suc n) first (suc index) h = let less : n ≤ index = omega arith in get_past f n (first + 1) index less

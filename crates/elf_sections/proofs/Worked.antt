@@ -48,7 +48,7 @@ table_32 =
     ++ section_32 12 1 0 0 0 0 0x3b 1
     ++ section_32 24 3 0 0 0 0 0x3c 0x22
 
-abbrev file_32 : List ℕ
+abbrev pub file_32 : List ℕ
 file_32 = header_32 ++ contents_32 ++ table_32
 
 -- the first of two sections of a name

@@ -8,6 +8,7 @@ file_of elf = record {
   bytes = elf.bytes.now;
   layout = elf.layout;
   kind = elf.kind;
+  machine = elf.machine;
   headers = (table_of elf.table).headers;
   names = elf.names.now;
 }

@@ -1,9 +1,10 @@
 -- A file, as its header and its section table say (System V ABI, chapter 4).
-use Rattle.std.specs.Prelude.{◌≤◌, ℕ, List, map, filter, find, All, Contains, Option, Some, None, Result, Ok}
+use Rattle.std.specs.Prelude.{◌≤◌, ℕ, List, map, filter, find, All, Contains, if◌then◌else◌, Option, Some, None, Result, Ok}
 use Rattle.elf_sections.specs.Steps.{◌>>=◌}
 use Rattle.elf_sections.specs.Layout.{layout_at}
 use Rattle.elf_sections.specs.Header.{header_at}
 use Rattle.elf_sections.specs.SectionHeader.{is_active, is_code, section_bytes}
+use Rattle.elf_sections.specs.Compression.{data_of, old_data_of, has_old_name, old_name}
 use Rattle.elf_sections.specs.Table.{table_at, names_at, is_name_at}
 use Rattle.elf_sections.specs.declared.error.ElfError.{ElfError}
 use Rattle.elf_sections.specs.declared.layout.Layout.{Layout}
@@ -14,6 +15,8 @@ pub record File : Type 0 where
   pub layout : Layout
   -- e_type
   pub kind : ℕ
+  -- e_machine
+  pub machine : ℕ
   pub headers : List SectionHeader
   pub names : List ℕ
 
@@ -24,7 +27,14 @@ file_at bytes =
     header_at layout bytes >>= λ header.
     table_at layout header bytes >>= λ table.
     names_at bytes table >>= λ names.
-    Ok (record { bytes = bytes; layout = layout; kind = header.kind; headers = table.headers; names = names })
+    Ok (record {
+      bytes = bytes;
+      layout = layout;
+      kind = header.kind;
+      machine = header.machine;
+      headers = table.headers;
+      names = names;
+    })
 
 -- the headers of sections
 abbrev pub sections : File → List SectionHeader
@@ -42,6 +52,25 @@ bytes_in file (Some header) = section_bytes file header >>= λ bytes. Ok (Some b
 -- the bytes of the first section of a name
 abbrev pub section_at : File → List ℕ → Result (Option (List ℕ)) ElfError
 section_at file name = bytes_in file.bytes (section_named file name)
+
+-- some bytes, once they are there
+abbrev pub some_of : Result (List ℕ) ElfError → Result (Option (List ℕ)) ElfError
+some_of answer = answer >>= λ bytes. Ok (Some bytes)
+
+-- the data of the first section of the older form of a name
+abbrev pub old_data_in : List ℕ → Option SectionHeader → Result (Option (List ℕ)) ElfError
+old_data_in file None = Ok None
+old_data_in file (Some header) = some_of (old_data_of file header)
+
+-- the data of a section, or else of the section of the older form
+abbrev pub data_or_old : File → List ℕ → Option SectionHeader → Result (Option (List ℕ)) ElfError
+data_or_old file name (Some header) = some_of (data_of file.layout file.bytes header)
+data_or_old file name None =
+    if has_old_name name then old_data_in file.bytes (section_named file (old_name name)) else Ok None
+
+-- the data of the first section of a name, made whole where it is compressed
+abbrev pub section_data_at : File → List ℕ → Result (Option (List ℕ)) ElfError
+section_data_at file name = data_or_old file name (section_named file name)
 
 -- the addresses of the sections of code
 abbrev pub code_addresses : File → List ℕ

@@ -15,6 +15,7 @@ header_size class = 40 + 3 * address_size class
 abbrev pub header_fields : Layout → List ℕ → Header
 header_fields layout bytes = record {
   kind = number_at layout 2 16 bytes;
+  machine = number_at layout 2 18 bytes;
   table_offset = number_at layout (address_size layout.class) (24 + 2 * address_size layout.class) bytes;
   entry_size = number_at layout 2 (34 + 3 * address_size layout.class) bytes;
   count = number_at layout 2 (36 + 3 * address_size layout.class) bytes;

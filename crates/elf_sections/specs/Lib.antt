@@ -1,8 +1,16 @@
 pub mod Steps
+pub mod Fault
+pub mod Gives
 pub mod Layout
 pub mod Header
 pub mod SectionHeader
+pub mod Compression
+pub mod SectionBytes
 pub mod Table
 pub mod File
+pub mod Machine
+pub mod Relocation
+pub mod Entries
+pub mod Relocating
 pub mod SectionTable
 pub mod Elf

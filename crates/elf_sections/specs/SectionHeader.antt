@@ -11,7 +11,8 @@ use Rattle.elf_sections.specs.declared.section_header.SectionHeader.{SectionHead
 abbrev pub section_header_size : Class → ℕ
 section_header_size class = 16 + 6 * address_size class
 
--- the section header that bytes begin with: sh_name, sh_type, sh_flags, sh_addr, sh_offset, sh_size, sh_link
+-- the section header that bytes begin with: sh_name, sh_type, sh_flags, sh_addr, sh_offset, sh_size, sh_link,
+-- sh_info, and sh_entsize after sh_addralign
 abbrev pub section_header : Layout → List ℕ → SectionHeader
 section_header layout bytes = record {
   name = number_at layout 4 0 bytes;
@@ -21,6 +22,8 @@ section_header layout bytes = record {
   offset = number_at layout (address_size layout.class) (8 + 2 * address_size layout.class) bytes;
   size = number_at layout (address_size layout.class) (8 + 3 * address_size layout.class) bytes;
   link = number_at layout 4 (8 + 4 * address_size layout.class) bytes;
+  info = number_at layout 4 (12 + 4 * address_size layout.class) bytes;
+  entry_size = number_at layout (address_size layout.class) (16 + 5 * address_size layout.class) bytes;
 }
 
 -- SHT_NULL: the header is inactive, and no section's
@@ -35,10 +38,13 @@ has_flag header bit = not (nat_eq (bit_and header.flags bit) 0)
 abbrev pub is_code : SectionHeader → Bool
 is_code header = has_flag header 2 && has_flag header 4 && not (nat_eq header.size 0)
 
--- the bytes of a section in its file: none where its kind is SHT_NOBITS; refused where it is compressed (SHF_COMPRESSED)
-abbrev pub section_bytes : List ℕ → SectionHeader → Result (List ℕ) ElfError
-section_bytes file header =
-    if has_flag header 0x800 then Err Compressed
-    else (if nat_eq header.kind 8 then Ok []
+-- the bytes of a section as they stand in its file: none where its kind is SHT_NOBITS
+abbrev pub stored_bytes : List ℕ → SectionHeader → Result (List ℕ) ElfError
+stored_bytes file header =
+    if nat_eq header.kind 8 then Ok []
     else (if nat_lt (length file) (header.offset + header.size) then Err SectionCut
-    else Ok (slice_range file header.offset (header.offset + header.size))))
+    else Ok (slice_range file header.offset (header.offset + header.size)))
+
+-- the bytes of a section that isn't compressed (SHF_COMPRESSED)
+abbrev pub section_bytes : List ℕ → SectionHeader → Result (List ℕ) ElfError
+section_bytes file header = if has_flag header 0x800 then Err Compressed else stored_bytes file header

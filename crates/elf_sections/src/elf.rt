@@ -1,33 +1,48 @@
 //! A file and its sections.
 
-ghost use Rattle.std.specs.Prelude.{◌≡◌, nat_eq, MatchOption, []};
-ghost use Rattle.std.specs.Option.{option_copied};
+ghost use Rattle.std.specs.Prelude.{◌≡◌, nat_eq, IfOk, IfErr, MatchOption, []};
+ghost use Rattle.std.specs.Option.{option_copied, option_map};
 ghost use Rattle.gimli_core.specs.Order.{is_big};
 ghost use Rattle.gimli_core.specs.Reading.{result_map};
 ghost use Rattle.elf_sections.specs.Layout.{address_size};
-ghost use Rattle.elf_sections.specs.File.{file_at, section_at, code_addresses, IsLeast};
+ghost use Rattle.elf_sections.specs.Gives.{Gives};
+ghost use Rattle.elf_sections.specs.Compression.{data_of, old_data_of, old_name};
+ghost use Rattle.elf_sections.specs.declared.error.ElfError.TheVariants.{OutOfMemory};
+ghost use Rattle.elf_sections.specs.Relocating.{index_of, data_index, applied_at, relocated_at};
+ghost use Rattle.elf_sections.specs.File.{file_at, section_at, section_data_at, section_named, old_data_in, code_addresses, IsLeast};
 
+use crate::compression::{old_name, uncompressed, uncompressed_old};
 use crate::error::ElfError;
 use crate::header::Header;
 use crate::layout::Layout;
+use crate::place::SectionPlace;
+use crate::relocating::Relocator;
+use crate::section_bytes::SectionBytes;
+use crate::section_header::SectionHeader;
 use crate::section_table::SectionTable;
 use gimli_core::Endianity;
+use std::alloc::Global;
 
 /// An object file whose sections aren't linked yet (`ET_REL`).
 const REL: u16 = 1;
 
+/// How the names of sections begin that have an older form.
+const DEBUG: &[u8] = b".debug_";
+
 /// An ELF file, whose sections are looked up by their names.
 #[derive(Clone, Copy, Debug)]
 pub struct Elf<'a> {
-    bytes: &'a [u8],
-    layout: Layout,
+    pub(crate) bytes: &'a [u8],
+    pub(crate) layout: Layout,
     kind: u16,
-    table: SectionTable<'a>,
+    pub(crate) machine: u16,
+    pub(crate) table: SectionTable<'a>,
     names: &'a [u8],
 }
 
 impl<'a> Elf<'a> {
     ghost use Rattle.elf_sections.specs.Elf.{file_of};
+    ghost use Rattle.elf_sections.specs.SectionBytes.{bytes_of};
 
     /// Reads the header of a file, finds its section table and the names of its sections.
     ///
@@ -48,6 +63,7 @@ impl<'a> Elf<'a> {
             bytes,
             layout,
             kind: header.kind,
+            machine: header.machine,
             table,
             names,
         })
@@ -90,6 +106,157 @@ impl<'a> Elf<'a> {
             }
             None => Ok(None),
         }
+    }
+
+    /// What the first section of this name holds; None where there is none.
+    ///
+    /// A compressed section (`SHF_COMPRESSED`) is made whole, as large as its header says and no
+    /// larger. Where no section has the name, and it begins with `.debug_`, what the section of the
+    /// older form holds is answered, `.zdebug_line` for `.debug_line`. Refuses a section whose bytes aren't all in the file (`SectionCut`), one that ends within its header of
+    /// compression (`CompressionHeaderCut`), another way of compression than zlib's (`Zstd`,
+    /// `UnknownCompression`), a section of the older form without its first bytes (`NotZlib`) or
+    /// with `SHF_COMPRESSED` (`Compressed`), and one that doesn't hold what its header says
+    /// (`Decompression`). `OutOfMemory` is answered where there is no memory for what it makes.
+    pub fn section_data(
+        &self,
+        alloc: Global,
+        name: &[u8],
+    ) -> Result<Option<SectionBytes<'a>>, ElfError>
+        ensures { Gives (option_map bytes_of) result (section_data_at (file_of self.now) name.now) }
+    {
+        if let Some(header) = self.table.find(self.names, name) {
+            let data = self.data_of(alloc, &header)?;
+            return Ok(Some(data));
+        }
+        if name.starts_with(DEBUG) {
+            return self.old_section_data(alloc, name);
+        }
+        Ok(None)
+    }
+
+    /// What the first section of this name holds, relocated; None where there is none.
+    ///
+    /// In an object file (`ET_REL`) the relocations of the section (`SHT_REL`, `SHT_RELA`) are
+    /// applied to what `section_data` answers, in order; in any other file none are. `place` says
+    /// which addresses count. It takes memory for a copy of the section. Refuses what `section_data`
+    /// refuses, a machine or a kind of relocations that isn't known (`UnknownMachine`,
+    /// `UnknownRelocation`), entries of relocations or symbols that are too short (`EntrySize`),
+    /// relocations without a symbol table (`NoSymbols`), and one whose symbol or place isn't there
+    /// (`SymbolOutside`, `RelocationOutside`). Where one section's addresses count, a symbol whose
+    /// section's index is noted elsewhere is refused too (`SymbolSection`). Relocations and symbols
+    /// are refused as sections are by `section`.
+    pub fn relocated(
+        &self,
+        alloc: Global,
+        name: &[u8],
+        place: SectionPlace,
+    ) -> Result<Option<SectionBytes<'a>>, ElfError>
+        ensures { Gives (option_map bytes_of) result
+            (relocated_at (file_of self.now) place name.now) }
+    {
+        let Some(section) = self.section_data(alloc, name)? else {
+            return Ok(None);
+        };
+        if !self.is_relocatable() {
+            return Ok(Some(section));
+        }
+        let relocated = self.applied(alloc, name, place, section)?;
+        Ok(Some(relocated))
+    }
+
+    /// What a section of a name holds, once its relocations are applied.
+    fn applied(
+        &self,
+        alloc: Global,
+        name: &[u8],
+        place: SectionPlace,
+        section: SectionBytes<'a>,
+    ) -> Result<SectionBytes<'a>, ElfError>
+        ensures { let file = file_of self.now in Gives bytes_of result
+            (applied_at file place (bytes_of section.entry) (data_index file name.now)) }
+    {
+        let Some(index) = self.data_index(alloc, name)? else {
+            return Ok(section);
+        };
+        let relocator = Relocator { elf: *self, place };
+        let made = relocator.relocated(alloc, index, section)?;
+        Ok(SectionBytes::Made(made))
+    }
+
+    /// The index of the first section of this name; None where there is none.
+    pub fn section_index(&self, name: &[u8]) -> Option<usize>
+        ensures { result ≡ index_of (file_of self.now) name.now }
+    {
+        self.table.index_of(self.names, name)
+    }
+
+    /// The index of the section that the data of a name are in.
+    fn data_index(&self, alloc: Global, name: &[u8]) -> Result<Option<usize>, ElfError>
+        ensures ok { IfOk result (λ index. index ≡ data_index (file_of self.now) name.now) }
+        ensures err { IfErr result (λ e. e ≡ OutOfMemory) }
+    {
+        if let Some(index) = self.section_index(name) {
+            return Ok(Some(index));
+        }
+        if !name.starts_with(DEBUG) {
+            return Ok(None);
+        }
+        let old = old_name(alloc, name)?;
+        let found = self.section_index(old.as_slice());
+        Ok(found)
+    }
+
+    /// What a section holds.
+    fn data_of(&self, alloc: Global, header: &SectionHeader) -> Result<SectionBytes<'a>, ElfError>
+        ensures { let file = file_of self.now in
+            Gives bytes_of result (data_of file.layout file.bytes header.now) }
+    {
+        let bytes = header.stored_in(self.bytes)?;
+        if header.is_compressed() {
+            let made = uncompressed(alloc, self.layout, bytes)?;
+            return Ok(SectionBytes::Made(made));
+        }
+        Ok(SectionBytes::Lent(bytes))
+    }
+
+    /// What the section holds that is the older form of a name's.
+    fn old_section_data(
+        &self,
+        alloc: Global,
+        name: &[u8],
+    ) -> Result<Option<SectionBytes<'a>>, ElfError>
+        ensures { let file = file_of self.now in Gives (option_map bytes_of) result
+            (old_data_in file.bytes (section_named file (old_name name.now))) }
+    {
+        let Some(header) = self.old_header(alloc, name)? else {
+            return Ok(None);
+        };
+        let data = self.old_data_of(alloc, &header)?;
+        Ok(Some(data))
+    }
+
+    /// The header of the section that is the older form of a name's.
+    fn old_header(&self, alloc: Global, name: &[u8]) -> Result<Option<SectionHeader>, ElfError>
+        ensures ok { IfOk result (λ found. found ≡
+            section_named (file_of self.now) (old_name name.now)) }
+        ensures err { IfErr result (λ e. e ≡ OutOfMemory) }
+    {
+        let old = old_name(alloc, name)?;
+        let found = self.table.find(self.names, old.as_slice());
+        Ok(found)
+    }
+
+    /// What a section of the older form holds.
+    fn old_data_of(
+        &self,
+        alloc: Global,
+        header: &SectionHeader,
+    ) -> Result<SectionBytes<'a>, ElfError>
+        ensures { Gives bytes_of result (old_data_of (file_of self.now).bytes header.now) }
+    {
+        let bytes = header.bytes_in(self.bytes)?;
+        let made = uncompressed_old(alloc, bytes)?;
+        Ok(SectionBytes::Made(made))
     }
 
     /// The lowest address of code (`sh_addr`), among the sections that are in memory when the

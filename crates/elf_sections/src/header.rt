@@ -11,6 +11,8 @@ use crate::layout::Layout;
 pub(crate) struct Header {
     /// What the file is for (`e_type`).
     pub(crate) kind: u16,
+    /// The machine that it is for (`e_machine`).
+    pub(crate) machine: u16,
     /// The offset of the section table, in bytes, 0 where there is none (`e_shoff`).
     pub(crate) table_offset: u64,
     /// The bytes of an entry of the section table (`e_shentsize`).
@@ -32,6 +34,7 @@ impl Header {
         }
         Ok(Header {
             kind: layout.half(bytes, 16),
+            machine: layout.half(bytes, 18),
             table_offset: layout.address(bytes, 24 + 2 * address),
             entry_size: layout.half(bytes, 34 + 3 * address),
             count: layout.half(bytes, 36 + 3 * address),

@@ -1,10 +1,12 @@
 //! How a file notes its numbers.
 
 ghost use Rattle.std.specs.Prelude.{◌≡◌, ◌+◌, ◌≤◌, length};
-ghost use Rattle.elf_sections.specs.Layout.{address_size, number_at, class_of, order_of, layout_at};
+ghost use Rattle.elf_sections.specs.Layout.{address_size, number_at, with_number, class_of, order_of, layout_at};
+ghost use Rattle.elf_sections.specs.Machine.{size_of};
 ghost use Rattle.elf_sections.specs.SectionHeader.{section_header_size};
 
 use crate::error::ElfError;
+use crate::machine::Width;
 use gimli_core::{Endianity, RunTimeEndian};
 
 /// The bytes that each file begins with (`EI_MAG0` to `EI_MAG3`).
@@ -106,6 +108,38 @@ impl Layout {
         match self.class {
             Class::Elf32 => u64::from(self.word(bytes, offset)),
             Class::Elf64 => self.order.read_u64(&bytes[offset..]),
+        }
+    }
+
+    /// The number of so many bytes at an offset.
+    pub(crate) fn number(self, width: Width, bytes: &[u8], offset: usize) -> u64
+        requires { offset + size_of width ≤ length bytes.now }
+        ensures { result ≡ number_at self (size_of width) offset bytes.now }
+    {
+        match width {
+            Width::One => u64::from(bytes[offset]),
+            Width::Two => u64::from(self.half(bytes, offset)),
+            Width::Four => u64::from(self.word(bytes, offset)),
+            Width::Eight => self.order.read_u64(&bytes[offset..]),
+        }
+    }
+
+    /// Writes the lowest so many bytes of a number at an offset.
+    pub(crate) fn put_number(self, width: Width, bytes: &mut [u8], offset: usize, number: u64)
+        requires { offset + size_of width ≤ length bytes.old }
+        ensures { bytes.new ≡ with_number self (size_of width) offset number bytes.old }
+    {
+        match width {
+            Width::One => bytes[offset] = (number % 0x100) as u8,
+            Width::Two => {
+                let low = (number % 0x1_0000) as u16;
+                self.order.write_u16(&mut bytes[offset..], low);
+            }
+            Width::Four => {
+                let low = (number % 0x1_0000_0000) as u32;
+                self.order.write_u32(&mut bytes[offset..], low);
+            }
+            Width::Eight => self.order.write_u64(&mut bytes[offset..], number),
         }
     }
 }

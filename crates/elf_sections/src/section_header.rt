@@ -1,16 +1,24 @@
 //! The header of a section, and the bytes that it stands for.
 
-ghost use Rattle.std.specs.Prelude.{◌≡◌, ◌≤◌, length};
+ghost use Rattle.std.specs.Prelude.{◌≡◌, ◌≤◌, length, nat_eq};
 ghost use Rattle.gimli_core.specs.Reading.{result_map};
-ghost use Rattle.elf_sections.specs.SectionHeader.{section_header_size, section_header, is_active, has_flag, is_code, section_bytes};
+ghost use Rattle.elf_sections.specs.SectionHeader.{section_header_size, section_header, is_active, has_flag, is_code, stored_bytes, section_bytes};
+ghost use Rattle.elf_sections.specs.Relocation.{form_of, relocates};
 
 use crate::error::ElfError;
 use crate::layout::Layout;
+use crate::relocation::Form;
 
 /// An inactive header, which is no section's (`SHT_NULL`).
 const NULL: u32 = 0;
+/// A symbol table (`SHT_SYMTAB`).
+const SYMTAB: u32 = 2;
+/// Relocations with addends (`SHT_RELA`).
+const RELA: u32 = 4;
 /// A section without bytes in the file (`SHT_NOBITS`).
 const NOBITS: u32 = 8;
+/// Relocations without addends (`SHT_REL`).
+const REL: u32 = 9;
 /// The section is in memory when the program runs (`SHF_ALLOC`).
 const ALLOC: u64 = 2;
 /// The section holds code (`SHF_EXECINSTR`).
@@ -35,6 +43,10 @@ pub(crate) struct SectionHeader {
     pub(crate) size: u64,
     /// The index of another section (`sh_link`).
     pub(crate) link: u32,
+    /// The index of the section that its relocations are of (`sh_info`).
+    pub(crate) info: u32,
+    /// The bytes of each of its entries (`sh_entsize`).
+    pub(crate) entry_size: u64,
 }
 
 impl SectionHeader {
@@ -52,6 +64,8 @@ impl SectionHeader {
             offset: layout.address(bytes, 8 + 2 * address),
             size: layout.address(bytes, 8 + 3 * address),
             link: layout.word(bytes, 8 + 4 * address),
+            info: layout.word(bytes, 12 + 4 * address),
+            entry_size: layout.address(bytes, 16 + 5 * address),
         }
     }
 
@@ -76,13 +90,59 @@ impl SectionHeader {
         self.has_flag(ALLOC) && self.has_flag(EXECINSTR) && self.size != 0
     }
 
-    /// The section's bytes in its file.
+    /// Whether the section is in memory when the program runs.
+    pub(crate) fn is_in_memory(&self) -> bool
+        ensures { result ≡ has_flag self.now 2 }
+    {
+        self.has_flag(ALLOC)
+    }
+
+    /// Whether the section has symbols, for linking.
+    pub(crate) fn is_symbol_table(&self) -> bool
+        ensures { result ≡ nat_eq self.now.kind 2 }
+    {
+        self.kind == SYMTAB
+    }
+
+    /// Whether the section has relocations of the section of an index.
+    pub(crate) fn relocates(&self, index: usize) -> bool
+        ensures { result ≡ relocates index self.now }
+    {
+        (self.kind == RELA || self.kind == REL) && self.info as usize == index
+    }
+
+    /// How the entries of a section of relocations are noted.
+    pub(crate) fn form(&self) -> Form
+        ensures { result ≡ form_of self.now }
+    {
+        if self.kind == RELA {
+            Form::Rela
+        } else {
+            Form::Rel
+        }
+    }
+
+    /// Whether the section is compressed.
+    pub(crate) fn is_compressed(&self) -> bool
+        ensures { result ≡ has_flag self.now 0x800 }
+    {
+        self.has_flag(COMPRESSED)
+    }
+
+    /// The section's bytes in its file, if it isn't compressed.
     pub(crate) fn bytes_in<'a>(&self, file: &'a [u8]) -> Result<&'a [u8], ElfError>
         ensures { result_map (λ bytes. bytes.now) result ≡ section_bytes file.now self.now }
     {
-        if self.has_flag(COMPRESSED) {
+        if self.is_compressed() {
             return Err(ElfError::Compressed);
         }
+        self.stored_in(file)
+    }
+
+    /// The section's bytes in its file, as they stand.
+    pub(crate) fn stored_in<'a>(&self, file: &'a [u8]) -> Result<&'a [u8], ElfError>
+        ensures { result_map (λ bytes. bytes.now) result ≡ stored_bytes file.now self.now }
+    {
         if self.kind == NOBITS {
             return Ok(&[]);
         }

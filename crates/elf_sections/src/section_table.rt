@@ -1,7 +1,8 @@
 //! The section table of a file.
 
-ghost use Rattle.std.specs.Prelude.{◌≡◌, ◌≤◌, ◌<◌, ◌*◌, min, drop, length, find, filter, map, MatchOption, []};
+ghost use Rattle.std.specs.Prelude.{◌≡◌, ◌≤◌, ◌<◌, ◌*◌, min, drop, length, ◌&&◌, slice_get, find, filter, map, MatchOption, []};
 ghost use Rattle.std.specs.Option.{option_map_or};
+ghost use Rattle.std.specs.List.{position_from};
 ghost use Rattle.gimli_core.specs.Reading.{result_map};
 ghost use Rattle.elf_sections.specs.SectionHeader.{section_header_size, section_header, is_active, is_code};
 ghost use Rattle.elf_sections.specs.Table.{table_at, names_at, is_name_at, count_of, names_index_of};
@@ -132,8 +133,26 @@ impl<'a> SectionTable<'a> {
         }
     }
 
+    /// How many headers there are.
+    pub(crate) fn len(&self) -> usize
+        ensures { result ≡ self.now.count }
+    {
+        self.count
+    }
+
+    /// The section header of an index; None where there is none.
+    pub(crate) fn get(&self, index: usize) -> Option<SectionHeader>
+        ensures { result ≡ slice_get (table_of self.now).headers index }
+    {
+        if index < self.count {
+            Some(self.header(index))
+        } else {
+            None
+        }
+    }
+
     /// The section header of an index.
-    fn header(&self, index: usize) -> SectionHeader
+    pub(crate) fn header(&self, index: usize) -> SectionHeader
         requires { index < self.now.count }
         ensures { result ≡ section_header self.now.layout
             (drop (index * self.now.entry_size) self.now.entries.now) }
@@ -167,6 +186,20 @@ impl<'a> SectionTable<'a> {
             let header = self.header(index);
             if header.is_active() && is_name_at(names, header.name, name) {
                 return Some(header);
+            }
+        }
+        None
+    }
+
+    /// The index of the first section of a name.
+    pub(crate) fn index_of(&self, names: &[u8], name: &[u8]) -> Option<usize>
+        ensures { result ≡ position_from (λ header. is_active header
+            && is_name_at names.now header.name name.now) 0 (table_of self.now).headers }
+    {
+        for index in 0..self.count {
+            let header = self.header(index);
+            if header.is_active() && is_name_at(names, header.name, name) {
+                return Some(index);
             }
         }
         None

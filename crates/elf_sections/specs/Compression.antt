@@ -1,0 +1,61 @@
+-- Compressed sections (System V ABI, chapter 4, "Section Compression"), and the form that GNU's tools had before.
+use Rattle.std.specs.Prelude.{ℕ, ◌*◌, List, ◌++◌, length, take, drop, codes, nat_eq, nat_lt, not, true, Bool, if◌then◌else◌, Result, Ok, Err}
+use Rattle.std.specs.List.{starts_with}
+use Rattle.inflate.specs.declared.error.Error.{Error}
+use Rattle.inflate.specs.Zlib.{decompressed}
+use Rattle.gimli_core.specs.Numbers.{value_of}
+use Rattle.elf_sections.specs.Steps.{◌>>=◌}
+use Rattle.elf_sections.specs.Fault.{fault_of}
+use Rattle.elf_sections.specs.Layout.{address_size, number_at}
+use Rattle.elf_sections.specs.SectionHeader.{has_flag, stored_bytes, section_bytes}
+use Rattle.elf_sections.specs.declared.error.ElfError.{ElfError}
+use Rattle.elf_sections.specs.declared.error.ElfError.TheVariants.{CompressionHeaderCut, UnknownCompression, Zstd, NotZlib}
+use Rattle.elf_sections.specs.declared.layout.Layout.{Layout}
+use Rattle.elf_sections.specs.declared.section_header.SectionHeader.{SectionHeader}
+
+-- the bytes of a stream, or its fault as a file's
+abbrev pub bytes_or_fault : Result (List ℕ) Error → Result (List ℕ) ElfError
+bytes_or_fault (Ok bytes) = Ok bytes
+bytes_or_fault (Err fault) = Err (fault_of fault)
+
+-- what a stream in the zlib format holds, if that is so many bytes
+abbrev pub stream_bytes : ℕ → List ℕ → Result (List ℕ) ElfError
+stream_bytes size stream = bytes_or_fault (decompressed size stream)
+
+-- a way of compression (ch_type): 1 is ELFCOMPRESS_ZLIB, and 2 ELFCOMPRESS_ZSTD
+abbrev pub zlib_kind : ℕ → Result (Unit {0}) ElfError
+zlib_kind kind = if nat_eq kind 1 then Ok tt else (if nat_eq kind 2 then Err Zstd else Err (UnknownCompression kind))
+
+-- what a compressed section holds. Its header has three fields of an address's size: ch_type, ch_size, which
+-- is the size of what it holds, and ch_addralign; of 64 bits, ch_reserved takes half of the first
+abbrev pub uncompressed : Layout → List ℕ → Result (List ℕ) ElfError
+uncompressed layout bytes =
+    if nat_lt (length bytes) (3 * address_size layout.class) then Err CompressionHeaderCut
+    else (zlib_kind (number_at layout 4 0 bytes) >>= λ _.
+    stream_bytes (number_at layout (address_size layout.class) (address_size layout.class) bytes)
+    (drop (3 * address_size layout.class) bytes))
+
+-- the data of a section
+abbrev pub data_of : Layout → List ℕ → SectionHeader → Result (List ℕ) ElfError
+data_of layout file header =
+    stored_bytes file header >>= λ bytes.
+    if has_flag header 0x800 then uncompressed layout bytes else Ok bytes
+
+-- what a section of the older form holds: after ZLIB stands the size of that, in 8 bytes of which the most
+-- significant comes first, whatever the file's order is
+abbrev pub uncompressed_old : List ℕ → Result (List ℕ) ElfError
+uncompressed_old bytes =
+    if nat_lt (length bytes) 12 then Err CompressionHeaderCut
+    else (if not (starts_with nat_eq bytes (codes "ZLIB")) then Err NotZlib
+    else stream_bytes (value_of true (take 8 (drop 4 bytes))) (drop 12 bytes))
+
+-- the data of a section of the older form
+abbrev pub old_data_of : List ℕ → SectionHeader → Result (List ℕ) ElfError
+old_data_of file header = section_bytes file header >>= uncompressed_old
+
+-- whether the sections of a name have an older form: .debug_line is .zdebug_line in it
+abbrev pub has_old_name : List ℕ → Bool
+has_old_name name = starts_with nat_eq name (codes ".debug_")
+
+abbrev pub old_name : List ℕ → List ℕ
+old_name name = codes ".z" ++ drop 1 name

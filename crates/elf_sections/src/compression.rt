@@ -1,0 +1,80 @@
+//! What compressed sections hold.
+
+ghost use Rattle.std.specs.Prelude.{◌≡◌, IfOk, IfErr};
+ghost use Rattle.elf_sections.specs.Gives.{Gives};
+ghost use Rattle.elf_sections.specs.Compression.{stream_bytes, zlib_kind, uncompressed, uncompressed_old, old_name};
+ghost use Rattle.elf_sections.specs.declared.error.ElfError.TheVariants.{OutOfMemory};
+
+use crate::error::{ElfError, fault_of};
+use crate::layout::Layout;
+use gimli_core::{Endianity, RunTimeEndian};
+use std::alloc::Global;
+
+/// Compressed in the zlib format (`ELFCOMPRESS_ZLIB`).
+const ZLIB: u32 = 1;
+/// Compressed by Zstandard (`ELFCOMPRESS_ZSTD`).
+const ZSTD: u32 = 2;
+/// The bytes that a section of the older form begins with.
+const OLD_MAGIC: [u8; 4] = *b"ZLIB";
+/// The bytes before the stream of a section of the older form.
+const OLD_HEADER_SIZE: usize = 12;
+
+/// The bytes that a stream in the zlib format holds, if there are so many.
+fn stream_bytes(alloc: Global, stream: &[u8], size: usize) -> Result<Vec<u8>, ElfError>
+    ensures { Gives (λ bytes. bytes.items) result (stream_bytes size stream.now) }
+{
+    match inflate::decompress(alloc, stream, size) {
+        Ok(bytes) => Ok(bytes),
+        Err(fault) => Err(fault_of(fault)),
+    }
+}
+
+/// Refuses a way of compression (`ch_type`) other than zlib's.
+fn check_kind(kind: u32) -> Result<(), ElfError>
+    ensures { result ≡ zlib_kind kind }
+{
+    match kind {
+        ZLIB => Ok(()),
+        ZSTD => Err(ElfError::Zstd),
+        _ => Err(ElfError::UnknownCompression(kind)),
+    }
+}
+
+/// What a compressed section holds. Its header (`Elf32_Chdr`, `Elf64_Chdr`) says how much that is.
+pub(crate) fn uncompressed(alloc: Global, layout: Layout, bytes: &[u8]) -> Result<Vec<u8>, ElfError>
+    ensures { Gives (λ bytes. bytes.items) result (uncompressed layout bytes.now) }
+{
+    let address = usize::from(layout.address_size());
+    if bytes.len() < 3 * address {
+        return Err(ElfError::CompressionHeaderCut);
+    }
+    check_kind(layout.word(bytes, 0))?;
+    let size = layout.address(bytes, address) as usize;
+    stream_bytes(alloc, &bytes[3 * address..], size)
+}
+
+/// What a section of the older form (`.zdebug_line`) holds.
+pub(crate) fn uncompressed_old(alloc: Global, bytes: &[u8]) -> Result<Vec<u8>, ElfError>
+    ensures { Gives (λ bytes. bytes.items) result (uncompressed_old bytes.now) }
+{
+    if bytes.len() < OLD_HEADER_SIZE {
+        return Err(ElfError::CompressionHeaderCut);
+    }
+    if !bytes.starts_with(&OLD_MAGIC) {
+        return Err(ElfError::NotZlib);
+    }
+    let size = RunTimeEndian::Big.read_u64(&bytes[OLD_MAGIC.len()..]) as usize;
+    stream_bytes(alloc, &bytes[OLD_HEADER_SIZE..], size)
+}
+
+/// The name of the older form of a section: `.zdebug_line` for `.debug_line`.
+pub(crate) fn old_name(alloc: Global, name: &[u8]) -> Result<Vec<u8>, ElfError>
+    ensures ok { IfOk result (λ old. old.items ≡ old_name name.now) }
+    ensures err { IfErr result (λ e. e ≡ OutOfMemory) }
+{
+    let mut old = Vec::from_slice(alloc, b".z")?;
+    if let [_, rest @ ..] = name {
+        old.extend_from_slice(rest)?;
+    }
+    Ok(old)
+}
