@@ -7,7 +7,7 @@ use Rattle.gimli_core.specs.Notation.{Notation}
 use Rattle.gimli_core.specs.Reading.{byte_at, unsigned_at, signed_at}
 use Rattle.gimli_core.specs.declared.error.Error.TheVariants.{AddressOverflow}
 use Rattle.gimli_line.specs.declared.run.row.LineRow.{LineRow}
-use Rattle.gimli_line.specs.declared.run.rows.Step.TheVariants.{More}
+use Rattle.gimli_line.specs.declared.run.rows.Step.TheVariants.{Made, More}
 use Rattle.gimli_line.specs.declared.run.instruction.LineInstruction.TheVariants.{Special, Copy, AdvanceLine, SetFile, SetColumn, NegateStatement, DefineFile}
 use Rattle.gimli_line.specs.header.Orders.{HeaderOrders}
 use Rattle.gimli_line.specs.header.Header.{Header}
@@ -18,11 +18,10 @@ use Rattle.gimli_line.specs.run.Machine.{step_of, is_refused}
 use Rattle.gimli_line.specs.run.Registers.{advanced_line}
 use Rattle.gimli_line.specs.inside.run.Execution.{Executed, ExecutedWell}
 use Rattle.gimli_line.specs.run.AnyRows.{AnyFaultIs}
-use Rattle.gimli_line.specs.inside.run.Rows.{StepIs, made_of}
+use Rattle.gimli_line.specs.inside.run.Rows.{StepIs}
 use Rattle.gimli_line.specs.run.Unread.{Unread}
 use Rattle.gimli_line.proofs.InstructionLaws.{reads_instruction}
-use Rattle.gimli_line.proofs.Runs.{state, after_quiet, after_overflow, is_shorter, passes_quiet}
-use Rattle.gimli_line.proofs.MadeSteps.{step_made}
+use Rattle.gimli_line.proofs.Runs.{state, after_quiet, after_made, after_overflow, is_shorter, passes_quiet, passes_made}
 
 -- ---- the standard opcodes that are executed so, from the bytes after them
 
@@ -107,13 +106,15 @@ module _ (a : Bool) (h k : Header) (same : k ≡ h) (o : Notation) (n : ℕ) (w 
           passes_quiet a h k same o o n n w w r s s2 notation x.instruction f.0 f.1 f.2 h r2 kept fits (sym made) step,
         )
 
-    pub executed_made : true ≡ makes_row x.instruction → StepIs (state a h o n w r s) (state a h o n w r2 s2) (made_of r2)
+    pub executed_made : true ≡ makes_row x.instruction → StepIs (state a h o n w r s) (state a h o n w r2 s2) Made
     executed_made made =
         let f = (reads_instruction s.notation k).found s.bytes x.instruction s2.bytes x.reading in
         let kept = files_kept a h x.instruction x.defines in
         let fits = subst (λ (j : Header). is_refused j.parameters x.instruction r ≡ false) same x.refusal in
-        let step = subst (λ (j : Header). r2 ≡ step_of j.parameters x.instruction r) same x.registers in
-        step_made a h k same o o n n w w r s s2 notation x.instruction f.0 f.1 f.2 h r2 kept fits (sym made) step
+        let step = subst (λ (j : Header). r2 ≡ step_of j.parameters x.instruction r) same x.registers in (
+          after_made a h k same o o n n w w r s s2 notation x.instruction f.0 f.1 f.2 h r2 kept fits (sym made) step,
+          passes_made a h k same o o n n w w r s s2 notation x.instruction f.0 f.1 f.2 h r2 kept fits (sym made) step,
+        )
 
   pub executed_overflow : Executed k.parameters (ins_at s.notation k s.bytes) s2.bytes r r2 true → AnyFaultIs (state a h o n w r s) (state a h o n w r2 s2) AddressOverflow
   executed_overflow x =

@@ -21,7 +21,6 @@ pub mod LookUps
 pub mod Operands
 pub mod Runs
 pub mod GivenRows
-pub mod MadeSteps
 pub mod Executions
 pub mod RarerExecutions
 pub mod EventsWithFilesLaws

@@ -18,6 +18,7 @@ use Rattle.gimli_line.specs.run.InstructionReading.{decoded_upto, decoded_at}
 use Rattle.gimli_line.specs.run.Events.{Event, row, fault}
 use Rattle.gimli_line.specs.run.Machine.{step_of, reset_row, is_refused}
 use Rattle.gimli_line.specs.run.EventsWithFiles.{EventWithFiles, step_events, next_registers}
+use Rattle.gimli_line.specs.run.Made.{given_of}
 use Rattle.gimli_line.specs.run.Unread.{Unread}
 use Rattle.gimli_line.specs.run.RunState.{RunState}
 use Rattle.gimli_line.specs.run.Progress.{Progress, with_reset_row, events_from, registers_from, files_from}
@@ -154,22 +155,14 @@ module _ (a : Bool) (h k : Header) (same : k ≡ h) (o o2 : Notation) (n n2 : �
       pub passes_quiet : makes_row i ≡ false → r2 ≡ step_of h.parameters i r → Progress (state a h o n w r s) (state a h2 o2 n2 w2 r2 s2) []
       passes_quiet made row_is = passes_one h2 r2 [] after (rw (fits, made) refl) (rw (fits, made) row_is)
 
-      passes_row : makes_row i ≡ true → r2 ≡ step_of h.parameters i r → (b : Bool) → (step_of h.parameters i r).tombstone ≡ b
-          → Progress (state a h o n w r s) (with_reset_row (state a h2 o2 n2 w2 r2 s2)) (if not b then row r2 ∷ [] else [])
-      passes_row made row_is b flag =
-          let was : r.tombstone ≡ b = sym (keeps_tombstone h.parameters i r made) ∙ flag in
+      pub passes_made : makes_row i ≡ true → r2 ≡ step_of h.parameters i r
+          → Progress (state a h o n w r s) (with_reset_row (state a h2 o2 n2 w2 r2 s2)) (given_of r2)
+      passes_made made row_is =
           let parameters : h2.parameters ≡ h.parameters = ap (λ (k : Header). k.parameters) after in
-          let given : step_events h.parameters i r ≡ (if not b then row r2 ∷ [] else []) =
-          rw (fits, made) (ap (λ (b : Bool). if not b then row (step_of h.parameters i r) ∷ [] else []) was ∙ ap (λ (q : LineRow). if not b then row q ∷ [] else []) (sym row_is)) in
-          passes_one h2 (reset_row h2.parameters r2) (if not b then row r2 ∷ [] else []) after given (rw (fits, made, parameters, row_is) refl)
-
-      pub passes_seen : makes_row i ≡ true → r2 ≡ step_of h.parameters i r → (step_of h.parameters i r).tombstone ≡ false
-          → Progress (state a h o n w r s) (with_reset_row (state a h2 o2 n2 w2 r2 s2)) (row r2 ∷ [])
-      passes_seen made row_is seen = passes_row made row_is false seen
-
-      pub passes_hidden : makes_row i ≡ true → r2 ≡ step_of h.parameters i r → (step_of h.parameters i r).tombstone ≡ true
-          → Progress (state a h o n w r s) (with_reset_row (state a h2 o2 n2 w2 r2 s2)) []
-      passes_hidden made row_is under = passes_row made row_is true under
+          let given : step_events h.parameters i r ≡ given_of r2 =
+          rw (fits, made) (ap (λ (b : Bool). if not b then row (step_of h.parameters i r) ∷ [] else []) (sym (keeps_tombstone h.parameters i r made))
+          ∙ ap given_of (sym row_is)) in
+          passes_one h2 (reset_row h2.parameters r2) (given_of r2) after given (rw (fits, made, parameters, row_is) refl)
 
     module _ (h2 : Header) (r2 : LineRow) where
       pub after_quiet : h2 ≡ record h { files = files_after a i h.files } → is_refused h.parameters i r ≡ false → makes_row i ≡ false → r2 ≡ step_of h.parameters i r

@@ -47,6 +47,10 @@ abbrev pub is_given : Event → Bool
 is_given (row r) = not r.tombstone
 is_given (fault e) = true
 
+-- what a row that is made gives
+abbrev pub given_of : LineRow → List Event
+given_of r = if not r.tombstone then row r ∷ [] else []
+
 -- ---- by the machine
 
 -- what an instruction makes at these registers

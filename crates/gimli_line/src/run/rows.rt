@@ -1,8 +1,5 @@
 //! The rows of a program or of one sequence, in order.
 
-ghost use Rattle.std.specs.Prelude.{◌≡◌};
-ghost use Rattle.gimli_line.specs.inside.run.Rows.{made_of};
-
 use crate::header::program_header::LineProgramHeader;
 use crate::run::instruction::LineInstructions;
 use crate::run::program::{CompleteLineProgram, IncompleteLineProgram, LineProgram};
@@ -14,34 +11,10 @@ use std::marker::Model;
 enum Step {
     /// Nothing: there was no instruction.
     Done,
-    /// A row was made that isn't under a tombstone.
+    /// A row was made, which may be under a tombstone.
     Made,
-    /// A row was made under a tombstone.
-    Hidden,
     /// Instructions were executed, and no row was made.
     More,
-}
-
-/// What comes next in a run.
-enum Next {
-    /// Nothing: the program makes no more rows.
-    End,
-    /// A row that isn't under a tombstone.
-    Row,
-    /// A row under a tombstone.
-    Hidden,
-}
-
-/// Which step it is that made a row.
-#[inline(always)]
-fn step_to(row: &LineRow) -> Step
-    ensures { result ≡ made_of row.now }
-{
-    if row.is_under_tombstone() {
-        Step::Hidden
-    } else {
-        Step::Made
-    }
 }
 
 /// The rows of a program that are still to come, in order.
@@ -98,8 +71,9 @@ impl<R: Reader, P: LineProgram<R>> LineRows<R, P> {
     ghost use Rattle.gimli_line.specs.header.Orders.{header_orders};
     ghost use Rattle.gimli_line.specs.run.Progress.{with_reset_row, Progress};
     ghost use Rattle.gimli_line.specs.run.Rows.{start_of_run, GivesRowsAlone, IsOfOneOrder, KeepsHeader, NextIs, RowIs, EndIs, FaultIs};
-    ghost use Rattle.gimli_line.specs.run.AnyRows.{AnyFaultIs, NextAnyIs};
-    ghost use Rattle.gimli_line.specs.inside.run.Rows.{AdvanceIs, StepIs};
+    ghost use Rattle.gimli_line.specs.run.Made.{given_of};
+    ghost use Rattle.gimli_line.specs.run.AnyRows.{AnyFaultIs, AnyRowIs, NextAnyIs, NoneIs};
+    ghost use Rattle.gimli_line.specs.inside.run.Rows.{StepIs};
 
     /// The rows of these instructions of a program, from the start of a sequence on.
     pub(crate) fn start(program: P, instructions: LineInstructions<R>) -> Self
@@ -172,10 +146,8 @@ impl<R: Reader, P: LineProgram<R>> LineRows<R, P> {
     {
         match self.advance_any() {
             Err(e) => Err(e),
-            Ok(Next::End) => Ok(None),
-            // The kit knows nothing of a value that one of two patterns took, so each has an arm.
-            Ok(Next::Row) => Ok(Some(self.current())),
-            Ok(Next::Hidden) => Ok(Some(self.current())),
+            Ok(false) => Ok(None),
+            Ok(true) => Ok(Some(self.current())),
         }
     }
 
@@ -224,17 +196,22 @@ impl<R: Reader, P: LineProgram<R>> LineRows<R, P> {
         'rows: loop {
             match self.advance_any() {
                 Err(e) => return Err(e),
-                Ok(Next::End) => return Ok(false),
-                Ok(Next::Row) => return Ok(true),
-                Ok(Next::Hidden) => {}
+                Ok(false) => return Ok(false),
+                Ok(true) => {
+                    if !self.row().is_under_tombstone() {
+                        return Ok(true);
+                    }
+                }
             }
         }
     }
 
-    /// Executes instructions up to the next row, one under a tombstone too, and says what came.
+    /// Executes instructions up to the next row, one under a tombstone too, and says whether there is one.
     #[inline(always)]
-    fn advance_any(&mut self) -> Result<Next>
-        ensures ok { IfOk result (AdvanceIs self.old self.new) }
+    fn advance_any(&mut self) -> Result<bool>
+        ensures row { IfOk result (λ found. MatchBool found
+            (AnyRowIs self.old self.new self.new.row self.new.files)
+            (NoneIs self.old self.new)) }
         ensures err { IfErr result (AnyFaultIs (with_reset_row self.old) self.new) }
         ensures fixed { self.new.fixed ≡ self.old.fixed }
         ensures appends { self.new.appends ≡ self.old.appends }
@@ -242,14 +219,16 @@ impl<R: Reader, P: LineProgram<R>> LineRows<R, P> {
         ensures offset { self.new.offset ≡ self.old.offset }
         ensures order { IsOfOneOrder self.old → IsOfOneOrder self.new }
         ensures handed { self.new.orders.handed ≡ self.old.orders.handed }
+        ensures passes { IfOk result (λ found. MatchBool found
+            (Progress (with_reset_row self.old) (with_reset_row self.new) (given_of self.new.row))
+            ((self.new.unread.bytes ≡ []) × Progress (with_reset_row self.old) self.new [])) }
     {
         self.row.reset(self.program.header());
         'instructions: loop {
             match self.step() {
                 Err(e) => return Err(e),
-                Ok(Step::Done) => return Ok(Next::End),
-                Ok(Step::Made) => return Ok(Next::Row),
-                Ok(Step::Hidden) => return Ok(Next::Hidden),
+                Ok(Step::Done) => return Ok(false),
+                Ok(Step::Made) => return Ok(true),
                 Ok(Step::More) => {}
             }
         }
@@ -281,7 +260,7 @@ impl<R: Reader, P: LineProgram<R>> LineRows<R, P> {
                 Ok(Some(false)) => {}
                 Ok(Some(true)) => {
                     self.instructions = instructions;
-                    return Ok(step_to(&self.row));
+                    return Ok(Step::Made);
                 }
             }
         }
@@ -326,7 +305,7 @@ impl<R: Reader, P: LineProgram<R>> LineRows<R, P> {
         if !made {
             return Ok(Step::More);
         }
-        Ok(step_to(&self.row))
+        Ok(Step::Made)
     }
 
     /// Executes one instruction: a definition of a file from its bytes, any other as it is parsed.
@@ -382,7 +361,7 @@ impl<R: Reader, P: LineProgram<R>> LineRows<R, P> {
         if !made {
             return Ok(Step::More);
         }
-        Ok(step_to(&self.row))
+        Ok(Step::Made)
     }
 
     /// The header and the row, as they are.

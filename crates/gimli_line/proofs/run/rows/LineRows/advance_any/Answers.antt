@@ -1,7 +1,7 @@
-use Rattle.std.proofs.Common.{rules, [], ◌∷◌, refl, sym, ap, ◌∙◌}
+use Rattle.std.proofs.Common.{rules, [], refl, sym, ap, ◌∙◌}
 use Rattle.gimli_line.specs.declared.run.row.LineRow.{LineRow}
 use Rattle.gimli_line.specs.header.Header.{Header}
-use Rattle.gimli_line.specs.run.Events.{row}
+use Rattle.gimli_line.specs.run.Made.{given_of}
 use Rattle.gimli_line.specs.run.Machine.{reset_row}
 use Rattle.gimli_line.specs.run.Progress.{with_reset_row}
 use Rattle.gimli_line.proofs.Runs.{state, keeps_order, none_to_make, end_here, same_end, passes_none, passes_both, any_refused_after}
@@ -26,31 +26,32 @@ pub returns-in-Err-clause-err : goal.returns-in-Err-clause-err
 returns-in-Err-clause-err g c =
     any_refused_after (with_reset_row c.args.self.now) c.instructions.self c.step.new.self c.in-Err.e c.instructions.invariant.made c.instructions.invariant.passes c.in-Err.ensures.err
 
-pub returns-in-Ok-Done-clause-ok : goal.returns-in-Ok-Done-clause-ok
-returns-in-Ok-Done-clause-ok g c =
+pub returns-in-Ok-Done-clause-row : goal.returns-in-Ok-Done-clause-row
+returns-in-Ok-Done-clause-row g c =
     let d = rw c.in-Ok-Done.field-0-is at c.in-Ok-Done.ensures.ok in
     let passed = passes_both (with_reset_row c.args.self.now) c.instructions.self c.step.new.self [] [] c.instructions.invariant.passes d.2 in (
-      (
-        c.instructions.invariant.made ∙ d.0,
-        none_to_make c.step.new.self d.1,
-        d.1,
-        sym (end_here c.step.new.self d.1) ∙ same_end (with_reset_row c.args.self.now) c.step.new.self [] passed,
-      ),
-      passed,
+      c.instructions.invariant.made ∙ d.0,
+      none_to_make c.step.new.self d.1,
+      d.1,
+      sym (end_here c.step.new.self d.1) ∙ same_end (with_reset_row c.args.self.now) c.step.new.self [] passed,
     )
 
-pub returns-in-Ok-Made-clause-ok : goal.returns-in-Ok-Made-clause-ok
-returns-in-Ok-Made-clause-ok g c =
-    let m = rw c.in-Ok-Made.field-0-is at c.in-Ok-Made.ensures.ok in
-    let events = row c.step.new.self.row ∷ [] in
-    let passed = passes_both (with_reset_row c.args.self.now) c.instructions.self (with_reset_row c.step.new.self) [] events c.instructions.invariant.passes m.2 in
-    ((c.instructions.invariant.made ∙ m.0, refl, same_end (with_reset_row c.args.self.now) (with_reset_row c.step.new.self) events passed), m.1, passed)
+pub returns-in-Ok-Done-clause-passes : goal.returns-in-Ok-Done-clause-passes
+returns-in-Ok-Done-clause-passes g c =
+    let d = rw c.in-Ok-Done.field-0-is at c.in-Ok-Done.ensures.ok in
+    (d.1, passes_both (with_reset_row c.args.self.now) c.instructions.self c.step.new.self [] [] c.instructions.invariant.passes d.2)
 
-pub returns-in-Ok-Hidden-clause-ok : goal.returns-in-Ok-Hidden-clause-ok
-returns-in-Ok-Hidden-clause-ok g c =
-    let m = rw c.in-Ok-Hidden.field-0-is at c.in-Ok-Hidden.ensures.ok in
-    let passed = passes_both (with_reset_row c.args.self.now) c.instructions.self (with_reset_row c.step.new.self) [] [] c.instructions.invariant.passes m.2 in
-    ((c.instructions.invariant.made ∙ m.0, refl, same_end (with_reset_row c.args.self.now) (with_reset_row c.step.new.self) [] passed), m.1, passed)
+pub returns-in-Ok-Made-clause-row : goal.returns-in-Ok-Made-clause-row
+returns-in-Ok-Made-clause-row g c =
+    let m = rw c.in-Ok-Made.field-0-is at c.in-Ok-Made.ensures.ok in
+    let events = given_of c.step.new.self.row in
+    let passed = passes_both (with_reset_row c.args.self.now) c.instructions.self (with_reset_row c.step.new.self) [] events c.instructions.invariant.passes m.1 in
+    (c.instructions.invariant.made ∙ m.0, refl, same_end (with_reset_row c.args.self.now) (with_reset_row c.step.new.self) events passed)
+
+pub returns-in-Ok-Made-clause-passes : goal.returns-in-Ok-Made-clause-passes
+returns-in-Ok-Made-clause-passes g c =
+    let m = rw c.in-Ok-Made.field-0-is at c.in-Ok-Made.ensures.ok in
+    passes_both (with_reset_row c.args.self.now) c.instructions.self (with_reset_row c.step.new.self) [] (given_of c.step.new.self.row) c.instructions.invariant.passes m.1
 
 pub instructions-preserved : goal.instructions-preserved
 instructions-preserved g c =
@@ -121,21 +122,3 @@ returns-in-Ok-Done-clause-handed g c = c.in-Ok-Done.ensures.handed ∙ c.instruc
 
 pub returns-in-Ok-Made-clause-handed : goal.returns-in-Ok-Made-clause-handed
 returns-in-Ok-Made-clause-handed g c = c.in-Ok-Made.ensures.handed ∙ c.instructions.invariant.handed
-
-pub returns-in-Ok-Hidden-clause-fixed : goal.returns-in-Ok-Hidden-clause-fixed
-returns-in-Ok-Hidden-clause-fixed g c = c.in-Ok-Hidden.ensures.fixed ∙ c.instructions.invariant.fixed
-
-pub returns-in-Ok-Hidden-clause-appends : goal.returns-in-Ok-Hidden-clause-appends
-returns-in-Ok-Hidden-clause-appends g c = c.in-Ok-Hidden.ensures.appends ∙ c.instructions.invariant.appends
-
-pub returns-in-Ok-Hidden-clause-notation : goal.returns-in-Ok-Hidden-clause-notation
-returns-in-Ok-Hidden-clause-notation g c = c.in-Ok-Hidden.ensures.notation ∙ c.instructions.invariant.notation
-
-pub returns-in-Ok-Hidden-clause-offset : goal.returns-in-Ok-Hidden-clause-offset
-returns-in-Ok-Hidden-clause-offset g c = c.in-Ok-Hidden.ensures.offset ∙ c.instructions.invariant.offset
-
-pub returns-in-Ok-Hidden-clause-order : goal.returns-in-Ok-Hidden-clause-order
-returns-in-Ok-Hidden-clause-order g c = λ so. c.in-Ok-Hidden.ensures.order (c.instructions.invariant.order so)
-
-pub returns-in-Ok-Hidden-clause-handed : goal.returns-in-Ok-Hidden-clause-handed
-returns-in-Ok-Hidden-clause-handed g c = c.in-Ok-Hidden.ensures.handed ∙ c.instructions.invariant.handed

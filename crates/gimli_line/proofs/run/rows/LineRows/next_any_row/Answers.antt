@@ -5,17 +5,40 @@ use Rattle.gimli_line.proofs.GivenRows.{any_rest_alone, fault_given, none_given}
 use Rattle.gimli_line.proofs.RowsAlone.{end_alone, never_refused_alone}
 use Rattle.gimli_line.proofs.run.rows.LineRows.next_any_row.Goals as goal
 
-pub returns-in-Ok-End : goal.returns-in-Ok-End
-returns-in-Ok-End g c =
-    let none = (rw c.in-Ok-End.field-0-is at c.in-Ok-End.ensures.ok).0 in
+pub returns-in-Ok-true : goal.returns-in-Ok-true
+returns-in-Ok-true g c =
+    let r = rw c.in-Ok-true.field-0-test at c.in-Ok-true.ensures.row in
     let keeps : KeepsHeader c.args.self.now c.advance_any.new.self = record {
-      fixed = c.in-Ok-End.ensures.fixed;
-      appends = c.in-Ok-End.ensures.appends;
-      notation = c.in-Ok-End.ensures.notation;
-      offset = c.in-Ok-End.ensures.offset;
-      order = c.in-Ok-End.ensures.order;
-      handed = c.in-Ok-End.ensures.handed;
-      alone = end_alone c.args.self.now c.advance_any.new.self c.in-Ok-End.ensures.appends (none_given c.advance_any.new.self none.1);
+      fixed = c.in-Ok-true.ensures.fixed;
+      appends = c.in-Ok-true.ensures.appends;
+      notation = c.in-Ok-true.ensures.notation;
+      offset = c.in-Ok-true.ensures.offset;
+      order = c.in-Ok-true.ensures.order;
+      handed = c.in-Ok-true.ensures.handed;
+      alone = any_rest_alone c.args.self.now c.advance_any.new.self _ _ r c.in-Ok-true.ensures.appends;
+    } in (
+      (refl, λ _. tt, (keeps, rw (c.current.ensures.row, c.current.ensures.files) r)),
+      record {
+        after = tt;
+        header = c.current.ensures.header ∙ c.in-Ok-true.ensures.fixed;
+        notation = c.current.ensures.notation ∙ c.in-Ok-true.ensures.notation;
+        offset = c.current.ensures.offset ∙ c.in-Ok-true.ensures.offset;
+        order = λ so. c.current.ensures.order (c.in-Ok-true.ensures.order so);
+        handed = c.current.ensures.handed ∙ c.in-Ok-true.ensures.handed;
+      },
+    )
+
+pub returns-in-Ok-false : goal.returns-in-Ok-false
+returns-in-Ok-false g c =
+    let none = rw c.in-Ok-false.field-0-test at c.in-Ok-false.ensures.row in
+    let keeps : KeepsHeader c.args.self.now c.advance_any.new.self = record {
+      fixed = c.in-Ok-false.ensures.fixed;
+      appends = c.in-Ok-false.ensures.appends;
+      notation = c.in-Ok-false.ensures.notation;
+      offset = c.in-Ok-false.ensures.offset;
+      order = c.in-Ok-false.ensures.order;
+      handed = c.in-Ok-false.ensures.handed;
+      alone = end_alone c.args.self.now c.advance_any.new.self c.in-Ok-false.ensures.appends (none_given c.advance_any.new.self none.1);
     } in (
       (refl, λ _. tt, (keeps, none)),
       record {
@@ -25,52 +48,6 @@ returns-in-Ok-End g c =
         offset = tt;
         order = λ so. tt;
         handed = tt;
-      },
-    )
-
-pub returns-in-Ok-Row : goal.returns-in-Ok-Row
-returns-in-Ok-Row g c =
-    let r = (rw c.in-Ok-Row.field-0-is at c.in-Ok-Row.ensures.ok).0 in
-    let keeps : KeepsHeader c.args.self.now c.advance_any.new.self = record {
-      fixed = c.in-Ok-Row.ensures.fixed;
-      appends = c.in-Ok-Row.ensures.appends;
-      notation = c.in-Ok-Row.ensures.notation;
-      offset = c.in-Ok-Row.ensures.offset;
-      order = c.in-Ok-Row.ensures.order;
-      handed = c.in-Ok-Row.ensures.handed;
-      alone = any_rest_alone c.args.self.now c.advance_any.new.self _ _ r c.in-Ok-Row.ensures.appends;
-    } in (
-      (refl, λ _. tt, (keeps, rw (c.current.ensures.row, c.current.ensures.files) r)),
-      record {
-        after = tt;
-        header = c.current.ensures.header ∙ c.in-Ok-Row.ensures.fixed;
-        notation = c.current.ensures.notation ∙ c.in-Ok-Row.ensures.notation;
-        offset = c.current.ensures.offset ∙ c.in-Ok-Row.ensures.offset;
-        order = λ so. c.current.ensures.order (c.in-Ok-Row.ensures.order so);
-        handed = c.current.ensures.handed ∙ c.in-Ok-Row.ensures.handed;
-      },
-    )
-
-pub returns-in-Ok-Hidden : goal.returns-in-Ok-Hidden
-returns-in-Ok-Hidden g c =
-    let r = (rw c.in-Ok-Hidden.field-0-is at c.in-Ok-Hidden.ensures.ok).0 in
-    let keeps : KeepsHeader c.args.self.now c.advance_any.new.self = record {
-      fixed = c.in-Ok-Hidden.ensures.fixed;
-      appends = c.in-Ok-Hidden.ensures.appends;
-      notation = c.in-Ok-Hidden.ensures.notation;
-      offset = c.in-Ok-Hidden.ensures.offset;
-      order = c.in-Ok-Hidden.ensures.order;
-      handed = c.in-Ok-Hidden.ensures.handed;
-      alone = any_rest_alone c.args.self.now c.advance_any.new.self _ _ r c.in-Ok-Hidden.ensures.appends;
-    } in (
-      (refl, λ _. tt, (keeps, rw (c.current-in-Ok-Hidden.ensures.row, c.current-in-Ok-Hidden.ensures.files) r)),
-      record {
-        after = tt;
-        header = c.current-in-Ok-Hidden.ensures.header ∙ c.in-Ok-Hidden.ensures.fixed;
-        notation = c.current-in-Ok-Hidden.ensures.notation ∙ c.in-Ok-Hidden.ensures.notation;
-        offset = c.current-in-Ok-Hidden.ensures.offset ∙ c.in-Ok-Hidden.ensures.offset;
-        order = λ so. c.current-in-Ok-Hidden.ensures.order (c.in-Ok-Hidden.ensures.order so);
-        handed = c.current-in-Ok-Hidden.ensures.handed ∙ c.in-Ok-Hidden.ensures.handed;
       },
     )
 

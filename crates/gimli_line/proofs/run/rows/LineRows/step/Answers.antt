@@ -1,6 +1,7 @@
 use Rattle.std.proofs.Common.{[], sym, ap, refl, ◌≡◌, ◌∙◌}
 use Rattle.gimli_core.specs.declared.error.Error.TheVariants.{AddressOverflow}
 use Rattle.gimli_line.specs.declared.run.row.LineRow.{LineRow}
+use Rattle.gimli_line.specs.declared.run.rows.Step.TheVariants.{Made}
 use Rattle.gimli_line.specs.run.AnyRows.{live_made}
 use Rattle.gimli_line.specs.run.Unread.{Unread}
 use Rattle.gimli_line.proofs.Executions.{executed_quiet, executed_made, executed_overflow}
@@ -50,8 +51,8 @@ returns-in-Ok-Some-true-clause-ok g c =
     let p = c.common.self-inside.program in
     let at = λ (r : LineRow) (s : Unread). state g.P.LineProgram.appends (g.P.LineProgram.meaning p) (g.P.LineProgram.notation p) (g.P.LineProgram.offset p) (g.P.LineProgram.orders p) r s in
     let x = rw c.in-Ok-Some-true.field-0-is at c.in-Ok-Some-true.ensures.ok in
-    rw c.step_to.ensures (step_after c.args.self.now (at c.common.self-inside.row c.common.instructions) (at c.execute_common.new.row c.execute_common.new.self) c.common.invariant.made c.common.invariant.passes _
-    (executed_made g.P.LineProgram.appends _ _ c.header-header.ensures.meaning (g.P.LineProgram.notation p) (g.P.LineProgram.offset p) (g.P.LineProgram.orders p) _ _ _ _ c.in-Ok-Some-true.ensures.notation x.0 (sym c.in-Ok-Some-true.field-0-0-test ∙ x.1)))
+    step_after c.args.self.now (at c.common.self-inside.row c.common.instructions) (at c.execute_common.new.row c.execute_common.new.self) c.common.invariant.made c.common.invariant.passes Made
+    (executed_made g.P.LineProgram.appends _ _ c.header-header.ensures.meaning (g.P.LineProgram.notation p) (g.P.LineProgram.offset p) (g.P.LineProgram.orders p) _ _ _ _ c.in-Ok-Some-true.ensures.notation x.0 (sym c.in-Ok-Some-true.field-0-0-test ∙ x.1))
 
 pub returns-clause-ok : goal.returns-clause-ok
 returns-clause-ok g c =

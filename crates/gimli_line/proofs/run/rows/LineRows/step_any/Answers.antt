@@ -1,8 +1,7 @@
 use Rattle.std.proofs.Common.{◌≡◌, inl, inr, refl, sym, ap, subst, ◌∙◌}
 use Rattle.gimli_line.specs.run.Instruction.{InsHasOrder}
 use Rattle.gimli_line.specs.run.Unread.{Unread}
-use Rattle.gimli_line.proofs.Runs.{state, keeps_order, none_made, after_fault, after_quiet, after_overflow, is_shorter, only_overflow, passes_none, passes_quiet, source_same, wants}
-use Rattle.gimli_line.proofs.MadeSteps.{step_made}
+use Rattle.gimli_line.proofs.Runs.{state, keeps_order, none_made, after_fault, after_quiet, after_made, after_overflow, is_shorter, only_overflow, passes_none, passes_quiet, passes_made, source_same, wants}
 use Rattle.gimli_line.proofs.run.rows.LineRows.step_any.Goals as goal
 
 pub returns-in-Err-clause-err : goal.returns-in-Err-clause-err
@@ -31,7 +30,10 @@ returns-then-not-made-clause-ok g c =
 pub returns-clause-ok : goal.returns-clause-ok
 returns-clause-ok g c =
     let n = rw c.in-Ok-Some.field-0-is at c.in-Ok-Some.ensures.next in
-    rw (c.step_to.ensures, ← c.self.view_is) (step_made g.P.LineProgram.appends _ _ c.header.ensures.meaning (g.P.LineProgram.notation c.self.inside.program) (g.P.LineProgram.notation c.execute.new.program) (g.P.LineProgram.offset c.self.inside.program) (g.P.LineProgram.offset c.execute.new.program) (g.P.LineProgram.orders c.self.inside.program) (g.P.LineProgram.orders c.execute.new.program) _ _ _ c.in-Ok-Some.ensures.notation _ n.0 n.1 n.2 _ _ c.in-Ok.ensures.files c.in-Ok.ensures.fits (sym c.in-Ok.ensures.made ∙ c.if-not-made.false) c.in-Ok.ensures.step)
+    rw (← c.self.view_is) (
+      after_made g.P.LineProgram.appends _ _ c.header.ensures.meaning (g.P.LineProgram.notation c.self.inside.program) (g.P.LineProgram.notation c.execute.new.program) (g.P.LineProgram.offset c.self.inside.program) (g.P.LineProgram.offset c.execute.new.program) (g.P.LineProgram.orders c.self.inside.program) (g.P.LineProgram.orders c.execute.new.program) _ _ _ c.in-Ok-Some.ensures.notation _ n.0 n.1 n.2 _ _ c.in-Ok.ensures.files c.in-Ok.ensures.fits (sym c.in-Ok.ensures.made ∙ c.if-not-made.false) c.in-Ok.ensures.step,
+      passes_made g.P.LineProgram.appends _ _ c.header.ensures.meaning (g.P.LineProgram.notation c.self.inside.program) (g.P.LineProgram.notation c.execute.new.program) (g.P.LineProgram.offset c.self.inside.program) (g.P.LineProgram.offset c.execute.new.program) (g.P.LineProgram.orders c.self.inside.program) (g.P.LineProgram.orders c.execute.new.program) _ _ _ c.in-Ok-Some.ensures.notation _ n.0 n.1 n.2 _ _ c.in-Ok.ensures.files c.in-Ok.ensures.fits (sym c.in-Ok.ensures.made ∙ c.if-not-made.false) c.in-Ok.ensures.step,
+    )
 
 pub returns-in-OutOfMemory-clause-err : goal.returns-in-OutOfMemory-clause-err
 returns-in-OutOfMemory-clause-err g c =

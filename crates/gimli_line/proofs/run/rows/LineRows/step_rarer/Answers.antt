@@ -15,7 +15,7 @@ returns-then-not-made-clause-ok g c =
 pub returns-clause-ok : goal.returns-clause-ok
 returns-clause-ok g c =
     let x = rw c.in-Ok-Some.field-0-is at c.in-Ok-Some.ensures.ok in
-    rw (c.step_to.ensures, ← c.self.view_is) (executed_made g.P.LineProgram.appends _ _ c.header-header.ensures.meaning (g.P.LineProgram.notation c.self.inside.program) (g.P.LineProgram.offset c.self.inside.program) (g.P.LineProgram.orders c.self.inside.program) _ _ _ _ c.in-Ok-Some.ensures.notation x.0 (sym c.if-not-made.false ∙ x.1))
+    rw (← c.self.view_is) (executed_made g.P.LineProgram.appends _ _ c.header-header.ensures.meaning (g.P.LineProgram.notation c.self.inside.program) (g.P.LineProgram.offset c.self.inside.program) (g.P.LineProgram.orders c.self.inside.program) _ _ _ _ c.in-Ok-Some.ensures.notation x.0 (sym c.if-not-made.false ∙ x.1))
 
 -- what stays as it was
 
