@@ -1,1 +1,1 @@
-pub mod Colons
+pub mod Separators

@@ -16,6 +16,13 @@ abbrev pub NamesOffset : List ℕ → ℕ → Type 0
 NamesOffset word offset = NamesNumber 10 word offset
     ⊎ ((digits : List ℕ) × HasPrefix word digits × NamesNumber 16 digits offset)
 
+-- the word names an offset in a section: the section's name, a plus sign and an address
+pub record NamesPlace (word section : List ℕ) (offset : ℕ) : Type 0 where
+  pub digits : List ℕ
+  pub split : word ≡ section ++ (codes "+" ++ digits)
+  pub some : section ≢ []
+  pub offset_named : NamesAddress digits offset
+
 -- the word names a line of a path: the path, a colon and the line in decimal digits
 pub record NamesTarget (word path : List ℕ) (line : ℕ) : Type 0 where
   pub digits : List ℕ

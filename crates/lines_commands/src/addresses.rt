@@ -22,6 +22,12 @@ pub(crate) fn print_addresses<R: Reader, O: Write, E: Write>(
     line: u64,
     output: &mut Output<'_, O, E>,
 ) {
+    if !input.is_linked {
+        return output.tell(
+            "an object file, whose addresses are not known before it is linked; the command where \
+             takes a section and an offset in it",
+        );
+    }
     let Some(lookup) = look_up(alloc, input, output) else {
         return;
     };

@@ -37,7 +37,10 @@ pub(crate) fn print_check<R: Reader, O: Write, E: Write>(
         count = count.saturating_add(1);
         check_unit(alloc, input, &sources, unit, &mut sequences, output);
     }
-    print_overlaps(&mut sequences, output);
+    // In an object file each section stands at 0, and so do its sequences.
+    if input.is_linked {
+        print_overlaps(&mut sequences, output);
+    }
     let found = output.found();
     output.print(format_args!("units: {count}, findings: {found}"));
 }

@@ -70,7 +70,7 @@ pub(crate) fn program<'a>(alloc: Global) -> Result<Command<'a>, AllocError> {
         .version(VERSION)
         .about("Looks into the line tables (.debug_line) of a program, DWARF versions 2 to 5.")
         .after_help(
-            "FILE is an ELF program or library, or with --raw a section that objcopy \
+            "FILE is an ELF program, library or object file, or with --raw a section that objcopy \
              --dump-section wrote.\nThe status is 0, or 1 where something was refused or found, \
              or 2 for other words.",
         )
@@ -169,7 +169,8 @@ impl Argument {
             Argument::Addresses => word(
                 alloc,
                 "ADDRESS",
-                "An address in hexadecimal digits; without one they are read from standard input",
+                "An address in hexadecimal digits, or in an object file SECTION+OFFSET; without one \
+                 they are read from standard input",
             )
             .action(ArgAction::Append)
             .num_args(0..),

@@ -6,12 +6,9 @@ use std::fmt;
 /// Why the sections of a file can't be read.
 #[derive(Clone, Copy, Debug, PartialEq, Eq)]
 pub(crate) enum InputError {
-    /// The file isn't an ELF file that can be read.
+    /// The file isn't an ELF file that can be read, or a section can't be. Of these, `OutOfMemory`
+    /// is no fault of the file.
     Elf(ElfError),
-    /// A section is compressed.
-    Compressed,
-    /// The file is an object file, whose addresses are not known yet.
-    NotLinked,
     /// The file has no section `.debug_line`.
     NoLines,
 }
@@ -23,12 +20,6 @@ impl fmt::Display for InputError {
                 "not an ELF file; for a raw section say --raw little or --raw big, and --address-size",
             ),
             InputError::Elf(error) => write!(f, "{error}"),
-            InputError::Compressed => f.write_str(
-                "a section is compressed; decompress it first: objcopy --decompress-debug-sections FILE",
-            ),
-            InputError::NotLinked => f.write_str(
-                "an object file, whose addresses are not known before it is linked; link it first",
-            ),
             InputError::NoLines => {
                 f.write_str("there is no section .debug_line; compile and link with -g")
             }

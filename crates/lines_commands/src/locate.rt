@@ -3,14 +3,15 @@
 ghost use Rattle.std.specs.Prelude.{◌≡◌};
 
 use crate::fields::{JsonFlags, column_of, line_of};
-use crate::input::Input;
+use crate::input::{Files, Input};
 use crate::json_text::JsonPath;
 use crate::lookup::look_up;
-use crate::numbers::parse_address;
 use crate::output::Output;
 use crate::path_sources::{PathSources, path_sources};
 use crate::path_text::PathText;
-use crate::request::Form;
+use crate::program::Program;
+use crate::questions::{Asked, Questions};
+use crate::request::{CodeAddress, Form};
 use gimli_core::{Reader, ReaderOffset};
 use gimli_line::LineRow;
 use gimli_lookup::{CoveringRows, PathError, SectionLookup, UnitLookup};
@@ -21,29 +22,102 @@ use std::io::{BufRead, Write};
 pub(crate) fn print_places<R: Reader, I: BufRead, O: Write, E: Write>(
     alloc: Global,
     input: &Input<R>,
-    addresses: &[u64],
+    addresses: &[CodeAddress<'_>],
     form: Form,
     lines: &mut I,
     output: &mut Output<'_, O, E>,
 ) {
-    let Some(lookup) = look_up(alloc, input, output) else {
+    let Some(places) = Places::new(alloc, input, form, output) else {
         return;
     };
-    let Some(sources) = path_sources(alloc, input, output) else {
-        return;
-    };
-    let places = Places {
-        alloc,
-        lookup,
-        sources,
-        form,
-    };
-    if addresses.is_empty() {
-        places.print_as_they_come(lines, output);
+    let mut questions = Questions::new(alloc, addresses, lines, output);
+    for _ in 0..u64::MAX {
+        match questions.current() {
+            Some(asked) => places.print_asked(asked, output),
+            None => break,
+        }
+        questions.go_on(output);
     }
-    for address in addresses {
-        places.print_place(*address, output);
+}
+
+/// Prints the place of each address in an object file. Each section has rows of its own, which are
+/// kept until another section is asked for.
+pub(crate) fn print_places_in_sections<I: BufRead, O: Write, E: Write>(
+    alloc: Global,
+    files: Files<'_>,
+    addresses: &[CodeAddress<'_>],
+    form: Form,
+    lines: &mut I,
+    output: &mut Output<'_, O, E>,
+) {
+    let mut questions = Questions::new(alloc, addresses, lines, output);
+    for _ in 0..u64::MAX {
+        match questions.section() {
+            Ok(Some(name)) => print_in_section(alloc, files, &name, form, &mut questions, output),
+            Ok(None) => print_without_section(form, &mut questions, output),
+            Err(_) => output.fail_for_memory(),
+        }
+        if questions.current().is_none() || output.has_failed() {
+            break;
+        }
     }
+}
+
+/// Prints the places of the addresses that follow each other in a section.
+fn print_in_section<I: BufRead, O: Write, E: Write>(
+    alloc: Global,
+    files: Files<'_>,
+    name: &[u8],
+    form: Form,
+    questions: &mut Questions<'_, I>,
+    output: &mut Output<'_, O, E>,
+) {
+    match Program::of_section(alloc, files, name) {
+        Ok(Some(program)) => {
+            if let Some(places) = Places::new(alloc, &program.input(), form, output) {
+                places.print_in_section(name, questions, output);
+            }
+            return;
+        }
+        Ok(None) => {
+            let name = PathText(name);
+            output.tell(format_args!("there is no section {name}"));
+        }
+        Err(refusal) => output.tell_refusal(refusal),
+    }
+    print_unknown(form, None, output);
+    questions.go_on(output);
+}
+
+/// Prints that there is no place of what is asked, which is in no section.
+fn print_without_section<I: BufRead, O: Write, E: Write>(
+    form: Form,
+    questions: &mut Questions<'_, I>,
+    output: &mut Output<'_, O, E>,
+) {
+    match questions.current() {
+        Some(Asked::Address(CodeAddress::Linked(address))) => {
+            print_unknown(form, Some(address), output);
+            output.tell(format_args!(
+                "0x{address:x} is in no section; in an object file say SECTION+OFFSET, \
+                 as .text+0x{address:x}"
+            ));
+        }
+        Some(Asked::Unknown(word)) => print_no_address(form, word, output),
+        _ => {}
+    }
+    questions.go_on(output);
+}
+
+/// Prints that a word is no address.
+fn print_no_address<O: Write, E: Write>(
+    form: Form,
+    word: &[u8],
+    output: &mut Output<'_, O, E>,
+) {
+    print_unknown(form, None, output);
+    let word = PathText(word);
+    output.tell(format_args!("'{word}' is no address"));
 }
 
 /// The rows of all units of a section, and how their places are printed.
@@ -56,48 +130,63 @@ struct Places<R: Reader> {
 }
 
 impl<R: Reader> Places<R> {
-    /// Prints the place of each address that a reader has, one a line, as they come. A line that is
-    /// no address is reported, and printed as an address without a place is; one of blanks alone is
-    /// passed over.
-    fn print_as_they_come<I: BufRead, O: Write, E: Write>(
-        &self,
-        lines: &mut I,
+    /// Reads the rows. None where memory is missing, which is reported.
+    fn new<O: Write, E: Write>(
+        alloc: Global,
+        input: &Input<R>,
+        form: Form,
         output: &mut Output<'_, O, E>,
-    ) {
-        let mut line = Vec::new(self.alloc);
-        for _ in 0..u64::MAX {
-            line.clear();
-            match lines.read_until(b'\n', &mut line) {
-                Ok(0) => break,
-                Ok(_) => self.print_line(line.trim_ascii(), output),
-                Err(error) => output.fail(error),
+    ) -> Option<Places<R>> {
+        let lookup = look_up(alloc, input, output)?;
+        let sources = path_sources(alloc, input, output)?;
+        Some(Places {
+            alloc,
+            lookup,
+            sources,
+            form,
+        })
+    }
+
+    /// Prints the place of what is asked of a linked program. A word that is no address is reported,
+    /// and printed as an address without a place is.
+    fn print_asked<O: Write, E: Write>(&self, asked: Asked<'_>, output: &mut Output<'_, O, E>) {
+        match asked {
+            Asked::Address(CodeAddress::Linked(address)) => self.print_place(address, output),
+            Asked::Address(CodeAddress::InSection { section, offset }) => {
+                print_unknown(self.form, None, output);
+                let section = PathText(section.as_bytes());
+                output.tell(format_args!(
+                    "{section}+0x{offset:x} is for object files; say an address"
+                ));
             }
-            output.flush();
-            if output.has_failed() {
-                break;
-            }
+            Asked::Unknown(word) => print_no_address(self.form, word, output),
         }
     }
 
-    /// Prints the place of the address that a word is.
-    fn print_line<O: Write, E: Write>(&self, word: &[u8], output: &mut Output<'_, O, E>) {
-        if word.is_empty() {
-            return;
-        }
-        match str::from_utf8(word).ok().and_then(parse_address) {
-            Some(address) => self.print_place(address, output),
-            None => {
-                self.print_unknown(None, output);
-                let word = PathText(word);
-                output.tell(format_args!("'{word}' is no address"));
+    /// Prints the place of each address up to the first that isn't in a section.
+    fn print_in_section<I: BufRead, O: Write, E: Write>(
+        &self,
+        name: &[u8],
+        questions: &mut Questions<'_, I>,
+        output: &mut Output<'_, O, E>,
+    ) {
+        for _ in 0..u64::MAX {
+            match questions.current() {
+                Some(Asked::Address(CodeAddress::InSection { section, offset }))
+                    if section.as_bytes() == name =>
+                {
+                    self.print_place(offset, output);
+                }
+                _ => break,
             }
+            questions.go_on(output);
         }
     }
 
     /// Prints the place of an address.
     fn print_place<O: Write, E: Write>(&self, address: u64, output: &mut Output<'_, O, E>) {
         let Some(found) = self.lookup.find(address) else {
-            return self.print_unknown(Some(address), output);
+            return print_unknown(self.form, Some(address), output);
         };
         let Some(unit) = self.lookup.units().get(found.unit) else {
             return output.fail_for_memory();
@@ -123,21 +212,6 @@ impl<R: Reader> Places<R> {
         }
     }
 
-    /// Prints that there is no place.
-    fn print_unknown<O: Write, E: Write>(
-        &self,
-        address: Option<u64>,
-        output: &mut Output<'_, O, E>,
-    ) {
-        match (self.form, address) {
-            (Form::Json, Some(address)) => output.print(format_args!(
-                "{{\"address\":\"0x{address:x}\",\"path\":null}}"
-            )),
-            (Form::Json, None) => output.print("{\"address\":null,\"path\":null}"),
-            _ => output.print("??:0"),
-        }
-    }
-
     /// Prints the place of rows. There is no path where the file has none.
     fn print_found<O: Write, E: Write>(
         &self,
@@ -154,6 +228,21 @@ impl<R: Reader> Places<R> {
                 output.print(format_args!("{path}:{line}:{column}"));
             }
         }
+    }
+}
+
+/// Prints that there is no place.
+fn print_unknown<O: Write, E: Write>(
+    form: Form,
+    address: Option<u64>,
+    output: &mut Output<'_, O, E>,
+) {
+    match (form, address) {
+        (Form::Json, Some(address)) => output.print(format_args!(
+            "{{\"address\":\"0x{address:x}\",\"path\":null}}"
+        )),
+        (Form::Json, None) => output.print("{\"address\":null,\"path\":null}"),
+        _ => output.print("??:0"),
     }
 }
 

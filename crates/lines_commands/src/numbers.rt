@@ -1,8 +1,9 @@
 //! Addresses, offsets and lines in words.
 
 ghost use Rattle.std.specs.Prelude.{◌≡◌, ℕ, List, IfSome, MatchOption, Some};
-ghost use Rattle.lines_commands.specs.Words.{HasPrefix, NamesAddress, NamesOffset, NamesTarget};
+ghost use Rattle.lines_commands.specs.Words.{HasPrefix, NamesAddress, NamesOffset, NamesPlace, NamesTarget};
 
+use crate::request::CodeAddress;
 use rows_reading::parse_digits;
 
 /// An address in hexadecimal digits of either case, with or without `0x`. None for another word,
@@ -42,6 +43,30 @@ pub fn parse_target(word: &str) -> Option<(&str, u64)>
     }
     let line = parse_digits(digits, 10)?;
     Some((path, line))
+}
+
+/// A section and an offset in it: what stands before the last plus sign, and the address after it.
+/// None for another word, and for an empty name.
+pub fn parse_place(word: &str) -> Option<(&str, u64)>
+    ensures named { IfSome result (λ place. NamesPlace word.now place.0.now place.1) }
+    ensures only { (section : List ℕ) (offset : ℕ) → NamesPlace word.now section offset
+        → MatchOption result ⊥ (λ place. (place.0.now ≡ section) × (place.1 ≡ offset)) }
+{
+    let (section, digits) = word.rsplit_once('+')?;
+    if section.is_empty() {
+        return None;
+    }
+    let offset = parse_address(digits)?;
+    Some((section, offset))
+}
+
+/// An address, or an offset in a section. None for another word.
+pub(crate) fn parse_code_address(word: &str) -> Option<CodeAddress<'_>> {
+    if let Some((section, offset)) = parse_place(word) {
+        return Some(CodeAddress::InSection { section, offset });
+    }
+    let address = parse_address(word)?;
+    Some(CodeAddress::Linked(address))
 }
 
 /// What stands after `0x` or `0X`.

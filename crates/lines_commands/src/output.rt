@@ -3,9 +3,11 @@
 ghost use Rattle.std.specs.Prelude.{◌≡◌, ◌≤◌, IfOk};
 
 use crate::finding::Finding;
+use crate::input_error::InputError;
 use crate::report::Verdict;
 use crate::row_count::RowCount;
 use crate::screen::{Screen, Style};
+use elf_sections::ElfError;
 use gimli_core::Error;
 use std::io::{ErrorKind, Write};
 use std::{fmt, io};
@@ -114,6 +116,14 @@ impl<'o, O: Write, E: Write> Output<'o, O, E> {
             let Style { begin, end } = self.screen.fault();
             // Where standard error can't be written to, the status still says it.
             let _ = writeln!(self.err, "lines: {name}: {begin}{sentence}{end}");
+        }
+    }
+
+    /// Reports why sections can't be read. Missing memory is no fault of them.
+    pub(crate) fn tell_refusal(&mut self, refusal: InputError) {
+        match refusal {
+            InputError::Elf(ElfError::OutOfMemory) => self.fail_for_memory(),
+            refusal => self.tell(refusal),
         }
     }
 

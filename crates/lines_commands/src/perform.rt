@@ -1,22 +1,25 @@
 //! What the program does, over what its words ask for, the bytes of files, a reader in place of
 //! standard input, and writers in place of standard output and standard error.
 
-ghost use Rattle.std.specs.Prelude.{◌≡◌, ◌≤◌, IfOk, Ok};
+ghost use Rattle.std.specs.Prelude.{◌≡◌, ◌≤◌, IfOk, IfErr};
+ghost use Rattle.std.specs.IoError.{error_kind};
 ghost use Rattle.lines_commands.specs.Lines.{HasLines};
 
 use crate::addresses::print_addresses;
 use crate::check::print_check;
-use crate::input::{Files, Input, Kind};
+use crate::input::{Files, Kind};
+use crate::input_error::InputError;
 use crate::listing::{Listing, print_each, print_units};
-use crate::locate::print_places;
+use crate::locate::{print_places, print_places_in_sections};
 use crate::output::Output;
+use crate::program::Program;
 use crate::report::Verdict;
 use crate::request::{Command, Request};
 use crate::screen::Screen;
-use gimli_core::Reader;
+use elf_sections::ElfError;
 use std::alloc::Global;
 use std::io;
-use std::io::{BufRead, Write};
+use std::io::{BufRead, ErrorKind, Write};
 
 /// Does what a request asks for, and returns the status of the program: 0, or 1 where something was
 /// refused, and reported on standard error, or found by a check. Fails where memory is missing, where
@@ -31,7 +34,10 @@ pub fn run<I: BufRead, O: Write, E: Write>(
     err: &mut E,
 ) -> io::Result<u8>
     ensures status { IfOk result (λ status. status ≤ 1) }
-    ensures no_lines { request.now.kind ≡ Kind.Elf → (HasLines files.entry.file.now → ⊥) → result ≡ Ok 1 }
+    ensures no_lines { request.now.kind ≡ Kind.Elf → (HasLines files.entry.file.now → ⊥)
+        → IfOk result (λ status. status ≡ 1) }
+    ensures no_lines_fails { request.now.kind ≡ Kind.Elf → (HasLines files.entry.file.now → ⊥)
+        → IfErr result (λ e. error_kind e ≡ ErrorKind.OutOfMemory) }
 {
     run_on(alloc, Screen::none(), request, files, input, out, err)
 }
@@ -48,31 +54,42 @@ pub fn run_on<I: BufRead, O: Write, E: Write>(
     err: &mut E,
 ) -> io::Result<u8>
     ensures status { IfOk result (λ status. status ≤ 1) }
-    ensures no_lines { request.now.kind ≡ Kind.Elf → (HasLines files.entry.file.now → ⊥) → result ≡ Ok 1 }
+    ensures no_lines { request.now.kind ≡ Kind.Elf → (HasLines files.entry.file.now → ⊥)
+        → IfOk result (λ status. status ≡ 1) }
+    ensures no_lines_fails { request.now.kind ≡ Kind.Elf → (HasLines files.entry.file.now → ⊥)
+        → IfErr result (λ e. error_kind e ≡ ErrorKind.OutOfMemory) }
 {
     let mut output = Output::new(request.file, screen, out, err);
-    let sections = match Input::new(request.kind, files) {
-        Ok(sections) => sections,
+    let program = match Program::new(alloc, request.kind, files) {
+        Ok(program) => program,
+        Err(InputError::Elf(ElfError::OutOfMemory)) => {
+            return Err(io::Error::from(ErrorKind::OutOfMemory));
+        }
         Err(refusal) => {
             output.tell(refusal);
             return Ok(Verdict::Faulty.status());
         }
     };
-    perform(alloc, &request.command, &sections, input, &mut output);
+    perform(alloc, &request.command, &program, files, input, &mut output);
     output.finish()
 }
 
 /// Does what a command asks for.
-fn perform<R: Reader, I: BufRead, O: Write, E: Write>(
+fn perform<I: BufRead, O: Write, E: Write>(
     alloc: Global,
     command: &Command<'_>,
-    sections: &Input<R>,
+    program: &Program<'_>,
+    files: Files<'_>,
     input: &mut I,
     output: &mut Output<'_, O, E>,
 ) {
+    let sections = &program.input();
     match command {
-        Command::Where { addresses, form } => {
+        Command::Where { addresses, form } if sections.is_linked => {
             print_places(alloc, sections, addresses, *form, input, output);
+        }
+        Command::Where { addresses, form } => {
+            print_places_in_sections(alloc, files, addresses, *form, input, output);
         }
         Command::At { path, line } => print_addresses(alloc, sections, path, *line, output),
         Command::Units => print_units(alloc, sections, output),

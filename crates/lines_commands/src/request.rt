@@ -23,7 +23,10 @@ pub struct Request<'w> {
 #[derive(Drop)]
 pub enum Command<'w> {
     /// The places in the source of addresses; of those of standard input where none is named.
-    Where { addresses: Vec<u64>, form: Form },
+    Where {
+        addresses: Vec<CodeAddress<'w>>,
+        form: Form,
+    },
     /// The addresses of a line of the files whose path ends so.
     At { path: &'w str, line: u64 },
     /// A line for each unit.
@@ -34,6 +37,15 @@ pub enum Command<'w> {
     Rows { units: UnitChoice, form: Form },
     /// Each fault and each odd thing.
     Check,
+}
+
+/// Where code stands.
+#[derive(Clone, Copy, Debug, PartialEq, Eq)]
+pub enum CodeAddress<'w> {
+    /// At an address of a program that is linked.
+    Linked(u64),
+    /// At an offset in a section of an object file, by the section's name.
+    InSection { section: &'w str, offset: u64 },
 }
 
 /// How places and rows are printed.

@@ -2,66 +2,59 @@
 
 ghost use Rattle.std.specs.Prelude.{◌≡◌};
 
-use elf_sections::Elf;
+use crate::section_source::SectionSource;
+use elf_sections::{ElfError, SectionBytes};
 use gimli_compilation::CompilationSections;
 use gimli_core::{EndianSlice, RunTimeEndian};
 use gimli_lookup::StringSections;
 use rows_reading::Slice;
 
 /// The bytes of the sections of units, beside those of texts.
-#[derive(Clone, Copy)]
+#[derive(Drop)]
 pub(crate) struct UnitSections<'i> {
     /// `.debug_info`
-    info: &'i [u8],
+    info: SectionBytes<'i>,
     /// `.debug_abbrev`
-    abbreviations: &'i [u8],
+    abbreviations: SectionBytes<'i>,
     /// `.debug_str_offsets`
-    string_offsets: &'i [u8],
+    string_offsets: SectionBytes<'i>,
 }
 
 impl<'i> UnitSections<'i> {
     /// No sections: no unit says where it was compiled.
     pub(crate) fn none() -> UnitSections<'i> {
         UnitSections {
-            info: &[],
-            abbreviations: &[],
-            string_offsets: &[],
+            info: SectionBytes::Lent(&[]),
+            abbreviations: SectionBytes::Lent(&[]),
+            string_offsets: SectionBytes::Lent(&[]),
         }
     }
 
     /// Those of an ELF file. One that is missing or can't be read counts as empty: paths stay as
-    /// the line programs have them.
-    pub(crate) fn of_elf(elf: &Elf<'i>) -> UnitSections<'i> {
-        UnitSections {
-            info: bytes_of(elf, b".debug_info"),
-            abbreviations: bytes_of(elf, b".debug_abbrev"),
-            string_offsets: bytes_of(elf, b".debug_str_offsets"),
-        }
+    /// the line programs have them. Fails only with `OutOfMemory`.
+    pub(crate) fn of_elf(source: SectionSource<'i>) -> Result<UnitSections<'i>, ElfError> {
+        Ok(UnitSections {
+            info: source.readable(b".debug_info")?,
+            abbreviations: source.readable(b".debug_abbrev")?,
+            string_offsets: source.readable(b".debug_str_offsets")?,
+        })
     }
 
     /// Readers over them, beside those over the texts.
-    pub(crate) fn readers(
-        self,
+    pub(crate) fn readers<'s>(
+        &'s self,
         order: RunTimeEndian,
-        strings: StringSections<Slice<'i>>,
-    ) -> CompilationSections<Slice<'i>>
+        strings: StringSections<Slice<'s>>,
+    ) -> CompilationSections<Slice<'s>>
         ensures line_strings { result.debug_line_str ≡ strings.entry.debug_line_str }
         ensures strings { result.debug_str ≡ strings.entry.debug_str }
     {
         CompilationSections {
-            debug_info: EndianSlice::new(self.info, order),
-            debug_abbrev: EndianSlice::new(self.abbreviations, order),
+            debug_info: EndianSlice::new(self.info.as_slice(), order),
+            debug_abbrev: EndianSlice::new(self.abbreviations.as_slice(), order),
             debug_str: strings.debug_str,
             debug_line_str: strings.debug_line_str,
-            debug_str_offsets: EndianSlice::new(self.string_offsets, order),
+            debug_str_offsets: EndianSlice::new(self.string_offsets.as_slice(), order),
         }
-    }
-}
-
-/// The bytes of a section by its name; none where it can't be read.
-fn bytes_of<'i>(elf: &Elf<'i>, name: &[u8]) -> &'i [u8] {
-    match elf.section(name) {
-        Ok(Some(section)) => section,
-        _ => &[],
     }
 }

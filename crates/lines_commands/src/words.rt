@@ -10,8 +10,8 @@ ghost use Rattle.lines_commands.specs.Choice.{ChoosesUnits};
 
 use crate::grammar::program;
 use crate::input::{Kind, Notation};
-use crate::numbers::{parse_address, parse_offset, parse_target};
-use crate::request::{Command, Form, Request, UnitChoice};
+use crate::numbers::{parse_code_address, parse_offset, parse_target};
+use crate::request::{CodeAddress, Command, Form, Request, UnitChoice};
 use clap::error::ErrorKind;
 use clap::{ArgMatches, Error};
 use rows_reading::{AddressSize, parse_order, parse_size};
@@ -111,15 +111,18 @@ fn command_of<'w>(
 }
 
 /// The addresses that are named.
-fn addresses_of<'w>(alloc: Global, matches: &ArgMatches<'w>) -> Result<Vec<u64>, Mistake<'w>> {
+fn addresses_of<'w>(
+    alloc: Global,
+    matches: &ArgMatches<'w>,
+) -> Result<Vec<CodeAddress<'w>>, Mistake<'w>> {
     let mut addresses = Vec::new(alloc);
     for word in matches.get_strs("ADDRESS").unwrap_or(&[]) {
-        match parse_address(word) {
+        match parse_code_address(word) {
             Some(address) => addresses.push(address).map_err(AllocError::from)?,
             None => {
                 return Err(Mistake::Word(
                     word,
-                    "an address, up to 16 hexadecimal digits with or without 0x",
+                    "an address, up to 16 hexadecimal digits with or without 0x, or SECTION+OFFSET",
                 ));
             }
         }

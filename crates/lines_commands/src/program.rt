@@ -1,0 +1,134 @@
+//! The sections of a program, lent by its file or made anew.
+
+ghost use Rattle.std.specs.Prelude.{◌≡◌, OnOk};
+ghost use Rattle.lines_commands.specs.Lines.{HasLines};
+
+use crate::input::{Files, Input, Kind, Notation};
+use crate::input_error::InputError;
+use crate::section_source::SectionSource;
+use crate::unit_sections::UnitSections;
+use elf_sections::{Elf, SectionBytes, SectionPlace};
+use gimli_core::{EndianSlice, Section};
+use gimli_line::DebugLine;
+use gimli_lookup::StringSections;
+use rows_reading::Slice;
+use std::alloc::Global;
+
+/// The sections of a program that commands read, and how they are read. An [`Input`] borrows from
+/// it.
+#[derive(Drop)]
+pub(crate) struct Program<'i> {
+    notation: Notation,
+    /// The line programs.
+    lines: SectionBytes<'i>,
+    /// The section `.debug_line_str`.
+    line_str: SectionBytes<'i>,
+    /// The section `.debug_str`.
+    strings: SectionBytes<'i>,
+    /// The sections of units.
+    units: UnitSections<'i>,
+    /// An address below which there is no code, 0 where none is known.
+    lowest: u64,
+    /// Whether it is no object file.
+    is_linked: bool,
+}
+
+impl<'i> Program<'i> {
+    /// The sections of files; in an object file each section stands at 0. Refused as `InputError`
+    /// says.
+    pub(crate) fn new(
+        alloc: Global,
+        kind: Kind,
+        files: Files<'i>,
+    ) -> Result<Program<'i>, InputError>
+        ensures elf { kind ≡ Kind.Elf → OnOk result (HasLines files.entry.file.now) }
+    {
+        match kind {
+            Kind::Elf => Program::of_elf(alloc, files),
+            Kind::Raw(notation) => Ok(Program::raw(notation, files)),
+        }
+    }
+
+    /// The sections of an object file, where the addresses in one section alone count. None where
+    /// no section has the name.
+    pub(crate) fn of_section(
+        alloc: Global,
+        files: Files<'i>,
+        name: &[u8],
+    ) -> Result<Option<Program<'i>>, InputError> {
+        let elf = Elf::parse(files.file)?;
+        let Some(index) = elf.section_index(name) else {
+            return Ok(None);
+        };
+        let place = SectionPlace::Only(index);
+        let source = SectionSource { alloc, elf, place };
+        let lines = source.lines()?;
+        let program = Program::with_lines(source, lines, files)?;
+        Ok(Some(program))
+    }
+
+    /// The sections of an ELF file.
+    fn of_elf(alloc: Global, files: Files<'i>) -> Result<Program<'i>, InputError>
+        ensures { OnOk result (HasLines files.entry.file.now) }
+    {
+        let elf = Elf::parse(files.file)?;
+        let place = SectionPlace::AllAtZero;
+        let source = SectionSource { alloc, elf, place };
+        let lines = source.lines()?;
+        Program::with_lines(source, lines, files)
+    }
+
+    /// The sections of an ELF file beside its line programs. A section of texts that is named apart
+    /// from it takes the place of its own.
+    fn with_lines(
+        source: SectionSource<'i>,
+        lines: SectionBytes<'i>,
+        files: Files<'i>,
+    ) -> Result<Program<'i>, InputError> {
+        let elf = source.elf;
+        let is_linked = !elf.is_relocatable();
+        Ok(Program {
+            notation: Notation::of_elf(&elf),
+            lines,
+            line_str: source.texts(b".debug_line_str", files.line_str)?,
+            strings: source.texts(b".debug_str", files.strings)?,
+            units: UnitSections::of_elf(source)?,
+            lowest: if is_linked {
+                elf.lowest_code_address().unwrap_or(0)
+            } else {
+                0
+            },
+            is_linked,
+        })
+    }
+
+    /// Sections by themselves.
+    fn raw(notation: Notation, files: Files<'i>) -> Program<'i> {
+        Program {
+            notation,
+            lines: SectionBytes::Lent(files.file),
+            line_str: SectionBytes::Lent(files.line_str),
+            strings: SectionBytes::Lent(files.strings),
+            units: UnitSections::none(),
+            lowest: 0,
+            is_linked: true,
+        }
+    }
+
+    /// The sections as commands read them.
+    pub(crate) fn input(&self) -> Input<Slice<'_>> {
+        let order = self.notation.order;
+        let strings = StringSections {
+            debug_line_str: EndianSlice::new(self.line_str.as_slice(), order),
+            debug_str: EndianSlice::new(self.strings.as_slice(), order),
+        };
+        Input {
+            lines: DebugLine::new(self.lines.as_slice(), order),
+            strings,
+            compilations: self.units.readers(order, strings),
+            address_size: self.notation.address_size,
+            lowest: self.lowest,
+            is_linked: self.is_linked,
+        }
+    }
+}

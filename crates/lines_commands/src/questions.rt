@@ -1,0 +1,108 @@
+//! What the command `where` is asked, one address after the other.
+
+use crate::numbers::parse_code_address;
+use crate::output::Output;
+use crate::request::CodeAddress;
+use std::alloc::{AllocError, Global};
+use std::io::{BufRead, Write};
+
+/// What is asked.
+#[derive(Clone, Copy)]
+pub(crate) enum Asked<'a> {
+    /// The place of an address.
+    Address(CodeAddress<'a>),
+    /// That of a word that is no address.
+    Unknown(&'a [u8]),
+}
+
+/// The addresses that are named, or where none is, those that a reader has, one a line. Lines of
+/// blanks alone are passed over.
+#[derive(Drop)]
+pub(crate) struct Questions<'q, I> {
+    alloc: Global,
+    /// The named addresses that are left.
+    named: &'q [CodeAddress<'q>],
+    /// The reader; None where addresses are named.
+    lines: Option<&'q mut I>,
+    /// The line that was read last, empty at the end.
+    line: Vec<u8>,
+}
+
+impl<'q, I: BufRead> Questions<'q, I> {
+    /// The questions from the first on.
+    pub(crate) fn new<O: Write, E: Write>(
+        alloc: Global,
+        named: &'q [CodeAddress<'q>],
+        lines: &'q mut I,
+        output: &mut Output<'_, O, E>,
+    ) -> Questions<'q, I> {
+        let mut questions = Questions {
+            alloc,
+            named,
+            lines: named.is_empty().then_some(lines),
+            line: Vec::new(alloc),
+        };
+        questions.read(output);
+        questions
+    }
+
+    /// What is asked now; None at the end.
+    pub(crate) fn current(&self) -> Option<Asked<'_>> {
+        if let Some(address) = self.named.first() {
+            return Some(Asked::Address(*address));
+        }
+        let word = self.line.trim_ascii();
+        if word.is_empty() {
+            return None;
+        }
+        let Ok(text) = str::from_utf8(word) else {
+            return Some(Asked::Unknown(word));
+        };
+        match parse_code_address(text) {
+            Some(address) => Some(Asked::Address(address)),
+            None => Some(Asked::Unknown(word)),
+        }
+    }
+
+    /// The name of the section that is asked for now; None where none is.
+    pub(crate) fn section(&self) -> Result<Option<Vec<u8>>, AllocError> {
+        match self.current() {
+            Some(Asked::Address(CodeAddress::InSection { section, .. })) => {
+                let name = Vec::from_slice(self.alloc, section.as_bytes())?;
+                Ok(Some(name))
+            }
+            _ => Ok(None),
+        }
+    }
+
+    /// Goes on to the next question. What was printed is handed on before a line is read.
+    pub(crate) fn go_on<O: Write, E: Write>(&mut self, output: &mut Output<'_, O, E>) {
+        match self.named {
+            [_, rest @ ..] => self.named = rest,
+            [] => {
+                output.flush();
+                self.read(output);
+            }
+        }
+    }
+
+    /// Reads the next line that isn't blank, where lines are read.
+    fn read<O: Write, E: Write>(&mut self, output: &mut Output<'_, O, E>) {
+        self.line.clear();
+        let Some(lines) = &mut self.lines else {
+            return;
+        };
+        for _ in 0..u64::MAX {
+            self.line.clear();
+            if output.has_failed() {
+                break;
+            }
+            match lines.read_until(b'\n', &mut self.line) {
+                Ok(0) => break,
+                Ok(_) if self.line.trim_ascii().is_empty() => {}
+                Ok(_) => break,
+                Err(error) => output.fail(error),
+            }
+        }
+    }
+}
