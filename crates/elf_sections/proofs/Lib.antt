@@ -3,3 +3,6 @@ pub mod Worked
 mod Headers
 mod Lowest
 mod TableNames
+mod Checksums
+mod NoteLists
+pub mod WorkedDebug

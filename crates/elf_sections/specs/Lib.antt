@@ -6,3 +6,7 @@ pub mod Table
 pub mod File
 pub mod SectionTable
 pub mod Elf
+pub mod Notes
+pub mod NoteViews
+pub mod DebugFile
+pub mod Crc

@@ -20,7 +20,7 @@ const REL: u16 = 1;
 #[derive(Clone, Copy, Debug)]
 pub struct Elf<'a> {
     bytes: &'a [u8],
-    layout: Layout,
+    pub(crate) layout: Layout,
     kind: u16,
     table: SectionTable<'a>,
     names: &'a [u8],

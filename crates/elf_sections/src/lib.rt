@@ -2,12 +2,17 @@
 //! Application Binary Interface, chapter 4). It takes no memory, and returns on every input.
 #![tactic(auto)]
 
+mod crc;
+mod debug_file;
 mod elf;
 mod error;
 mod header;
 mod layout;
+mod note;
 mod section_header;
 mod section_table;
 
+pub use crc::{crc32, crc32_more};
+pub use debug_file::DebugLink;
 pub use elf::Elf;
 pub use error::ElfError;
