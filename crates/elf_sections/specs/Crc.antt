@@ -1,7 +1,8 @@
 -- The checksum of `.gnu_debuglink`: CRC-32 (ISO 3309; RFC 1952, section 8), bit by bit.
 use Rattle.std.specs.Prelude.{ℕ, ◌/◌, ◌%◌, zero, suc, List, fold, bit_xor, nat_eq, if◌then◌else◌}
 
--- one bit further: the lowest bit leaves, and where it is 1 the polynomial is added, whose highest term is the lowest bit
+-- one bit further: the lowest bit leaves, and where it is 1 the polynomial is added. The lowest bit
+-- stands for the highest power
 unfoldable pub bit_step : ℕ → ℕ
 bit_step crc = if nat_eq (crc % 2) 1 then bit_xor (crc / 2) 0xedb88320 else crc / 2
 

@@ -18,8 +18,8 @@ pub record Link : Type 0 where
 abbrev pub link_of : DebugLink → Link
 link_of link = record { name = link.name.now; checksum = link.checksum }
 
--- the link of .gnu_debuglink, by where its first zero byte is: the name before it, bytes up to a multiple of 4,
--- and the checksum, of 4 bytes; none where it is cut
+-- the link of .gnu_debuglink, by where its first zero byte is: the name before it, bytes up to a
+-- multiple of 4, and the checksum, of 4 bytes; none where it is cut
 abbrev pub link_at : Layout → List ℕ → ℕ → Option Link
 link_at layout bytes end =
     if nat_lt (length bytes) (padded (end + 1) + 4) then None

@@ -15,7 +15,7 @@ pub record Note : Type 0 where
 abbrev pub padded : ℕ → ℕ
 padded size = (size + 3) / 4 * 4
 
--- namesz, descsz and type, of 4 bytes each; then the name and the descriptor, both with their padding
+-- namesz, descsz and type, of 4 bytes each; then the name and the descriptor, each padded
 abbrev pub name_size : Layout → List ℕ → ℕ
 name_size layout bytes = number_at layout 4 0 bytes
 

@@ -35,7 +35,8 @@ impl<'a> Note<'a> {
     /// The note that bytes begin with; None where they end before it does.
     fn parse(layout: Layout, bytes: &'a [u8]) -> Option<Note<'a>>
         ensures note { option_map note_of result ≡ note_at layout bytes.now }
-        ensures rest { IfSome result (λ note. note.rest.now ≡ drop (note_size layout bytes.now) bytes.now) }
+        ensures rest { IfSome result (λ note.
+            note.rest.now ≡ drop (note_size layout bytes.now) bytes.now) }
     {
         if bytes.len() < 12 {
             return None;
