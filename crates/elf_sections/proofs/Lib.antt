@@ -6,3 +6,4 @@ mod TableNames
 mod Checksums
 mod NoteLists
 pub mod WorkedDebug
+mod FileRanges

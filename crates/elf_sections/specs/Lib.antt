@@ -10,3 +10,6 @@ pub mod Notes
 pub mod NoteViews
 pub mod DebugFile
 pub mod Crc
+pub mod FileRange
+pub mod Seeking
+pub mod SeekingViews

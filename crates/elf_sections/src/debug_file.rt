@@ -30,7 +30,7 @@ fn name_end(section: &[u8]) -> Option<usize>
 }
 
 /// The link of a section; None where it is cut.
-fn link_in<'a>(layout: Layout, section: &'a [u8]) -> Option<DebugLink<'a>>
+pub(crate) fn link_in<'a>(layout: Layout, section: &'a [u8]) -> Option<DebugLink<'a>>
     ensures { option_map link_of result ≡ link_in layout section.now }
 {
     let end = name_end(section)?;

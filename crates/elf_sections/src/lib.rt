@@ -6,13 +6,17 @@ mod crc;
 mod debug_file;
 mod elf;
 mod error;
+mod file_range;
 mod header;
 mod layout;
 mod note;
 mod section_header;
 mod section_table;
+mod seeking;
 
 pub use crc::{crc32, crc32_more};
 pub use debug_file::DebugLink;
 pub use elf::Elf;
 pub use error::ElfError;
+pub use file_range::FileRange;
+pub use seeking::{FileHeader, FileTable, SectionList};

@@ -4,9 +4,11 @@ ghost use Rattle.std.specs.Prelude.{◌≡◌, ◌≤◌, ◌<◌, ◌*◌, min,
 ghost use Rattle.std.specs.Option.{option_map_or};
 ghost use Rattle.gimli_core.specs.Reading.{result_map};
 ghost use Rattle.elf_sections.specs.SectionHeader.{section_header_size, section_header, is_active, is_code};
-ghost use Rattle.elf_sections.specs.Table.{table_at, names_at, is_name_at, count_of, names_index_of};
+ghost use Rattle.elf_sections.specs.Seeking.{names_in_table};
+ghost use Rattle.elf_sections.specs.Table.{section_headers, table_at, names_at, is_name_at, count_of, names_index_of};
 
 use crate::error::ElfError;
+use crate::file_range::FileRange;
 use crate::header::Header;
 use crate::layout::Layout;
 use crate::section_header::SectionHeader;
@@ -33,7 +35,7 @@ pub(crate) struct SectionTable<'a> {
 }
 
 /// How many section headers a file has.
-fn count_of(header: &Header, first: &SectionHeader) -> u64
+pub(crate) fn count_of(header: &Header, first: &SectionHeader) -> u64
     ensures { result ≡ count_of header.now first.now }
 {
     match header.count {
@@ -43,7 +45,7 @@ fn count_of(header: &Header, first: &SectionHeader) -> u64
 }
 
 /// The index of the section of names.
-fn names_index_of(header: &Header, first: &SectionHeader) -> u64
+pub(crate) fn names_index_of(header: &Header, first: &SectionHeader) -> u64
     ensures { result ≡ names_index_of header.now first.now }
 {
     match header.names_index {
@@ -132,6 +134,29 @@ impl<'a> SectionTable<'a> {
         }
     }
 
+    /// The table of so many entries, each of so many bytes.
+    pub(crate) fn of_entries(
+        layout: Layout,
+        entries: &'a [u8],
+        entry_size: usize,
+        count: usize,
+        names_index: u64,
+    ) -> SectionTable<'a>
+        requires wide { section_header_size layout.class ≤ entry_size }
+        requires whole { count * entry_size ≤ length entries.now }
+        ensures headers { (table_of result).headers
+            ≡ section_headers layout entry_size count entries.entry.now }
+        ensures names_index { (table_of result).names_index ≡ names_index }
+    {
+        SectionTable {
+            layout,
+            entries,
+            entry_size,
+            count,
+            names_index,
+        }
+    }
+
     /// The section header of an index.
     fn header(&self, index: usize) -> SectionHeader
         requires { index < self.now.count }
@@ -154,6 +179,23 @@ impl<'a> SectionTable<'a> {
         }
         match self.header(index).bytes_in(file) {
             Ok(names) => Ok(names),
+            Err(_) => Err(ElfError::NamesCut),
+        }
+    }
+
+    /// Where the names of the sections are in a file of a length.
+    pub(crate) fn names_range(&self, length: u64) -> Result<FileRange, ElfError>
+        ensures { result ≡ names_in_table length (table_of self.now) }
+    {
+        if self.names_index == UNDEF {
+            return Ok(FileRange::NONE);
+        }
+        let index = self.names_index as usize;
+        if self.count <= index {
+            return Err(ElfError::NamesCut);
+        }
+        match self.header(index).range(length) {
+            Ok(range) => Ok(range),
             Err(_) => Err(ElfError::NamesCut),
         }
     }
