@@ -17,7 +17,7 @@ use rows_reading::{AddressSize, Slice};
 pub enum Kind {
     /// An ELF file, which says its order of bytes and its address size.
     Elf,
-    /// A section `.debug_line` alone.
+    /// Sections by themselves: `.debug_line`, and those of texts that it has need of.
     Raw(Notation),
 }
 
@@ -28,6 +28,8 @@ pub struct Notation {
     pub order: RunTimeEndian,
     /// How wide an address is, where the unit doesn't say.
     pub address_size: AddressSize,
+    /// An address below which there is no code, 0 where none is known.
+    pub lowest: u64,
 }
 
 /// The bytes of the files that a request names.
@@ -74,7 +76,6 @@ impl<'i> Input<Slice<'i>> {
             Kind::Raw(notation) => Ok(Input::of_program(Program {
                 notation,
                 sections: files,
-                lowest: 0,
             })),
         }
     }
@@ -90,7 +91,7 @@ impl<'i> Input<Slice<'i>> {
                 debug_str: EndianSlice::new(sections.strings, order),
             },
             address_size: program.notation.address_size,
-            lowest: program.lowest,
+            lowest: program.notation.lowest,
         }
     }
 }
@@ -101,8 +102,6 @@ struct Program<'i> {
     notation: Notation,
     /// The line programs, in place of a file, and the texts.
     sections: Files<'i>,
-    /// An address below which there is no code, 0 where none is known.
-    lowest: u64,
 }
 
 impl<'i> Program<'i> {
@@ -123,7 +122,6 @@ impl<'i> Program<'i> {
         Ok(Program {
             notation: notation_of(&elf),
             sections,
-            lowest: elf.lowest_code_address().unwrap_or(0),
         })
     }
 }
@@ -141,6 +139,7 @@ fn notation_of(elf: &Elf<'_>) -> Notation {
         } else {
             AddressSize::Eight
         },
+        lowest: elf.lowest_code_address().unwrap_or(0),
     }
 }
 

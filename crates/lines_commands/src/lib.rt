@@ -35,6 +35,7 @@ mod walk;
 mod words;
 
 pub use input::{Files, Kind, Notation};
+pub use input_error::InputError;
 pub use numbers::{parse_address, parse_offset, parse_target};
 pub use perform::{run, run_on};
 pub use request::{Command, Form, Request, UnitChoice};

@@ -70,6 +70,7 @@ fn kind_of<'w>(matches: &ArgMatches<'w>) -> Result<Kind, Mistake<'w>> {
     Ok(Kind::Raw(Notation {
         order,
         address_size,
+        lowest: 0,
     }))
 }
 
