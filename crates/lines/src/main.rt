@@ -1,7 +1,11 @@
 //! The program `lines`: what the line tables of a program say.
 #![tactic(auto)]
 
-use lines_commands::{Files, Request, Screen};
+mod program;
+mod source;
+
+use lines_commands::{Files, Kind, Request, Screen};
+use program::Source;
 use std::io::{BufReader, BufWriter, ErrorKind, IsTerminal, Write};
 use std::process::ExitCode;
 use std::{env, fs, io};
@@ -39,7 +43,7 @@ fn start(rt: &HostRuntime) -> io::Result<u8> {
         words.push(word.as_str())?;
     }
     match lines_commands::parse(alloc, &words) {
-        Ok(request) => run(rt, &request),
+        Ok(request) => run(rt, request),
         Err(error) => {
             error.print(rt)?;
             Ok(if error.use_stderr() { USAGE } else { 0 })
@@ -49,15 +53,59 @@ fn start(rt: &HostRuntime) -> io::Result<u8> {
 
 /// Reads the files that a request names, does what it asks for, and returns the status of the
 /// program.
-fn run(rt: &HostRuntime, request: &Request<'_>) -> io::Result<u8> {
-    let file = read(rt, request.file)?;
-    let line_str = read_named(rt, request.line_str)?;
-    let strings = read_named(rt, request.strings)?;
-    match (&file, &line_str, &strings) {
-        (Some(file), Some(line_str), Some(strings)) => {
-            perform(rt, request, file, line_str, strings)
+fn run(rt: &HostRuntime, mut request: Request<'_>) -> io::Result<u8> {
+    let Some(source) = source_of(rt, &request)? else {
+        return Ok(REFUSED);
+    };
+    request.kind = Kind::Raw(source.notation);
+    perform(
+        rt,
+        &request,
+        &source.lines,
+        &source.line_str,
+        &source.strings,
+    )
+}
+
+/// The sections that a request reads; None where there are none, which is reported. A section of
+/// texts that is named apart takes the place of the file's own.
+fn source_of(rt: &HostRuntime, request: &Request<'_>) -> io::Result<Option<Source>> {
+    let source = match request.kind {
+        Kind::Raw(notation) => read(rt, request.file)?.map(|lines| Source {
+            notation,
+            lines,
+            line_str: Vec::new(rt.alloc()),
+            strings: Vec::new(rt.alloc()),
+        }),
+        Kind::Elf => sought(rt, request.file),
+    };
+    let Some(mut source) = source else {
+        return Ok(None);
+    };
+    let Some(line_str) = read_named(rt, request.line_str)? else {
+        return Ok(None);
+    };
+    let Some(strings) = read_named(rt, request.strings)? else {
+        return Ok(None);
+    };
+    if !line_str.is_empty() {
+        source.line_str = line_str;
+    }
+    if !strings.is_empty() {
+        source.strings = strings;
+    }
+    Ok(Some(source))
+}
+
+/// The sections of a program; None where there are none, which is reported.
+fn sought(rt: &HostRuntime, name: &str) -> Option<Source> {
+    match source::find(rt, name) {
+        Ok(source) => Some(source),
+        Err(missing) => {
+            // Where standard error can't be written to, the status still says it.
+            let _ = writeln!(rt.stderr(), "lines: {name}: {missing}");
+            None
         }
-        _ => Ok(REFUSED),
     }
 }
 
