@@ -1,5 +1,5 @@
 -- Parts of a file that it doesn't hold.
-use Rattle.std.proofs.Common.{◌≡◌, true, ap, ℕ, ◌+◌, ◌<◌, nat_lt, if◌then◌else◌, Option, Some, None, arith}
+use Rattle.std.proofs.Common.{◌≡◌, true, ap, ℕ, ◌+◌, ◌<◌, nat_lt, if◌then◌else◌, Some, None, arith}
 use Rattle.std.proofs.lemmas.Bool.Decides.{nat_tests}
 use Rattle.elf_sections.specs.FileRange.{range_in}
 

@@ -7,3 +7,5 @@ mod Checksums
 mod NoteLists
 pub mod WorkedDebug
 mod FileRanges
+mod Seeks
+mod SoughtFiles

@@ -1,11 +1,12 @@
 -- What is read of a file to know its sections, part by part.
-use Rattle.std.specs.Prelude.{ℕ, ◌*◌, List, [], length, take, map, filter, find, slice_get, nat_eq, nat_lt, if◌then◌else◌, Option, Some, None, Result, Ok, Err}
+use Rattle.std.specs.Prelude.{ℕ, ◌*◌, List, length, take, map, filter, find, slice_get, nat_eq, nat_lt, if◌then◌else◌, Option, Some, None, Result, Ok, Err}
+use Rattle.std.specs.Option.{option_map}
 use Rattle.elf_sections.specs.Steps.{◌>>=◌}
 use Rattle.elf_sections.specs.Layout.{layout_at}
 use Rattle.elf_sections.specs.Header.{header_at}
 use Rattle.elf_sections.specs.SectionHeader.{section_header_size, section_header, is_active, is_code}
 use Rattle.elf_sections.specs.Table.{Table, section_headers, count_of, names_index_of, is_name_at}
-use Rattle.elf_sections.specs.File.{File}
+use Rattle.elf_sections.specs.File.{File, file_at, section_at}
 use Rattle.elf_sections.specs.FileRange.{bytes_at, nowhere, range_in, or_refused, header_range}
 use Rattle.elf_sections.specs.declared.error.ElfError.{ElfError}
 use Rattle.elf_sections.specs.declared.error.ElfError.TheVariants.{SectionHeaderSize, SectionTableCut, NamesCut}
@@ -158,3 +159,14 @@ listed_of file = record {
   headers = file.headers;
   names = file.names;
 }
+
+abbrev pub listed_at : List ℕ → Result Listed ElfError
+listed_at bytes = file_at bytes >>= λ file. Ok (listed_of file)
+
+-- the bytes of a section of a file that is read whole
+abbrev pub section_in : List ℕ → List ℕ → Result (Option (List ℕ)) ElfError
+section_in bytes name = file_at bytes >>= λ file. section_at file name
+
+-- the bytes of a file at a range, if there is one
+abbrev pub read_at : List ℕ → Result (Option FileRange) ElfError → Result (Option (List ℕ)) ElfError
+read_at bytes found = found >>= λ range. Ok (option_map (bytes_at bytes) range)

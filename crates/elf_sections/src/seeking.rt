@@ -4,7 +4,7 @@
 //! a [`FileHeader`]; then the bytes of `first_entry` for a [`FileTable`]; then those of its `range`,
 //! and those of its `names`, for a [`SectionList`]; and at last those of the sections that it wants.
 
-ghost use Rattle.std.specs.Prelude.{◌≡◌, ◌≤◌, ◌*◌, nat_eq, MatchOption, []};
+ghost use Rattle.std.specs.Prelude.{◌≡◌, ◌≤◌, ◌*◌, nat_eq, ℕ, List, MatchOption, []};
 ghost use Rattle.std.specs.Option.{option_map, option_copied};
 ghost use Rattle.gimli_core.specs.Order.{is_big};
 ghost use Rattle.gimli_core.specs.Reading.{result_map};
@@ -15,7 +15,7 @@ ghost use Rattle.elf_sections.specs.Notes.{build_id_in};
 ghost use Rattle.elf_sections.specs.DebugFile.{link_of, link_in};
 ghost use Rattle.elf_sections.specs.SectionTable.{table_of};
 ghost use Rattle.elf_sections.specs.FileRange.{range_in};
-ghost use Rattle.elf_sections.specs.Seeking.{header_by, first_range, table_by, no_table, table_in, names_range, list_by, range_named, listed_code};
+ghost use Rattle.elf_sections.specs.Seeking.{header_by, first_range, table_by, no_table, table_in, names_range, list_by, range_named, listed_code, listed, listed_at, section_in, read_at};
 
 use crate::debug_file::{DebugLink, link_in};
 use crate::error::ElfError;
@@ -208,6 +208,23 @@ impl<'a> SectionList<'a> {
         entries: &'a [u8],
         names: &'a [u8],
     ) -> Result<SectionList<'a>, ElfError>
+        ensures list { result_map list_of result
+            ≡ list_by (place_of table.now) entries.entry.now names.entry.now }
+
+        // Where the parts are those of a file, the sections are the file's.
+        ensures whole { (bytes : List ℕ)
+            → listed bytes ≡ list_by (place_of table.now) entries.entry.now names.entry.now
+            → result_map list_of result ≡ listed_at bytes }
+    {
+        SectionList::of_parts(table, entries, names)
+    }
+
+    /// The sections, by these parts.
+    fn of_parts(
+        table: &FileTable,
+        entries: &'a [u8],
+        names: &'a [u8],
+    ) -> Result<SectionList<'a>, ElfError>
         ensures { result_map list_of result
             ≡ list_by (place_of table.now) entries.entry.now names.entry.now }
     {
@@ -224,6 +241,17 @@ impl<'a> SectionList<'a> {
     /// Where the bytes of the first section of a name are; None where there is none. Refused as
     /// [`Elf::section`](crate::Elf::section) is.
     pub fn range(&self, name: &[u8]) -> Result<Option<FileRange>, ElfError>
+        ensures range { result ≡ range_named (list_of self.now) name.now }
+
+        // Where the sections are those of a file, the bytes there are the section's.
+        ensures whole { (bytes : List ℕ) → listed bytes ≡ Ok (list_of self.now)
+            → section_in bytes name.now ≡ read_at bytes result }
+    {
+        self.range_named(name)
+    }
+
+    /// Where the bytes of the first section of a name are, by its header.
+    fn range_named(&self, name: &[u8]) -> Result<Option<FileRange>, ElfError>
         ensures { result ≡ range_named (list_of self.now) name.now }
     {
         match self.table.find(self.names, name) {

@@ -1,11 +1,11 @@
 //! The program `lines`: what the line tables of a program say.
 #![tactic(auto)]
 
-mod program;
-mod source;
-
-use lines_commands::{Files, Kind, Request, Screen};
-use program::Source;
+use debug_files::{Missing, Source};
+use elf_sections::ElfError;
+use gimli_core::RunTimeEndian;
+use lines_commands::{Files, InputError, Kind, Notation, Request, Screen};
+use rows_reading::AddressSize;
 use std::io::{BufReader, BufWriter, ErrorKind, IsTerminal, Write};
 use std::process::ExitCode;
 use std::{env, fs, io};
@@ -51,62 +51,78 @@ fn start(rt: &HostRuntime) -> io::Result<u8> {
     }
 }
 
-/// Reads the files that a request names, does what it asks for, and returns the status of the
+/// Reads the sections that a request names, does what it asks for, and returns the status of the
 /// program.
 fn run(rt: &HostRuntime, mut request: Request<'_>) -> io::Result<u8> {
-    let Some(source) = source_of(rt, &request)? else {
+    let line_str = read_named(rt, request.line_str)?;
+    let strings = read_named(rt, request.strings)?;
+    let (Some(line_str), Some(strings)) = (line_str, strings) else {
         return Ok(REFUSED);
     };
-    request.kind = Kind::Raw(source.notation);
-    perform(
-        rt,
-        &request,
-        &source.lines,
-        &source.line_str,
-        &source.strings,
-    )
+    match request.kind {
+        Kind::Raw(_) => match read(rt, request.file)? {
+            Some(lines) => perform(rt, &request, &lines, &line_str, &strings),
+            None => Ok(REFUSED),
+        },
+        Kind::Elf => match sought(rt, request.file) {
+            Some(source) => {
+                request.kind = Kind::Raw(notation_of(&source));
+                let line_str = named_or(&line_str, &source.line_str);
+                let strings = named_or(&strings, &source.strings);
+                perform(rt, &request, &source.lines, line_str, strings)
+            }
+            None => Ok(REFUSED),
+        },
+    }
 }
 
-/// The sections that a request reads; None where there are none, which is reported. A section of
-/// texts that is named apart takes the place of the file's own.
-fn source_of(rt: &HostRuntime, request: &Request<'_>) -> io::Result<Option<Source>> {
-    let source = match request.kind {
-        Kind::Raw(notation) => read(rt, request.file)?.map(|lines| Source {
-            notation,
-            lines,
-            line_str: Vec::new(rt.alloc()),
-            strings: Vec::new(rt.alloc()),
-        }),
-        Kind::Elf => sought(rt, request.file),
-    };
-    let Some(mut source) = source else {
-        return Ok(None);
-    };
-    let Some(line_str) = read_named(rt, request.line_str)? else {
-        return Ok(None);
-    };
-    let Some(strings) = read_named(rt, request.strings)? else {
-        return Ok(None);
-    };
-    if !line_str.is_empty() {
-        source.line_str = line_str;
-    }
-    if !strings.is_empty() {
-        source.strings = strings;
-    }
-    Ok(Some(source))
+/// A section that is named apart, in place of the program's own.
+fn named_or<'s>(named: &'s [u8], own: &'s [u8]) -> &'s [u8] {
+    if named.is_empty() { own } else { named }
 }
 
-/// The sections of a program; None where there are none, which is reported.
+/// How the numbers of a program's sections are read.
+fn notation_of(source: &Source) -> Notation {
+    Notation {
+        order: if source.is_big_endian {
+            RunTimeEndian::Big
+        } else {
+            RunTimeEndian::Little
+        },
+        address_size: if source.address_size == 4 {
+            AddressSize::Four
+        } else {
+            AddressSize::Eight
+        },
+        lowest: source.lowest,
+    }
+}
+
+/// The sections of a program, from its own file or its debug file; None where there are none, which
+/// is reported.
 fn sought(rt: &HostRuntime, name: &str) -> Option<Source> {
-    match source::find(rt, name) {
+    match debug_files::source_of(rt, name) {
         Ok(source) => Some(source),
         Err(missing) => {
-            // Where standard error can't be written to, the status still says it.
-            let _ = writeln!(rt.stderr(), "lines: {name}: {missing}");
+            report(rt, name, &missing);
             None
         }
     }
+}
+
+/// Reports why a program has no sections that are read.
+fn report(rt: &HostRuntime, name: &str, missing: &Missing) {
+    let mut err = rt.stderr();
+    // Where standard error can't be written to, the status still says it.
+    let _ = match missing {
+        Missing::Elf(ElfError::Compressed) | Missing::OldForm => {
+            writeln!(err, "lines: {name}: {}", InputError::Compressed)
+        }
+        Missing::Elf(error) => writeln!(err, "lines: {name}: {}", InputError::Elf(*error)),
+        Missing::NotLinked => writeln!(err, "lines: {name}: {}", InputError::NotLinked),
+        Missing::NoLines => writeln!(err, "lines: {name}: {}", InputError::NoLines),
+        missing => writeln!(err, "lines: {name}: {missing}"),
+    };
 }
 
 /// Does what a request asks for, over the bytes of files.
