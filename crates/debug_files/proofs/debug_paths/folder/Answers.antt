@@ -1,4 +1,4 @@
-use Rattle.std.proofs.Common.{◌≡◌, sym, ◌∙◌, ap, subst, IfOk, string_bytes, ◌++◌, codes, append-nil}
+use Rattle.std.proofs.Common.{◌≡◌, sym, ◌∙◌, subst, IfOk, string_bytes, ◌++◌, codes, append-nil}
 use Rattle.debug_files.proofs.Folders.{at_last_slash, without_slash}
 use Rattle.debug_files.proofs.debug_paths.folder.Goals as goal
 
