@@ -121,6 +121,10 @@ fn report(rt: &HostRuntime, name: &str, missing: &Missing) {
         Missing::Elf(error) => writeln!(err, "lines: {name}: {}", InputError::Elf(*error)),
         Missing::NotLinked => writeln!(err, "lines: {name}: {}", InputError::NotLinked),
         Missing::NoLines => writeln!(err, "lines: {name}: {}", InputError::NoLines),
+        Missing::NotRegular => writeln!(
+            err,
+            "lines: {name}: {missing}; for a raw section say --raw"
+        ),
         missing => writeln!(err, "lines: {name}: {missing}"),
     };
 }
