@@ -9,8 +9,8 @@ use std::fs;
 use std::io::{Read, Seek};
 use std::rt::Files;
 
-/// The sections of a program by its path. Where its own file has no line programs, its debug file is
-/// looked for: by the build id, and then by the name in the program's link. A file there with
+/// The sections of a program by its path. Where its own file has no line programs, its debug file
+/// is looked for: by the build id, and then by the name in the program's link. A file there with
 /// another build id, or another checksum, is passed over.
 pub fn source_of<R: Files + AllocGlobal>(rt: &R, path: &str) -> Result<Source, Missing> {
     let mut program = open(rt, path)?;

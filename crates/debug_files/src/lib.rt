@@ -1,9 +1,9 @@
 //! The file with a program's debug information: where it may be, and what is read of it. A program
 //! that is stripped has its line programs there.
 //!
-//! [`source_of`] is the whole of it. [`debug_file_paths`] names the places; [`Outline`] reads what a
-//! file's sections are known by, and [`Outline::section`] one of them, so that a large file isn't
-//! read whole.
+//! [`source_of`] is the whole of it. [`debug_file_paths`] names the places; [`Outline`] reads what
+//! a file's sections are known by, and [`Outline::section`] one of them, so that a large file
+//! isn't read whole.
 #![tactic(auto)]
 
 mod debug_paths;

@@ -74,7 +74,7 @@ impl Outline {
     }
 }
 
-/// The checksum of a file, as [`elf_sections::crc32`] of all its bytes. It reads the file in pieces.
+/// The checksum of a file, as [`elf_sections::crc32`] of all its bytes, which are read in pieces.
 pub fn checksum<F: Read + Seek>(alloc: Global, file: &mut F) -> io::Result<u32> {
     file.seek(SeekFrom::Start(0))?;
     let mut piece = vec![in alloc; 0u8; PIECE]?;

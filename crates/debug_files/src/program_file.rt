@@ -64,7 +64,7 @@ impl<F: Read + Seek> ProgramFile<F> {
         }))
     }
 
-    /// What is said of a file without line programs: whether it has them in the older compressed form.
+    /// Nothing, or a refusal where the line programs are there in the older compressed form.
     fn without_lines(&self) -> Result<Option<Source>, Missing> {
         let sections = self.outline.sections()?;
         match sections.range(b".zdebug_line") {

@@ -1,8 +1,9 @@
 //! What a program reads of a file to know its sections, where it doesn't read the file whole.
 //!
-//! It seeks the beginning of the file ([`FileHeader::SIZE`] bytes, or all where there are fewer) for
-//! a [`FileHeader`]; then the bytes of `first_entry` for a [`FileTable`]; then those of its `range`,
-//! and those of its `names`, for a [`SectionList`]; and at last those of the sections that it wants.
+//! It seeks the beginning of the file ([`FileHeader::SIZE`] bytes, or all where there are fewer)
+//! for a [`FileHeader`]; then the bytes of `first_entry` for a [`FileTable`]; then those of its
+//! `range`, and those of its `names`, for a [`SectionList`]; and at last those of the sections that
+//! it wants.
 
 ghost use Rattle.std.specs.Prelude.{◌≡◌, ◌≤◌, ◌*◌, nat_eq, ℕ, List, MatchOption, []};
 ghost use Rattle.std.specs.Option.{option_map, option_copied};
@@ -187,9 +188,9 @@ impl FileTable {
         }
     }
 
-    /// Where the names of the sections are; no bytes where the sections have none. Refused where the
-    /// file doesn't hold them (`NamesCut`), and where there are fewer bytes than the entries have
-    /// (`SectionTableCut`).
+    /// Where the names of the sections are; no bytes where the sections have none. Refused where
+    /// the file doesn't hold them (`NamesCut`), and where there are fewer bytes than the entries
+    /// have (`SectionTableCut`).
     pub fn names(&self, entries: &[u8]) -> Result<FileRange, ElfError>
         ensures { result ≡ names_range (place_of self.now) entries.now }
     {
@@ -201,8 +202,8 @@ impl FileTable {
 impl<'a> SectionList<'a> {
     ghost use Rattle.elf_sections.specs.SeekingViews.{place_of, list_of};
 
-    /// The sections, by the bytes of the table's entries and those of the names. Refused where there
-    /// are fewer bytes than the entries have (`SectionTableCut`).
+    /// The sections, by the bytes of the table's entries and those of the names. Refused where
+    /// there are fewer bytes than the entries have (`SectionTableCut`).
     pub fn new(
         table: &FileTable,
         entries: &'a [u8],
