@@ -131,7 +131,7 @@ def pages(write):
 
 # ---- docs/API.md
 
-LIBRARIES = ("gimli_line", "gimli_lookup", "gimli_write", "gimli_build", "gimli_bytes", "gimli_core", "gimli_c", "elf_sections", "gimli_compilation", "inflate")
+LIBRARIES = ("gimli_line", "gimli_lookup", "gimli_write", "gimli_build", "gimli_bytes", "gimli_core", "gimli_c", "elf_sections", "debug_files", "gimli_compilation", "inflate")
 HEAD = """# Every public type and call
 
 By crate and type, each with the first sentence of its comment. The pages behind the names say how to call them, and quote

@@ -7,3 +7,9 @@ mod StepLaws
 mod Written
 mod Lowest
 mod TableNames
+mod Checksums
+mod NoteLists
+pub mod WorkedDebug
+mod FileRanges
+mod Seeks
+mod SoughtFiles

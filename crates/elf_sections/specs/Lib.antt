@@ -14,3 +14,10 @@ pub mod Entries
 pub mod Relocating
 pub mod SectionTable
 pub mod Elf
+pub mod Notes
+pub mod NoteViews
+pub mod DebugFile
+pub mod Crc
+pub mod FileRange
+pub mod Seeking
+pub mod SeekingViews

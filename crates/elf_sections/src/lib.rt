@@ -4,21 +4,30 @@
 #![tactic(auto)]
 
 mod compression;
+mod crc;
+mod debug_file;
 mod elf;
 mod entries;
 mod error;
+mod file_range;
 mod header;
 mod layout;
 mod machine;
+mod note;
 mod place;
 mod relocating;
 mod relocation;
 mod section_bytes;
 mod section_header;
 mod section_table;
+mod seeking;
 mod symbol;
 
+pub use crc::{crc32, crc32_more};
+pub use debug_file::DebugLink;
 pub use elf::Elf;
 pub use error::ElfError;
+pub use file_range::FileRange;
 pub use place::SectionPlace;
 pub use section_bytes::SectionBytes;
+pub use seeking::{FileHeader, FileTable, SectionList};

@@ -16,7 +16,7 @@ const SYMTAB: u32 = 2;
 /// Relocations with addends (`SHT_RELA`).
 const RELA: u32 = 4;
 /// A section without bytes in the file (`SHT_NOBITS`).
-const NOBITS: u32 = 8;
+pub(crate) const NOBITS: u32 = 8;
 /// Relocations without addends (`SHT_REL`).
 const REL: u32 = 9;
 /// The section is in memory when the program runs (`SHF_ALLOC`).
@@ -24,7 +24,7 @@ const ALLOC: u64 = 2;
 /// The section holds code (`SHF_EXECINSTR`).
 const EXECINSTR: u64 = 4;
 /// The section is compressed (`SHF_COMPRESSED`).
-const COMPRESSED: u64 = 0x800;
+pub(crate) const COMPRESSED: u64 = 0x800;
 
 /// The header of a section.
 #[derive(Clone, Copy, Debug)]
@@ -77,7 +77,7 @@ impl SectionHeader {
     }
 
     /// Whether the flags have this bit.
-    fn has_flag(&self, bit: u64) -> bool
+    pub(crate) fn has_flag(&self, bit: u64) -> bool
         ensures { result ≡ has_flag self.now bit }
     {
         self.flags & bit != 0

@@ -5,9 +5,11 @@ ghost use Rattle.std.specs.Option.{option_map_or};
 ghost use Rattle.std.specs.List.{position_from};
 ghost use Rattle.gimli_core.specs.Reading.{result_map};
 ghost use Rattle.elf_sections.specs.SectionHeader.{section_header_size, section_header, is_active, is_code};
-ghost use Rattle.elf_sections.specs.Table.{table_at, names_at, is_name_at, count_of, names_index_of};
+ghost use Rattle.elf_sections.specs.Seeking.{names_in_table};
+ghost use Rattle.elf_sections.specs.Table.{section_headers, table_at, names_at, is_name_at, count_of, names_index_of};
 
 use crate::error::ElfError;
+use crate::file_range::FileRange;
 use crate::header::Header;
 use crate::layout::Layout;
 use crate::section_header::SectionHeader;
@@ -34,7 +36,7 @@ pub(crate) struct SectionTable<'a> {
 }
 
 /// How many section headers a file has.
-fn count_of(header: &Header, first: &SectionHeader) -> u64
+pub(crate) fn count_of(header: &Header, first: &SectionHeader) -> u64
     ensures { result ≡ count_of header.now first.now }
 {
     match header.count {
@@ -44,7 +46,7 @@ fn count_of(header: &Header, first: &SectionHeader) -> u64
 }
 
 /// The index of the section of names.
-fn names_index_of(header: &Header, first: &SectionHeader) -> u64
+pub(crate) fn names_index_of(header: &Header, first: &SectionHeader) -> u64
     ensures { result ≡ names_index_of header.now first.now }
 {
     match header.names_index {
@@ -151,6 +153,29 @@ impl<'a> SectionTable<'a> {
         }
     }
 
+    /// The table of so many entries, each of so many bytes.
+    pub(crate) fn of_entries(
+        layout: Layout,
+        entries: &'a [u8],
+        entry_size: usize,
+        count: usize,
+        names_index: u64,
+    ) -> SectionTable<'a>
+        requires wide { section_header_size layout.class ≤ entry_size }
+        requires whole { count * entry_size ≤ length entries.now }
+        ensures headers { (table_of result).headers
+            ≡ section_headers layout entry_size count entries.entry.now }
+        ensures names_index { (table_of result).names_index ≡ names_index }
+    {
+        SectionTable {
+            layout,
+            entries,
+            entry_size,
+            count,
+            names_index,
+        }
+    }
+
     /// The section header of an index.
     pub(crate) fn header(&self, index: usize) -> SectionHeader
         requires { index < self.now.count }
@@ -173,6 +198,23 @@ impl<'a> SectionTable<'a> {
         }
         match self.header(index).bytes_in(file) {
             Ok(names) => Ok(names),
+            Err(_) => Err(ElfError::NamesCut),
+        }
+    }
+
+    /// Where the names of the sections are in a file of a length.
+    pub(crate) fn names_range(&self, length: u64) -> Result<FileRange, ElfError>
+        ensures { result ≡ names_in_table length (table_of self.now) }
+    {
+        if self.names_index == UNDEF {
+            return Ok(FileRange::NONE);
+        }
+        let index = self.names_index as usize;
+        if self.count <= index {
+            return Err(ElfError::NamesCut);
+        }
+        match self.header(index).range(length) {
+            Ok(range) => Ok(range),
             Err(_) => Err(ElfError::NamesCut),
         }
     }

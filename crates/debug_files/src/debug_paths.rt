@@ -1,0 +1,80 @@
+//! Where the file with a program's debug information may be.
+
+ghost use Rattle.std.specs.Prelude.{◌≡◌, ◌++◌, ◌∷◌, map, string_bytes, IfOk, OnOk};
+ghost use Rattle.std.specs.Option.{option_copied};
+ghost use Rattle.debug_files.specs.DebugPaths.{folder, build_id_path, link_paths, debug_file_paths};
+
+use std::alloc::{AllocError, Global};
+
+/// Three texts, one after the other.
+fn joined(alloc: Global, first: &str, second: &str, third: &str) -> Result<String, AllocError>
+    ensures { IfOk result (λ text. string_bytes text ≡ first.now ++ second.now ++ third.now) }
+{
+    let mut text = String::new(alloc);
+    text.push_str(first)?;
+    text.push_str(second)?;
+    text.push_str(third)?;
+    Ok(text)
+}
+
+/// The folder of a path, with its slash; empty where the path has no slash.
+fn folder(alloc: Global, path: &str) -> Result<String, AllocError>
+    ensures { IfOk result (λ text. string_bytes text ≡ folder path.now) }
+{
+    match path.rsplit_once('/') {
+        Some((before, _)) => joined(alloc, before, "/", ""),
+        None => Ok(String::new(alloc)),
+    }
+}
+
+/// Where the debug file of a build id is, of which the first byte stands apart.
+fn build_id_path(alloc: Global, first: u8, rest: &[u8]) -> Result<String, AllocError>
+    ensures { IfOk result (λ text. string_bytes text ≡ build_id_path first rest.now) }
+{
+    let shelf = hex::encode(alloc, [first].as_slice())?;
+    let name = hex::encode(alloc, rest)?;
+    let path = joined(alloc, "/usr/lib/debug/.build-id/", &shelf, "/")?;
+    joined(alloc, &path, &name, ".debug")
+}
+
+/// Adds the paths where a file of this name may be, for a program in a folder.
+fn add_links(
+    alloc: Global,
+    paths: &mut Vec<String>,
+    folder: &str,
+    name: &str,
+) -> Result<(), AllocError>
+    ensures { OnOk result (map string_bytes paths.new.items
+        ≡ map string_bytes paths.old.items ++ link_paths folder.now name.now) }
+{
+    paths.push(joined(alloc, folder, name, "")?)?;
+    paths.push(joined(alloc, folder, ".debug/", name)?)?;
+    if folder.starts_with('/') {
+        paths.push(joined(alloc, "/usr/lib/debug", folder, name)?)?;
+    }
+    Ok(())
+}
+
+/// The paths at which the debug file of a program may be, in the order in which they are tried: by
+/// the build id of the program, where it is known, and then by the name that its link has, in the
+/// folder of the program, in `.debug` there, and below `/usr/lib/debug` where the path of the
+/// program begins with a slash.
+pub fn debug_file_paths(
+    alloc: Global,
+    path: &str,
+    build_id: Option<&[u8]>,
+    link: Option<&str>,
+) -> Result<Vec<String>, AllocError>
+    ensures { IfOk result (λ paths. map string_bytes paths.items
+        ≡ debug_file_paths path.now (option_copied build_id.entry) (option_copied link.entry)) }
+{
+    let mut paths = Vec::new(alloc);
+    if let Some([first, rest @ ..]) = build_id {
+        paths.push(build_id_path(alloc, *first, rest)?)?;
+    }
+    if let Some(name) = link {
+        let folder = folder(alloc, path)?;
+        add_links(alloc, &mut paths, &folder, name)?;
+    }
+    Ok(paths)
+}

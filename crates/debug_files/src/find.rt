@@ -1,0 +1,125 @@
+//! Where the sections of a program are read: in its own file, or in the file with its debug
+//! information.
+
+use crate::debug_paths::debug_file_paths;
+use crate::missing::Missing;
+use crate::program_file::{ProgramFile, Source, open};
+use std::alloc::{AllocError, Global};
+use std::fs;
+use std::io::{Read, Seek};
+use std::rt::Files;
+
+/// The sections of a program by its path. Where its own file has no line programs, its debug file
+/// is looked for: by the build id, and then by the name in the program's link. A file there with
+/// another build id, or another checksum, is passed over.
+pub fn source_of<R: Files + AllocGlobal>(rt: &R, path: &str) -> Result<Source, Missing> {
+    let mut program = open(rt, path)?;
+    if program.is_relocatable()? {
+        return Err(Missing::NotLinked);
+    }
+    match program.source(rt.alloc())? {
+        Some(source) => Ok(source),
+        None => find_apart(rt, path, &mut program),
+    }
+}
+
+/// How a debug file is known to be a program's.
+#[derive(Clone, Copy)]
+enum Sign<'i> {
+    /// It has this build id.
+    BuildId(&'i [u8]),
+    /// The checksum of its bytes is this.
+    Checksum(u32),
+}
+
+/// The sections in the debug file of a program.
+fn find_apart<R: Files + AllocGlobal>(
+    rt: &R,
+    path: &str,
+    program: &mut ProgramFile<R::File>,
+) -> Result<Source, Missing> {
+    let alloc = rt.alloc();
+    let whole = whole_path(rt, path)?;
+    let mut reasons = String::new(alloc);
+    if let Some(id) = program.build_id(alloc)? {
+        let places = debug_file_paths(alloc, &whole, Some(&id), None)?;
+        if let Some(source) = try_each(rt, &places, Sign::BuildId(&id), &mut reasons)? {
+            return Ok(source);
+        }
+    }
+    if let Some(link) = program.debug_link(alloc)? {
+        let places = debug_file_paths(alloc, &whole, None, Some(&link.name))?;
+        if let Some(source) = try_each(rt, &places, Sign::Checksum(link.checksum), &mut reasons)? {
+            return Ok(source);
+        }
+    }
+    if reasons.is_empty() {
+        Err(Missing::NoLines)
+    } else {
+        Err(Missing::Everywhere(reasons))
+    }
+}
+
+/// A path from the root on, without links; as it is where that can't be known.
+fn whole_path<R: Files + AllocGlobal>(rt: &R, path: &str) -> Result<String, AllocError> {
+    match fs::canonicalize(rt, path) {
+        Ok(whole) => String::from_str(rt.alloc(), whole.as_path().as_str()),
+        Err(_) => String::from_str(rt.alloc(), path),
+    }
+}
+
+/// The sections at the first place where there is a debug file with them. Why each place before it
+/// isn't one goes to the end of a text, after the end of a line.
+fn try_each<R: Files + AllocGlobal>(
+    rt: &R,
+    places: &[String],
+    sign: Sign<'_>,
+    reasons: &mut String,
+) -> Result<Option<Source>, Missing> {
+    for place in places {
+        match signed_source(rt, place, sign) {
+            Ok(source) => return Ok(Some(source)),
+            Err(missing) => {
+                let line = format!(in rt.alloc(); "\n  {place}: {missing}")?;
+                reasons.push_str(&line)?;
+            }
+        }
+    }
+    Ok(None)
+}
+
+/// The sections of a file that has a sign.
+fn signed_source<R: Files + AllocGlobal>(
+    rt: &R,
+    place: &str,
+    sign: Sign<'_>,
+) -> Result<Source, Missing> {
+    let alloc = rt.alloc();
+    let mut file = open(rt, place)?;
+    check_sign(alloc, &mut file, sign)?;
+    match file.source(alloc)? {
+        Some(source) => Ok(source),
+        None => Err(Missing::NoLines),
+    }
+}
+
+/// Refuses a file without a sign.
+fn check_sign<F: Read + Seek>(
+    alloc: Global,
+    file: &mut ProgramFile<F>,
+    sign: Sign<'_>,
+) -> Result<(), Missing> {
+    match sign {
+        Sign::BuildId(id) => match file.build_id(alloc)? {
+            Some(own) if own.as_slice() == id => Ok(()),
+            _ => Err(Missing::OtherBuildId),
+        },
+        Sign::Checksum(checksum) => {
+            if file.checksum(alloc)? == checksum {
+                Ok(())
+            } else {
+                Err(Missing::OtherChecksum)
+            }
+        }
+    }
+}

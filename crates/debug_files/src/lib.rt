@@ -1,0 +1,21 @@
+//! The file with a program's debug information: where it may be, and what is read of it. A program
+//! that is stripped has its line programs there.
+//!
+//! [`source_of`] is the whole of it. [`debug_file_paths`] names the places; [`Outline`] reads what
+//! a file's sections are known by, and [`Outline::section`] one of them, so that a large file
+//! isn't read whole.
+#![tactic(auto)]
+
+mod debug_paths;
+mod find;
+mod missing;
+mod outline;
+mod program_file;
+mod refusal;
+
+pub use debug_paths::debug_file_paths;
+pub use find::source_of;
+pub use missing::Missing;
+pub use outline::{Outline, checksum};
+pub use program_file::Source;
+pub use refusal::Refusal;
