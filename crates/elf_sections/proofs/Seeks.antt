@@ -37,11 +37,12 @@ fields_in : (layout : Layout) (n : ℕ) (bytes : List ℕ) → header_size layou
 fields_in layout n bytes h =
     let a : ℕ = address_size layout.class in
     let p = number_in layout 2 16 n bytes (omega arith) in
+    let m = number_in layout 2 18 n bytes (omega arith) in
     let q = number_in layout a (24 + 2 * a) n bytes (omega arith) in
     let r = number_in layout 2 (34 + 3 * a) n bytes (omega arith) in
     let s = number_in layout 2 (36 + 3 * a) n bytes (omega arith) in
     let t = number_in layout 2 (38 + 3 * a) n bytes (omega arith) in
-    λ i. record { kind = p i; table_offset = q i; entry_size = r i; count = s i; names_index = t i }
+    λ i. record { kind = p i; machine = m i; table_offset = q i; entry_size = r i; count = s i; names_index = t i }
 
 shorter : (n k : ℕ) (bytes : List ℕ) → k ≤ n → nat_lt (length (take n bytes)) k ≡ nat_lt (length bytes) k
 shorter n k bytes h =
@@ -99,7 +100,9 @@ entry_in layout n bytes h =
     let t = number_in layout a (8 + 2 * a) n bytes (omega arith) in
     let u = number_in layout a (8 + 3 * a) n bytes (omega arith) in
     let v = number_in layout 4 (8 + 4 * a) n bytes (omega arith) in
-    λ i. record { name = p i; kind = q i; flags = r i; address = s i; offset = t i; size = u i; link = v i }
+    let w = number_in layout 4 (12 + 4 * a) n bytes (omega arith) in
+    let x = number_in layout a (16 + 5 * a) n bytes (omega arith) in
+    λ i. record { name = p i; kind = q i; flags = r i; address = s i; offset = t i; size = u i; link = v i; info = w i; entry_size = x i }
 
 -- each of so many headers, by the part that holds them
 headers_from : (layout : Layout) (entry_size count index most : ℕ) (bytes : List ℕ) → section_header_size layout.class ≤ entry_size

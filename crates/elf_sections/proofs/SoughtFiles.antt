@@ -111,7 +111,7 @@ module _ (bytes : List ℕ) (layout : Layout) (header : Header) where
   abbrev whole : Table → Result Listed ElfError
   whole table =
       (names_at bytes table >>= λ names.
-      Ok (record { bytes = bytes; layout = layout; kind = header.kind; headers = table.headers; names = names }))
+      Ok (record { bytes = bytes; layout = layout; kind = header.kind; machine = header.machine; headers = table.headers; names = names }))
       >>= λ file. Ok (listed_of file)
 
   at_place : (place : Place) (table : Table) → place.layout ≡ layout → place.kind ≡ header.kind → place.length ≡ length bytes
@@ -121,7 +121,7 @@ module _ (bytes : List ℕ) (layout : Layout) (header : Header) where
       ∙ (λ i. names_at bytes table >>= λ names.
       Ok (record { layout = same i; kind = kind i; length = size i; headers = table.headers; names = names }))
       ∙ sym (then_map (names_at bytes table)
-      (λ names. record { bytes = bytes; layout = layout; kind = header.kind; headers = table.headers; names = names }) listed_of)
+      (λ names. record { bytes = bytes; layout = layout; kind = header.kind; machine = header.machine; headers = table.headers; names = names }) listed_of)
 
   without_table : rest_of bytes (no_table known) ≡ whole (record { headers = []; names_index = 0 })
   without_table =
@@ -282,7 +282,7 @@ by_header : (bytes : List ℕ) (layout : Layout) (r : Result Header ElfError)
     ≡ ((r >>= λ header.
     table_at layout header bytes >>= λ table.
     names_at bytes table >>= λ names.
-    Ok (record { bytes = bytes; layout = layout; kind = header.kind; headers = table.headers; names = names }))
+    Ok (record { bytes = bytes; layout = layout; kind = header.kind; machine = header.machine; headers = table.headers; names = names }))
     >>= λ file. Ok (listed_of file))
 by_header bytes layout (Err e) = refl
 by_header bytes layout (Ok header) =
@@ -291,7 +291,7 @@ by_header bytes layout (Ok header) =
     ∙ table_found bytes layout header
     ∙ sym (then_then (table_at layout header bytes)
     (λ table. names_at bytes table >>= λ names.
-    Ok (record { bytes = bytes; layout = layout; kind = header.kind; headers = table.headers; names = names }))
+    Ok (record { bytes = bytes; layout = layout; kind = header.kind; machine = header.machine; headers = table.headers; names = names }))
     (λ file. Ok (listed_of file)))
 
 by_layout : (bytes : List ℕ) (r : Result Layout ElfError)
@@ -300,7 +300,7 @@ by_layout : (bytes : List ℕ) (r : Result Layout ElfError)
     ≡ ((r >>= λ layout. header_at layout bytes >>= λ header.
     table_at layout header bytes >>= λ table.
     names_at bytes table >>= λ names.
-    Ok (record { bytes = bytes; layout = layout; kind = header.kind; headers = table.headers; names = names }))
+    Ok (record { bytes = bytes; layout = layout; kind = header.kind; machine = header.machine; headers = table.headers; names = names }))
     >>= λ file. Ok (listed_of file))
 by_layout bytes (Err e) = refl
 by_layout bytes (Ok layout) = by_header bytes layout (header_at layout bytes)
@@ -321,26 +321,26 @@ Keeps bytes (Err e) = Unit {0}
 
 kept_names : (bytes : List ℕ) (layout : Layout) (header : Header) (table : Table) (r : Result (List ℕ) ElfError)
     → Keeps bytes (r >>= λ names.
-    Ok (record { bytes = bytes; layout = layout; kind = header.kind; headers = table.headers; names = names }))
+    Ok (record { bytes = bytes; layout = layout; kind = header.kind; machine = header.machine; headers = table.headers; names = names }))
 kept_names bytes layout header _ (Ok names) = refl
 kept_names bytes layout header _ (Err e) = tt
 
 kept_table : (bytes : List ℕ) (layout : Layout) (header : Header) (r : Result Table ElfError)
     → Keeps bytes (r >>= λ table. names_at bytes table >>= λ names.
-    Ok (record { bytes = bytes; layout = layout; kind = header.kind; headers = table.headers; names = names }))
+    Ok (record { bytes = bytes; layout = layout; kind = header.kind; machine = header.machine; headers = table.headers; names = names }))
 kept_table bytes layout header (Ok table) = kept_names bytes layout header table (names_at bytes table)
 kept_table bytes layout header (Err e) = tt
 
 kept_header : (bytes : List ℕ) (layout : Layout) (r : Result Header ElfError)
     → Keeps bytes (r >>= λ header. table_at layout header bytes >>= λ table. names_at bytes table >>= λ names.
-    Ok (record { bytes = bytes; layout = layout; kind = header.kind; headers = table.headers; names = names }))
+    Ok (record { bytes = bytes; layout = layout; kind = header.kind; machine = header.machine; headers = table.headers; names = names }))
 kept_header bytes layout (Ok header) = kept_table bytes layout header (table_at layout header bytes)
 kept_header bytes layout (Err e) = tt
 
 kept_layout : (bytes : List ℕ) (r : Result Layout ElfError)
     → Keeps bytes (r >>= λ layout. header_at layout bytes >>= λ header.
     table_at layout header bytes >>= λ table. names_at bytes table >>= λ names.
-    Ok (record { bytes = bytes; layout = layout; kind = header.kind; headers = table.headers; names = names }))
+    Ok (record { bytes = bytes; layout = layout; kind = header.kind; machine = header.machine; headers = table.headers; names = names }))
 kept_layout bytes (Ok layout) = kept_header bytes layout (header_at layout bytes)
 kept_layout bytes (Err e) = tt
 
