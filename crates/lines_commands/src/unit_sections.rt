@@ -46,8 +46,8 @@ impl<'i> UnitSections<'i> {
         order: RunTimeEndian,
         strings: StringSections<Slice<'s>>,
     ) -> CompilationSections<Slice<'s>>
-        ensures line_strings { result.debug_line_str ≡ strings.debug_line_str }
-        ensures strings { result.debug_str ≡ strings.debug_str }
+        ensures line_strings { result.debug_line_str ≡ strings.entry.debug_line_str }
+        ensures strings { result.debug_str ≡ strings.entry.debug_str }
     {
         CompilationSections {
             debug_info: EndianSlice::new(self.info.as_slice(), order),
