@@ -169,8 +169,8 @@ impl Argument {
             Argument::Addresses => word(
                 alloc,
                 "ADDRESS",
-                "An address in hexadecimal digits, or in an object file SECTION+OFFSET; without one \
-                 they are read from standard input",
+                "An address in hexadecimal digits, or in an object file SECTION+OFFSET; without \
+                 one they are read from standard input",
             )
             .action(ArgAction::Append)
             .num_args(0..),

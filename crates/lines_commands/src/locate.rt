@@ -52,13 +52,13 @@ pub(crate) fn print_places_in_sections<I: BufRead, O: Write, E: Write>(
 ) {
     let mut questions = Questions::new(alloc, addresses, lines, output);
     for _ in 0..u64::MAX {
+        if questions.current().is_none() || output.has_failed() {
+            break;
+        }
         match questions.section() {
             Ok(Some(name)) => print_in_section(alloc, files, &name, form, &mut questions, output),
             Ok(None) => print_without_section(form, &mut questions, output),
             Err(_) => output.fail_for_memory(),
-        }
-        if questions.current().is_none() || output.has_failed() {
-            break;
         }
     }
 }
@@ -147,8 +147,8 @@ impl<R: Reader> Places<R> {
         })
     }
 
-    /// Prints the place of what is asked of a linked program. A word that is no address is reported,
-    /// and printed as an address without a place is.
+    /// Prints the place of what is asked of a linked program. A word that is no address is
+    /// reported, and printed as an address without a place is.
     fn print_asked<O: Write, E: Write>(&self, asked: Asked<'_>, output: &mut Output<'_, O, E>) {
         match asked {
             Asked::Address(CodeAddress::Linked(address)) => self.print_place(address, output),

@@ -1,7 +1,8 @@
 //! Addresses, offsets and lines in words.
 
 ghost use Rattle.std.specs.Prelude.{◌≡◌, ℕ, List, IfSome, MatchOption, Some};
-ghost use Rattle.lines_commands.specs.Words.{HasPrefix, NamesAddress, NamesOffset, NamesPlace, NamesTarget};
+ghost use Rattle.lines_commands.specs.Words.{HasPrefix, NamesAddress, NamesOffset};
+ghost use Rattle.lines_commands.specs.Words.{NamesPlace, NamesTarget};
 
 use crate::request::CodeAddress;
 use rows_reading::parse_digits;

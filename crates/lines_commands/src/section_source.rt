@@ -28,14 +28,14 @@ impl<'i> SectionSource<'i> {
     /// file. None where there is none. Refused as `Elf::relocated` says.
     fn section(self, name: &[u8]) -> Result<Option<SectionBytes<'i>>, ElfError>
         ensures { Gives (option_map bytes_of) result
-            (relocated_at (file_of self.elf) self.place name.now) }
+            (relocated_at (file_of self.entry.elf) self.entry.place name.now) }
     {
         self.elf.relocated(self.alloc, name, self.place)
     }
 
     /// The section `.debug_line`. Refused where there is none.
     pub(crate) fn lines(self) -> Result<SectionBytes<'i>, InputError>
-        ensures { IfOk result (λ section. relocated_at (file_of self.elf) self.place
+        ensures { IfOk result (λ section. relocated_at (file_of self.entry.elf) self.entry.place
             (codes ".debug_line") ≡ Ok (Some (bytes_of section))) }
     {
         match self.section(b".debug_line") {

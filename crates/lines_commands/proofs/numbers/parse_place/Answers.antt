@@ -1,4 +1,4 @@
-use Rattle.std.proofs.Common.{rules, arith, ◌≡◌, ◌++◌, ℕ, List, Option, Some, None, IsNone, option_or, [], ◌∷◌, refl, sym, ap, ◌∙◌, subst, ⊎_elim}
+use Rattle.std.proofs.Common.{rules, arith, ◌≡◌, ◌++◌, ℕ, List, Option, Some, None, IsNone, [], ◌∷◌, refl, sym, ap, ◌∙◌, subst, ⊎_elim}
 use mathlib.Core.Bool.{true≢false}
 use Rattle.lines_commands.specs.Words.{NamesAddress, NamesPlace}
 use Rattle.lines_commands.proofs.Separators.{HasNo, last_parts, cons_no, digits_no, has_one, same_parts}
@@ -7,8 +7,12 @@ use Rattle.lines_commands.proofs.numbers.parse_place.Goals as goal
 none_some : {A : Type 0} (x : A) → None ≡ Some x → ⊥
 none_some x e = true≢false (subst IsNone e refl)
 
+number_in : Option ℕ → ℕ
+number_in (Some n) = n
+number_in None = 0
+
 some_same : (n m : ℕ) → Some n ≡ Some m → n ≡ m
-some_same n m e = ap (λ (o : Option ℕ). option_or o 0) e
+some_same n m e = ap number_in e
 
 -- an address has no plus sign
 address_no : (word : List ℕ) (address : ℕ) → NamesAddress word address → HasNo 43 word
