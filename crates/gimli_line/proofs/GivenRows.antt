@@ -92,7 +92,7 @@ pub fault_given : (a b : RunState) (e : Error) → AnyFaultIs a b e → FaultIs 
 fault_given a b e (inl m) = inl m
 fault_given a b e (inr f) = inr (
   live_given a ∙ ap (λ (es : List EventWithFiles). filter (λ (t : EventWithFiles). is_given t.event) es) f.0
-  ∙ ap (λ (es : List EventWithFiles). event_of (fault e) b ∷ es) (sym (left_given b)),
+      ∙ ap (λ (es : List EventWithFiles). event_of (fault e) b ∷ es) (sym (left_given b)),
   f.1,
   f.2,
 )

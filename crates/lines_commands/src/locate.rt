@@ -110,11 +110,7 @@ fn print_without_section<I: BufRead, O: Write, E: Write>(
 }
 
 /// Prints that a word is no address.
-fn print_no_address<O: Write, E: Write>(
-    form: Form,
-    word: &[u8],
-    output: &mut Output<'_, O, E>,
-) {
+fn print_no_address<O: Write, E: Write>(form: Form, word: &[u8], output: &mut Output<'_, O, E>) {
     print_unknown(form, None, output);
     let word = PathText(word);
     output.tell(format_args!("'{word}' is no address"));
@@ -173,8 +169,7 @@ impl<R: Reader> Places<R> {
         for _ in 0..u64::MAX {
             match questions.current() {
                 Some(Asked::Address(CodeAddress::InSection { section, offset }))
-                    if section.as_bytes() == name =>
-                {
+                    if section.as_bytes() == name => {
                     self.print_place(offset, output);
                 }
                 _ => break,

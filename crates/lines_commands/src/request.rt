@@ -28,13 +28,19 @@ pub enum Command<'w> {
         form: Form,
     },
     /// The addresses of a line of the files whose path ends so.
-    At { path: &'w str, line: u64 },
+    At {
+        path: &'w str,
+        line: u64,
+    },
     /// A line for each unit.
     Units,
     /// The directories and files of units.
     Files(UnitChoice),
     /// The rows of units.
-    Rows { units: UnitChoice, form: Form },
+    Rows {
+        units: UnitChoice,
+        form: Form,
+    },
     /// Each fault and each odd thing.
     Check,
 }

@@ -19,12 +19,12 @@ address_no : (word : List ℕ) (address : ℕ) → NamesAddress word address →
 address_no word address h =
     let free : HasNo 43 h.0 = digits_no 16 43 (omega arith) refl h.0 h.2.is_numeral.1 in
     ⊎_elim
-        (λ e. subst (HasNo 43) (sym e) free)
-        (λ p. ⊎_elim
-            (λ e. subst (HasNo 43) (sym e) (cons_no 43 48 (120 ∷ h.0) (λ d. omega (arith, d)) (cons_no 43 120 h.0 (λ d. omega (arith, d)) free)))
-            (λ e. subst (HasNo 43) (sym e) (cons_no 43 48 (88 ∷ h.0) (λ d. omega (arith, d)) (cons_no 43 88 h.0 (λ d. omega (arith, d)) free)))
-            p)
-        h.1
+    (λ e. subst (HasNo 43) (sym e) free)
+    (λ p. ⊎_elim
+    (λ e. subst (HasNo 43) (sym e) (cons_no 43 48 (120 ∷ h.0) (λ d. omega (arith, d)) (cons_no 43 120 h.0 (λ d. omega (arith, d)) free)))
+    (λ e. subst (HasNo 43) (sym e) (cons_no 43 48 (88 ∷ h.0) (λ d. omega (arith, d)) (cons_no 43 88 h.0 (λ d. omega (arith, d)) free)))
+    p)
+    h.1
 
 -- a section's name and the digits of an offset are those around the last plus sign
 same : (word section digits : List ℕ) → (word ≡ section ++ (43 ∷ digits)) × HasNo 43 digits → (other : List ℕ) (offset : ℕ) (t : NamesPlace word other offset)

@@ -59,7 +59,7 @@ rows-preserved g c =
       order = λ so. c.in-Ok-true.ensures.order (c.rows.invariant.order so);
       handed = c.in-Ok-true.ensures.handed ∙ c.rows.invariant.handed;
       passes = subst (λ (es : List Event). Progress (with_reset_row c.args.self.now) (with_reset_row c.advance_any.new.self) es) given
-      (passes_both (with_reset_row c.args.self.now) (with_reset_row c.rows.self) (with_reset_row c.advance_any.new.self) [] (given_of c.advance_any.new.self.row) c.rows.invariant.passes passes);
+          (passes_both (with_reset_row c.args.self.now) (with_reset_row c.rows.self) (with_reset_row c.advance_any.new.self) [] (given_of c.advance_any.new.self.row) c.rows.invariant.passes passes);
     }
 
 pub returns-in-Ok-false-clause-row : goal.returns-in-Ok-false-clause-row
