@@ -1,5 +1,5 @@
-//! Conversions call by call: reads of both kinds, a map that doesn't know an address, and the tables
-//! after a start that is refused.
+//! Conversions call by call: reads of both kinds, a map that doesn't know an address, and the
+//! tables after a start that is refused.
 
 ghost use Rattle.std.specs.Prelude.{IsTrue, IfSome};
 ghost use Rattle.gimli_core.specs.Numbers.{is_address_size};

@@ -1,4 +1,5 @@
-//! Many of each thing that is written, built or converted. Memory for them is there, so a refusal by
+//! Many of each thing that is written, built or converted. Memory for them is there, so a refusal
+//! by
 //! `OutOfMemory` would be wrong, which no contract tells.
 
 ghost use Rattle.std.specs.Prelude.{◌≢◌, All, IfOk, IsTrue};
@@ -107,8 +108,8 @@ fn writers_and_tables(rt: HostRuntime) {
 const FRONT: &[u8] =
     b"\xf5\x47\x03\0\x04\0\xec\xd6\0\0\x01\x01\x01\xfb\x0e\x0d\0\x01\x01\x01\x01\0\0\0\x01\0\0\x01";
 
-/// A file that is defined, after its name, and a sequence: an address of 0x10 with a row, an address
-/// of 0x20 with a row, and an end.
+/// A file that is defined, after its name, and a sequence: an address of 0x10 with a row, an
+/// address of 0x20 with a row, and an end.
 const AFTER_NAME: &[u8] =
     b"\0\x02\0\0\0\x05\x02\x10\0\0\0\x01\0\x05\x02\x20\0\0\0\x01\x02\x04\0\x01\x01";
 
@@ -122,8 +123,8 @@ fn put_each(unit: &mut Vec<u8>, before: &[u8], after: &[u8]) -> ConvertResult<()
     Ok(())
 }
 
-/// Many directories, many files of the first one, a sequence of many rows, and many sequences with a
-/// file of the second one.
+/// Many directories, many files of the first one, a sequence of many rows, and many sequences with
+/// a file of the second one.
 fn many_entries(alloc: Global) -> ConvertResult<Vec<u8>> {
     let mut unit = Vec::from_slice(alloc, FRONT)?;
     put_each(&mut unit, b"", b"\0")?;
@@ -246,7 +247,8 @@ fn converted<R: Reader>(
     Ok(program)
 }
 
-/// A program is written after three bytes, and read back. The working directory and the name come first.
+/// A program is written after three bytes, and read back. The working directory and the name come
+/// first.
 fn check_written<E: Endianity>(
     rt: &impl Abort,
     program: &LineProgram,

@@ -2,7 +2,8 @@
 
 ghost use Rattle.std.specs.Prelude.{◌≡◌, IfOk, IfErr};
 ghost use Rattle.elf_sections.specs.Gives.{Gives};
-ghost use Rattle.elf_sections.specs.Compression.{stream_bytes, zlib_kind, uncompressed, uncompressed_old, old_name};
+ghost use Rattle.elf_sections.specs.Compression.{stream_bytes, zlib_kind, uncompressed};
+ghost use Rattle.elf_sections.specs.Compression.{uncompressed_old, old_name};
 ghost use Rattle.elf_sections.specs.declared.error.ElfError.TheVariants.{OutOfMemory};
 
 use crate::error::{ElfError, fault_of};

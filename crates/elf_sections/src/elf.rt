@@ -9,7 +9,8 @@ ghost use Rattle.elf_sections.specs.Gives.{Gives};
 ghost use Rattle.elf_sections.specs.Compression.{data_of, old_data_of, old_name};
 ghost use Rattle.elf_sections.specs.declared.error.ElfError.TheVariants.{OutOfMemory};
 ghost use Rattle.elf_sections.specs.Relocating.{index_of, data_index, applied_at, relocated_at};
-ghost use Rattle.elf_sections.specs.File.{file_at, section_at, section_data_at, section_named, old_data_in, code_addresses, IsLeast};
+ghost use Rattle.elf_sections.specs.File.{file_at, section_at, section_data_at, section_named};
+ghost use Rattle.elf_sections.specs.File.{old_data_in, code_addresses, IsLeast};
 
 use crate::compression::{old_name, uncompressed, uncompressed_old};
 use crate::error::ElfError;
@@ -112,8 +113,9 @@ impl<'a> Elf<'a> {
     ///
     /// A compressed section (`SHF_COMPRESSED`) is made whole, as large as its header says and no
     /// larger. Where no section has the name, and it begins with `.debug_`, what the section of the
-    /// older form holds is answered, `.zdebug_line` for `.debug_line`. Refuses a section whose bytes aren't all in the file (`SectionCut`), one that ends within its header of
-    /// compression (`CompressionHeaderCut`), another way of compression than zlib's (`Zstd`,
+    /// older form holds is answered, `.zdebug_line` for `.debug_line`. Refuses a section whose
+    /// bytes aren't all in the file (`SectionCut`), one that ends within its header of compression
+    /// (`CompressionHeaderCut`), another way of compression than zlib's (`Zstd`,
     /// `UnknownCompression`), a section of the older form without its first bytes (`NotZlib`) or
     /// with `SHF_COMPRESSED` (`Compressed`), and one that doesn't hold what its header says
     /// (`Decompression`). `OutOfMemory` is answered where there is no memory for what it makes.
@@ -138,8 +140,9 @@ impl<'a> Elf<'a> {
     ///
     /// In an object file (`ET_REL`) the relocations of the section (`SHT_REL`, `SHT_RELA`) are
     /// applied to what `section_data` answers, in order; in any other file none are. `place` says
-    /// which addresses count. It takes memory for a copy of the section. Refuses what `section_data`
-    /// refuses, a machine or a kind of relocations that isn't known (`UnknownMachine`,
+    /// which addresses count. It takes memory for a copy of the section. Refuses what
+    /// `section_data` refuses, a machine or a kind of relocations that isn't known
+    /// (`UnknownMachine`,
     /// `UnknownRelocation`), entries of relocations or symbols that are too short (`EntrySize`),
     /// relocations without a symbol table (`NoSymbols`), and one whose symbol or place isn't there
     /// (`SymbolOutside`, `RelocationOutside`). Where one section's addresses count, a symbol whose

@@ -1,7 +1,8 @@
 //! How a file notes its numbers.
 
 ghost use Rattle.std.specs.Prelude.{◌≡◌, ◌+◌, ◌≤◌, length};
-ghost use Rattle.elf_sections.specs.Layout.{address_size, number_at, with_number, class_of, order_of, layout_at};
+ghost use Rattle.elf_sections.specs.Layout.{address_size, number_at, with_number, class_of};
+ghost use Rattle.elf_sections.specs.Layout.{order_of, layout_at};
 ghost use Rattle.elf_sections.specs.Machine.{size_of};
 ghost use Rattle.elf_sections.specs.SectionHeader.{section_header_size};
 

@@ -1,7 +1,9 @@
 //! What the kinds of relocations mean.
 
 ghost use Rattle.std.specs.Prelude.{◌≡◌, ◌+◌, ◌*◌, ◌/◌, ◌%◌};
-ghost use Rattle.elf_sections.specs.Machine.{change_of, known, size_of, number_after, change_in, x86_64_kinds, i386_kinds, aarch64_kinds, arm_kinds, riscv_kinds, powerpc64_kinds, s390x_kinds};
+ghost use Rattle.elf_sections.specs.Machine.{change_of, known, size_of, number_after, change_in};
+ghost use Rattle.elf_sections.specs.Machine.{x86_64_kinds, i386_kinds, aarch64_kinds, arm_kinds};
+ghost use Rattle.elf_sections.specs.Machine.{riscv_kinds, powerpc64_kinds, s390x_kinds};
 
 use crate::error::ElfError;
 

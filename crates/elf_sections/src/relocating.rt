@@ -8,8 +8,10 @@ ghost use Rattle.elf_sections.specs.Steps.{steps};
 ghost use Rattle.elf_sections.specs.Entries.{entries, symbol_size, symbols_in};
 ghost use Rattle.elf_sections.specs.Machine.{size_of};
 ghost use Rattle.elf_sections.specs.Relocation.{relocation_size};
-ghost use Rattle.elf_sections.specs.Relocating.{is_in_memory, address_of, with_addend, address_value};
-ghost use Rattle.elf_sections.specs.Relocating.{value_of, changed, applied, entry_applied, section_applied};
+ghost use Rattle.elf_sections.specs.Relocating.{is_in_memory, address_of, with_addend};
+ghost use Rattle.elf_sections.specs.Relocating.{address_value};
+ghost use Rattle.elf_sections.specs.Relocating.{value_of, changed, applied, entry_applied};
+ghost use Rattle.elf_sections.specs.Relocating.{section_applied};
 ghost use Rattle.elf_sections.specs.Relocating.{all_applied};
 
 use crate::elf::Elf;
@@ -33,7 +35,8 @@ pub(crate) struct Relocator<'a> {
     pub(crate) place: SectionPlace,
 }
 
-/// A number and the addend of an entry, modulo 2^64. Without an addend it is what stands at the place.
+/// A number and the addend of an entry, modulo 2^64. Without an addend it is what stands at the
+/// place.
 fn with_addend(addend: Option<u64>, old: u64, number: u64) -> u64
     ensures { result ≡ with_addend addend old number }
 {

@@ -2,7 +2,8 @@
 
 ghost use Rattle.std.specs.Prelude.{◌≡◌, ◌+◌, ◌*◌, ◌/◌, ◌%◌, ◌≤◌, length};
 ghost use Rattle.elf_sections.specs.Layout.{address_size, number_at};
-ghost use Rattle.elf_sections.specs.Relocation.{fields, relocation_size, kinds, signed_of, addend_of, info_of, relocation};
+ghost use Rattle.elf_sections.specs.Relocation.{fields, relocation_size, kinds, signed_of};
+ghost use Rattle.elf_sections.specs.Relocation.{addend_of, info_of, relocation};
 
 use crate::layout::{Class, Layout};
 

@@ -2,7 +2,8 @@
 
 ghost use Rattle.std.specs.Prelude.{◌≡◌, ◌≤◌, length, nat_eq};
 ghost use Rattle.gimli_core.specs.Reading.{result_map};
-ghost use Rattle.elf_sections.specs.SectionHeader.{section_header_size, section_header, is_active, has_flag, is_code, stored_bytes, section_bytes};
+ghost use Rattle.elf_sections.specs.SectionHeader.{section_header_size, section_header, is_active};
+ghost use Rattle.elf_sections.specs.SectionHeader.{has_flag, is_code, stored_bytes, section_bytes};
 ghost use Rattle.elf_sections.specs.Relocation.{form_of, relocates};
 
 use crate::error::ElfError;

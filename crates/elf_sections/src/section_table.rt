@@ -1,12 +1,14 @@
 //! The section table of a file.
 
-ghost use Rattle.std.specs.Prelude.{◌≡◌, ◌≤◌, ◌<◌, ◌*◌, min, drop, length, ◌&&◌, slice_get, find, filter, map, MatchOption, []};
+ghost use Rattle.std.specs.Prelude.{◌≡◌, ◌≤◌, ◌<◌, ◌*◌, min, drop, length, ◌&&◌, slice_get, find};
+ghost use Rattle.std.specs.Prelude.{filter, map, MatchOption, []};
 ghost use Rattle.std.specs.Option.{option_map_or};
 ghost use Rattle.std.specs.List.{position_from};
 ghost use Rattle.gimli_core.specs.Reading.{result_map};
 ghost use Rattle.elf_sections.specs.SectionHeader.{section_header_size, section_header, is_active, is_code};
 ghost use Rattle.elf_sections.specs.Seeking.{names_in_table};
-ghost use Rattle.elf_sections.specs.Table.{section_headers, table_at, names_at, is_name_at, count_of, names_index_of};
+ghost use Rattle.elf_sections.specs.Table.{section_headers, table_at, names_at, is_name_at};
+ghost use Rattle.elf_sections.specs.Table.{count_of, names_index_of};
 
 use crate::error::ElfError;
 use crate::file_range::FileRange;

@@ -16,7 +16,9 @@ ghost use Rattle.elf_sections.specs.Notes.{build_id_in};
 ghost use Rattle.elf_sections.specs.DebugFile.{link_of, link_in};
 ghost use Rattle.elf_sections.specs.SectionTable.{table_of};
 ghost use Rattle.elf_sections.specs.FileRange.{range_in};
-ghost use Rattle.elf_sections.specs.Seeking.{header_by, first_range, table_by, no_table, table_in, names_range, list_by, range_named, listed_code, listed, listed_at, section_in, read_at};
+ghost use Rattle.elf_sections.specs.Seeking.{header_by, first_range, table_by, no_table, table_in};
+ghost use Rattle.elf_sections.specs.Seeking.{names_range, list_by, range_named, listed_code};
+ghost use Rattle.elf_sections.specs.Seeking.{listed, listed_at, section_in, read_at};
 
 use crate::debug_file::{DebugLink, link_in};
 use crate::error::ElfError;

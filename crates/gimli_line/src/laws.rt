@@ -1,7 +1,8 @@
 //! Laws of the two grammars: a unit has one header or one refusal, a program is decoded in one way. And laws of what
 //! a run gives.
 
-ghost use Rattle.std.specs.Prelude.{◌≡◌, ◌≢◌, ◌≤◌, ◌⊎◌, ◌+◌, ℕ, Bool, List, [], ◌∷◌, Option, Some, filter, length, nat_eq, option_map};
+ghost use Rattle.std.specs.Prelude.{◌≡◌, ◌≢◌, ◌≤◌, ◌⊎◌, ◌+◌, ℕ, Bool, List, [], ◌∷◌, Option, Some};
+ghost use Rattle.std.specs.Prelude.{filter, length, nat_eq, option_map};
 ghost use Rattle.std.specs.Ordering.{nat_cmp};
 ghost use Rattle.gimli_core.specs.Equality.{AreAlwaysCloned, ClonesGiveSame, ComparesBy, IsExact, IsSameClone, both};
 ghost use Rattle.gimli_core.specs.Notation.{Notation};
@@ -123,7 +124,8 @@ pub fn machine_gives_events()
         → GivesFiles appends h unread (start_of_run appends h notation o orders unread) }
 {}
 
-/// What a run still gives are the faults, and the rows that aren't under a tombstone, of what it still makes.
+/// What a run still gives are the faults, and the rows that aren't under a tombstone, of what it
+/// still makes.
 pub fn given_rows_are_made()
     ensures { (a : RunState) → events_left a ≡ filter (λ t. is_given t.event) (made_left a) }
 {}

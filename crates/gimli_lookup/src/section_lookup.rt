@@ -83,8 +83,8 @@ pub struct CoveringRows {
     pub unit: usize,
     /// The row that the address belongs to.
     pub row: LineRow,
-    /// The row after it, whose address is above. It may be the end row of the sequence, or the last one before rows
-    /// that are left out.
+    /// The row after it, whose address is above. It may be the end row of the sequence, or the last
+    /// one before rows that are left out.
     pub next: LineRow,
 }
 
@@ -112,15 +112,18 @@ impl<R: Reader> Model for SectionLookup<R> {
 }
 
 impl<R: Reader> SectionLookup<R> {
-    /// Runs the program of each unit of a section, and keeps the rows of the sequences that end before its first
-    /// fault. A unit that is refused, or whose run has a fault, is listed with its error.
+    /// Runs the program of each unit of a section, and keeps the rows of the sequences that end
+    /// before its first fault. A unit that is refused, or whose run has a fault, is listed with its
+    /// error.
     ///
-    /// A sequence ends where the program ends it, under a tombstone too. Rows under a tombstone are left out, and
-    /// rows below the address `lowest`, where a linker leaves code that it drops; 0 leaves none out. What is kept
-    /// of a sequence are its parts: rows that stand side by side, with none left out between them. The last row of
-    /// a part ends what the one before it covers, and covers nothing.
+    /// A sequence ends where the program ends it, under a tombstone too. Rows under a tombstone are
+    /// left out, and rows below the address `lowest`, where a linker leaves code that it drops; 0
+    /// leaves none out. What is kept of a sequence are its parts: rows that stand side by side,
+    /// with none left out between them. The last row of a part ends what the one before it covers,
+    /// and covers nothing.
     ///
-    /// Fails only with `OutOfMemory`. Requires an address size of 1, 2, 4 or 8 bytes, which counts up to version 4.
+    /// Fails only with `OutOfMemory`. Requires an address size of 1, 2, 4 or 8 bytes, which counts
+    /// up to version 4.
     pub fn new(
         section: &DebugLine<R>,
         alloc: Global,
@@ -156,9 +159,9 @@ impl<R: Reader> SectionLookup<R> {
         self.units.as_slice()
     }
 
-    /// The rows that cover the address `a`, with their unit: the first adjacent rows of one part of a sequence of which
-    /// the first has an address at most `a`, and the second one above it, in the order of units and of their sequences.
-    /// None where there are none. Takes no memory.
+    /// The rows that cover the address `a`, with their unit: the first adjacent rows of one part of
+    /// a sequence of which the first has an address at most `a`, and the second one above it, in
+    /// the order of units and of their sequences. None where there are none. Takes no memory.
     pub fn find(&self, a: u64) -> Option<CoveringRows>
         ensures pair { MatchOption result (All (HasNoPair a) (all_sequences self.now))
             (λ found. IsFirstPair a (all_sequences self.now) found.row found.next) }

@@ -13,8 +13,8 @@ use gimli_core::{Error, Reader, ReaderOffset, Result};
 use gimli_line::{IncompleteLineProgram, OneShotLineRows};
 use std::alloc::Global;
 
-/// What is kept of a run: where it stands after its last row before the first fault, this fault, and the parts of its
-/// sequences.
+/// What is kept of a run: where it stands after its last row before the first fault, this fault,
+/// and the parts of its sequences.
 #[derive(Drop)]
 pub(crate) struct UnitRun<R: Reader> {
     pub(crate) run: OneShotLineRows<R>,
@@ -33,7 +33,8 @@ fn as_fault(e: Error) -> Result<Option<Error>>
     }
 }
 
-/// Takes in the rows to come, those under a tombstone too, up to the first fault, which it returns. Fails only with
+/// Takes in the rows to come, those under a tombstone too, up to the first fault, which it returns.
+/// Fails only with
 /// `OutOfMemory`.
 fn take_rows<R: Reader>(
     run: &mut OneShotLineRows<R>,
@@ -51,8 +52,9 @@ fn take_rows<R: Reader>(
     }
 }
 
-/// Runs a program up to its first fault, and keeps of the sequences that have ended before it the parts that stand: rows
-/// side by side that are neither under a tombstone nor below an address. Fails only with `OutOfMemory`.
+/// Runs a program up to its first fault, and keeps of the sequences that have ended before it the
+/// parts that stand: rows side by side that are neither under a tombstone nor below an address.
+/// Fails only with `OutOfMemory`.
 pub(crate) fn run_unit<R: Reader>(
     alloc: Global,
     program: IncompleteLineProgram<R>,

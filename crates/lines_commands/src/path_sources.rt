@@ -76,10 +76,13 @@ impl<R: Reader> PathSources<R> {
         header: &LineProgramHeader<R>,
         file: &FileEntry<R>,
     ) -> Result<Vec<u8>, PathError>
-        ensures ok { let directory = directory_for self.now.compilations (R.Offset.number header.now.offset.0) in
-            IfOk result (λ path. file_path (paths_by R.bytes self.now.strings header.now.meaning directory)
+        ensures ok { let directory = directory_for self.now.compilations
+            (R.Offset.number header.now.offset.0) in
+            IfOk result (λ path. file_path
+            (paths_by R.bytes self.now.strings header.now.meaning directory)
             (file_seen R.bytes R.Offset.number file.now) ≡ Ok path.items) }
-        ensures err { let directory = directory_for self.now.compilations (R.Offset.number header.now.offset.0) in
+        ensures err { let directory = directory_for self.now.compilations
+            (R.Offset.number header.now.offset.0) in
             IfErr result (λ e. e ≢ OutOfMemory
             → file_path (paths_by R.bytes self.now.strings header.now.meaning directory)
             (file_seen R.bytes R.Offset.number file.now) ≡ Err e) }
@@ -102,12 +105,15 @@ impl<R: Reader> PathSources<R> {
         header: &LineProgramHeader<R>,
         row: &LineRow,
     ) -> Result<Vec<u8>, PathError>
-        ensures ok { let directory = directory_for self.now.compilations (R.Offset.number header.now.offset.0) in
-            IfOk result (λ path. row_path (paths_by R.bytes self.now.strings header.now.meaning directory) row.now
-            ≡ Ok path.items) }
-        ensures err { let directory = directory_for self.now.compilations (R.Offset.number header.now.offset.0) in
+        ensures ok { let directory = directory_for self.now.compilations
+            (R.Offset.number header.now.offset.0) in
+            IfOk result (λ path. row_path
+            (paths_by R.bytes self.now.strings header.now.meaning directory) row.now ≡ Ok path.items) }
+        ensures err { let directory = directory_for self.now.compilations
+            (R.Offset.number header.now.offset.0) in
             IfErr result (λ e. e ≢ OutOfMemory
-            → row_path (paths_by R.bytes self.now.strings header.now.meaning directory) row.now ≡ Err e) }
+            → row_path (paths_by R.bytes self.now.strings header.now.meaning directory) row.now
+            ≡ Err e) }
     {
         match row.file(header) {
             Some(file) => self.of_file(alloc, header, file),

@@ -127,9 +127,10 @@ impl<R: Reader, P: LineProgram<R>> LineRows<R, P> {
         }
     }
 
-    /// The next row, one under a tombstone too ([`LineRow::is_under_tombstone`]), with the header as it is there; None
-    /// where the program makes no more. What `next_row` returns are those of them that aren't under a tombstone. So
-    /// the end of a sequence is told also where a linker dropped its code. Refused as `next_row` is.
+    /// The next row, one under a tombstone too ([`LineRow::is_under_tombstone`]), with the header
+    /// as it is there; None where the program makes no more. What `next_row` returns are those of
+    /// them that aren't under a tombstone. So the end of a sequence is told also where a linker
+    /// dropped its code. Refused as `next_row` is.
     pub fn next_any_row(&mut self) -> Result<Option<(&LineProgramHeader<R>, &LineRow)>>
         ensures* after { sem 𝓛 (Rests ⟦<LineRows<R, P> as Lent>⟧.lent self.entry
             (λ new. KeepsHeader self.old new × NextAnyIs self.old new result)) }
@@ -206,7 +207,8 @@ impl<R: Reader, P: LineProgram<R>> LineRows<R, P> {
         }
     }
 
-    /// Executes instructions up to the next row, one under a tombstone too, and says whether there is one.
+    /// Executes instructions up to the next row, one under a tombstone too, and says whether there
+    /// is one.
     #[inline(always)]
     fn advance_any(&mut self) -> Result<bool>
         ensures row { IfOk result (λ found. MatchBool found
@@ -234,9 +236,9 @@ impl<R: Reader, P: LineProgram<R>> LineRows<R, P> {
         }
     }
 
-    /// Executes instructions that are met most, from their bytes, up to the first row, or up to one of
-    /// another kind, and that one too. What is read from stands in a variable of its own over the
-    /// loop, so that it stays in the processor's registers.
+    /// Executes instructions that are met most, from their bytes, up to the first row, or up to one
+    /// of another kind, and that one too. What is read from stands in a variable of its own over
+    /// the loop, so that it stays in the processor's registers.
     #[inline(always)]
     fn step(&mut self) -> Result<Step>
         ensures ok { IfOk result (StepIs self.old self.new) }
@@ -422,7 +424,8 @@ impl<R: Reader> IncompleteLineProgram<R> {
     pub fn rows(self) -> OneShotLineRows<R>
         ensures events { EventsWithFiles self.notation true self.meaning self.meaning.program
             (events_left result) }
-        ensures made { Makes self.notation true self.meaning self.meaning.program (made_left result) }
+        ensures made { Makes self.notation true self.meaning self.meaning.program
+            (made_left result) }
         ensures files { FilesAtEnd self.notation true self.meaning self.meaning.program
             (files_at_end result) }
         ensures start { result ≡ whole_run self.meaning self.notation
