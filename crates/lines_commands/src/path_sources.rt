@@ -108,7 +108,8 @@ impl<R: Reader> PathSources<R> {
         ensures ok { let directory = directory_for self.now.compilations
             (R.Offset.number header.now.offset.0) in
             IfOk result (λ path. row_path
-            (paths_by R.bytes self.now.strings header.now.meaning directory) row.now ≡ Ok path.items) }
+            (paths_by R.bytes self.now.strings header.now.meaning directory) row.now
+            ≡ Ok path.items) }
         ensures err { let directory = directory_for self.now.compilations
             (R.Offset.number header.now.offset.0) in
             IfErr result (λ e. e ≢ OutOfMemory
