@@ -98,8 +98,8 @@ impl Index {
         Rows::of_index(&mut self.handle, unit)
     }
 
-    /// The whole path of the file of a unit. `comp_dir` is the directory of the compilation (`DW_AT_comp_dir`, as
-    /// `CompilationSections::comp_dir` tells it), which counts up to version 4; without it such a path stays relative.
+    /// The whole path of the file of a unit. `comp_dir` is the directory of the compilation (`DW_AT_comp_dir`), which counts up
+    /// to version 4; without it such a path stays relative.
     pub fn path(&mut self, unit: u64, file: u64, comp_dir: &[u8]) -> Result<Vec<u8>, Error> {
         let mut path = vec![0; 256];
         loop {

@@ -1,6 +1,6 @@
-//! What the first entries of units say of their compilations, from bytes by hand. The header is that
-//! of DWARF 5, section 7.5.1, and of DWARF 2 to 4, section 7.5.1.1; a declaration that of section
-//! 7.5.3, a form that of 7.5.4 to 7.5.6, and an index counts as in 7.26.
+//! What the first entries of units say of their compilations, from bytes by hand. The header is
+//! that of DWARF 5, section 7.5.1, and of DWARF 2 to 4, section 7.5.1.1; a declaration that of
+//! section 7.5.3, a form that of 7.5.4 to 7.5.6, and an index counts as in 7.26.
 
 use crate::check::check_equal;
 use gimli_compilation::{Compilation, CompilationSections, Compilations, Refusal};
@@ -108,7 +108,8 @@ fn version_3_data8_in_the_64_bit_format(rt: HostRuntime) {
         0, 0, 0, 0, 0, 0, 0, 1, // DW_AT_comp_dir
         b'c', b'.', b'c', 0, // DW_AT_name
     ];
-    // DW_AT_stmt_list in DW_FORM_data8, DW_AT_comp_dir in DW_FORM_strp, DW_AT_name in DW_FORM_string
+    // DW_AT_stmt_list in DW_FORM_data8, DW_AT_comp_dir in DW_FORM_strp, DW_AT_name in
+    // DW_FORM_string
     let abbreviations = b"\x01\x11\x00\x10\x07\x1b\x0e\x03\x08\x00\x00\x00";
     check_first(
         &rt,
@@ -190,8 +191,8 @@ fn version_5_line_strp(rt: HostRuntime) {
 // ---- indexes of texts
 
 /// Three declarations: DW_AT_comp_dir in DW_FORM_strx1, DW_FORM_strx3 and DW_FORM_strx, DW_AT_name
-/// in DW_FORM_strx2, DW_FORM_strx4 and DW_FORM_strx, then DW_AT_stmt_list in DW_FORM_sec_offset; the
-/// first two have DW_AT_str_offsets_base in DW_FORM_sec_offset at the end.
+/// in DW_FORM_strx2, DW_FORM_strx4 and DW_FORM_strx, then DW_AT_stmt_list in DW_FORM_sec_offset;
+/// the first two have DW_AT_str_offsets_base in DW_FORM_sec_offset at the end.
 const INDEXES: &[u8] = b"\x01\x11\x00\x1b\x25\x03\x26\x10\x17\x72\x17\x00\x00\
     \x02\x11\x00\x1b\x27\x03\x28\x10\x17\x72\x17\x00\x00\
     \x03\x11\x00\x1b\x1a\x03\x1a\x10\x17\x00\x00\x00";

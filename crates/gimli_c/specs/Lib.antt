@@ -15,5 +15,4 @@ pub mod Causes
 pub mod Owned
 pub mod Indexed
 pub mod Reader
-pub mod CompDir
 pub mod inside

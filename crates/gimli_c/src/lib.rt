@@ -5,7 +5,6 @@
 //! declares all of it.
 #![tactic(auto)]
 
-mod comp_dir;
 mod directory;
 mod encoding;
 mod file;
@@ -26,7 +25,6 @@ mod unit;
 mod version;
 mod write;
 
-pub use comp_dir::gimli_line_comp_dir;
 pub use directory::gimli_line_directory;
 pub use encoding::GimliEncoding;
 pub use file::{
