@@ -75,7 +75,8 @@ impl<'i> Program<'i> {
         let place = SectionPlace::AllAtZero;
         let source = SectionSource { alloc, elf, place };
         let lines = source.lines()?;
-        Program::with_lines(source, lines, files)
+        let program = Program::with_lines(source, lines, files)?;
+        Ok(program)
     }
 
     /// The sections of an ELF file beside its line programs. A section of texts that is named apart

@@ -7,7 +7,7 @@ use Rattle.lines_commands.proofs.numbers.parse_place.Goals as goal
 none_some : {A : Type 0} (x : A) → None ≡ Some x → ⊥
 none_some x e = true≢false (subst IsNone e refl)
 
-number_in : Option ℕ → ℕ
+abbrev number_in : Option ℕ → ℕ
 number_in (Some n) = n
 number_in None = 0
 
