@@ -1,11 +1,10 @@
-//! What each check calls: a condition that has to hold, and a value that has to be the one that is wanted.
+//! What each check calls: a condition that has to hold, and a value that has to be the one that
+//! is wanted.
 
 use std::fmt::Debug;
 use std::process::Abort;
 
-/// A condition holds.
-///
-/// A call of it, as of `check_equal`, is proved in a fraction of the time that the macro in its place takes.
+/// A condition holds. A call of it is proved sooner than the macro in its place.
 pub fn check(rt: &impl Abort, holds: bool) {
     assert!(rt; holds);
 }

@@ -1,4 +1,4 @@
-use Rattle.std.proofs.Common.{◌≡◌, ℕ, false, List, [], ◌∷◌, sym, subst, ap, refl}
+use Rattle.std.proofs.Common.{rules, ◌≡◌, ℕ, false, List, [], ◌∷◌, sym, subst, ap}
 use Rattle.std.proofs.lemmas.List.Elements.{All-nil, All-cons}
 use Rattle.std.specs.Prelude.{All, IfSome}
 use Rattle.gimli_bytes.specs.Texts.{StringTables, texts_in}
@@ -6,7 +6,7 @@ use Rattle.gimli_write.specs.LineText.{LineText, line_text, IsWithin, HasNoZero}
 use Rattle.gimli_write.specs.Tables.{File}
 use Rattle.gimli_write.specs.Built.{Built}
 use Rattle.gimli_write.specs.Conditions.{CanWrite}
-use Rattle.checks_writing.proofs.writers.referring.Goals as goal
+use Rattle.checks_writing.proofs.own_writer.referring.Goals as goal
 
 one : {A : Type 0} (P : A → Type 0) (xs : List A) (x : A) → xs ≡ x ∷ [] → P x → All P xs
 one P xs x is p = subst (All P) (sym is) (All-cons P x [] p (All-nil P))
@@ -26,6 +26,6 @@ first_texts p texts directory file program directories files directory_there fil
 pub returns : goal.returns
 returns c =
     let is = c.in_ok-program.ensures.ok in
-    first_texts _ (texts_in c.args.strings.now c.args.line_strings.now) (line_text c.args.working_dir) _
+    first_texts _ (texts_in c.args.strings.now c.args.line_strings.now) _ _
     (ap (λ (q : Built). q.is_none) is) (ap (λ (q : Built). q.directories) is) (ap (λ (q : Built). q.files) is)
-    (c.if-not-is_within.ensures refl) (c.if-not-is_within-2.ensures refl) tt tt
+    (search rules) (search rules) tt tt
