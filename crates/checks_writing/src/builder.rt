@@ -1,5 +1,5 @@
-//! The row that is built next, what is built, and the program that is none: what no script of rows
-//! can print.
+//! The row that is built next, what is built, and the program that is none: what no script of
+//! rows can print.
 
 ghost use Rattle.std.specs.Prelude.{◌≡◌, ◌<◌, length, false, IfOk};
 

@@ -1,4 +1,5 @@
-//! What each check calls: a condition that has to hold, and a value that has to be the one that is wanted.
+//! What each check calls: a condition that has to hold, and a value that has to be the one that
+//! is wanted.
 
 use std::fmt::Debug;
 use std::process::Abort;

@@ -1,6 +1,5 @@
 //! Many of each thing that is written, built or converted. Memory for them is there, so a refusal
-//! by
-//! `OutOfMemory` would be wrong, which no contract tells.
+//! by `OutOfMemory` would be wrong, which no contract tells.
 
 ghost use Rattle.std.specs.Prelude.{◌≢◌, All, IfOk, IsTrue};
 ghost use Rattle.gimli_core.specs.Numbers.{is_address_size};

@@ -173,39 +173,55 @@ fn referring(
     Ok(program)
 }
 
-/// Moves the current row 4 bytes and 2 lines on from the start.
-fn move_on(program: &mut LineProgram)
-    ensures { program.new ≡ record program.old {
-      row = record program.old.row { address_offset = 4; line = 3 };
-    } }
-{
-    let row = program.row();
-    row.address_offset = 4;
-    row.line = 3;
-}
-
-/// Adds an address, and two rows after it.
-fn add_rows(
+fn set_row(
     program: &mut LineProgram,
     strings: &StringTable,
     line_strings: &LineStringTable,
+    place: (u64, u64),
+)
+    requires { CanWrite program.old (texts_in strings.now line_strings.now) }
+    ensures { CanWrite program.new (texts_in strings.now line_strings.now) }
+{
+    let row = program.row();
+    row.address_offset = place.0;
+    row.line = place.1;
+}
+
+/// Adds a row at this offset, of this line.
+fn put_row(
+    program: &mut LineProgram,
+    strings: &StringTable,
+    line_strings: &LineStringTable,
+    place: (u64, u64),
 ) -> Result<()>
     requires { CanWrite program.old (texts_in strings.now line_strings.now) }
     ensures { OnOk result (CanWrite program.new (texts_in strings.now line_strings.now)) }
 {
-    program.set_address(Address::Constant(0x1000))?;
+    set_row(program, strings, line_strings, place);
     if !program.can_generate_row() {
         return Err(Error::InvalidRange);
     }
     program.generate_row()?;
-    move_on(program);
-    if !program.can_generate_row() {
-        return Err(Error::InvalidRange);
-    }
-    program.generate_row()
+    Ok(())
 }
 
-/// Adds rows, another address and an end.
+fn put_end(
+    program: &mut LineProgram,
+    strings: &StringTable,
+    line_strings: &LineStringTable,
+    offset: u64,
+) -> Result<()>
+    requires { CanWrite program.old (texts_in strings.now line_strings.now) }
+    ensures { OnOk result (CanWrite program.new (texts_in strings.now line_strings.now)) }
+{
+    if !program.can_end_sequence(offset) {
+        return Err(Error::InvalidRange);
+    }
+    program.end_sequence(offset)?;
+    Ok(())
+}
+
+/// Adds an address, two rows, another address and an end.
 fn add_sequence(
     program: &mut LineProgram,
     strings: &StringTable,
@@ -214,15 +230,14 @@ fn add_sequence(
     requires { CanWrite program.old (texts_in strings.now line_strings.now) }
     ensures { OnOk result (CanWrite program.new (texts_in strings.now line_strings.now)) }
 {
-    add_rows(program, strings, line_strings)?;
+    program.set_address(Address::Constant(0x1000))?;
+    put_row(program, strings, line_strings, (0, 1))?;
+    put_row(program, strings, line_strings, (4, 3))?;
     program.set_address(Address::Symbol {
         symbol: 7,
         addend: 1,
     })?;
-    if !program.can_end_sequence(8) {
-        return Err(Error::InvalidRange);
-    }
-    program.end_sequence(8)
+    put_end(program, strings, line_strings, 8)
 }
 
 /// Three bytes, by a writer that takes so many calls more.
@@ -263,17 +278,47 @@ fn is_whole(
     Ok(answer.is_ok())
 }
 
-/// The same of a program with a sequence, and texts in both tables.
-fn is_written(rt: &impl Abort, alloc: Global, calls: usize) -> Result<bool> {
-    let mut strings = StringTable::default(alloc);
-    let mut line_strings = LineStringTable::default(alloc);
+/// Adds texts to both tables, and returns those of the directory and of the file.
+fn add_texts(
+    strings: &mut StringTable,
+    line_strings: &mut LineStringTable,
+) -> Result<(LineStringId, StringId)> {
     strings.add(b"pp")?;
     line_strings.add(b"q")?;
     let file = strings.add(b"a.c")?;
-    let directory = line_strings.add(b"/w")?;
-    let mut program = referring(alloc, &strings, &line_strings, directory, file)?;
-    add_sequence(&mut program, &strings, &line_strings)?;
-    is_whole(rt, &program, &mut strings, &mut line_strings, calls)
+    Ok((line_strings.add(b"/w")?, file))
+}
+
+/// A program with these texts and a sequence.
+fn with_sequence(
+    alloc: Global,
+    strings: &StringTable,
+    line_strings: &LineStringTable,
+    texts: (LineStringId, StringId),
+) -> Result<LineProgram>
+    ensures { IfOk result (λ program. CanWrite program (texts_in strings.now line_strings.now)) }
+{
+    let mut program = referring(alloc, strings, line_strings, texts.0, texts.1)?;
+    add_sequence(&mut program, strings, line_strings)?;
+    Ok(program)
+}
+
+/// The same of a program with a sequence, and texts in both tables.
+fn is_unit_written(
+    rt: &impl Abort,
+    strings: &mut StringTable,
+    line_strings: &mut LineStringTable,
+    calls: usize,
+) -> Result<bool> {
+    let texts = add_texts(strings, line_strings)?;
+    let program = with_sequence(*line_strings.allocator(), strings, line_strings, texts)?;
+    is_whole(rt, &program, strings, line_strings, calls)
+}
+
+fn is_written(rt: &impl Abort, alloc: Global, calls: usize) -> Result<bool> {
+    let mut strings = StringTable::default(alloc);
+    let mut line_strings = LineStringTable::default(alloc);
+    is_unit_written(rt, &mut strings, &mut line_strings, calls)
 }
 
 /// A unit is written by the writer's own `write_address` and `write_offset`, and each call of the
