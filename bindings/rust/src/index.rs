@@ -45,7 +45,7 @@ pub struct Index {
 }
 
 impl Index {
-    /// Runs all units of a program once. Sequences that begin below the address `lowest` are left out, since a linker leaves
+    /// Runs all units of a program once. Rows below the address `lowest` are left out, since a linker leaves
     /// code that it drops at low addresses; 0 leaves none out.
     pub fn open(sections: &Sections<'_>, lowest: u64) -> Result<Index, Error> {
         let mut index = Index {

@@ -212,7 +212,7 @@ typedef struct gimli_line_index {
  * `line_strings` and `strings` are the sections .debug_line_str and .debug_str, or no bytes. The index has copies of all three:
  * the caller's may go. A unit that can't be read has no rows; of one whose run has a fault it has the sequences that end before
  * that. Rows that no end row follows are in no sequence, and that is no fault. Bytes behind the last unit count as one that can't
- * be read. Sequences that begin below the address `lowest` are left out, since a linker leaves code that it drops at low
+ * be read. Rows below the address `lowest` are left out, since a linker leaves code that it drops at low
  * addresses; 0 leaves none out. Where another number than 0 is answered, GIMLI_OUT_OF_MEMORY or GIMLI_UNSUPPORTED_ADDRESS_SIZE,
  * the handle has what it had. */
 uint32_t gimli_line_index_open(const uint8_t *section, size_t length, bool big, uint8_t address_size, uint64_t lowest,

@@ -15,9 +15,6 @@ use std::alloc::Global;
 use std::fmt::Write;
 use std::fs;
 
-/// The least address that code may have: at 0 a linker leaves what it dropped.
-const LOWEST: u64 = 1;
-
 /// Reads an ELF file, and prints a line for each address, which has hexadecimal digits.
 pub fn start(rt: &HostRuntime, words: &[String]) -> Result<()> {
     let [file, addresses @ ..] = words else {
@@ -41,7 +38,8 @@ fn print_places(alloc: Global, file: &[u8], addresses: &[String], text: &mut Str
         debug_line_str: section(&elf, b".debug_line_str")?,
         debug_str_offsets: section(&elf, b".debug_str_offsets")?,
     };
-    let program = Program::new(alloc, DebugLine::from(lines), sections)?;
+    let lowest = elf.lowest_code_address().unwrap_or(0);
+    let program = Program::new(alloc, DebugLine::from(lines), sections, lowest)?;
     where_is(alloc, &program, addresses, text)
 }
 
@@ -63,14 +61,16 @@ pub struct Program<R: Reader> {
 }
 
 impl<R: Reader> Program<R> {
-    /// Reads the line programs and the units of a program whose addresses have 8 bytes.
+    /// Reads the line programs and the units of a program whose addresses have 8 bytes, and whose
+    /// code begins at the address `lowest`: below it a linker leaves what it dropped.
     fn new(
         alloc: Global,
         lines: DebugLine<R>,
         sections: CompilationSections<R>,
+        lowest: u64,
     ) -> std::result::Result<Self, Error> {
         Ok(Program {
-            lookup: SectionLookup::new(&lines, alloc, 8, LOWEST)?,
+            lookup: SectionLookup::new(&lines, alloc, 8, lowest)?,
             strings: StringSections {
                 debug_line_str: sections.debug_line_str,
                 debug_str: sections.debug_str,

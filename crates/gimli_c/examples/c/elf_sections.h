@@ -18,6 +18,7 @@ typedef struct elf_sections {
     section line, line_str, str; /* .debug_line, .debug_line_str and .debug_str; of no bytes where there is none */
     bool big;
     uint8_t address_size;
+    uint64_t lowest; /* the lowest address of code, below which linkers leave what they drop; 0 where there is none */
     uint8_t *file;
 } elf_sections;
 
@@ -47,6 +48,11 @@ static uint8_t *elf_file(const char *name, size_t *length) {
     return bytes;
 }
 
+/* Keeps the address of a section of code (SHF_ALLOC and SHF_EXECINSTR) that isn't empty, where it is the lowest. */
+static void elf_code(elf_sections *elf, uint64_t flags, uint64_t size, uint64_t address) {
+    if ((flags & 6) == 6 && size != 0 && (elf->lowest == 0 || address < elf->lowest)) elf->lowest = address;
+}
+
 static void elf_take(elf_sections *elf, const char *name, section found) {
     if (strcmp(name, ".debug_line") == 0) elf->line = found;
     if (strcmp(name, ".debug_line_str") == 0) elf->line_str = found;
@@ -61,6 +67,7 @@ static bool elf_read(const char *name, elf_sections *elf) {
     if (elf->file == NULL) return false;
     section none = {elf->file, 0};
     elf->line = elf->line_str = elf->str = none;
+    elf->lowest = 0;
     if (length < 20 || memcmp(elf->file, "\177ELF", 4) != 0) return false;
     bool wide = elf->file[4] == 2;
     size_t word = wide ? 8 : 4;
@@ -77,6 +84,7 @@ static bool elf_read(const char *name, elf_sections *elf) {
         uint64_t flags = elf_number(elf, length, header + 8, word);
         uint64_t at = elf_number(elf, length, header + (wide ? 24 : 16), word);
         uint64_t bytes = elf_number(elf, length, header + (wide ? 32 : 20), word);
+        elf_code(elf, flags, bytes, elf_number(elf, length, header + (wide ? 16 : 12), word));
         if (name_at >= length || at > length || bytes > length - at || (flags & 0x800) != 0) continue;
         section found = {elf->file + at, (size_t)bytes};
         elf_take(elf, (const char *)elf->file + name_at, found);

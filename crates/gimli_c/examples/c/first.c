@@ -16,8 +16,7 @@ int main(int argc, char **argv) {
     elf_sections program;
     if (argc != 3 || !elf_read(argv[1], &program)) return 2;
     gimli_line_index index = GIMLI_LINE_INDEX_CLOSED;
-    uint64_t lowest = 1; /* of code: linkers leave functions that they drop at 0 */
-    stop_if(gimli_line_index_open(program.line.bytes, program.line.length, program.big, program.address_size, lowest,
+    stop_if(gimli_line_index_open(program.line.bytes, program.line.length, program.big, program.address_size, program.lowest,
                                   program.line_str.bytes, program.line_str.length, program.str.bytes, program.str.length, &index));
     elf_free(&program); /* the index has copies */
 

@@ -97,7 +97,7 @@ int main(int argc, char **argv) {
         return 1;
     }
     gimli_line_index index = GIMLI_LINE_INDEX_CLOSED;
-    stop_if(gimli_line_index_open(program.line.bytes, program.line.length, program.big, program.address_size, 1,
+    stop_if(gimli_line_index_open(program.line.bytes, program.line.length, program.big, program.address_size, program.lowest,
                                   program.line_str.bytes, program.line_str.length, program.str.bytes, program.str.length, &index),
             "gimli_line_index_open");
     elf_free(&program); /* the index has what it needs */

@@ -19,7 +19,7 @@ namespace {
 class Index {
 public:
     explicit Index(const elf_sections &program) {
-        require(gimli_line_index_open(program.line.bytes, program.line.length, program.big, program.address_size, 1,
+        require(gimli_line_index_open(program.line.bytes, program.line.length, program.big, program.address_size, program.lowest,
                                       program.line_str.bytes, program.line_str.length, program.str.bytes, program.str.length,
                                       &handle));
     }
