@@ -1,11 +1,12 @@
 -- What can be said of whole paths.
-use Rattle.std.proofs.Common.{◌≡◌, ℕ, Bool, true, false, ◌&&◌, ◌||◌, if◌then◌else◌, nat_eq, List, [], ◌∷◌, ◌++◌, Ok, Err, refl, sym, ap, ◌∙◌, append_assoc}
+use Rattle.std.proofs.Common.{◌≡◌, ℕ, Bool, true, false, ◌&&◌, ◌||◌, if◌then◌else◌, nat_eq, List, [], ◌∷◌, ◌++◌, length, Ok, Err, refl, sym, ap, subst, ◌∙◌, inl, inr, append_assoc}
+use Rattle.std.proofs.lemmas.Bool.{cases_eq, ne_eqb}
 use Rattle.std.specs.Prelude.{Result}
 use Rattle.std.specs.Char.{is_ascii_alphabetic}
 use Rattle.gimli_core.specs.Reading.{result_map}
 use Rattle.gimli_line.specs.header.File.{File}
 use Rattle.gimli_lookup.specs.Strings.{Strings, string_of}
-use Rattle.gimli_lookup.specs.Paths.{Paths, is_separator, is_absolute, separator_after, path_in, path_from, ◌>>=◌, directory_string, directory_path, file_path, EndsWithOwnPath, HasAbsoluteRoot}
+use Rattle.gimli_lookup.specs.Paths.{Paths, is_separator, is_absolute, separator_after, path_in, path_from, ◌>>=◌, directory_string, known_directory, base_directory, directory_path, file_path, EndsWithOwnPath, HasAbsoluteRoot}
 use Rattle.gimli_lookup.specs.declared.path_error.PathError.{PathError}
 
 -- ---- absolute paths
@@ -51,12 +52,25 @@ absolute_next : (r : Result (List ℕ) PathError) (directory : Result (List ℕ)
 absolute_next (Ok own) directory absolute path is = absolute_from directory own absolute path is
 absolute_next (Err e) directory absolute path is = absurd cc
 
-absolute_directory : (p : Paths) (i : ℕ) → IsAbsolute (directory_string p 0) → IsAbsolute (directory_path p i)
-absolute_directory p i absolute = at_test (nat_eq i 0)
+-- directory 0 goes on from the known directory, which is the base where it is relative and the known one isn't empty
+absolute_zero : (zero : Result (List ℕ) PathError) (known : List ℕ)
+    → IsAbsolute (result_map (λ own. if is_absolute own || nat_eq (length known) 0 then own else known) zero) → IsAbsolute (zero >>= path_from (Ok known))
+absolute_zero (Ok own) known absolute path is = at_test (is_absolute own) (nat_eq (length known) 0) refl absolute path is
   where
-    at_test : (b : Bool) → IsAbsolute (if b then directory_string p 0 else (directory_string p i >>= path_from (directory_string p 0)))
-    at_test true = absolute
-    at_test false = absolute_next (directory_string p i) (directory_string p 0) absolute
+    at_test : (b e : Bool) → is_absolute own ≡ b → IsAbsolute (Ok (if b || e then own else known)) → IsAbsolute (if b then Ok own else Ok (path_in known own))
+    at_test true e test all path is = let same : own ≡ path = cc in ap is_absolute (sym same) ∙ test
+    at_test false true test all path is = let whole = all own refl in absurd cc
+    at_test false false test all path is =
+        let same : path_in known own ≡ path = cc in
+        ap is_absolute (sym same ∙ append_assoc known (separator_after known) own) ∙ absolute_more known (separator_after known ++ own) (all known refl)
+absolute_zero (Err e) known absolute path is = absurd cc
+
+absolute_directory : (p : Paths) (i : ℕ) → IsAbsolute (base_directory p) → IsAbsolute (directory_path p i)
+absolute_directory p i absolute = elim (cases_eq i 0) [
+  | inl same ↦ subst (λ j. IsAbsolute (directory_path p j)) (sym same) (absolute_zero (directory_string p 0) (known_directory p) absolute)
+  | inr other ↦ subst (λ b. IsAbsolute (directory_string p i >>= path_from (if b then Ok (known_directory p) else base_directory p))) (sym (ne_eqb i 0 other))
+      (absolute_next (directory_string p i) (base_directory p) absolute)
+]
 
 root_absolute : (r : Result (List ℕ) PathError) (root : List ℕ) → r ≡ Ok root → is_absolute root ≡ true → IsAbsolute r
 root_absolute r root is absolute path also = let same : root ≡ path = cc in ap is_absolute (sym same) ∙ absolute
@@ -64,7 +78,18 @@ root_absolute r root is absolute path also = let same : root ≡ path = cc in ap
 pub absolute_path : (p : Paths) (f : File) (path : List ℕ) → HasAbsoluteRoot p → file_path p f ≡ Ok path → is_absolute path ≡ true
 absolute_path p f path root is =
     absolute_next (string_of p.sections f.path_name) (directory_path p f.directory_index)
-    (absolute_directory p f.directory_index (root_absolute (directory_string p 0) root.0 root.1 root.2)) path is
+    (absolute_directory p f.directory_index (root_absolute (base_directory p) root.0 root.1 root.2)) path is
+
+-- an absolute directory 0 is the base
+absolute_base : (zero : Result (List ℕ) PathError) (own known : List ℕ) → zero ≡ Ok own → is_absolute own ≡ true
+    → result_map (λ own. if is_absolute own || nat_eq (length known) 0 then own else known) zero ≡ Ok own
+absolute_base (Ok zero) own known is absolute =
+    let same : zero ≡ own = cc in
+    ap (λ b. Ok (if b || nat_eq (length known) 0 then zero else known)) (ap is_absolute same ∙ absolute) ∙ ap (λ d. Ok d) same
+absolute_base (Err e) own known is absolute = absurd cc
+
+pub absolute_root : (p : Paths) (zero : List ℕ) → directory_string p 0 ≡ Ok zero → is_absolute zero ≡ true → HasAbsoluteRoot p
+absolute_root p zero is absolute = (zero, absolute_base (directory_string p 0) zero (known_directory p) is absolute, absolute)
 
 -- ---- the end of a path
 

@@ -67,9 +67,19 @@ handed_directory p i = if nat_le p.header.parameters.encoding.version 4 && nat_e
 abbrev pub directory_string : Paths → ℕ → Result (List ℕ) PathError
 directory_string p i = option_map_or (string_of p.sections) (directory_of p.header i) (handed_directory p i)
 
--- the whole path of a directory: that of index 0 is the directory of the compilation, from which the others go on
+-- what a relative directory 0 goes on from: in version 5 the directory of the compilation, as the caller has it (section
+-- 3.1.1), which is empty where nobody knows it. Up to version 4 nothing: there directory 0 is that directory itself
+abbrev pub known_directory : Paths → List ℕ
+known_directory p = if nat_le p.header.parameters.encoding.version 4 then [] else unwrap_or p.comp_dir []
+
+-- what the other relative directories go on from: directory 0, which is that of the compilation (section 6.2.4). But where
+-- that is relative, and the caller knows the directory, the caller's
+abbrev pub base_directory : Paths → Result (List ℕ) PathError
+base_directory p = result_map (λ zero. if is_absolute zero || nat_eq (length (known_directory p)) 0 then zero else known_directory p) (directory_string p 0)
+
+-- the whole path of a directory
 abbrev pub directory_path : Paths → ℕ → Result (List ℕ) PathError
-directory_path p i = if nat_eq i 0 then directory_string p 0 else (directory_string p i >>= path_from (directory_string p 0))
+directory_path p i = directory_string p i >>= path_from (if nat_eq i 0 then Ok (known_directory p) else base_directory p)
 
 -- the whole path of a file
 abbrev pub file_path : Paths → File → Result (List ℕ) PathError
@@ -81,9 +91,9 @@ row_path p r = option_map_or (file_path p) (file_of p.header r.file) (Err (Inval
 
 -- ---- what can be said of a whole path
 
--- the directory of the compilation is known, and absolute
+-- relative directories go on from an absolute one, as they do where directory 0 is absolute
 abbrev pub HasAbsoluteRoot : Paths → Type 0
-HasAbsoluteRoot p = (root : List ℕ) × (directory_string p 0 ≡ Ok root) × IsTrue (is_absolute root)
+HasAbsoluteRoot p = (root : List ℕ) × (base_directory p ≡ Ok root) × IsTrue (is_absolute root)
 
 -- the last bytes of a whole path are the path that the table of files has
 pub record EndsWithOwnPath (sections : Strings) (f : File) (path : List ℕ) : Type 0 where

@@ -94,7 +94,8 @@ fn string_bytes<R: Reader>(
 ///
 /// A path is absolute that begins with `/`, with a backslash, or with a drive and one of both, as `C:\`. One that isn't
 /// goes on from the directory of its file. A directory that isn't absolute goes on from the directory of the compilation,
-/// which is directory 0. Where nobody knows that one, the path stays relative.
+/// which is directory 0. In version 5 that one may be relative itself: then all relative directories, directory 0 too, go
+/// on from the directory that the caller knows. Where nobody knows an absolute one, the path stays relative.
 #[derive(Drop)]
 #[derive_where(Debug; R, R::Offset)]
 pub struct Paths<'a, R: Reader> {
@@ -119,10 +120,11 @@ impl<'a, R: Reader> Model for Paths<'a, R> {
 }
 
 impl<'a, R: Reader> Paths<'a, R> {
-    ghost use Rattle.gimli_lookup.specs.Paths.{directory_string, directory_path, file_path, row_path};
+    ghost use Rattle.gimli_lookup.specs.Paths.{directory_string, known_directory, base_directory, directory_path, file_path, row_path};
 
-    /// The paths of this header. `comp_dir` is the directory of the compilation (`DW_AT_comp_dir`). It counts up to version
-    /// 4 alone, where none was handed over when the header was read; in version 5 the header has it.
+    /// The paths of this header. `comp_dir` is the directory of the compilation (`DW_AT_comp_dir`, DWARF 5, section 3.1.1);
+    /// an empty one counts as none. Up to version 4 it is directory 0, where none was handed over when the header was read.
+    /// In version 5 the header has directory 0, and `comp_dir` counts where that is relative.
     pub fn new(
         header: &'a LineProgramHeader<R>,
         sections: StringSections<R>,
@@ -175,11 +177,38 @@ impl<'a, R: Reader> Paths<'a, R> {
         ensures err { IfErr result (λ e. e ≢ OutOfMemory → directory_path self.now index ≡ Err e) }
     {
         let directory = self.directory_string(alloc, index)?;
-        if index == 0 || is_absolute(&directory) {
+        if is_absolute(&directory) {
             return Ok(directory);
         }
-        let root = self.directory_string(alloc, 0)?;
-        path_in(root, &directory)
+        if index == 0 {
+            let known = Vec::from_slice(alloc, self.known_directory())?;
+            return path_in(known, &directory);
+        }
+        let base = self.base_directory(alloc)?;
+        path_in(base, &directory)
+    }
+
+    /// What the other relative directories than directory 0 go on from.
+    fn base_directory(&self, alloc: Global) -> Result<Vec<u8>, PathError>
+        ensures ok { IfOk result (λ base. base_directory self.now ≡ Ok base.items) }
+        ensures err { IfErr result (λ e. e ≢ OutOfMemory → base_directory self.now ≡ Err e) }
+    {
+        let zero = self.directory_string(alloc, 0)?;
+        let known = self.known_directory();
+        if is_absolute(&zero) || known.is_empty() {
+            return Ok(zero);
+        }
+        Ok(Vec::from_slice(alloc, known)?)
+    }
+
+    /// What a relative directory 0 goes on from: in version 5 the caller's directory, and nothing up to version 4.
+    fn known_directory(&self) -> &'a [u8]
+        ensures { result.now ≡ known_directory self.now }
+    {
+        if self.header.version() <= 4 {
+            return &[];
+        }
+        self.comp_dir.unwrap_or(&[])
     }
 
     /// The directory of an index, as it is written. Up to version 4 that of index 0 may be the caller's.
