@@ -1,26 +1,36 @@
 //! Prints the path, line and column of addresses.
 //!
-//!   cargo run --example where_is line.bin line_str.bin ADDRESS..
+//!   cargo run --example where_is line line_str info abbrev str ADDRESS..
 //!
-//! The first two are the sections `.debug_line` and `.debug_line_str` (empty where there is none) of a little-endian program with
-//! addresses of 8 bytes, as `objcopy --dump-section` takes them out.
+//! The first five are the sections `.debug_line`, `.debug_line_str`, `.debug_info`, `.debug_abbrev` and
+//! `.debug_str` (empty where there is none) of a little-endian program with addresses of 8 bytes, as
+//! `objcopy --dump-section` takes them out.
 
-use gimli_line_proved::{ColumnType, Index, Sections};
+use gimli_line_proved::{ColumnType, CompilationSections, Index, Sections};
 use std::error::Error;
 use std::{env, fs};
 
 fn main() -> Result<(), Box<dyn Error>> {
     let arguments: Vec<String> = env::args().skip(1).collect();
-    let [line, line_str, addresses @ ..] = arguments.as_slice() else {
-        return Err("usage: where_is SECTION LINE_STRINGS ADDRESS..".into());
+    let [line, line_str, info, abbrev, str, addresses @ ..] = arguments.as_slice() else {
+        return Err("usage: where_is LINES LINE_STRINGS INFO ABBREVIATIONS STRINGS ADDRESS..".into());
     };
-    let (line, line_str) = (fs::read(line)?, fs::read(line_str)?);
+    let (line, line_str, str) = (fs::read(line)?, fs::read(line_str)?, fs::read(str)?);
+    let (info, abbrev) = (fs::read(info)?, fs::read(abbrev)?);
     let sections = Sections {
         debug_line: &line,
         debug_line_str: &line_str,
-        debug_str: &[],
+        debug_str: &str,
         big_endian: false,
         address_size: 8,
+    };
+    let compilations = CompilationSections {
+        debug_info: &info,
+        debug_abbrev: &abbrev,
+        debug_line_str: &line_str,
+        debug_str: &str,
+        debug_str_offsets: &[],
+        big_endian: false,
     };
     let mut index = Index::open(&sections, 0)?;
     for address in addresses {
@@ -28,7 +38,11 @@ fn main() -> Result<(), Box<dyn Error>> {
             println!("none");
             continue;
         };
-        let path = index.path(place.unit, place.row.file_index(), &[])?;
+        let directory = match index.unit(place.unit) {
+            Some((offset, _)) => compilations.comp_dir(offset)?.unwrap_or_default(),
+            None => Vec::new(),
+        };
+        let path = index.path(place.unit, place.row.file_index(), &directory)?;
         let line = place.row.line().map_or(0, |line| line.get());
         let column = match place.row.column() {
             ColumnType::LeftEdge => 0,

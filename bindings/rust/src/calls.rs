@@ -104,6 +104,23 @@ extern "C" {
         room: usize,
         size: *mut u64,
     ) -> u32;
+    pub fn gimli_line_comp_dir(
+        info: *const u8,
+        info_length: usize,
+        abbreviations: *const u8,
+        abbreviations_length: usize,
+        line_strings: *const u8,
+        line_strings_length: usize,
+        strings: *const u8,
+        strings_length: usize,
+        string_offsets: *const u8,
+        string_offsets_length: usize,
+        big: bool,
+        offset: u64,
+        directory: *mut u8,
+        room: usize,
+        size: *mut u64,
+    ) -> u32;
     pub fn gimli_line_index_unit_count(index: *mut Index, count: *mut u64) -> u32;
     pub fn gimli_line_index_unit(index: *mut Index, unit: u64, found: *mut IndexUnit) -> u32;
     pub fn gimli_line_index_addresses(

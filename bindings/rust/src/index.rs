@@ -98,8 +98,11 @@ impl Index {
         Rows::of_index(&mut self.handle, unit)
     }
 
-    /// The whole path of the file of a unit. `comp_dir` is the directory of the compilation (`DW_AT_comp_dir`), which counts up
-    /// to version 4; without it such a path stays relative.
+    /// The whole path of the file of a unit. `comp_dir` is the directory of the compilation
+    /// (`DW_AT_comp_dir`, as `CompilationSections::comp_dir` tells it), from which a relative path
+    /// goes on up to version 4. In version 5 the unit has the directory too, and `comp_dir` counts
+    /// where that one is relative: then each relative directory goes on from it. Where it has no
+    /// bytes, such a path stays relative.
     pub fn path(&mut self, unit: u64, file: u64, comp_dir: &[u8]) -> Result<Vec<u8>, Error> {
         let mut path = vec![0; 256];
         loop {

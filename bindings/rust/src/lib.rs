@@ -1,14 +1,17 @@
 //! Line number programs of DWARF, versions 2 to 5, over the library `libgimli_line.a`, whose calls are proved.
 //!
 //! [`Index`] looks addresses up in all units of a program; [`Units`] gives the units of a section with their rows, and [`Rows`] the
-//! rows of one as they come. The names are gimli's where they fit.
+//! rows of one as they come. [`CompilationSections`] tell the directory of a unit, for whole paths. The names are gimli's where they
+//! fit.
 
 mod calls;
+mod compilation;
 mod error;
 mod index;
 mod row;
 mod rows;
 
+pub use compilation::CompilationSections;
 pub use error::Error;
 pub use index::{Addresses, Index, Place};
 pub use row::{ColumnType, LineRow, Unit, Units};

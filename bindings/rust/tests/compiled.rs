@@ -1,7 +1,9 @@
 //! The index and the rows of a program that the C compiler makes, against addr2line of binutils. Where a tool is missing the test
 //! says so, and ends well.
 
-use gimli_line_proved::{version, ColumnType, Error, Index, LineRow, Rows, Sections};
+use gimli_line_proved::{
+    version, ColumnType, CompilationSections, Error, Index, LineRow, Rows, Sections,
+};
 use std::collections::BTreeSet;
 use std::fs;
 use std::path::{Path, PathBuf};
@@ -12,6 +14,9 @@ struct Built {
     program: PathBuf,
     line: Vec<u8>,
     line_str: Vec<u8>,
+    info: Vec<u8>,
+    abbrev: Vec<u8>,
+    str: Vec<u8>,
 }
 
 fn sources() -> PathBuf {
@@ -50,8 +55,11 @@ fn built() -> Vec<Built> {
         assert!(status.success());
         let line = section(&program, ".debug_line");
         let line_str = section(&program, ".debug_line_str");
-        assert!(!line.is_empty());
-        all.push(Built { program, line, line_str });
+        let info = section(&program, ".debug_info");
+        let abbrev = section(&program, ".debug_abbrev");
+        let str = section(&program, ".debug_str");
+        assert!(!line.is_empty() && !info.is_empty());
+        all.push(Built { program, line, line_str, info, abbrev, str });
     }
     all
 }
@@ -64,6 +72,17 @@ impl Built {
             debug_str: &[],
             big_endian: false,
             address_size: 8,
+        }
+    }
+
+    fn compilations(&self) -> CompilationSections<'_> {
+        CompilationSections {
+            debug_info: &self.info,
+            debug_abbrev: &self.abbrev,
+            debug_line_str: &self.line_str,
+            debug_str: &self.str,
+            debug_str_offsets: &[],
+            big_endian: false,
         }
     }
 
@@ -92,8 +111,6 @@ impl Built {
 
 #[test]
 fn places_are_those_of_addr2line() {
-    let base = fs::canonicalize(sources()).expect("the sources are there");
-    let comp_dir = base.display().to_string();
     for built in built() {
         let mut index = Index::open(&built.sections(), 0).expect("the index is made");
         let addresses = built.addresses();
@@ -101,10 +118,40 @@ fn places_are_those_of_addr2line() {
         for address in addresses {
             let place = index.find(address).expect("a row covers it");
             assert!(place.row.address() <= address && address < place.end);
-            let path = index.path(place.unit, place.row.file_index(), comp_dir.as_bytes()).expect("the path is told");
+            let (offset, _) = index.unit(place.unit).expect("there is such a unit");
+            let comp_dir = built.compilations().comp_dir(offset).expect("there is memory");
+            let comp_dir = comp_dir.expect("the unit has one");
+            let path = index
+                .path(place.unit, place.row.file_index(), &comp_dir)
+                .expect("the path is told");
             let path = String::from_utf8(path).expect("the path is text");
             let line = place.row.line().map_or(0, |line| line.get());
             assert_eq!(format!("{path}:{line}"), built.addr2line(address));
+        }
+    }
+}
+
+#[test]
+fn no_unit_has_another_line_program() {
+    for built in built() {
+        assert_eq!(built.compilations().comp_dir(u64::MAX), Ok(None));
+    }
+}
+
+#[test]
+fn a_unit_that_is_cut_has_no_directory() {
+    for built in built() {
+        let first = u32::from_le_bytes(built.info[..4].try_into().expect("it has four bytes"));
+        let (line, _) = Index::open(&built.sections(), 0)
+            .expect("the index is made")
+            .unit(0)
+            .expect("there is a unit");
+        let whole = built.compilations();
+        assert!(whole.comp_dir(line).expect("there is memory").is_some());
+        for length in 0..4 + first as usize {
+            let debug_info = &built.info[..length];
+            let cut = CompilationSections { debug_info, ..whole };
+            assert_eq!(cut.comp_dir(line), Ok(None));
         }
     }
 }

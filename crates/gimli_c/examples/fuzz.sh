@@ -33,6 +33,17 @@ for version in 2 3 4 5; do
     head -c 255 "$work/line_str" >"$work/strings"
     # shellcheck disable=SC2059
     { printf '\020'; printf "\\$(printf %o "$(wc -c <"$work/strings")")"; cat "$work/line" "$work/strings"; } >"$work/seeds/$version"
+    # Another has .debug_info, and .debug_abbrev as its last bytes.
+    for name in info abbrev; do
+        objcopy --dump-section ".debug_$name=$work/$name" "$work/built" "$work/copy"
+    done
+    head -c 255 "$work/abbrev" >"$work/strings"
+    # shellcheck disable=SC2059
+    {
+        printf '\020'
+        printf "\\$(printf %o "$(wc -c <"$work/strings")")"
+        cat "$work/info" "$work/strings"
+    } >"$work/seeds/info$version"
 done
 "$work/fuzz" "-dict=$here/line.dict" -max_len=4096 "-max_total_time=$seconds" -print_final_stats=1 "$found" "$work/seeds" 2>&1 |
     grep -E 'stat::number_of_executed_units|stat::peak_rss_mb|ERROR|SUMMARY|Test unit|artifact|DONE' | tee "$work/said"

@@ -24,16 +24,21 @@ build() {
 
 for version in 2 3 4 5; do
     (cd "$top/compare" && cc -g "-gdwarf-$version" -O1 sources/main.c sources/sums.c -o "$work/built$version")
-    : >"$work/line_str$version"
-    objcopy --dump-section ".debug_line=$work/line$version" "$work/built$version" "$work/copy"
-    objcopy --dump-section ".debug_line_str=$work/line_str$version" "$work/built$version" "$work/copy" 2>/dev/null || true
+    for name in line line_str info abbrev str; do
+        : >"$work/$name$version"
+        objcopy --dump-section ".debug_$name=$work/$name$version" "$work/built$version" \
+            "$work/copy" 2>/dev/null || true
+    done
+    [ -s "$work/line$version" ] && [ -s "$work/info$version" ]
 done
 addresses="0 ffffffffffffffff $(nm "$work/built5" | awk '$2 == "T" {print $1}')"
 
 build guarded guarded
 calls=0
 for version in 2 3 4 5; do
-    calls=$((calls + $("$work/guarded" "$work/line$version" "$work/line_str$version")))
+    sections=()
+    for name in line line_str info abbrev str; do sections+=("$work/$name$version"); done
+    calls=$((calls + $("$work/guarded" "${sections[@]}")))
 done
 echo "gimli_c: $calls answers over buffers that end at a page that can't be read"
 
@@ -45,6 +50,8 @@ echo "gimli_c: 16 threads, each with an index of its own, find what one finds"
 if build sanitised where_is -fsanitize=address,undefined 2>/dev/null; then
     build sanitised_rows addr2line -fsanitize=address,undefined
     build sanitised_rewrite rewrite -fsanitize=address,undefined
+    build sanitised_directories directories -fsanitize=address,undefined
+    "$work/sanitised_directories" >/dev/null
     for version in 2 3 4 5; do
         # shellcheck disable=SC2086
         "$work/sanitised" "$work/built$version" $addresses >/dev/null

@@ -2,7 +2,8 @@
 # Builds a small program, takes its line information as raw bytes, builds the examples over libgimli_c.a, and compares what one
 # prints with what linetool prints: every row of every unit, and the rows round some addresses. Another writes what it reads as a
 # new unit, reads that, and compares the two itself. Two more, in C and in C++, print paths and lines by an index, which are
-# compared with those of addr2line of binutils. It needs a C compiler, objcopy and addr2line, and a C++ compiler for the last.
+# compared with those of addr2line of binutils. Another asks for directories of compilations, by sections that are made by hand.
+# It needs a C compiler, objcopy and addr2line, and a C++ compiler for the one in C++.
 # Where one is missing it says so, and ends well. The examples in Rust are those of bindings/rust.
 #
 # The library is built by .ci/library, and linetool by (cd crates/linetool && rt run -- demo); both are built here where they
@@ -34,6 +35,8 @@ cc -std=c11 -Wall -Wextra -Werror -O2 -I "$crate/include" "$here/c/addr2line.c" 
 cc -std=c11 -Wall -Wextra -Werror -O2 -I "$crate/include" "$here/c/rewrite.c" "$library" "$kit/liblibc_c.a" -o "$work/rewrite"
 cc -std=c11 -Wall -Wextra -Werror -O2 -I "$crate/include" "$here/c/where_is.c" "$library" "$kit/liblibc_c.a" -o "$work/where_is"
 cc -std=c11 -Wall -Wextra -Werror -O2 -I "$crate/include" "$here/c/first.c" "$library" "$kit/liblibc_c.a" -o "$work/first"
+cc -std=c11 -Wall -Wextra -Werror -O2 -I "$crate/include" "$here/c/directories.c" "$library" \
+    "$kit/liblibc_c.a" -o "$work/directories"
 indexed=where_is
 if command -v c++ >/dev/null; then
     c++ -std=c++11 -Wall -Wextra -Werror -O2 -I "$crate/include" "$here/cpp/where_is.cc" "$library" "$kit/liblibc_c.a" -o "$work/where_is_cpp"
@@ -67,13 +70,13 @@ for version in 2 3 4 5; do
     expected >"$work/rows"
     addresses=$(cut -d' ' -f1 "$work/rows" | sort -u)
     for address in $addresses 0 ffffffffffffffff; do expected "$address"; done >"$work/pairs"
-    # The path and the line of each row that ends nothing. Up to version 4 the section lacks the compilation's directory.
+    # The whole path and the line of each row that ends nothing.
     covered=$(awk '$NF !~ /e/ {print $1}' "$work/rows" | sort -u)
     # shellcheck disable=SC2086
     addr2line -e "$work/built" $covered | sed -E 's/ \(discriminator [0-9]+\)//' >"$work/places"
     for example in $indexed; do
         # shellcheck disable=SC2086
-        "$work/$example" "$work/built" $covered | sed -E "s,:[0-9]+\$,,; s,^([^/]),$top/compare/\\1," >"$work/answer"
+        "$work/$example" "$work/built" $covered | sed -E "s,:[0-9]+\$,," >"$work/answer"
         cmp "$work/places" "$work/answer"
         places=$((places + $(wc -l <"$work/places")))
     done
@@ -86,8 +89,8 @@ for version in 2 3 4 5; do
         break
     done < <("$program" units "$work/line.bin" little 8)
     printf '%s\n%s rows\n' "$(head -n 1 "$work/places")" "$count" >"$work/first_place"
-    "$work/first" "$work/built" "$address" | sed -E "s,^([^/].*:),$top/compare/\\1," | cmp "$work/first_place" -
-    echo "$covered" | "$work/where_is" "$work/built" | sed -E "s,:[0-9]+\$,,; s,^([^/]),$top/compare/\\1," | cmp "$work/places" -
+    "$work/first" "$work/built" "$address" | cmp "$work/first_place" -
+    echo "$covered" | "$work/where_is" "$work/built" | sed -E "s,:[0-9]+\$,," | cmp "$work/places" -
     [ "$("$work/where_is" "$work/built" 0 ffffffffffffffff)" = "none
 none" ]
     "$work/addr2line" "$work/line.bin" | cmp "$work/rows" -
@@ -95,6 +98,8 @@ none" ]
     "$work/addr2line" "$work/line.bin" $addresses 0 ffffffffffffffff | cmp "$work/pairs" -
     compared=$((compared + $(cat "$work/rows" "$work/pairs" | wc -l)))
 done
+directories=$("$work/directories")
+echo "gimli_c: $directories answers on directories of compilations are as made by hand"
 echo "gimli_c: $rewritten rows were written as they were read"
 echo "gimli_c: $places paths and lines of the examples ($indexed) are addr2line's"
 echo "gimli_c: $compared lines of the example addr2line are linetool's"

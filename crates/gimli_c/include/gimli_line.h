@@ -7,8 +7,8 @@
  *   cc program.c $(pkg-config --cflags --libs gimli_line)
  *
  * For the path, line and column of many addresses: gimli_line_index_open once, gimli_line_index_find for each address or
- * gimli_line_index_find_all for an array of them, and gimli_line_index_path for the path of the row's file. examples/c/where_is.c
- * does this.
+ * gimli_line_index_find_all for an array of them, and gimli_line_index_path for the path of the row's file, by the directory
+ * of gimli_line_comp_dir. examples/c/where_is.c does this.
  *
  * For all rows of a unit, some at a time: gimli_line_rows_open once, gimli_line_rows_next until there are no more, and
  * gimli_line_rows_close. examples/c/addr2line.c does this.
@@ -240,15 +240,38 @@ uint32_t gimli_line_index_find(gimli_line_index *index, uint64_t address, gimli_
 uint32_t gimli_line_index_find_all(gimli_line_index *index, const uint64_t *addresses, size_t count, gimli_place *places,
                                    size_t room);
 
-/* Tells the whole path of the file of a unit: its path, with the directories that it goes on from, up to the directory of the
- * compilation. In version 5 the unit has that one; up to version 4 it is `comp_dir` (DW_AT_comp_dir), and without it the path
- * stays relative. The bytes go into path[0] and so on, as far as there is room, without a zero byte; *size is how many there are.
- * GIMLI_NOT_FOUND where there is no such unit, or the unit has no such file, GIMLI_UNKNOWN_PATH where a string of the path can't
- * be told, and GIMLI_CLOSED where the handle is; the number of the refusal where the unit can't be read. Where another number than
- * 0 is answered, nothing is written. The header of the unit is read for each call, and the program is run where only that defines
- * the file (DW_LNE_define_file, up to version 4): keep the paths of files that come often. */
-uint32_t gimli_line_index_path(gimli_line_index *index, uint64_t unit, uint64_t file, const uint8_t *comp_dir,
-                               size_t comp_dir_length, uint8_t *path, size_t room, uint64_t *size);
+/* Tells the whole path of the file of a unit: its path, with the directories that it goes on from,
+ * up to the directory of the compilation. `comp_dir` is that one (DW_AT_comp_dir, as
+ * gimli_line_comp_dir tells it). Up to version 4 a relative path goes on from it. In version 5 the
+ * unit has the directory too, as its directory 0: where that is absolute, `comp_dir` isn't looked
+ * at; where it is relative, each relative directory goes on from `comp_dir`, directory 0 too. Where
+ * `comp_dir` has no bytes, such a path stays relative. The bytes go into path[0] and so on, as far
+ * as there is room, without a zero byte; *size is how many there are. GIMLI_NOT_FOUND where there
+ * is no such unit, or the unit has no such file, GIMLI_UNKNOWN_PATH where a string of the path
+ * can't be told, and GIMLI_CLOSED where the handle is; the number of the refusal where the unit
+ * can't be read. Where another number than 0 is answered, nothing is written. The header of the
+ * unit is read for each call, and the program is run where only that defines the file
+ * (DW_LNE_define_file, up to version 4): keep the paths of files that come often. */
+uint32_t gimli_line_index_path(gimli_line_index *index, uint64_t unit, uint64_t file,
+                               const uint8_t *comp_dir, size_t comp_dir_length, uint8_t *path,
+                               size_t room, uint64_t *size);
+
+/* Tells the directory in which the compilation ran (DW_AT_comp_dir) whose line program begins at an
+ * offset of .debug_line, as gimli_line_index_unit gives it: that of the first unit of .debug_info
+ * that names this line program and has a directory. `info`, `abbreviations`, `line_strings`,
+ * `strings` and `string_offsets` are the sections .debug_info, .debug_abbrev, .debug_line_str,
+ * .debug_str and .debug_str_offsets, or no bytes. The bytes go into directory[0] and so on, as far
+ * as there is room, without a zero byte; *size is how many there are. A unit that can't be read has
+ * no directory, and the next one counts; what comes after a unit whose length can't be read, or
+ * passes the end of the section, isn't read. GIMLI_NOT_FOUND where no unit has one. Where another
+ * number than 0 is answered, GIMLI_NOT_FOUND or GIMLI_OUT_OF_MEMORY, nothing is written. The first
+ * entry of each unit is read for each call: ask once for each unit of an index. */
+uint32_t gimli_line_comp_dir(const uint8_t *info, size_t info_length, const uint8_t *abbreviations,
+                             size_t abbreviations_length, const uint8_t *line_strings,
+                             size_t line_strings_length, const uint8_t *strings,
+                             size_t strings_length, const uint8_t *string_offsets,
+                             size_t string_offsets_length, bool big, uint64_t offset,
+                             uint8_t *directory, size_t room, uint64_t *size);
 
 /* Tells how many units an index has. GIMLI_CLOSED where the handle is; then nothing is written. */
 uint32_t gimli_line_index_unit_count(gimli_line_index *index, uint64_t *count);

@@ -9,5 +9,6 @@ pub mod SamePrograms
 pub mod Handles
 pub mod IndexHandles
 pub mod ReaderHandles
+pub mod CompDirs
 pub mod Indexes
 pub mod Readers

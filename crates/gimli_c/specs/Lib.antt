@@ -15,4 +15,5 @@ pub mod Causes
 pub mod Owned
 pub mod Indexed
 pub mod Reader
+pub mod CompDir
 pub mod inside

@@ -5,6 +5,7 @@
 //! declares all of it.
 #![tactic(auto)]
 
+mod comp_dir;
 mod directory;
 mod encoding;
 mod file;
@@ -25,6 +26,7 @@ mod unit;
 mod version;
 mod write;
 
+pub use comp_dir::gimli_line_comp_dir;
 pub use directory::gimli_line_directory;
 pub use encoding::GimliEncoding;
 pub use file::{

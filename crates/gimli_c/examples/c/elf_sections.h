@@ -1,4 +1,4 @@
-/* The line sections of an ELF program, for the examples: of 32 or 64 bits, in either order of bytes. */
+/* The sections of an ELF program that whole paths need, for the examples: of 32 or 64 bits, in either order of bytes. */
 #ifndef ELF_SECTIONS_H
 #define ELF_SECTIONS_H
 
@@ -16,6 +16,7 @@ typedef struct section {
 
 typedef struct elf_sections {
     section line, line_str, str; /* .debug_line, .debug_line_str and .debug_str; of no bytes where there is none */
+    section info, abbrev, str_offsets; /* .debug_info, .debug_abbrev and .debug_str_offsets, likewise */
     bool big;
     uint8_t address_size;
     uint64_t lowest; /* the lowest address of code, below which linkers leave what they drop; 0 where there is none */
@@ -57,6 +58,9 @@ static void elf_take(elf_sections *elf, const char *name, section found) {
     if (strcmp(name, ".debug_line") == 0) elf->line = found;
     if (strcmp(name, ".debug_line_str") == 0) elf->line_str = found;
     if (strcmp(name, ".debug_str") == 0) elf->str = found;
+    if (strcmp(name, ".debug_info") == 0) elf->info = found;
+    if (strcmp(name, ".debug_abbrev") == 0) elf->abbrev = found;
+    if (strcmp(name, ".debug_str_offsets") == 0) elf->str_offsets = found;
 }
 
 /* Reads a file, and finds its sections. False where it can't be read or is no ELF file. A section that passes the end of the file,
@@ -67,6 +71,7 @@ static bool elf_read(const char *name, elf_sections *elf) {
     if (elf->file == NULL) return false;
     section none = {elf->file, 0};
     elf->line = elf->line_str = elf->str = none;
+    elf->info = elf->abbrev = elf->str_offsets = none;
     elf->lowest = 0;
     if (length < 20 || memcmp(elf->file, "\177ELF", 4) != 0) return false;
     bool wide = elf->file[4] == 2;

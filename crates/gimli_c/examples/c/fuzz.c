@@ -97,6 +97,26 @@ static void read_tables(const uint8_t *data, size_t size, bool big, uint8_t addr
     }
 }
 
+/* The directory for the first line program, by the bytes as .debug_info and the others as each other
+ * section; into some room. */
+static uint32_t directory_in(const uint8_t *data, size_t size, size_t others, bool big, size_t room,
+                             uint64_t *length) {
+    const uint8_t *other = data + size;
+    uint8_t directory[64];
+    return gimli_line_comp_dir(data, size, other, others, other, others, other, others, other,
+                               others, big, 0, directory, room, length);
+}
+
+/* The same with room and without any. */
+static void read_directory(const uint8_t *data, size_t size, size_t others, bool big) {
+    uint64_t some = UINT64_MAX, none = UINT64_MAX;
+    uint32_t status = answered(23, directory_in(data, size, others, big, 64, &some));
+    same(directory_in(data, size, others, big, 0, &none) == status && some == none);
+    same((status == GIMLI_OK) == (some != UINT64_MAX));
+    same(status == GIMLI_OK || status == GIMLI_NOT_FOUND);
+    count(24, some);
+}
+
 int LLVMFuzzerTestOneInput(const uint8_t *data, size_t size);
 
 /* The first byte has the order of bytes and the address size; the next one says how many of the last bytes are .debug_line_str. */
@@ -107,6 +127,7 @@ int LLVMFuzzerTestOneInput(const uint8_t *data, size_t size) {
     size_t strings = data[1] < size - 2 ? data[1] : size - 2;
     data += 2;
     size -= 2 + strings;
+    read_directory(data, size, strings, big);
     gimli_line_index index = GIMLI_LINE_INDEX_CLOSED;
     uint64_t units = 0;
     if (answered(17, gimli_line_index_open(data, size, big, address_size, 0, data + size, strings, data + size, strings, &index)) !=

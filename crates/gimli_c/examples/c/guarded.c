@@ -1,7 +1,10 @@
 /* Makes each reading call over buffers that end where a page begins that can't be read or written: a byte too much ends the program
  * by a signal. Each room is tried, from none to more than enough.
  *
- *   guarded line.bin line_str.bin       the sections .debug_line and .debug_line_str (empty where there is none); see memory.sh
+ *   guarded line.bin line_str.bin info.bin abbrev.bin str.bin
+ *
+ * These are the sections .debug_line, .debug_line_str, .debug_info, .debug_abbrev and .debug_str, empty
+ * where there is none; see memory.sh.
  *
  * For a little-endian program with addresses of 8 bytes. */
 #define _DEFAULT_SOURCE
@@ -141,12 +144,51 @@ static void look_up(gimli_line_index *index, uint64_t unit) {
     }
 }
 
+/* The directory of the unit at an offset, by a .debug_info that ends so early, into some room. */
+static uint32_t directory_of(const section *sections, size_t length, size_t offset, size_t room) {
+    section lines = sections[0], line_strings = sections[1], info = sections[2];
+    section abbrev = sections[3], str = sections[4];
+    uint8_t *cut = guarded(length), *directory = guarded(room);
+    uint64_t *size = guarded(sizeof *size);
+    memcpy(cut, info.bytes, length);
+    memset(directory, 0xaa, room);
+    *size = 77;
+    uint32_t status = gimli_line_comp_dir(cut, length, abbrev.bytes, abbrev.length,
+                                          line_strings.bytes, line_strings.length, str.bytes,
+                                          str.length, lines.bytes, 0, false, offset, directory,
+                                          room, size);
+    expect(status == GIMLI_OK || status == GIMLI_NOT_FOUND, "gimli_line_comp_dir");
+    bool is_as_before = *size == 77;
+    for (size_t i = 0; i < room; i++) is_as_before = is_as_before && directory[i] == 0xaa;
+    expect(status == GIMLI_OK || is_as_before, "what gimli_line_comp_dir writes at a refusal");
+    give_back(cut, length);
+    give_back(directory, room);
+    give_back(size, sizeof *size);
+    return status;
+}
+
+/* The directory of a unit, into each room, and by a .debug_info that is cut anywhere: where the first
+ * unit is cut no unit has one. */
+static void read_directory(const section *sections, size_t offset) {
+    section info = sections[2];
+    for (size_t room = 0; room <= ROOM; room++) {
+        expect(directory_of(sections, info.length, offset, room) == GIMLI_OK, "its status");
+    }
+    size_t first = 4 + (info.bytes[0] | (size_t)info.bytes[1] << 8 | (size_t)info.bytes[2] << 16);
+    for (size_t length = 0; length < info.length; length++) {
+        uint32_t status = directory_of(sections, length, offset, ROOM);
+        expect(length >= first || status == GIMLI_NOT_FOUND, "the status where .debug_info is cut");
+    }
+}
+
 int main(int argc, char **argv) {
-    if (argc != 3) {
-        fprintf(stderr, "usage: guarded SECTION LINE_STRINGS\n");
+    if (argc != 6) {
+        fprintf(stderr, "usage: guarded LINES LINE_STRINGS INFO ABBREVIATIONS STRINGS\n");
         return 2;
     }
-    section lines = read_file(argv[1]), line_strings = read_file(argv[2]);
+    section sections[5];
+    for (int i = 0; i < 5; i++) sections[i] = read_file(argv[i + 1]);
+    section lines = sections[0], line_strings = sections[1];
     gimli_line_index index = GIMLI_LINE_INDEX_CLOSED;
     expect(gimli_line_index_open(lines.bytes, lines.length, false, 8, 0, line_strings.bytes, line_strings.length, lines.bytes, 0, &index) ==
                GIMLI_OK, "gimli_line_index_open");
@@ -158,6 +200,7 @@ int main(int argc, char **argv) {
         uint64_t first = unit->version <= 4;
         for (uint64_t file = first; file < first + unit->files; file++) read_tables(lines, &index, offset, number, file);
         look_up(&index, number++);
+        read_directory(sections, offset);
     }
     expect(gimli_line_index_close(&index) == GIMLI_OK && index.at == NULL, "gimli_line_index_close");
     printf("%llu\n", calls);

@@ -18,7 +18,7 @@ namespace {
 // An index over the line information of a program.
 class Index {
 public:
-    explicit Index(const elf_sections &program) {
+    explicit Index(const elf_sections &sections) : program(sections) {
         require(gimli_line_index_open(program.line.bytes, program.line.length, program.big, program.address_size, program.lowest,
                                       program.line_str.bytes, program.line_str.length, program.str.bytes, program.str.length,
                                       &handle));
@@ -48,12 +48,38 @@ private:
         if (status != GIMLI_OK) throw std::runtime_error(gimli_status_sentence(status));
     }
 
-    std::string read_path(std::uint64_t unit, std::uint64_t file) {
+    // The directory in which a unit was compiled, asked for once; of no bytes where none is known.
+    const std::vector<std::uint8_t> &directory(std::uint64_t unit) {
+        const auto known = directories.find(unit);
+        if (known != directories.end()) return known->second;
+        return directories[unit] = read_directory(unit);
+    }
+
+    std::vector<std::uint8_t> read_directory(std::uint64_t unit) {
+        gimli_index_unit found;
+        require(gimli_line_index_unit(&handle, unit, &found));
         std::vector<std::uint8_t> room(256);
-        const std::uint8_t no_bytes[1] = {0};
         std::uint64_t size = 0;
         for (;;) {
-            const std::uint32_t status = gimli_line_index_path(&handle, unit, file, no_bytes, 0, room.data(), room.size(), &size);
+            const std::uint32_t status = gimli_line_comp_dir(
+                program.info.bytes, program.info.length, program.abbrev.bytes, program.abbrev.length, program.line_str.bytes,
+                program.line_str.length, program.str.bytes, program.str.length, program.str_offsets.bytes,
+                program.str_offsets.length, program.big, found.offset, room.data(), room.size(), &size);
+            if (status != GIMLI_NOT_FOUND) require(status);
+            const bool is_whole = size <= room.size();
+            room.resize(size);
+            if (is_whole) return room;
+        }
+    }
+
+    std::string read_path(std::uint64_t unit, std::uint64_t file) {
+        std::vector<std::uint8_t> room(256);
+        const std::vector<std::uint8_t> &from = directory(unit);
+        const std::uint8_t no_bytes[1] = {0};
+        const std::uint8_t *bytes = from.empty() ? no_bytes : from.data();
+        std::uint64_t size = 0;
+        for (;;) {
+            const std::uint32_t status = gimli_line_index_path(&handle, unit, file, bytes, from.size(), room.data(), room.size(), &size);
             if (status == GIMLI_UNKNOWN_PATH || status == GIMLI_NOT_FOUND) return "??";
             require(status);
             if (size <= room.size()) return std::string(room.begin(), room.begin() + static_cast<std::ptrdiff_t>(size));
@@ -61,7 +87,9 @@ private:
         }
     }
 
+    const elf_sections &program;
     gimli_line_index handle = GIMLI_LINE_INDEX_CLOSED;
+    std::map<std::uint64_t, std::vector<std::uint8_t>> directories;
     std::map<std::pair<std::uint64_t, std::uint64_t>, std::string> paths;
 };
 

@@ -1,0 +1,158 @@
+/* Asks for directories of compilations and for whole paths, over sections that are made by hand,
+ * whole and cut. Prints how many answers were as the standard has them (DWARF 4 and 5, sections
+ * 3.1.1 and 6.2.4); the first other one ends it. See run.sh and memory.sh. */
+#include <stdio.h>
+#include <stdlib.h>
+#include <string.h>
+
+#include "gimli_line.h"
+
+enum { ROOM = 64 };
+
+typedef struct section {
+    const uint8_t *bytes;
+    size_t length;
+} section;
+
+static unsigned answers;
+
+static void expect(bool holds, const char *what) {
+    answers++;
+    if (holds) return;
+    fprintf(stderr, "directories: %s\n", what);
+    exit(1);
+}
+
+/* One declaration, by the code 1: a compile unit without children, with DW_AT_stmt_list as
+ * DW_FORM_sec_offset, and DW_AT_comp_dir as DW_FORM_string; and the end of the table. */
+static const uint8_t declaration[] = {1, 0x11, 0, 0x10, 0x17, 0x1b, 8, 0, 0, 0};
+
+/* Version 4: the line program at 0, and the directory /w. */
+static const uint8_t info_4[] = {15, 0, 0, 0, 4, 0, 0, 0, 0, 0, 8, 1, 0, 0, 0, 0, '/', 'w', 0};
+
+/* Version 4: the directory inc, and the files a.c in no directory of the table and b.h in inc; no
+ * rows. */
+static const uint8_t lines_4[] = {
+    0x2e, 0, 0, 0, 4, 0, 0x28, 0, 0, 0, 1, 1, 1, 0xfb, 14, 13, 0, 1, 1, 1, 1, 0, 0, 0, 1, 0, 0, 1,
+    'i', 'n', 'c', 0, 0, 'a', '.', 'c', 0, 0, 0, 0, 'b', '.', 'h', 0, 1, 0, 0, 0, 0, 0};
+
+/* Version 5: the line program at 0, and the directory ./w. */
+static const uint8_t info_5[] = {
+    17, 0, 0, 0, 5, 0, 1, 8, 0, 0, 0, 0, 1, 0, 0, 0, 0, '.', '/', 'w', 0};
+
+/* Version 5: the directories ./w, ../inc and /abs, and a file of each; no rows. */
+static const uint8_t lines_5[] = {
+    0x43, 0, 0, 0, 5, 0, 8, 0, 0x3b, 0, 0, 0, 1, 1, 1, 0xfb, 14, 13, 0, 1, 1, 1, 1, 0, 0, 0, 1, 0,
+    0, 1, 1, 1, 8, 3, '.', '/', 'w', 0, '.', '.', '/', 'i', 'n', 'c', 0, '/', 'a', 'b', 's', 0,
+    2, 1, 8, 2, 11, 3, 'a', '.', 'c', 0, 0, 'b', '.', 'h', 0, 1, 'c', '.', 'c', 0, 2};
+
+static const uint8_t none[1];
+static const section table = {declaration, sizeof declaration};
+
+/* Asks for the directory of the line program at an offset, into some room. */
+static uint32_t ask(section info, section abbreviations, uint64_t offset, uint8_t *directory,
+                    size_t room, uint64_t *size) {
+    return gimli_line_comp_dir(info.bytes, info.length, abbreviations.bytes, abbreviations.length,
+                               none, 0, none, 0, none, 0, false, offset, directory, room, size);
+}
+
+/* No directory is told, and nothing is written. */
+static void expect_none(section info, section abbreviations, uint64_t offset, const char *what) {
+    uint8_t directory[ROOM], before[ROOM];
+    uint64_t size = 77;
+    memset(directory, 0xaa, ROOM);
+    memset(before, 0xaa, ROOM);
+    expect(ask(info, abbreviations, offset, directory, ROOM, &size) == GIMLI_NOT_FOUND, what);
+    expect(size == 77 && memcmp(directory, before, ROOM) == 0, what);
+}
+
+/* This directory is told, into each room; what there is no room for isn't written. */
+static void expect_directory(section info, const char *wanted) {
+    for (size_t room = 0; room <= ROOM; room++) {
+        uint8_t directory[ROOM + 1];
+        uint64_t size = 77;
+        size_t some = room < strlen(wanted) ? room : strlen(wanted);
+        memset(directory, 0xaa, sizeof directory);
+        expect(ask(info, table, 0, directory, room, &size) == GIMLI_OK, wanted);
+        expect(size == strlen(wanted) && memcmp(directory, wanted, some) == 0, wanted);
+        expect(directory[some] == 0xaa, "a byte after the room");
+    }
+}
+
+/* The whole path of a file of the first unit, in a directory. */
+static void expect_path(gimli_line_index *index, uint64_t file, const char *directory,
+                        const char *wanted) {
+    uint8_t path[ROOM];
+    uint64_t size = 0;
+    uint32_t status = gimli_line_index_path(index, 0, file, (const uint8_t *)directory,
+                                            strlen(directory), path, ROOM, &size);
+    expect(status == GIMLI_OK && size == strlen(wanted) && memcmp(path, wanted, size) == 0, wanted);
+}
+
+static gimli_line_index opened(section lines) {
+    gimli_line_index index = GIMLI_LINE_INDEX_CLOSED;
+    uint32_t status = gimli_line_index_open(lines.bytes, lines.length, false, 8, 0, none, 0, none, 0,
+                                            &index);
+    expect(status == GIMLI_OK, "gimli_line_index_open");
+    return index;
+}
+
+/* Up to version 4 a path goes on from the directory of the compilation, which .debug_info has. */
+static void version_4(void) {
+    section lines = {lines_4, sizeof lines_4}, info = {info_4, sizeof info_4};
+    gimli_line_index index = opened(lines);
+    expect_directory(info, "/w");
+    expect_path(&index, 1, "/w", "/w/a.c");
+    expect_path(&index, 2, "/w", "/w/inc/b.h");
+    expect_path(&index, 1, "", "a.c");
+    expect_path(&index, 2, "", "inc/b.h");
+    gimli_line_index_close(&index);
+}
+
+/* In version 5 each relative directory goes on from it, where directory 0 is relative. */
+static void version_5(void) {
+    section lines = {lines_5, sizeof lines_5}, info = {info_5, sizeof info_5};
+    gimli_line_index index = opened(lines);
+    expect_directory(info, "./w");
+    expect_path(&index, 0, "./w", "./w/./w/a.c");
+    expect_path(&index, 1, "./w", "./w/../inc/b.h");
+    expect_path(&index, 2, "./w", "/abs/c.c");
+    expect_path(&index, 0, "/src", "/src/./w/a.c");
+    expect_path(&index, 1, "/src", "/src/../inc/b.h");
+    expect_path(&index, 0, "", "./w/a.c");
+    expect_path(&index, 1, "", "./w/../inc/b.h");
+    gimli_line_index_close(&index);
+}
+
+/* Sections that are cut, and units that can't be read. */
+static void hostile(section info) {
+    expect_none(info, table, 1, "another line program");
+    for (size_t length = 0; length < info.length; length++) {
+        section cut = {info.bytes, length};
+        expect_none(cut, table, 0, "a cut .debug_info");
+    }
+    for (size_t length = 0; length < sizeof declaration - 1; length++) {
+        section cut = {declaration, length};
+        expect_none(info, cut, 0, "a cut .debug_abbrev");
+    }
+    uint8_t changed[ROOM];
+    section other = {changed, info.length};
+    for (size_t at = 0; at < 6; at++) {
+        memcpy(changed, info.bytes, info.length);
+        changed[at] = 0xff; /* a length that passes the end, or a version that isn't known */
+        expect_none(other, table, 0, "a unit that can't be read");
+    }
+    memcpy(changed, info.bytes, info.length);
+    changed[info.length - 1] = 'x'; /* a text that nothing ends */
+    expect_none(other, table, 0, "a directory without an end");
+}
+
+int main(void) {
+    version_4();
+    version_5();
+    section of_4 = {info_4, sizeof info_4}, of_5 = {info_5, sizeof info_5};
+    hostile(of_4);
+    hostile(of_5);
+    printf("%u\n", answers);
+    return 0;
+}

@@ -1,0 +1,28 @@
+-- The directory of a compilation, by the offset of its line program (DWARF 5, section 3.1.1).
+use Rattle.std.specs.Prelude.{◌≡◌, ◌^◌, ℕ, Bool, List, length, Option, Some}
+use Rattle.gimli_core.specs.Notation.{notation_of}
+use Rattle.gimli_compilation.specs.Directories.{TellsDirectories}
+use Rattle.gimli_compilation.specs.Sections.{Sections}
+use Rattle.gimli_c.specs.Written.{slots_with}
+
+-- sections that are handed over, in one order of bytes; offsets have 64 bits
+abbrev pub sections_handed : List ℕ → List ℕ → List ℕ → List ℕ → List ℕ → Bool → Sections
+sections_handed info abbreviations line_strings strings string_offsets big = record {
+  info = info;
+  abbreviations = abbreviations;
+  strings = strings;
+  line_strings = line_strings;
+  string_offsets = string_offsets;
+  notation = notation_of big (2 ^ 64);
+  offsets_notation = notation_of big (2 ^ 64);
+}
+
+-- this is the directory for the line program at an offset, or None where no unit has one
+abbrev pub TellsDirectory : Sections → ℕ → Option (List ℕ) → Type 0
+TellsDirectory sections offset directory =
+    (tell : ℕ → Option (List ℕ)) × TellsDirectories sections tell × (tell offset ≡ directory)
+
+-- that directory in an array of the caller, and its length
+abbrev pub WritesDirectory : Sections → ℕ → List ℕ → List ℕ → ℕ → Type 0
+WritesDirectory sections offset old new size =
+    (whole : List ℕ) × TellsDirectory sections offset (Some whole) × (new ≡ slots_with whole old) × (size ≡ length whole)
