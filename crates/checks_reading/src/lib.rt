@@ -23,4 +23,6 @@ mod readers;
 #[cfg(test)]
 mod sections;
 #[cfg(test)]
+mod sought;
+#[cfg(test)]
 mod units;

@@ -9,7 +9,7 @@ use std::process::Abort;
 /// (`SHF_COMPRESSED`): 01 00 00 00, 10 00, 2c, 00 00 00 00, 07. At 0 `.text.b` + 3 is to be, at 4
 /// the difference of two symbols of `.text`, 6, is added, and at 7 `.debug_str` + 5 is to be.
 /// `.text` is section 1, and `.text.b` section 2.
-const RISCV: &[u8] =
+pub(crate) const RISCV: &[u8] =
     b"\x7fELF\x01\x01\x01\0\0\0\0\0\0\0\0\0\x01\0\xf3\0\x01\0\0\0\0\0\0\0\0\0\0\00\x01\0\0\0\0\
     \0\04\0\0\0\0\0(\0\x08\0\x07\0\0\0\0\0\0\0\0\0\0\0\0\0\0a.c\0b.c\0\x01\0\0\0\x0c\0\0\0\
     \x01\0\0\0x\xdacd``\x10`\xd0\x01\x92\x0c\xec\0\x01\xa7\0E\0\0\0\0\x01\x02\0\0\x01\0\0\0\
@@ -28,7 +28,7 @@ const RISCV: &[u8] =
 
 /// An object file of ARM whose most significant byte comes first. Its `.zdebug_line` holds
 /// 00 00 00 04, 00 00 00 02 in the older form, and 0x100 and 0x200 are added to these (`SHT_REL`).
-const ARM: &[u8] =
+pub(crate) const ARM: &[u8] =
     b"\x7fELF\x01\x02\x01\0\0\0\0\0\0\0\0\0\0\x01\0(\0\0\0\x01\0\0\0\0\0\0\0\0\0\0\0\xcf\0\0\0\
     \0\04\0\0\0\0\0(\0\x06\0\x05\0\0\0\0\0\0\0\0ZLIB\0\0\0\0\0\0\0\x08x\xdac```a```\x02\0\0\
     \x1e\0\x07\0\0\0\0\0\0\x01\x02\0\0\0\x04\0\0\x02\x02\0\0\0\0\0\0\0\0\0\0\0\0\0\0\0\0\0\0\

@@ -1,1 +1,2 @@
 pub mod DebugPaths
+pub mod Outlines

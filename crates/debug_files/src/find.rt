@@ -3,7 +3,8 @@
 
 use crate::debug_paths::debug_file_paths;
 use crate::missing::Missing;
-use crate::program_file::{ProgramFile, Source, open};
+use crate::program_file::{ProgramFile, open};
+use crate::source::{Found, Source, Wanted};
 use std::alloc::{AllocError, Global};
 use std::fs;
 use std::io::{Read, Seek};
@@ -11,16 +12,26 @@ use std::rt::Files;
 
 /// The sections of a program by its path. Where its own file has no line programs, its debug file
 /// is looked for: by the build id, and then by the name in the program's link. A file there with
-/// another build id, or another checksum, is passed over.
-pub fn source_of<R: Files + AllocGlobal>(rt: &R, path: &str) -> Result<Source, Missing> {
+/// another build id, or another checksum, is passed over. The lowest address of code is that of the
+/// file with the line programs, or else the program's. An object file is read whole.
+pub fn source_of<R: Files + AllocGlobal>(
+    rt: &R,
+    path: &str,
+    wanted: Wanted,
+) -> Result<Found, Missing> {
     let mut program = open(rt, path)?;
     if program.is_relocatable()? {
-        return Err(Missing::NotLinked);
+        let bytes = program.whole(rt.alloc())?;
+        return Ok(Found::Whole(bytes));
     }
-    match program.source(rt.alloc())? {
-        Some(source) => Ok(source),
-        None => find_apart(rt, path, &mut program),
+    if let Some(source) = program.source(rt.alloc(), wanted)? {
+        return Ok(Found::Sections(source));
     }
+    let mut source = find_apart(rt, path, &mut program, wanted)?;
+    if source.lowest == 0 {
+        source.lowest = program.lowest()?;
+    }
+    Ok(Found::Sections(source))
 }
 
 /// How a debug file is known to be a program's.
@@ -32,24 +43,40 @@ enum Sign<'i> {
     Checksum(u32),
 }
 
+/// What is looked for in a file.
+#[derive(Clone, Copy)]
+struct Search<'i> {
+    sign: Sign<'i>,
+    wanted: Wanted,
+}
+
 /// The sections in the debug file of a program.
 fn find_apart<R: Files + AllocGlobal>(
     rt: &R,
     path: &str,
     program: &mut ProgramFile<R::File>,
+    wanted: Wanted,
 ) -> Result<Source, Missing> {
     let alloc = rt.alloc();
     let whole = whole_path(rt, path)?;
     let mut reasons = String::new(alloc);
     if let Some(id) = program.build_id(alloc)? {
         let places = debug_file_paths(alloc, &whole, Some(&id), None)?;
-        if let Some(source) = try_each(rt, &places, Sign::BuildId(&id), &mut reasons)? {
+        let search = Search {
+            sign: Sign::BuildId(&id),
+            wanted,
+        };
+        if let Some(source) = try_each(rt, &places, search, &mut reasons)? {
             return Ok(source);
         }
     }
     if let Some(link) = program.debug_link(alloc)? {
         let places = debug_file_paths(alloc, &whole, None, Some(&link.name))?;
-        if let Some(source) = try_each(rt, &places, Sign::Checksum(link.checksum), &mut reasons)? {
+        let search = Search {
+            sign: Sign::Checksum(link.checksum),
+            wanted,
+        };
+        if let Some(source) = try_each(rt, &places, search, &mut reasons)? {
             return Ok(source);
         }
     }
@@ -73,13 +100,14 @@ fn whole_path<R: Files + AllocGlobal>(rt: &R, path: &str) -> Result<String, Allo
 fn try_each<R: Files + AllocGlobal>(
     rt: &R,
     places: &[String],
-    sign: Sign<'_>,
+    search: Search<'_>,
     reasons: &mut String,
 ) -> Result<Option<Source>, Missing> {
     for place in places {
-        match signed_source(rt, place, sign) {
+        match signed_source(rt, place, search) {
             Ok(source) => return Ok(Some(source)),
             Err(missing) => {
+                let place = place.escape_debug();
                 let line = format!(in rt.alloc(); "\n  {place}: {missing}")?;
                 reasons.push_str(&line)?;
             }
@@ -92,12 +120,15 @@ fn try_each<R: Files + AllocGlobal>(
 fn signed_source<R: Files + AllocGlobal>(
     rt: &R,
     place: &str,
-    sign: Sign<'_>,
+    search: Search<'_>,
 ) -> Result<Source, Missing> {
     let alloc = rt.alloc();
     let mut file = open(rt, place)?;
-    check_sign(alloc, &mut file, sign)?;
-    match file.source(alloc)? {
+    check_sign(alloc, &mut file, search.sign)?;
+    if file.is_relocatable()? {
+        return Err(Missing::NotLinked);
+    }
+    match file.source(alloc, search.wanted)? {
         Some(source) => Ok(source),
         None => Err(Missing::NoLines),
     }

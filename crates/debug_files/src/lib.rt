@@ -12,10 +12,11 @@ mod missing;
 mod outline;
 mod program_file;
 mod refusal;
+mod source;
 
 pub use debug_paths::debug_file_paths;
 pub use find::source_of;
 pub use missing::Missing;
 pub use outline::{Outline, checksum};
-pub use program_file::Source;
 pub use refusal::Refusal;
+pub use source::{Found, PathSections, Source, Wanted};

@@ -18,8 +18,6 @@ pub enum Missing {
     NotLinked,
     /// It has no section `.debug_line`.
     NoLines,
-    /// It has a section `.zdebug_line` instead, in the older compressed form.
-    OldForm,
     /// Its build id isn't the program's.
     OtherBuildId,
     /// Its checksum isn't the one in the program's link.
@@ -37,7 +35,6 @@ impl fmt::Display for Missing {
             Missing::NotRegular => f.write_str("not a regular file"),
             Missing::NotLinked => f.write_str("an object file, which is not linked"),
             Missing::NoLines => f.write_str("there is no section .debug_line"),
-            Missing::OldForm => f.write_str("the section .zdebug_line is compressed"),
             Missing::OtherBuildId => f.write_str("its build id is not the program's"),
             Missing::OtherChecksum => {
                 f.write_str("its checksum is not the one that the program has")

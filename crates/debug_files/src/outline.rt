@@ -1,5 +1,10 @@
 //! What is read of a file: its sections, without the rest.
 
+ghost use Rattle.std.specs.Prelude.{◌≡◌, IfOk, MatchOption, Ok, None, vec_len};
+ghost use Rattle.gimli_core.specs.Reading.{result_map};
+ghost use Rattle.elf_sections.specs.SeekingViews.{list_of};
+ghost use Rattle.debug_files.specs.Outlines.{outlined, section_in, Holds};
+
 use crate::refusal::Refusal;
 use elf_sections::{ElfError, FileHeader, FileRange, FileTable, SectionList, crc32_more};
 use std::alloc::Global;
@@ -18,7 +23,9 @@ pub struct Outline {
 }
 
 /// The bytes of a part of a file.
-fn bytes_of<F: Read + Seek>(alloc: Global, file: &mut F, range: FileRange) -> io::Result<Vec<u8>> {
+fn bytes_of<F: Read + Seek>(alloc: Global, file: &mut F, range: FileRange) -> io::Result<Vec<u8>>
+    ensures { IfOk result (λ bytes. vec_len bytes ≡ range.size) }
+{
     let mut bytes = vec![in alloc; 0u8; range.size as usize]?;
     if !bytes.is_empty() {
         file.seek(SeekFrom::Start(range.offset))?;
@@ -51,27 +58,41 @@ impl Outline {
     }
 
     /// The sections of the file.
-    pub fn sections(&self) -> Result<SectionList<'_>, ElfError> {
+    pub fn sections(&self) -> Result<SectionList<'_>, ElfError>
+        ensures { result_map list_of result ≡ outlined self.now }
+    {
         SectionList::new(&self.table, &self.entries, &self.names)
     }
 
-    /// The bytes of the first section of a name; None where there is none. Refused as
-    /// [`elf_sections::Elf::section`] refuses it, and where the file can't be read.
+    /// What the first section of a name holds, uncompressed; None where there is none. It reads the
+    /// bytes of that section alone. Refused as [`elf_sections::Elf::section_data`] refuses it, and
+    /// where the file can't be read.
     pub fn section<F: Read + Seek>(
         &self,
         alloc: Global,
         file: &mut F,
         name: &[u8],
-    ) -> Result<Option<Vec<u8>>, Refusal> {
+    ) -> Result<Option<Vec<u8>>, Refusal>
+        // None says that the sections have none of the name; what is there is what its bytes hold,
+        // as they were read.
+        ensures { IfOk result (λ found.
+            MatchOption found (section_in self.now name.now ≡ Ok None)
+            (λ held. Holds self.now name.now held.items)) }
+    {
         let sections = self.sections()?;
-        match sections.range(name)? {
-            Some(range) => {
-                let bytes = bytes_of(alloc, file, range)?;
-                Ok(Some(bytes))
-            }
-            None => Ok(None),
-        }
+        let Some(section) = sections.stored(alloc, name)? else {
+            return Ok(None);
+        };
+        let bytes = bytes_of(alloc, file, section.range())?;
+        let held = section.section_data(alloc, bytes)?;
+        Ok(Some(held))
     }
+}
+
+/// All bytes of a file.
+pub(crate) fn whole<F: Read + Seek>(alloc: Global, file: &mut F) -> io::Result<Vec<u8>> {
+    let size = file.seek(SeekFrom::End(0))?;
+    bytes_of(alloc, file, FileRange { offset: 0, size })
 }
 
 /// The checksum of a file, as [`elf_sections::crc32`] of all its bytes, which are read in pieces.

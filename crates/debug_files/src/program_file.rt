@@ -1,29 +1,17 @@
 //! A file whose sections are read one by one.
 
+ghost use Rattle.std.specs.Prelude.{◌≡◌, IfOk, MatchOption, Ok, None, codes};
+ghost use Rattle.debug_files.specs.Outlines.{section_in, Holds};
+
 use crate::missing::Missing;
-use crate::outline::{Outline, checksum};
+use crate::outline::{Outline, checksum, whole};
+use crate::source::{PathSections, Source, Wanted};
+use elf_sections::ElfError;
 use std::alloc::Global;
 use std::fs;
 use std::fs::File;
 use std::io::{Read, Seek};
 use std::rt::Files;
-
-/// The sections that a command reads, and how.
-#[derive(Drop)]
-pub struct Source {
-    /// Whether the most significant byte of a number comes first.
-    pub is_big_endian: bool,
-    /// The bytes of an address: 4 or 8.
-    pub address_size: u8,
-    /// The lowest address of code, 0 where none is known.
-    pub lowest: u64,
-    /// The line programs (`.debug_line`).
-    pub lines: Vec<u8>,
-    /// The texts of version 5 (`.debug_line_str`); no bytes where there are none.
-    pub line_str: Vec<u8>,
-    /// The texts (`.debug_str`); no bytes where there are none.
-    pub strings: Vec<u8>,
-}
 
 /// The name and the checksum of a debug file.
 #[derive(Drop)]
@@ -46,35 +34,64 @@ impl<F: Read + Seek> ProgramFile<F> {
         Ok(sections.is_relocatable())
     }
 
+    /// The lowest address of code, 0 where none is known.
+    pub(crate) fn lowest(&self) -> Result<u64, Missing> {
+        let sections = self.outline.sections()?;
+        Ok(sections.lowest_code_address().unwrap_or(0))
+    }
+
+    /// All its bytes.
+    pub(crate) fn whole(&mut self, alloc: Global) -> Result<Vec<u8>, Missing> {
+        let bytes = whole(alloc, &mut self.file)?;
+        Ok(bytes)
+    }
+
     /// The sections that a command reads; None where there are no line programs.
-    pub(crate) fn source(&mut self, alloc: Global) -> Result<Option<Source>, Missing> {
+    pub(crate) fn source(
+        &mut self,
+        alloc: Global,
+        wanted: Wanted,
+    ) -> Result<Option<Source>, Missing>
+        ensures { let outline = self.old.outline in let name = codes ".debug_line" in
+            IfOk result (λ found. MatchOption found (section_in outline name ≡ Ok None)
+            (λ source. Holds outline name source.lines.items)) }
+    {
         let Some(lines) = self.section(alloc, b".debug_line")? else {
-            return self.without_lines();
+            return Ok(None);
         };
-        let line_str = self.texts(alloc, b".debug_line_str")?;
-        let strings = self.texts(alloc, b".debug_str")?;
+        let paths = match wanted {
+            Wanted::Lines => PathSections::none(alloc),
+            Wanted::Paths => self.path_sections(alloc)?,
+        };
+        let lowest = self.lowest()?;
         let sections = self.outline.sections()?;
         Ok(Some(Source {
             is_big_endian: sections.is_big_endian(),
             address_size: sections.address_size(),
-            lowest: sections.lowest_code_address().unwrap_or(0),
+            lowest,
             lines,
-            line_str,
-            strings,
+            paths,
         }))
     }
 
-    /// Nothing, or a refusal where the line programs are there in the older compressed form.
-    fn without_lines(&self) -> Result<Option<Source>, Missing> {
-        let sections = self.outline.sections()?;
-        match sections.range(b".zdebug_line") {
-            Ok(Some(_)) => Err(Missing::OldForm),
-            _ => Ok(None),
-        }
+    /// The sections that whole paths need.
+    fn path_sections(&mut self, alloc: Global) -> Result<PathSections, Missing> {
+        Ok(PathSections {
+            line_str: self.texts(alloc, b".debug_line_str")?,
+            strings: self.texts(alloc, b".debug_str")?,
+            info: self.readable(alloc, b".debug_info")?,
+            abbreviations: self.readable(alloc, b".debug_abbrev")?,
+            string_offsets: self.readable(alloc, b".debug_str_offsets")?,
+        })
     }
 
     /// The bytes of a section.
-    fn section(&mut self, alloc: Global, name: &[u8]) -> Result<Option<Vec<u8>>, Missing> {
+    fn section(&mut self, alloc: Global, name: &[u8]) -> Result<Option<Vec<u8>>, Missing>
+        ensures outline { self.new.outline ≡ self.old.outline }
+        ensures held { let outline = self.old.outline in
+            IfOk result (λ found. MatchOption found (section_in outline name.now ≡ Ok None)
+            (λ held. Holds outline name.now held.items)) }
+    {
         let bytes = self.outline.section(alloc, &mut self.file, name)?;
         Ok(bytes)
     }
@@ -84,6 +101,16 @@ impl<F: Read + Seek> ProgramFile<F> {
         match self.section(alloc, name)? {
             Some(bytes) => Ok(bytes),
             None => Ok(Vec::new(alloc)),
+        }
+    }
+
+    /// The bytes of a section of units, none where there is no such section, or one that isn't one
+    /// that can be read: paths then stay as the line programs have them.
+    fn readable(&mut self, alloc: Global, name: &[u8]) -> Result<Vec<u8>, Missing> {
+        match self.texts(alloc, name) {
+            Ok(bytes) => Ok(bytes),
+            Err(Missing::Elf(error)) if error != ElfError::OutOfMemory => Ok(Vec::new(alloc)),
+            Err(missing) => Err(missing),
         }
     }
 

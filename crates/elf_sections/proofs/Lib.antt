@@ -13,3 +13,4 @@ pub mod WorkedDebug
 mod FileRanges
 mod Seeks
 mod SoughtFiles
+mod SoughtData

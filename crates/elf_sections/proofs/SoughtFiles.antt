@@ -315,7 +315,7 @@ sought_is_whole bytes =
 -- ---- a section of it
 
 -- a file has the bytes that it is read from
-abbrev Keeps : List ℕ → Result File ElfError → Type 0
+abbrev pub Keeps : List ℕ → Result File ElfError → Type 0
 Keeps bytes (Ok file) = file.bytes ≡ bytes
 Keeps bytes (Err e) = Unit {0}
 
@@ -337,7 +337,7 @@ kept_header : (bytes : List ℕ) (layout : Layout) (r : Result Header ElfError)
 kept_header bytes layout (Ok header) = kept_table bytes layout header (table_at layout header bytes)
 kept_header bytes layout (Err e) = tt
 
-kept_layout : (bytes : List ℕ) (r : Result Layout ElfError)
+pub kept_layout : (bytes : List ℕ) (r : Result Layout ElfError)
     → Keeps bytes (r >>= λ layout. header_at layout bytes >>= λ header.
     table_at layout header bytes >>= λ table. names_at bytes table >>= λ names.
     Ok (record { bytes = bytes; layout = layout; kind = header.kind; machine = header.machine; headers = table.headers; names = names }))

@@ -1,7 +1,8 @@
 -- Compressed sections (System V ABI, chapter 4, "Section Compression"), and the form that GNU's tools had before.
-use Rattle.std.specs.Prelude.{ℕ, ◌*◌, List, ◌++◌, length, take, drop, codes, nat_eq, nat_lt, not, true, Bool, if◌then◌else◌, Result, Ok, Err}
+use Rattle.std.specs.Prelude.{ℕ, ◌*◌, ◌/◌, List, ◌++◌, length, take, drop, codes, nat_eq, nat_lt, not, true, Bool, if◌then◌else◌, Result, Ok, Err}
 use Rattle.std.specs.List.{starts_with}
 use Rattle.inflate.specs.declared.error.Error.{Error}
+use Rattle.inflate.specs.declared.error.Error.TheVariants.{OutputSmaller}
 use Rattle.inflate.specs.Zlib.{decompressed}
 use Rattle.gimli_core.specs.Numbers.{value_of}
 use Rattle.elf_sections.specs.Steps.{◌>>=◌}
@@ -9,7 +10,7 @@ use Rattle.elf_sections.specs.Fault.{fault_of}
 use Rattle.elf_sections.specs.Layout.{address_size, number_at}
 use Rattle.elf_sections.specs.SectionHeader.{has_flag, stored_bytes, section_bytes}
 use Rattle.elf_sections.specs.declared.error.ElfError.{ElfError}
-use Rattle.elf_sections.specs.declared.error.ElfError.TheVariants.{CompressionHeaderCut, UnknownCompression, Zstd, NotZlib}
+use Rattle.elf_sections.specs.declared.error.ElfError.TheVariants.{CompressionHeaderCut, UnknownCompression, Zstd, NotZlib, Decompression}
 use Rattle.elf_sections.specs.declared.layout.Layout.{Layout}
 use Rattle.elf_sections.specs.declared.section_header.SectionHeader.{SectionHeader}
 
@@ -18,9 +19,12 @@ abbrev pub bytes_or_fault : Result (List ℕ) Error → Result (List ℕ) ElfErr
 bytes_or_fault (Ok bytes) = Ok bytes
 bytes_or_fault (Err fault) = Err (fault_of fault)
 
--- what a stream in the zlib format holds, if that is so many bytes
+-- what a stream in the zlib format holds, if that is so many bytes. A byte of it makes at most 1032: two bits
+-- may copy 258 bytes (RFC 1951, section 3.2.5). So it is shorter than a size that is greater than that
 abbrev pub stream_bytes : ℕ → List ℕ → Result (List ℕ) ElfError
-stream_bytes size stream = bytes_or_fault (decompressed size stream)
+stream_bytes size stream =
+    if nat_lt (length stream) (size / 1032) then Err (Decompression OutputSmaller)
+    else bytes_or_fault (decompressed size stream)
 
 -- a way of compression (ch_type): 1 is ELFCOMPRESS_ZLIB, and 2 ELFCOMPRESS_ZSTD
 abbrev pub zlib_kind : ℕ → Result (Unit {0}) ElfError

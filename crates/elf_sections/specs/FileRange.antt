@@ -22,9 +22,13 @@ abbrev pub or_refused : {A : Type 0} → ElfError → Option A → Result A ElfE
 or_refused e None = Err e
 or_refused e (Some x) = Ok x
 
--- where the bytes of a section are in a file of a length, as `section_bytes` says which they are
+-- where the bytes of a section are in a file of a length, as `stored_bytes` says which they are
+abbrev pub stored_range : ℕ → SectionHeader → Result FileRange ElfError
+stored_range length header =
+    if nat_eq header.kind 8 then Ok nowhere
+    else or_refused SectionCut (range_in header.offset header.size length)
+
+-- the same of a section that isn't compressed, as `section_bytes` has it
 abbrev pub header_range : ℕ → SectionHeader → Result FileRange ElfError
 header_range length header =
-    if has_flag header 0x800 then Err Compressed
-    else (if nat_eq header.kind 8 then Ok nowhere
-    else or_refused SectionCut (range_in header.offset header.size length))
+    if has_flag header 0x800 then Err Compressed else stored_range length header

@@ -21,3 +21,4 @@ pub mod Crc
 pub mod FileRange
 pub mod Seeking
 pub mod SeekingViews
+pub mod Stored

@@ -19,11 +19,17 @@ const ZSTD: u32 = 2;
 const OLD_MAGIC: [u8; 4] = *b"ZLIB";
 /// The bytes before the stream of a section of the older form.
 const OLD_HEADER_SIZE: usize = 12;
+/// The most bytes that a byte of a stream makes: two bits may copy 258 (RFC 1951, section 3.2.5).
+const MOST_OF_A_BYTE: usize = 1032;
 
-/// The bytes that a stream in the zlib format holds, if there are so many.
+/// The bytes that a stream in the zlib format holds, if there are so many. A size that no stream of
+/// its length can have is refused before memory is taken.
 fn stream_bytes(alloc: Global, stream: &[u8], size: usize) -> Result<Vec<u8>, ElfError>
     ensures { Gives (λ bytes. bytes.items) result (stream_bytes size stream.now) }
 {
+    if size / MOST_OF_A_BYTE > stream.len() {
+        return Err(ElfError::Decompression(inflate::Error::OutputSmaller));
+    }
     match inflate::decompress(alloc, stream, size) {
         Ok(bytes) => Ok(bytes),
         Err(fault) => Err(fault_of(fault)),

@@ -1,7 +1,7 @@
 //! Parts of a file.
 
 ghost use Rattle.std.specs.Prelude.{◌≡◌};
-ghost use Rattle.elf_sections.specs.FileRange.{range_in, header_range};
+ghost use Rattle.elf_sections.specs.FileRange.{range_in, stored_range, header_range};
 
 use crate::error::ElfError;
 use crate::section_header::{COMPRESSED, NOBITS, SectionHeader};
@@ -38,6 +38,13 @@ impl SectionHeader {
         if self.has_flag(COMPRESSED) {
             return Err(ElfError::Compressed);
         }
+        self.stored_range(length)
+    }
+
+    /// The same of a section that may be compressed.
+    pub(crate) fn stored_range(&self, length: u64) -> Result<FileRange, ElfError>
+        ensures { result ≡ stored_range length self.now }
+    {
         if self.kind == NOBITS {
             return Ok(FileRange::NONE);
         }

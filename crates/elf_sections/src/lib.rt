@@ -22,6 +22,7 @@ mod section_bytes;
 mod section_header;
 mod section_table;
 mod seeking;
+mod stored;
 mod symbol;
 
 pub use crc::{crc32, crc32_more};
@@ -32,3 +33,4 @@ pub use file_range::FileRange;
 pub use place::SectionPlace;
 pub use section_bytes::SectionBytes;
 pub use seeking::{FileHeader, FileTable, SectionList};
+pub use stored::StoredSection;

@@ -60,11 +60,11 @@ pub struct FileTable {
 /// The sections of a file, by its section table and their names.
 #[derive(Clone, Copy, Debug)]
 pub struct SectionList<'a> {
-    layout: Layout,
+    pub(crate) layout: Layout,
     kind: u16,
-    length: u64,
-    table: SectionTable<'a>,
-    names: &'a [u8],
+    pub(crate) length: u64,
+    pub(crate) table: SectionTable<'a>,
+    pub(crate) names: &'a [u8],
 }
 
 impl FileHeader {

@@ -1,7 +1,8 @@
 //! The program `lines`: what the line tables of a program say.
 #![tactic(auto)]
 
-use lines_commands::{Files, Request, Screen};
+use debug_files::{Found, Missing, PathSections, Source, Wanted};
+use lines_commands::{Files, InputError, Kind, Notation, Request, Screen, UnitFiles};
 use std::io::{BufReader, BufWriter, ErrorKind, IsTerminal, Write};
 use std::process::ExitCode;
 use std::{env, fs, io};
@@ -39,7 +40,7 @@ fn start(rt: &HostRuntime) -> io::Result<u8> {
         words.push(word.as_str())?;
     }
     match lines_commands::parse(alloc, &words) {
-        Ok(request) => run(rt, &request),
+        Ok(request) => run(rt, request),
         Err(error) => {
             error.print(rt)?;
             Ok(if error.use_stderr() { USAGE } else { 0 })
@@ -47,33 +48,96 @@ fn start(rt: &HostRuntime) -> io::Result<u8> {
     }
 }
 
-/// Reads the files that a request names, does what it asks for, and returns the status of the
-/// program.
-fn run(rt: &HostRuntime, request: &Request<'_>) -> io::Result<u8> {
-    let file = read(rt, request.file)?;
+/// Reads the sections and the files that a request names, does what it asks for, and returns the
+/// status of the program.
+fn run(rt: &HostRuntime, mut request: Request<'_>) -> io::Result<u8> {
+    let found = match request.kind {
+        Kind::Raw(_) => read(rt, request.file)?.map(Found::Whole),
+        Kind::Elf => sections_of(rt, &request),
+    };
     let line_str = read_named(rt, request.line_str)?;
     let strings = read_named(rt, request.strings)?;
-    match (&file, &line_str, &strings) {
-        (Some(file), Some(line_str), Some(strings)) => {
-            perform(rt, request, file, line_str, strings)
+    match (&found, &line_str, &strings) {
+        (Some(Found::Whole(file)), Some(line_str), Some(strings)) => {
+            let files = Files {
+                file,
+                line_str,
+                strings,
+                units: UnitFiles::NONE,
+            };
+            perform(rt, &request, files)
+        }
+        (Some(Found::Sections(source)), Some(line_str), Some(strings)) => {
+            request.kind = Kind::Raw(notation_of(source));
+            perform(rt, &request, files_of(source, line_str, strings))
         }
         _ => Ok(REFUSED),
     }
 }
 
-/// Does what a request asks for, over the bytes of files.
-fn perform<'i>(
-    rt: &HostRuntime,
-    request: &Request<'_>,
-    file: &'i [u8],
-    line_str: &'i [u8],
-    strings: &'i [u8],
-) -> io::Result<u8> {
-    let files = Files {
-        file,
-        line_str,
-        strings,
+/// The sections of the program that a request names, of its own file or of its debug file; None
+/// where there are none, which is reported.
+fn sections_of(rt: &HostRuntime, request: &Request<'_>) -> Option<Found> {
+    let wanted = if request.command.prints_paths() {
+        Wanted::Paths
+    } else {
+        Wanted::Lines
     };
+    match debug_files::source_of(rt, request.file, wanted) {
+        Ok(found) => Some(found),
+        Err(missing) => {
+            report(rt, request.file, &missing);
+            None
+        }
+    }
+}
+
+/// Reports why a program has no sections that are read.
+fn report(rt: &HostRuntime, name: &str, missing: &Missing) {
+    let mut err = rt.stderr();
+    // Where standard error can't be written to, the status still says it.
+    let _ = match missing {
+        Missing::Elf(error) => writeln!(err, "lines: {name}: {}", InputError::Elf(*error)),
+        Missing::NoLines => writeln!(err, "lines: {name}: {}", InputError::NoLines),
+        Missing::NotRegular => {
+            writeln!(err, "lines: {name}: {missing}; for a raw section say --raw")
+        }
+        missing => writeln!(err, "lines: {name}: {missing}"),
+    };
+}
+
+/// How the numbers of a program's sections are read.
+fn notation_of(source: &Source) -> Notation {
+    Notation::new(source.is_big_endian, source.address_size, source.lowest)
+}
+
+/// The sections of a program. Those of texts that are named apart take the place of its own.
+fn files_of<'i>(source: &'i Source, line_str: &'i [u8], strings: &'i [u8]) -> Files<'i> {
+    let paths = &source.paths;
+    Files {
+        file: &source.lines,
+        line_str: named_or(line_str, &paths.line_str),
+        strings: named_or(strings, &paths.strings),
+        units: units_of(paths),
+    }
+}
+
+/// The sections of units.
+fn units_of(paths: &PathSections) -> UnitFiles<'_> {
+    UnitFiles {
+        info: &paths.info,
+        abbreviations: &paths.abbreviations,
+        string_offsets: &paths.string_offsets,
+    }
+}
+
+/// A section that is named apart, or else the program's own.
+fn named_or<'s>(named: &'s [u8], own: &'s [u8]) -> &'s [u8] {
+    if named.is_empty() { own } else { named }
+}
+
+/// Does what a request asks for, over the bytes of files.
+fn perform(rt: &HostRuntime, request: &Request<'_>, files: Files<'_>) -> io::Result<u8> {
     let alloc = rt.alloc();
     let mut input = BufReader::new(alloc, rt.stdin())?;
     let mut out = BufWriter::new(alloc, rt.stdout())?;

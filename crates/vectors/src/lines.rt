@@ -2,7 +2,7 @@
 
 use crate::run::print_errors;
 use clap::Error;
-use lines_commands::{Files, run};
+use lines_commands::{Files, UnitFiles, run};
 use rows_reading::Stop;
 use std::alloc::Global;
 use std::io::Write;
@@ -23,6 +23,7 @@ pub fn run_lines<'r>(
                 file: section,
                 line_str: part_of(words, named, request.line_str),
                 strings: part_of(words, named, request.strings),
+                units: UnitFiles::NONE,
             };
             let mut input: &[u8] = &[];
             match run(alloc, &request, files, &mut input, out, &mut err) {

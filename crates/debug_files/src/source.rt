@@ -1,0 +1,64 @@
+//! The sections of a program that a command reads.
+
+use std::alloc::Global;
+
+/// Which sections are read.
+#[derive(Clone, Copy, Debug, PartialEq, Eq)]
+pub enum Wanted {
+    /// The line programs alone.
+    Lines,
+    /// Those that whole paths need, too.
+    Paths,
+}
+
+/// What the sections of a program are read from.
+#[derive(Drop)]
+pub enum Found {
+    /// The sections, of a program that is linked.
+    Sections(Source),
+    /// All bytes of an object file, whose sections are still to be relocated.
+    Whole(Vec<u8>),
+}
+
+/// The sections that a command reads, and how.
+#[derive(Drop)]
+pub struct Source {
+    /// Whether the most significant byte of a number comes first.
+    pub is_big_endian: bool,
+    /// The bytes of an address: 4 or 8.
+    pub address_size: u8,
+    /// The lowest address of code, 0 where none is known.
+    pub lowest: u64,
+    /// The line programs (`.debug_line`).
+    pub lines: Vec<u8>,
+    /// The sections that whole paths need.
+    pub paths: PathSections,
+}
+
+/// The sections that whole paths need; no bytes where there is none.
+#[derive(Drop)]
+pub struct PathSections {
+    /// The texts of version 5 (`.debug_line_str`).
+    pub line_str: Vec<u8>,
+    /// The texts (`.debug_str`).
+    pub strings: Vec<u8>,
+    /// The units (`.debug_info`).
+    pub info: Vec<u8>,
+    /// Their abbreviations (`.debug_abbrev`).
+    pub abbreviations: Vec<u8>,
+    /// The offsets of texts (`.debug_str_offsets`).
+    pub string_offsets: Vec<u8>,
+}
+
+impl PathSections {
+    /// No bytes.
+    pub(crate) fn none(alloc: Global) -> PathSections {
+        PathSections {
+            line_str: Vec::new(alloc),
+            strings: Vec::new(alloc),
+            info: Vec::new(alloc),
+            abbreviations: Vec::new(alloc),
+            string_offsets: Vec::new(alloc),
+        }
+    }
+}

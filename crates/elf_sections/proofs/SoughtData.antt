@@ -1,0 +1,118 @@
+-- The data of a section of a file that is read by its parts are those that it has as a whole.
+use Rattle.std.proofs.Common.{◌≡◌, ◌≢◌, refl, sym, ◌∙◌, ap, ℕ, ◌+◌, List, [], length, true, false, Bool, if◌then◌else◌, nat_eq, nat_lt, Option, Some, None, Result, Ok, Err}
+use Rattle.std.specs.Prelude.{IfOk, IfErr}
+use Rattle.std.specs.List.{slice_range}
+use Rattle.elf_sections.specs.Steps.{◌>>=◌}
+use Rattle.elf_sections.specs.Gives.{Gives}
+use Rattle.elf_sections.specs.Layout.{layout_at}
+use Rattle.elf_sections.specs.SectionHeader.{has_flag, stored_bytes, section_bytes}
+use Rattle.elf_sections.specs.Compression.{uncompressed, uncompressed_old, data_of, old_data_of, has_old_name, old_name}
+use Rattle.elf_sections.specs.File.{File, file_at, some_of, section_named, old_data_in, data_or_old, section_data_at}
+use Rattle.elf_sections.specs.FileRange.{bytes_at, nowhere, range_in, or_refused, stored_range, header_range}
+use Rattle.elf_sections.specs.Seeking.{Listed, header_named, listed, listed_of}
+use Rattle.elf_sections.specs.Stored.{stored_at, stored_form, old_stored, stored_or_old, stored_named, data_by, stored_data, data_there, data_at, data_in}
+use Rattle.elf_sections.specs.declared.error.ElfError.{ElfError}
+use Rattle.elf_sections.specs.declared.error.ElfError.TheVariants.{SectionCut, OutOfMemory}
+use Rattle.elf_sections.specs.declared.file_range.FileRange.{FileRange}
+use Rattle.elf_sections.specs.declared.layout.Layout.{Layout}
+use Rattle.elf_sections.specs.declared.section_header.SectionHeader.{SectionHeader}
+use Rattle.elf_sections.specs.declared.stored.StoredForm.{StoredForm}
+use Rattle.elf_sections.specs.declared.stored.StoredForm.TheVariants.{Plain, Compressed, Old}
+use Rattle.elf_sections.specs.declared.stored.StoredSection.{StoredSection}
+use Rattle.elf_sections.proofs.SoughtFiles.{Keeps, kept_layout, header_found, sought_is_whole}
+
+-- ---- one section
+
+-- the bytes of a section, as they are stored
+stored_found : (bytes : List ℕ) (header : SectionHeader)
+    → (stored_range (length bytes) header >>= λ range. Ok (bytes_at bytes range)) ≡ stored_bytes bytes header
+stored_found bytes header =
+    elim (nat_eq header.kind 8) as (λ b.
+    ((if b then Ok nowhere
+    else or_refused SectionCut (range_in header.offset header.size (length bytes))) >>= λ range. Ok (bytes_at bytes range))
+    ≡ (if b then Ok []
+    else (if nat_lt (length bytes) (header.offset + header.size) then Err SectionCut
+    else Ok (slice_range bytes header.offset (header.offset + header.size))))) [
+      | true ↦ refl
+      | false ↦ elim (nat_lt (length bytes) (header.offset + header.size)) as (λ b.
+          (or_refused SectionCut (if b then None else Some (record { offset = header.offset; size = header.size }))
+          >>= λ range. Ok (bytes_at bytes range))
+          ≡ (if b then Err SectionCut else Ok (slice_range bytes header.offset (header.offset + header.size))))
+          [ true ↦ refl | false ↦ refl ]
+    ]
+
+-- what is found at a range, in a form
+by_form : (bytes : List ℕ) (layout : Layout) (form : StoredForm) (range : Result FileRange ElfError)
+    → data_at bytes (stored_at layout form range)
+    ≡ some_of ((range >>= λ r. Ok (bytes_at bytes r)) >>= data_by layout form)
+by_form bytes layout form (Ok range) = refl
+by_form bytes layout form (Err e) = refl
+
+by_flag : (layout : Layout) (b : Bool) (r : Result (List ℕ) ElfError)
+    → (r >>= data_by layout (if b then Compressed else Plain)) ≡ (r >>= λ bytes. if b then uncompressed layout bytes else Ok bytes)
+by_flag layout true (Ok bytes) = refl
+by_flag layout true (Err e) = refl
+by_flag layout false (Ok bytes) = refl
+by_flag layout false (Err e) = refl
+
+plain_found : (bytes : List ℕ) (layout : Layout) (header : SectionHeader)
+    → data_at bytes (stored_at layout (stored_form header) (stored_range (length bytes) header)) ≡ some_of (data_of layout bytes header)
+plain_found bytes layout header =
+    by_form bytes layout (stored_form header) (stored_range (length bytes) header)
+    ∙ ap (λ (r : Result (List ℕ) ElfError). some_of (r >>= data_by layout (stored_form header))) (stored_found bytes header)
+    ∙ ap some_of (by_flag layout (has_flag header 0x800) (stored_bytes bytes header))
+
+by_old : (layout : Layout) (r : Result (List ℕ) ElfError) → (r >>= data_by layout Old) ≡ (r >>= uncompressed_old)
+by_old layout (Ok bytes) = refl
+by_old layout (Err e) = refl
+
+old_found : (bytes : List ℕ) (list : Listed) (found : Option SectionHeader) → list.length ≡ length bytes
+    → data_at bytes (old_stored list found) ≡ old_data_in bytes found
+old_found bytes list None size = refl
+old_found bytes list (Some header) size =
+    ap (λ n. data_at bytes (stored_at list.layout Old (header_range n header))) size
+    ∙ by_form bytes list.layout Old (header_range (length bytes) header)
+    ∙ ap (λ (r : Result (List ℕ) ElfError). some_of (r >>= data_by list.layout Old)) (header_found bytes header)
+    ∙ ap some_of (by_old list.layout (section_bytes bytes header))
+
+-- ---- a file
+
+data_found : (file : File) (name : List ℕ) (found : Option SectionHeader)
+    → data_at file.bytes (stored_or_old (listed_of file) name found) ≡ data_or_old file name found
+data_found file name (Some header) = plain_found file.bytes file.layout header
+data_found file name None =
+    elim (has_old_name name) as (λ b.
+    data_at file.bytes (if b then old_stored (listed_of file) (section_named file (old_name name)) else Ok None)
+    ≡ (if b then old_data_in file.bytes (section_named file (old_name name)) else Ok None)) [
+      | true ↦ old_found file.bytes (listed_of file) (section_named file (old_name name)) refl
+      | false ↦ refl
+    ]
+
+by_file : (bytes name : List ℕ) (list : Listed) (r : Result File ElfError) → Keeps bytes r
+    → (r >>= λ file. Ok (listed_of file)) ≡ Ok list
+    → (r >>= λ file. section_data_at file name) ≡ data_at bytes (stored_named list name)
+by_file bytes name list (Err e) kept is = absurd (cc)
+by_file bytes name list (Ok file) kept is =
+    let same : listed_of file ≡ list = cc in
+    sym (data_found file name (section_named file name))
+    ∙ ap (λ (l : Listed). data_at file.bytes (stored_named l name)) same
+    ∙ ap (λ b. data_at b (stored_named list name)) kept
+
+sought_data : (bytes name : List ℕ) (list : Listed) → listed bytes ≡ Ok list
+    → data_in bytes name ≡ data_at bytes (stored_named list name)
+sought_data bytes name list is =
+    by_file bytes name list (file_at bytes) (kept_layout bytes (layout_at bytes)) (sym (sought_is_whole bytes) ∙ is)
+
+-- ---- what the calls answer
+
+pub found_data : (list : Listed) (name bytes : List ℕ) (r : Result (Option StoredSection) ElfError)
+    → Gives (λ found. found) r (stored_named list name) → listed bytes ≡ Ok list
+    → IfOk r (λ found. data_in bytes name ≡ data_there bytes found)
+found_data list name bytes (Ok found) gives is = sought_data bytes name list is ∙ ap (data_at bytes) gives
+found_data list name bytes (Err e) gives is = tt
+
+pub refused_data : (list : Listed) (name bytes : List ℕ) (r : Result (Option StoredSection) ElfError)
+    → Gives (λ found. found) r (stored_named list name) → listed bytes ≡ Ok list
+    → IfErr r (λ e. e ≢ OutOfMemory → data_in bytes name ≡ Err e)
+refused_data list name bytes (Ok found) gives is = tt
+refused_data list name bytes (Err e) gives is = λ other. sought_data bytes name list is ∙ ap (data_at bytes) (gives other)
