@@ -1,1 +1,3 @@
+pub mod ComponentTexts
 pub mod Separators
+mod WorkedPaths

@@ -1,4 +1,7 @@
 pub mod Choice
+pub mod Components
+pub mod Findings
+pub mod KeptComponents
 pub mod Lines
 pub mod WholePaths
 pub mod Words

@@ -1,25 +1,28 @@
-//! The command `at`: the addresses to break at, for a line of the files whose path ends so.
+//! The command `at`: the addresses of a line, in the files whose path ends with what is asked for.
 
+use crate::components::{components_of, ends_with};
+use crate::fields::{ShownColumn, column_of, line_of};
 use crate::input::Input;
 use crate::lookup::look_up;
 use crate::output::Output;
 use crate::path_sources::{PathSources, path_sources};
-use crate::path_text::{PathText, ends_with_parts};
-use crate::paths_seen::{PathDigest, PathsSeen, digest_of};
-use gimli_core::Reader;
-use gimli_line::LineProgramHeader;
+use crate::path_text::PathText;
+use crate::paths_seen::{PathsSeen, SeenFile, digest_of};
+use crate::request::CodeLine;
+use gimli_core::{Error, Reader};
+use gimli_line::{LineProgramHeader, LineRow};
 use gimli_lookup::{Addresses, PathError, SectionLookup};
 use std::alloc::{AllocError, Global};
-use std::cmp::Ordering;
+use std::collections::BTreeMap;
 use std::io::Write;
 
-/// Prints the addresses of a line in each file whose whole path ends with whole parts, each path
-/// once. The line is the first from the asked one on that has an address in the file.
+/// Prints the addresses of a line in each file whose whole path ends with the components that are
+/// asked for, each path once: where to break at the line. Where none of its rows is a statement,
+/// the addresses of these rows; where it has none, those of the next line that has statements.
 pub(crate) fn print_addresses<R: Reader, O: Write, E: Write>(
     alloc: Global,
     input: &Input<R>,
-    end: &str,
-    line: u64,
+    asked: CodeLine<'_>,
     output: &mut Output<'_, O, E>,
 ) {
     if !input.is_linked {
@@ -34,54 +37,40 @@ pub(crate) fn print_addresses<R: Reader, O: Write, E: Write>(
     let Some(sources) = path_sources(alloc, input, output) else {
         return;
     };
+    let Ok(end) = components_of(alloc, asked.path.as_bytes()) else {
+        return output.fail_for_memory();
+    };
     let search = Search {
         alloc,
+        input,
         lookup: &lookup,
         sources: &sources,
-        end: end.as_bytes(),
-        line,
+        end: &end,
+        asked,
     };
-    let mut files = Vec::new(alloc);
-    search.find_files(&mut files, output);
-    search.print_of_files(&files, output);
-    if files.is_empty() {
-        let end = PathText(end.as_bytes());
-        output.tell(format_args!("no file's path ends with {end}"));
-    }
-}
-
-/// A file that is meant, by the digest of its whole path.
-#[derive(Clone, Copy)]
-struct FoundFile {
-    digest: PathDigest,
-    /// The index of its unit.
-    unit: usize,
-    /// Its index in the header of the unit.
-    file: u64,
+    let mut seen = PathsSeen::new(alloc);
+    search.find_files(&mut seen, output);
+    search.print_of_paths(seen.files(), output);
 }
 
 /// A search for the addresses of a line.
 #[derive(Clone, Copy)]
 struct Search<'s, R: Reader> {
     alloc: Global,
+    input: &'s Input<R>,
     lookup: &'s SectionLookup<R>,
     sources: &'s PathSources<R>,
-    /// The end of the paths.
+    /// The components of the end of the paths.
     end: &'s [u8],
-    /// The line.
-    line: u64,
+    asked: CodeLine<'s>,
 }
 
 impl<R: Reader> Search<'_, R> {
     /// Finds the files that are meant in all units.
-    fn find_files<O: Write, E: Write>(
-        self,
-        files: &mut Vec<FoundFile>,
-        output: &mut Output<'_, O, E>,
-    ) {
+    fn find_files<O: Write, E: Write>(self, seen: &mut PathsSeen, output: &mut Output<'_, O, E>) {
         for (index, unit) in self.lookup.units().iter().enumerate() {
             if let Some(header) = unit.header() {
-                self.find_in_unit(index, header, files, output);
+                self.find_in_unit(index, header, seen, output);
             }
             if output.has_failed() {
                 break;
@@ -94,7 +83,7 @@ impl<R: Reader> Search<'_, R> {
         self,
         unit: usize,
         header: &LineProgramHeader<R>,
-        files: &mut Vec<FoundFile>,
+        seen: &mut PathsSeen,
         output: &mut Output<'_, O, E>,
     ) {
         let last = header.file_names().len() as u64;
@@ -102,135 +91,240 @@ impl<R: Reader> Search<'_, R> {
             let Some(file) = header.file(index) else {
                 continue;
             };
-            match self.sources.of_file(self.alloc, header, file) {
-                Ok(path) => self.keep_if_meant(&path, unit, index, files, output),
-                Err(PathError::OutOfMemory) => output.fail_for_memory(),
-                Err(_) => {}
-            }
-            if output.has_failed() {
+            let kept = match self.sources.of_file(self.alloc, header, file) {
+                Ok(path) => self.keep_if_meant(&path, SeenFile { unit, index }, seen),
+                Err(PathError::OutOfMemory) => Err(AllocError),
+                Err(_) => Ok(()),
+            };
+            if kept.is_err() {
+                output.fail_for_memory();
                 break;
             }
         }
     }
 
     /// Keeps a file by its path, if that is meant.
-    fn keep_if_meant<O: Write, E: Write>(
+    fn keep_if_meant(
         self,
         path: &[u8],
-        unit: usize,
-        file: u64,
-        files: &mut Vec<FoundFile>,
-        output: &mut Output<'_, O, E>,
-    ) {
-        if ends_with_parts(path, self.end) {
-            let digest = digest_of(path);
-            if files.push(FoundFile { digest, unit, file }).is_err() {
-                output.fail_for_memory();
-            }
+        file: SeenFile,
+        seen: &mut PathsSeen,
+    ) -> Result<(), AllocError> {
+        let text = components_of(self.alloc, path)?;
+        if ends_with(&text, self.end) {
+            seen.add(self.alloc, digest_of(&text), file)?;
         }
+        Ok(())
     }
 
-    /// Prints the addresses in each path once.
-    fn print_of_files<O: Write, E: Write>(
+    /// Prints the addresses in the files of each path. Where there is none, the command ends as
+    /// refused.
+    fn print_of_paths<O: Write, E: Write>(
         self,
-        files: &[FoundFile],
+        paths: &[Vec<SeenFile>],
         output: &mut Output<'_, O, E>,
     ) {
-        let mut seen = PathsSeen::new(self.alloc);
-        for file in files {
-            match seen.add(file.digest) {
-                Ok(true) => self.print_of_path(*file, files, output),
-                Ok(false) => {}
+        if paths.is_empty() {
+            let end = PathText(self.asked.path.as_bytes());
+            output.note(format_args!("no file's path ends with {end}"));
+        }
+        let mut is_found = false;
+        for files in paths {
+            match self.print_of_path(files, output) {
+                Ok(has_any) => is_found = is_found || has_any,
                 Err(_) => output.fail_for_memory(),
             }
             if output.has_failed() {
                 break;
             }
         }
+        if !is_found {
+            output.refuse();
+        }
     }
 
-    /// Prints the addresses in all files that have the path of one.
+    /// Prints the addresses in the files of one path, and returns whether there is any.
     fn print_of_path<O: Write, E: Write>(
         self,
-        file: FoundFile,
-        files: &[FoundFile],
+        files: &[SeenFile],
         output: &mut Output<'_, O, E>,
-    ) {
-        let Ok(path) = self.path_of(file) else {
-            return output.fail_for_memory();
-        };
+    ) -> Result<bool, AllocError> {
+        let path = self.path_of(files)?;
+        let found = self.addresses_of(files)?;
+        let first = found.iter().map(|found| found.line).min();
+        let asked = self.asked.line;
+        if first == Some(asked) {
+            self.print_statements(&path, asked, files, &found, output)?;
+            return Ok(true);
+        }
+        if self.print_others(&path, files, output)? {
+            return Ok(true);
+        }
         let text = PathText(&path);
-        match self.addresses_of(file.digest, files) {
-            Ok(Some(found)) => {
-                let line = found.line;
-                for address in &found.addresses {
-                    output.print(format_args!("0x{address:x}  {text}:{line}"));
-                }
+        match first {
+            Some(line) => {
+                output.note(format_args!(
+                    "no code at line {asked} of {text}; the next is line {line}"
+                ));
+                self.print_statements(&path, line, files, &found, output)?;
             }
-            Ok(None) => {
-                let line = self.line;
-                output.tell(format_args!("no code from line {line} on in {text}"));
-            }
-            Err(_) => output.fail_for_memory(),
+            None => output.note(format_args!("no code from line {asked} on in {text}")),
         }
+        Ok(first.is_some())
     }
 
-    /// The whole path of a file.
-    fn path_of(self, file: FoundFile) -> Result<Vec<u8>, PathError> {
-        let unit = self.lookup.units().get(file.unit);
-        let Some(header) = unit.and_then(|unit| unit.header()) else {
-            return Err(PathError::InvalidFileIndex(file.file));
-        };
-        match header.file(file.file) {
-            Some(entry) => self.sources.of_file(self.alloc, header, entry),
-            None => Err(PathError::InvalidFileIndex(file.file)),
-        }
-    }
-
-    /// The addresses in the files of a path: those of the first line from the asked one on that has
-    /// any in one of them.
-    fn addresses_of(
+    /// Prints the statements of a line.
+    fn print_statements<O: Write, E: Write>(
         self,
-        digest: PathDigest,
-        files: &[FoundFile],
-    ) -> Result<Option<Addresses>, AllocError> {
-        let mut found = None;
-        for file in files.iter().filter(|file| file.digest == digest) {
-            found = join(found, self.addresses_in(*file)?)?;
+        path: &[u8],
+        line: u64,
+        files: &[SeenFile],
+        found: &[Addresses],
+        output: &mut Output<'_, O, E>,
+    ) -> Result<(), AllocError> {
+        let columns = if self.asked.has_column {
+            self.columns_of(files, line, true)?
+        } else {
+            BTreeMap::new(self.alloc)
+        };
+        for found in found.iter().filter(|found| found.line == line) {
+            print_each(path, line, &found.addresses, &columns, output);
+        }
+        Ok(())
+    }
+
+    /// Prints the rows of the line that are no statements, and returns whether there is any.
+    fn print_others<O: Write, E: Write>(
+        self,
+        path: &[u8],
+        files: &[SeenFile],
+        output: &mut Output<'_, O, E>,
+    ) -> Result<bool, AllocError> {
+        let path = PathText(path);
+        let line = self.asked.line;
+        let columns = self.columns_of(files, line, false)?;
+        for (address, column) in &columns {
+            let column = ShownColumn(self.asked.has_column.then_some(*column));
+            output.print(format_args!("0x{address:x}  {path}:{line}{column}  not a statement"));
+        }
+        Ok(!columns.is_empty())
+    }
+
+    /// The path of files that have one.
+    fn path_of(self, files: &[SeenFile]) -> Result<Vec<u8>, AllocError> {
+        for file in files {
+            let unit = self.lookup.units().get(file.unit);
+            let Some(header) = unit.and_then(|unit| unit.header()) else {
+                continue;
+            };
+            if let Some(entry) = header.file(file.index) {
+                return match self.sources.of_file(self.alloc, header, entry) {
+                    Ok(path) => Ok(path),
+                    Err(_) => Err(AllocError),
+                };
+            }
+        }
+        Ok(Vec::new(self.alloc))
+    }
+
+    /// The addresses in each file: those of the first line from the asked one on that has any.
+    fn addresses_of(self, files: &[SeenFile]) -> Result<Vec<Addresses>, AllocError> {
+        let mut found = Vec::new(self.alloc);
+        for file in files {
+            if let Some(addresses) = self.addresses_in(*file)? {
+                found.push(addresses)?;
+            }
         }
         Ok(found)
     }
 
     /// The addresses in one file.
-    fn addresses_in(self, file: FoundFile) -> Result<Option<Addresses>, AllocError> {
+    fn addresses_in(self, file: SeenFile) -> Result<Option<Addresses>, AllocError> {
         if file.unit >= self.lookup.units().len() {
             return Ok(None);
         }
         match self
             .lookup
-            .addresses_of_file(file.unit, file.file, self.line)
+            .addresses_of_file(file.unit, file.index, self.asked.line)
         {
             Ok(found) => Ok(found),
             Err(_) => Err(AllocError),
         }
     }
+
+    /// The columns of rows of a line, by their addresses: of those that are statements, or of those
+    /// that aren't.
+    fn columns_of(
+        self,
+        files: &[SeenFile],
+        line: u64,
+        is_stmt: bool,
+    ) -> Result<BTreeMap<u64, u64>, AllocError> {
+        let mut columns = BTreeMap::new(self.alloc);
+        for file in files {
+            self.add_columns(*file, line, is_stmt, &mut columns)?;
+        }
+        Ok(columns)
+    }
+
+    /// Adds the columns of rows of a line in one file. The faults of the unit were reported before.
+    fn add_columns(
+        self,
+        file: SeenFile,
+        line: u64,
+        is_stmt: bool,
+        columns: &mut BTreeMap<u64, u64>,
+    ) -> Result<(), AllocError> {
+        let Some(unit) = self.lookup.units().get(file.unit) else {
+            return Ok(());
+        };
+        let size = self.input.address_size.bytes();
+        let program = self
+            .input
+            .lines
+            .program(self.alloc, unit.offset(), size, None, None);
+        let Ok(program) = program else {
+            return Err(AllocError);
+        };
+        let mut rows = program.rows();
+        for _ in 0..u64::MAX {
+            match rows.next_row() {
+                Ok(Some((_, row))) => {
+                    let is_meant = row.file_index() == file.index && line_of(row) == line;
+                    if is_meant && row.is_stmt() == is_stmt && self.is_code(file.unit, row) {
+                        columns.insert(row.address(), column_of(row))?;
+                    }
+                }
+                Ok(None) => break,
+                Err(Error::OutOfMemory) => return Err(AllocError),
+                Err(_) => break,
+            }
+        }
+        Ok(())
+    }
+
+    /// Whether code of a row is sure to be there: a statement was found before, and any other row
+    /// of a unit must be the one that covers its address.
+    fn is_code(self, unit: usize, row: &LineRow) -> bool {
+        match self.lookup.find(row.address()) {
+            _ if row.is_stmt() => true,
+            Some(found) => found.unit == unit && found.row == *row,
+            None => false,
+        }
+    }
 }
 
-/// The addresses of the lesser line of two, and all of them where they have one line.
-fn join(
-    first: Option<Addresses>,
-    second: Option<Addresses>,
-) -> Result<Option<Addresses>, AllocError> {
-    let (mut first, second) = match (first, second) {
-        (Some(first), Some(second)) => (first, second),
-        (None, found) | (found, None) => return Ok(found),
-    };
-    match first.line.cmp(&second.line) {
-        Ordering::Less => Ok(Some(first)),
-        Ordering::Greater => Ok(Some(second)),
-        Ordering::Equal => {
-            first.addresses.extend_from_slice(&second.addresses)?;
-            Ok(Some(first))
-        }
+/// Prints addresses of a line, with their columns where these are known.
+fn print_each<O: Write, E: Write>(
+    path: &[u8],
+    line: u64,
+    addresses: &[u64],
+    columns: &BTreeMap<u64, u64>,
+    output: &mut Output<'_, O, E>,
+) {
+    let path = PathText(path);
+    for address in addresses {
+        let column = ShownColumn(columns.get(address).copied());
+        output.print(format_args!("0x{address:x}  {path}:{line}{column}"));
     }
 }

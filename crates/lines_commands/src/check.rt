@@ -1,7 +1,8 @@
-//! The command `check`: each fault and each odd thing of a section.
+//! The command `check`: what is wrong, lost, odd or usual in a section.
 
 use crate::check_unit::check_unit;
 use crate::input::Input;
+use crate::kinds::CheckChoice;
 use crate::output::Output;
 use crate::overlaps::{Sequence, print_overlaps};
 use crate::path_sources::path_sources;
@@ -12,12 +13,14 @@ use gimli_core::Reader;
 use std::alloc::Global;
 use std::io::Write;
 
-/// Prints a line for each thing that is found, and how many there were.
+/// Prints a line for each finding that is told, and how many there were of each kind.
 pub(crate) fn print_check<R: Reader, O: Write, E: Write>(
     alloc: Global,
     input: &Input<R>,
+    choice: CheckChoice,
     output: &mut Output<'_, O, E>,
 ) {
+    output.begin_check(choice);
     let Some(sources) = path_sources(alloc, input, output) else {
         return;
     };
@@ -41,6 +44,5 @@ pub(crate) fn print_check<R: Reader, O: Write, E: Write>(
     if input.is_linked {
         print_overlaps(&mut sequences, output);
     }
-    let found = output.found();
-    output.print(format_args!("units: {count}, findings: {found}"));
+    output.print_counts(count);
 }

@@ -3,6 +3,7 @@
 use crate::duplicates::check_files;
 use crate::finding::Finding;
 use crate::input::Input;
+use crate::instruction_start::instruction_start;
 use crate::output::Output;
 use crate::overlaps::Sequence;
 use crate::path_sources::PathSources;
@@ -28,6 +29,7 @@ pub(crate) fn check_unit<R: Reader, O: Write, E: Write>(
     let mut check = RowCheck {
         unit: offset,
         lowest: input.lowest,
+        is_linked: input.is_linked,
         rows: 0,
         rows_since_end: 0,
         start: None,
@@ -44,6 +46,8 @@ struct RowCheck {
     unit: u64,
     /// An address below which there is no code.
     lowest: u64,
+    /// Whether code has its addresses.
+    is_linked: bool,
     /// How many rows there were, those that are left out not among them.
     rows: u64,
     /// How many of them there were since the last end.
@@ -64,11 +68,11 @@ impl RowCheck {
     ) {
         let mut instructions = program.header().instructions();
         let mut row = LineRow::new(program.header());
-        for _ in 0..u64::MAX {
+        for taken in 0..u64::MAX {
             let instruction = match instructions.next_instruction(program.header()) {
                 Ok(Some(instruction)) => instruction,
                 Ok(None) => return self.finish(output),
-                Err(fault) => return self.stop(fault, output),
+                Err(fault) => return self.stop(program.header(), taken, fault, output),
             };
             let set = set_address(&instruction);
             let before = row.address();
@@ -80,7 +84,7 @@ impl RowCheck {
                         row.reset(program.header());
                     }
                 }
-                Err(fault) => return self.stop(fault, output),
+                Err(fault) => return self.stop(program.header(), taken, fault, output),
             }
             if output.has_failed() {
                 break;
@@ -89,7 +93,8 @@ impl RowCheck {
     }
 
     /// Looks at an address that was set. It is a tombstone for the rows that follow where the
-    /// address of the row isn't it.
+    /// address of the row isn't it: then code was dropped, or addresses go down. In an object file
+    /// each section stands at 0, so that they may.
     fn look_at_address<O: Write, E: Write>(
         &mut self,
         set: Option<u64>,
@@ -101,16 +106,15 @@ impl RowCheck {
             return;
         };
         self.is_left_out = address != after;
-        if self.is_left_out {
-            let rows = self.rows;
-            let finding = if address < before {
-                Finding::AddressGoesDown {
-                    rows,
-                    from: before,
-                    to: address,
-                }
-            } else {
-                Finding::Tombstone { rows, address }
+        let rows = self.rows;
+        let is_dropped = address >= before || address == 0 && self.lowest > 0;
+        if self.is_left_out && is_dropped {
+            output.print_finding(self.unit, Finding::Tombstone { rows, address });
+        } else if self.is_left_out && self.is_linked {
+            let finding = Finding::AddressGoesDown {
+                rows,
+                from: before,
+                to: address,
             };
             output.print_finding(self.unit, finding);
         }
@@ -125,7 +129,9 @@ impl RowCheck {
         output: &mut Output<'_, O, E>,
     ) {
         if self.is_left_out {
-            self.is_left_out = !row.end_sequence();
+            if row.end_sequence() {
+                self.begin_sequence();
+            }
             return;
         }
         self.rows = self.rows.saturating_add(1);
@@ -167,8 +173,7 @@ impl RowCheck {
     /// missing.
     fn end_sequence(&mut self, end: u64, sequences: &mut Vec<Sequence>) -> bool {
         let start = self.start;
-        self.rows_since_end = 0;
-        self.start = None;
+        self.begin_sequence();
         match start {
             Some(start) if start < end && start >= self.lowest => {
                 let unit = self.unit;
@@ -176,6 +181,13 @@ impl RowCheck {
             }
             _ => true,
         }
+    }
+
+    /// Lets go what was kept of the sequence before.
+    fn begin_sequence(&mut self) {
+        self.is_left_out = false;
+        self.rows_since_end = 0;
+        self.start = None;
     }
 
     /// Looks at the end of the program.
@@ -186,13 +198,21 @@ impl RowCheck {
         }
     }
 
-    /// Prints the fault that ends the program. Missing memory is no fault of it.
-    fn stop<O: Write, E: Write>(&self, error: Error, output: &mut Output<'_, O, E>) {
-        let rows = self.rows;
-        match error {
-            Error::OutOfMemory => output.fail_for_memory(),
-            error => output.print_finding(self.unit, Finding::Program { rows, error }),
+    /// Prints the fault of the instruction after so many others, which ends the program. Missing
+    /// memory is no fault of it.
+    fn stop<R: Reader, O: Write, E: Write>(
+        &self,
+        header: &LineProgramHeader<R>,
+        before: u64,
+        error: Error,
+        output: &mut Output<'_, O, E>,
+    ) {
+        if error == Error::OutOfMemory {
+            return output.fail_for_memory();
         }
+        let byte = instruction_start(header, before).unwrap_or(self.unit);
+        let rows = self.rows;
+        output.print_finding(self.unit, Finding::Program { byte, rows, error });
     }
 }
 

@@ -30,7 +30,7 @@ pub(crate) fn check_files<R: Reader, O: Write, E: Write>(
     if files.sort().is_err() {
         return output.fail_for_memory();
     }
-    print_duplicates(unit, &files, header.version(), output);
+    print_duplicates(unit, &files, output);
 }
 
 /// Digests the path of each file, and prints each file that has none.
@@ -64,19 +64,16 @@ fn digest_files<R: Reader, O: Write, E: Write>(
 }
 
 /// Prints each file whose path is that of the file before it, where files are sorted by their
-/// paths. Files 0 and 1 of version 5 may be one: the file of the compilation is file 0, and rows
-/// begin with file 1.
+/// paths.
 fn print_duplicates<O: Write, E: Write>(
     unit: u64,
     files: &[DigestedFile],
-    version: u16,
     output: &mut Output<'_, O, E>,
 ) {
     let mut before: Option<DigestedFile> = None;
     for file in files {
         if let Some(other) = before {
-            let is_usual = version >= 5 && other.index == 0 && file.index == 1;
-            if other.digest == file.digest && !is_usual {
+            if other.digest == file.digest {
                 let finding = Finding::SamePath {
                     first: other.index,
                     second: file.index,

@@ -25,6 +25,19 @@ pub(crate) fn column_of(row: &LineRow) -> u64
     }
 }
 
+/// A column after its line, where one is shown.
+#[derive(Clone, Copy)]
+pub(crate) struct ShownColumn(pub(crate) Option<u64>);
+
+impl fmt::Display for ShownColumn {
+    fn fmt<W: fmt::Write>(&self, f: &mut fmt::Formatter<W>) -> fmt::Result {
+        match self.0 {
+            Some(column) => write!(f, ":{column}"),
+            None => Ok(()),
+        }
+    }
+}
+
 /// The flags of a row, as words in JSON.
 #[derive(Clone, Copy)]
 pub(crate) struct JsonFlags(pub(crate) LineRow);

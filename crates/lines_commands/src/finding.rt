@@ -1,17 +1,21 @@
-//! What a check finds, as sentences.
+//! What a check finds, its kind, and the sentence that tells it.
 
+use crate::kinds::FindingKind;
 use crate::row_count::RowCount;
 use gimli_core::Error;
 use gimli_lookup::PathError;
 use std::fmt;
 
 /// What a check finds in a unit. Rows are counted from 1, those that are left out not among them.
+/// No sentence has a character that JSON escapes.
 #[derive(Clone, Copy)]
 pub(crate) enum Finding {
     /// The header is refused.
     Header(Error),
-    /// The program has a fault after so many rows.
+    /// An instruction of the program is refused, which begins at a byte of the section and comes
+    /// after so many rows.
     Program {
+        byte: u64,
         rows: u64,
         error: Error,
     },
@@ -31,8 +35,8 @@ pub(crate) enum Finding {
         address: u64,
         file: u64,
     },
-    /// After so many rows an address is set that is below the one reached: what follows is left
-    /// out.
+    /// After so many rows an address of code is set that is below the one reached: what follows is
+    /// left out.
     AddressGoesDown {
         rows: u64,
         from: u64,
@@ -63,13 +67,51 @@ pub(crate) enum Finding {
     },
 }
 
+impl Finding {
+    /// What kind it is of. File 0 is there from version 5 on, where it is the file of the
+    /// compilation, and may be in the table once more. Code that is dropped is at address 0 too.
+    pub(crate) fn kind(self) -> FindingKind {
+        match self {
+            Finding::Header(_) => FindingKind::Header,
+            Finding::Program { .. } => FindingKind::Program,
+            Finding::NoPath { .. } => FindingKind::NoPath,
+            Finding::SamePath { first: 0, .. } => FindingKind::FileZero,
+            Finding::SamePath { .. } => FindingKind::SamePath,
+            Finding::NoFile { .. } => FindingKind::NoFile,
+            Finding::AddressGoesDown { .. } => FindingKind::GoesDown,
+            Finding::Tombstone { .. } => FindingKind::Dropped,
+            Finding::BelowCode { address: 0, .. } => FindingKind::Dropped,
+            Finding::BelowCode { .. } => FindingKind::BelowCode,
+            Finding::NoEnd { .. } => FindingKind::NoEnd,
+            Finding::Overlap {
+                start,
+                end,
+                other_start,
+                other_end,
+                ..
+            } if start == other_start && end == other_end => FindingKind::Merged,
+            Finding::Overlap { .. } => FindingKind::Overlap,
+        }
+    }
+
+    /// The byte of the section that a fault in the unit at an offset stands at: where its header
+    /// begins, or the instruction.
+    pub(crate) fn byte(self, unit: u64) -> Option<u64> {
+        match self {
+            Finding::Header(_) => Some(unit),
+            Finding::Program { byte, .. } => Some(byte),
+            _ => None,
+        }
+    }
+}
+
 impl fmt::Display for Finding {
     fn fmt<W: fmt::Write>(&self, f: &mut fmt::Formatter<W>) -> fmt::Result {
         match *self {
             Finding::Header(error) => error.fmt(f),
-            Finding::Program { rows, error } => {
+            Finding::Program { byte, rows, error } => {
                 let rows = RowCount(rows);
-                write!(f, "after {rows}: {error}")
+                write!(f, "at byte 0x{byte:x}, after {rows}: {error}")
             }
             Finding::NoPath { file, error } => write!(f, "file {file}: {error}"),
             Finding::SamePath { first, second } => {

@@ -19,15 +19,21 @@ struct Entry {
 const COMMANDS: [Entry; 6] = [
     Entry {
         name: "where",
-        about: "Prints path:line:column of each address, ??:0 where there is none",
+        about: "Prints path:line:column of each address, ??:0:0 where there is none",
         example: "Example: lines where a.out 401136 0x40113D",
-        arguments: &[Argument::Addresses, Argument::Json],
+        arguments: &[
+            Argument::Addresses,
+            Argument::Basenames,
+            Argument::RelativeTo,
+            Argument::Bias,
+            Argument::Json,
+        ],
     },
     Entry {
         name: "at",
         about: "Prints the addresses to break at for a line, or for the next one that has code",
         example: "Example: lines at a.out src/main.c:12",
-        arguments: &[Argument::Target],
+        arguments: &[Argument::Target, Argument::Columns],
     },
     Entry {
         name: "units",
@@ -49,9 +55,16 @@ const COMMANDS: [Entry; 6] = [
     },
     Entry {
         name: "check",
-        about: "Prints each fault and each odd thing; the status is 1 where there is one",
-        example: "Example: lines check a.out",
-        arguments: &[],
+        about: "Prints what is wrong, lost or odd; the status is 1 for faults and lost rows",
+        example: "Kinds: header, program, no-path, no-file (fault); goes-down, below-code, no-end \
+                  (lost); same-path, overlap (odd); file-0, merged, dropped (usual)\n\
+                  Example: lines check --deny odd --allow overlap a.out",
+        arguments: &[
+            Argument::Deny,
+            Argument::Allow,
+            Argument::All,
+            Argument::Json,
+        ],
     },
 ];
 
@@ -81,6 +94,17 @@ pub(crate) fn program<'a>(alloc: Global) -> Result<Command<'a>, AllocError> {
         program = program.subcommand(entry.command(alloc)?)?;
     }
     Ok(program)
+}
+
+/// A command by itself; the whole program where no command has the name.
+pub(crate) fn command<'a>(alloc: Global, name: &str) -> Result<Command<'a>, AllocError> {
+    for entry in &COMMANDS {
+        if entry.name == name {
+            let usage = format!(in alloc; "lines {name}")?;
+            return entry.command(alloc)?.bin_name(&usage);
+        }
+    }
+    program(alloc)
 }
 
 impl Entry {
@@ -129,8 +153,22 @@ enum Argument {
     Unit,
     /// The choice of whole paths.
     WholePaths,
+    /// The choice of the last components of paths.
+    Basenames,
+    /// The directory that paths are printed from.
+    RelativeTo,
+    /// What is subtracted from addresses.
+    Bias,
+    /// The choice of columns.
+    Columns,
     /// The choice of JSON.
     Json,
+    /// Kinds of findings that are denied.
+    Deny,
+    /// Kinds of findings that are allowed.
+    Allow,
+    /// The choice of all findings.
+    All,
 }
 
 impl Argument {
@@ -144,6 +182,10 @@ impl Argument {
             }
             Argument::WholePaths => {
                 flag(alloc, "whole-paths", "Prints whole paths").conflicts_with("json")
+            }
+            Argument::Basenames => {
+                let help = "Prints the last component of each path";
+                flag(alloc, "basenames", help).conflicts_with("relative-to")
             }
             _ => Ok(self.plain(alloc)),
         }
@@ -185,6 +227,42 @@ impl Argument {
                 "UNIT",
                 "The offset of a unit, as the command units prints it",
             ),
+            _ => self.of_findings(alloc),
+        }
+    }
+
+    /// The choice of which findings of a check count.
+    fn of_findings<'a>(self, alloc: Global) -> Arg<'a> {
+        match self {
+            Argument::Deny => {
+                let help = "Makes the status 1 for these too: a kind, or fault, lost, odd or usual";
+                option(alloc, "deny", "KIND", help).action(ArgAction::Append)
+            }
+            Argument::Allow => {
+                let help = "Only counts these, whatever --deny says: a kind, or fault, lost or odd";
+                option(alloc, "allow", "KIND", help).action(ArgAction::Append)
+            }
+            Argument::All => flag(alloc, "all", "Tells what is usual or allowed too"),
+            _ => self.of_places(alloc),
+        }
+    }
+
+    /// The choice of how places are printed.
+    fn of_places<'a>(self, alloc: Global) -> Arg<'a> {
+        match self {
+            Argument::RelativeTo => option(
+                alloc,
+                "relative-to",
+                "DIR",
+                "Prints paths that begin with this directory without it",
+            ),
+            Argument::Bias => option(
+                alloc,
+                "bias",
+                "ADDRESS",
+                "Subtracts this from each address, for a program that was loaded elsewhere",
+            ),
+            Argument::Columns => flag(alloc, "columns", "Prints the column after the line"),
             _ => flag(alloc, "json", "Prints a JSON object a line"),
         }
     }

@@ -12,7 +12,7 @@ use rows_reading::AddressSize;
 pub enum Kind {
     /// An ELF file, which says its order of bytes and its address size.
     Elf,
-    /// A section `.debug_line` alone.
+    /// Sections by themselves: `.debug_line`, and those that it goes with.
     Raw(Notation),
 }
 
@@ -23,6 +23,8 @@ pub struct Notation {
     pub order: RunTimeEndian,
     /// How wide an address is, where the unit doesn't say.
     pub address_size: AddressSize,
+    /// An address below which there is no code, 0 where none is known.
+    pub lowest: u64,
 }
 
 /// The bytes of the files that a request names.
@@ -34,6 +36,28 @@ pub struct Files<'i> {
     pub line_str: &'i [u8],
     /// The section `.debug_str` of a raw section; no bytes where none is named.
     pub strings: &'i [u8],
+    /// The sections of units of a raw section.
+    pub units: UnitFiles<'i>,
+}
+
+/// The sections that say where compilations ran; no bytes where none is known.
+#[derive(Clone, Copy)]
+pub struct UnitFiles<'i> {
+    /// `.debug_info`
+    pub info: &'i [u8],
+    /// `.debug_abbrev`
+    pub abbreviations: &'i [u8],
+    /// `.debug_str_offsets`
+    pub string_offsets: &'i [u8],
+}
+
+impl UnitFiles<'_> {
+    /// No sections: no unit says where it was compiled.
+    pub const NONE: UnitFiles<'static> = UnitFiles {
+        info: &[],
+        abbreviations: &[],
+        string_offsets: &[],
+    };
 }
 
 /// The sections of a program that a command reads.
@@ -61,19 +85,29 @@ impl<R: Reader> Input<R> {
 }
 
 impl Notation {
-    /// How the numbers of an ELF file are read.
-    pub(crate) fn of_elf(elf: &Elf<'_>) -> Notation {
+    /// How the numbers of a program are read, whose addresses have 4 bytes or 8.
+    pub fn new(is_big_endian: bool, address_size: u8, lowest: u64) -> Notation {
         Notation {
-            order: if elf.is_big_endian() {
+            order: if is_big_endian {
                 RunTimeEndian::Big
             } else {
                 RunTimeEndian::Little
             },
-            address_size: if elf.address_size() == 4 {
+            address_size: if address_size == 4 {
                 AddressSize::Four
             } else {
                 AddressSize::Eight
             },
+            lowest,
         }
+    }
+
+    /// How the numbers of an ELF file are read. In an object file each section stands at 0.
+    pub(crate) fn of_elf(elf: &Elf<'_>) -> Notation {
+        let lowest = match elf.lowest_code_address() {
+            Some(lowest) if !elf.is_relocatable() => lowest,
+            _ => 0,
+        };
+        Notation::new(elf.is_big_endian(), elf.address_size(), lowest)
     }
 }

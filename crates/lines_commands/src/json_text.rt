@@ -21,6 +21,19 @@ impl fmt::Display for JsonPath<'_> {
     }
 }
 
+/// An offset as a JSON string, or null where there is none.
+#[derive(Clone, Copy)]
+pub(crate) struct JsonOffset(pub(crate) Option<u64>);
+
+impl fmt::Display for JsonOffset {
+    fn fmt<W: fmt::Write>(&self, f: &mut fmt::Formatter<W>) -> fmt::Result {
+        match self.0 {
+            Some(offset) => write!(f, "\"0x{offset:x}\""),
+            None => f.write_str("null"),
+        }
+    }
+}
+
 /// Writes the characters of a text.
 fn write_text<W: fmt::Write>(text: &str, f: &mut fmt::Formatter<W>) -> fmt::Result {
     for character in text.chars() {

@@ -8,10 +8,10 @@ use crate::json_text::JsonPath;
 use crate::lookup::look_up;
 use crate::output::Output;
 use crate::path_sources::{PathSources, path_sources};
-use crate::path_text::PathText;
+use crate::path_text::{PathText, last_part, relative_to};
 use crate::program::Program;
 use crate::questions::{Asked, Questions};
-use crate::request::{CodeAddress, Form};
+use crate::request::{CodeAddress, PathForm, PlaceForm};
 use gimli_core::{Reader, ReaderOffset};
 use gimli_line::LineRow;
 use gimli_lookup::{CoveringRows, PathError, SectionLookup, UnitLookup};
@@ -23,7 +23,7 @@ pub(crate) fn print_places<R: Reader, I: BufRead, O: Write, E: Write>(
     alloc: Global,
     input: &Input<R>,
     addresses: &[CodeAddress<'_>],
-    form: Form,
+    form: PlaceForm<'_>,
     lines: &mut I,
     output: &mut Output<'_, O, E>,
 ) {
@@ -46,7 +46,7 @@ pub(crate) fn print_places_in_sections<I: BufRead, O: Write, E: Write>(
     alloc: Global,
     files: Files<'_>,
     addresses: &[CodeAddress<'_>],
-    form: Form,
+    form: PlaceForm<'_>,
     lines: &mut I,
     output: &mut Output<'_, O, E>,
 ) {
@@ -68,7 +68,7 @@ fn print_in_section<I: BufRead, O: Write, E: Write>(
     alloc: Global,
     files: Files<'_>,
     name: &[u8],
-    form: Form,
+    form: PlaceForm<'_>,
     questions: &mut Questions<'_, I>,
     output: &mut Output<'_, O, E>,
 ) {
@@ -91,7 +91,7 @@ fn print_in_section<I: BufRead, O: Write, E: Write>(
 
 /// Prints that there is no place of what is asked, which is in no section.
 fn print_without_section<I: BufRead, O: Write, E: Write>(
-    form: Form,
+    form: PlaceForm<'_>,
     questions: &mut Questions<'_, I>,
     output: &mut Output<'_, O, E>,
 ) {
@@ -104,13 +104,18 @@ fn print_without_section<I: BufRead, O: Write, E: Write>(
             ));
         }
         Some(Asked::Unknown(word)) => print_no_address(form, word, output),
+        Some(Asked::Nothing) => print_unknown(form, None, output),
         _ => {}
     }
     questions.go_on(output);
 }
 
 /// Prints that a word is no address.
-fn print_no_address<O: Write, E: Write>(form: Form, word: &[u8], output: &mut Output<'_, O, E>) {
+fn print_no_address<O: Write, E: Write>(
+    form: PlaceForm<'_>,
+    word: &[u8],
+    output: &mut Output<'_, O, E>,
+) {
     print_unknown(form, None, output);
     let word = PathText(word);
     output.tell(format_args!("'{word}' is no address"));
@@ -118,21 +123,21 @@ fn print_no_address<O: Write, E: Write>(form: Form, word: &[u8], output: &mut Ou
 
 /// The rows of all units of a section, and how their places are printed.
 #[derive(Drop)]
-struct Places<R: Reader> {
+struct Places<'f, R: Reader> {
     alloc: Global,
     lookup: SectionLookup<R>,
     sources: PathSources<R>,
-    form: Form,
+    form: PlaceForm<'f>,
 }
 
-impl<R: Reader> Places<R> {
+impl<'f, R: Reader> Places<'f, R> {
     /// Reads the rows. None where memory is missing, which is reported.
     fn new<O: Write, E: Write>(
         alloc: Global,
         input: &Input<R>,
-        form: Form,
+        form: PlaceForm<'f>,
         output: &mut Output<'_, O, E>,
-    ) -> Option<Places<R>> {
+    ) -> Option<Places<'f, R>> {
         let lookup = look_up(alloc, input, output)?;
         let sources = path_sources(alloc, input, output)?;
         Some(Places {
@@ -156,6 +161,7 @@ impl<R: Reader> Places<R> {
                 ));
             }
             Asked::Unknown(word) => print_no_address(self.form, word, output),
+            Asked::Nothing => print_unknown(self.form, None, output),
         }
     }
 
@@ -180,7 +186,8 @@ impl<R: Reader> Places<R> {
 
     /// Prints the place of an address.
     fn print_place<O: Write, E: Write>(&self, address: u64, output: &mut Output<'_, O, E>) {
-        let Some(found) = self.lookup.find(address) else {
+        let own = address.checked_sub(self.form.bias);
+        let Some(found) = own.and_then(|own| self.lookup.find(own)) else {
             return print_unknown(self.form, Some(address), output);
         };
         let Some(unit) = self.lookup.units().get(found.unit) else {
@@ -215,43 +222,52 @@ impl<R: Reader> Places<R> {
         path: Option<&[u8]>,
         output: &mut Output<'_, O, E>,
     ) {
-        match self.form {
-            Form::Json => print_json(address, found, path, output),
-            _ => {
-                let path = PathText(path.unwrap_or(b"??"));
-                let (line, column) = line_and_column(found);
-                output.print(format_args!("{path}:{line}:{column}"));
-            }
+        let path = path.map(|path| shown_path(path, self.form.paths));
+        if self.form.is_json {
+            return print_json(address, self.form.bias, found, path, output);
         }
+        let path = PathText(path.unwrap_or(b"??"));
+        let (line, column) = line_and_column(found);
+        output.print(format_args!("{path}:{line}:{column}"));
     }
 }
 
 /// Prints that there is no place.
 fn print_unknown<O: Write, E: Write>(
-    form: Form,
+    form: PlaceForm<'_>,
     address: Option<u64>,
     output: &mut Output<'_, O, E>,
 ) {
-    match (form, address) {
-        (Form::Json, Some(address)) => output.print(format_args!(
+    match (form.is_json, address) {
+        (true, Some(address)) => output.print(format_args!(
             "{{\"address\":\"0x{address:x}\",\"path\":null}}"
         )),
-        (Form::Json, None) => output.print("{\"address\":null,\"path\":null}"),
-        _ => output.print("??:0"),
+        (true, None) => output.print("{\"address\":null,\"path\":null}"),
+        (false, _) => output.print("??:0:0"),
     }
 }
 
-/// Prints the place of rows as a JSON object.
+/// What is printed of a path.
+fn shown_path<'p>(path: &'p [u8], form: PathForm<'_>) -> &'p [u8] {
+    match form {
+        PathForm::Whole => path,
+        PathForm::LastPart => last_part(path),
+        PathForm::From(directory) => relative_to(path, directory.as_bytes()),
+    }
+}
+
+/// Prints the place of rows as a JSON object. The range is moved by the bias, as the address is.
 fn print_json<O: Write, E: Write>(
     address: u64,
+    bias: u64,
     found: &CoveringRows,
     path: Option<&[u8]>,
     output: &mut Output<'_, O, E>,
 ) {
     let path = JsonPath(path);
     let (line, column) = line_and_column(found);
-    let start = found.row.address();
-    let end = found.next.address();
+    let start = found.row.address().saturating_add(bias);
+    let end = found.next.address().saturating_add(bias);
     let discriminator = found.row.discriminator();
     let flags = JsonFlags(found.row);
     output.print(format_args!(

@@ -1,10 +1,14 @@
 //! Where a command prints, and what came of it.
 
-ghost use Rattle.std.specs.Prelude.{◌≡◌, ◌≤◌, IfOk};
+ghost use Rattle.std.specs.Prelude.{◌≡◌, ◌≤◌, ◌↔◌, IfOk, true, false};
+ghost use Rattle.lines_commands.specs.Findings.{is_denied};
 
 use crate::finding::Finding;
 use crate::input_error::InputError;
+use crate::json_text::JsonOffset;
+use crate::kinds::{CheckChoice, FindingKind};
 use crate::report::Verdict;
+use crate::request::Form;
 use crate::row_count::RowCount;
 use crate::screen::{Screen, Style};
 use elf_sections::ElfError;
@@ -22,8 +26,10 @@ pub(crate) struct Output<'o, O, E> {
     out: &'o mut O,
     err: &'o mut E,
     verdict: Verdict,
-    /// How many things a check found.
-    found: u64,
+    /// What a check tells.
+    choice: CheckChoice,
+    /// How many findings of each kind there were.
+    counts: [u64; 12],
     /// Why nothing is printed any more.
     failure: io::Result<()>,
 }
@@ -42,7 +48,8 @@ impl<'o, O: Write, E: Write> Output<'o, O, E> {
             out,
             err,
             verdict: Verdict::Clean,
-            found: 0,
+            choice: CheckChoice::new(),
+            counts: [0; 12],
             failure: Ok(()),
         }
     }
@@ -52,9 +59,9 @@ impl<'o, O: Write, E: Write> Output<'o, O, E> {
         self.screen
     }
 
-    /// How many things a check found.
-    pub(crate) fn found(&self) -> u64 {
-        self.found
+    /// Begins a check, of which so much is told.
+    pub(crate) fn begin_check(&mut self, choice: CheckChoice) {
+        self.choice = choice;
     }
 
     /// Whether nothing is printed any more.
@@ -92,15 +99,79 @@ impl<'o, O: Write, E: Write> Output<'o, O, E> {
         self.print_heading(format_args!("unit at 0x{unit:x}, version {version}"));
     }
 
-    /// Prints what a check finds in the unit at an offset, and counts it.
+    /// Counts a finding of a kind, which makes the verdict faulty exactly where the kind is denied.
+    fn count(&mut self, kind: FindingKind)
+        ensures denied { is_denied self.old.choice.allowed.0 self.old.choice.denied.0 kind ≡ true
+            → self.new.verdict ≡ Verdict.Faulty }
+        ensures other { is_denied self.old.choice.allowed.0 self.old.choice.denied.0 kind ≡ false
+            → self.new.verdict ≡ self.old.verdict }
+    {
+        let number = kind.entry().0;
+        self.counts[number] = self.counts[number].saturating_add(1);
+        if self.choice.denies(kind) {
+            self.verdict = Verdict::Faulty;
+        }
+    }
+
+    /// Counts what a check finds in the unit at an offset, and prints it where it is told.
     pub(crate) fn print_finding(&mut self, unit: u64, finding: Finding) {
-        self.found = self.found.saturating_add(1);
-        let Style { begin, end } = self.screen.heading();
-        self.print(format_args!("{begin}unit at 0x{unit:x}:{end} {finding}"));
+        let kind = finding.kind();
+        self.count(kind);
+        if !self.choice.is_all && !self.choice.counts(kind) {
+            return;
+        }
+        let (_, name, severity) = kind.entry();
+        let severity = severity.name();
+        if self.choice.form == Form::Json {
+            let byte = JsonOffset(finding.byte(unit));
+            self.print(format_args!(
+                "{{\"unit\":\"0x{unit:x}\",\"severity\":\"{severity}\",\"kind\":\"{name}\",\
+                 \"byte\":{byte},\"message\":\"{finding}\"}}"
+            ));
+        } else {
+            let Style { begin, end } = self.screen.heading();
+            self.print(format_args!(
+                "{begin}unit at 0x{unit:x}:{end} {severity}: {finding} [{name}]"
+            ));
+        }
+    }
+
+    /// Prints how many findings of each kind there were in so many units, and how many of them
+    /// count.
+    pub(crate) fn print_counts(&mut self, units: u64) {
+        let choice = self.choice;
+        let counts = self.counts;
+        let is_json = choice.form == Form::Json;
+        let mut findings = 0u64;
+        for kind in FindingKind::ALL {
+            let (number, name, severity) = kind.entry();
+            let count = counts[number];
+            if count == 0 {
+                continue;
+            }
+            if choice.counts(kind) {
+                findings = findings.saturating_add(count);
+            }
+            let severity = severity.name();
+            if is_json {
+                self.print(format_args!(
+                    "{{\"severity\":\"{severity}\",\"kind\":\"{name}\",\"count\":{count}}}"
+                ));
+            } else {
+                self.print(format_args!("{name} ({severity}): {count}"));
+            }
+        }
+        if is_json {
+            self.print(format_args!("{{\"units\":{units},\"findings\":{findings}}}"));
+        } else {
+            self.print(format_args!("units: {units}, findings: {findings}"));
+        }
     }
 
     /// Hands on what was printed.
-    pub(crate) fn flush(&mut self) {
+    pub(crate) fn flush(&mut self)
+        ensures { self.new.verdict ≡ self.old.verdict }
+    {
         if self.failure.is_ok() {
             self.failure = self.out.flush();
         }
@@ -110,7 +181,19 @@ impl<'o, O: Write, E: Write> Output<'o, O, E> {
     pub(crate) fn tell(&mut self, sentence: impl fmt::Display + Drop)
         ensures { self.new.verdict ≡ Verdict.Faulty }
     {
+        self.note(sentence);
+        self.refuse();
+    }
+
+    /// Ends the command as one that was refused.
+    pub(crate) fn refuse(&mut self)
+        ensures { self.new.verdict ≡ Verdict.Faulty }
+    {
         self.verdict = Verdict::Faulty;
+    }
+
+    /// Says a sentence on the file on standard error, which is no fault of it.
+    pub(crate) fn note(&mut self, sentence: impl fmt::Display + Drop) {
         if self.failure.is_ok() {
             let name = self.name;
             let Style { begin, end } = self.screen.fault();
@@ -153,14 +236,16 @@ impl<'o, O: Write, E: Write> Output<'o, O, E> {
         }
     }
 
-    /// The status of the program: 0, or 1 where something was reported, or found by a check. Fails
-    /// as the command did.
+    /// The status of the program: 1 exactly where something was reported, or a check found what is
+    /// denied, else 0. Fails as the command did.
     pub(crate) fn finish(mut self) -> io::Result<u8>
-        ensures { IfOk result (λ status. status ≤ 1) }
+        ensures bound { IfOk result (λ status. status ≤ 1) }
+        ensures exact { IfOk result
+            (λ status. (status ≡ 1) ↔ (self.entry.verdict ≡ Verdict.Faulty)) }
     {
         self.flush();
         match self.failure {
-            Ok(()) => Ok(self.verdict.and(Verdict::of_findings(self.found)).status()),
+            Ok(()) => Ok(self.verdict.status()),
             Err(error) => Err(error),
         }
     }

@@ -1,5 +1,8 @@
 //! Paths as they are printed.
 
+ghost use Rattle.std.specs.Prelude.{◌≡◌};
+ghost use Rattle.gimli_lookup.specs.Paths.{is_separator};
+
 use std::fmt;
 
 /// A path as text. What could change a terminal stands as `\x` and two hexadecimal digits: a
@@ -55,19 +58,21 @@ pub(crate) fn last_part(path: &[u8]) -> &[u8] {
     }
 }
 
-/// Whether a path ends with whole parts that are another path.
-pub(crate) fn ends_with_parts(path: &[u8], end: &[u8]) -> bool {
-    let Some(before) = path.strip_suffix(end) else {
-        return false;
+/// What stands of a path after a directory, which is compared as it is written; the whole path
+/// where it isn't in the directory.
+pub(crate) fn relative_to<'p>(path: &'p [u8], directory: &[u8]) -> &'p [u8] {
+    let Some(rest) = path.strip_prefix(directory) else {
+        return path;
     };
-    match (before.last(), end.first()) {
-        (None, _) => true,
-        (Some(byte), Some(first)) => is_separator(*byte) || is_separator(*first),
-        (Some(_), None) => false,
+    match rest.iter().position(|byte| !is_separator(*byte)) {
+        Some(start) if start > 0 => rest.get(start..).unwrap_or(path),
+        _ => path,
     }
 }
 
 /// Whether a byte parts the components of a path: `/`, or as in Windows a backslash.
-fn is_separator(byte: u8) -> bool {
+pub(crate) fn is_separator(byte: u8) -> bool
+    ensures { result ≡ is_separator byte }
+{
     byte == b'/' || byte == b'\\'
 }

@@ -2,7 +2,7 @@
 
 use sha2::{Digest, Sha256};
 use std::alloc::{AllocError, Global};
-use std::collections::BTreeSet;
+use std::collections::BTreeMap;
 
 /// The digest of a path (SHA-256).
 pub(crate) type PathDigest = [u8; 32];
@@ -12,22 +12,53 @@ pub(crate) fn digest_of(path: &[u8]) -> PathDigest {
     Sha256::digest(path)
 }
 
-/// Paths that were seen.
+/// A file of a unit.
+#[derive(Clone, Copy)]
+pub(crate) struct SeenFile {
+    /// The index of the unit.
+    pub(crate) unit: usize,
+    /// The index of the file in the header of the unit.
+    pub(crate) index: u64,
+}
+
+/// The files of paths that were seen, in the order of the paths.
 #[derive(Drop)]
 pub(crate) struct PathsSeen {
-    digests: BTreeSet<PathDigest>,
+    /// The indices of the paths, by their digests.
+    indices: BTreeMap<PathDigest, usize>,
+    files: Vec<Vec<SeenFile>>,
 }
 
 impl PathsSeen {
     /// No path.
     pub(crate) fn new(alloc: Global) -> PathsSeen {
         PathsSeen {
-            digests: BTreeSet::new(alloc),
+            indices: BTreeMap::new(alloc),
+            files: Vec::new(alloc),
         }
     }
 
-    /// Adds the path of a digest, and says whether it wasn't seen before.
-    pub(crate) fn add(&mut self, digest: PathDigest) -> Result<bool, AllocError> {
-        Ok(self.digests.insert(digest)?)
+    /// Adds a file to those that have the path of a digest.
+    pub(crate) fn add(
+        &mut self,
+        alloc: Global,
+        digest: PathDigest,
+        file: SeenFile,
+    ) -> Result<(), AllocError> {
+        let known = self.indices.get(&digest).copied();
+        let index = known.unwrap_or(self.files.len());
+        if known.is_none() {
+            self.files.push(Vec::new(alloc))?;
+            self.indices.insert(digest, index)?;
+        }
+        if let Some(files) = self.files.get_mut(index) {
+            files.push(file)?;
+        }
+        Ok(())
+    }
+
+    /// The files of each path.
+    pub(crate) fn files(&self) -> &[Vec<SeenFile>] {
+        &self.files
     }
 }

@@ -74,6 +74,13 @@ pub fn run_on<I: BufRead, O: Write, E: Write>(
     output.finish()
 }
 
+impl Command<'_> {
+    /// Whether paths are printed: the texts and the sections of units are read for these alone.
+    pub fn prints_paths(&self) -> bool {
+        !matches!(self, Command::Units)
+    }
+}
+
 /// Does what a command asks for.
 fn perform<I: BufRead, O: Write, E: Write>(
     alloc: Global,
@@ -91,12 +98,12 @@ fn perform<I: BufRead, O: Write, E: Write>(
         Command::Where { addresses, form } => {
             print_places_in_sections(alloc, files, addresses, *form, input, output);
         }
-        Command::At { path, line } => print_addresses(alloc, sections, path, *line, output),
+        Command::At(line) => print_addresses(alloc, sections, *line, output),
         Command::Units => print_units(alloc, sections, output),
         Command::Files(units) => print_each(alloc, sections, *units, Listing::Files, output),
         Command::Rows { units, form } => {
             print_each(alloc, sections, *units, Listing::Rows(*form), output);
         }
-        Command::Check => print_check(alloc, sections, output),
+        Command::Check(choice) => print_check(alloc, sections, *choice, output),
     }
 }

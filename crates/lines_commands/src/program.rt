@@ -27,8 +27,6 @@ pub(crate) struct Program<'i> {
     strings: SectionBytes<'i>,
     /// The sections of units.
     units: UnitSections<'i>,
-    /// An address below which there is no code, 0 where none is known.
-    lowest: u64,
     /// Whether it is no object file.
     is_linked: bool,
 }
@@ -87,19 +85,13 @@ impl<'i> Program<'i> {
         files: Files<'i>,
     ) -> Result<Program<'i>, InputError> {
         let elf = source.elf;
-        let is_linked = !elf.is_relocatable();
         Ok(Program {
             notation: Notation::of_elf(&elf),
             lines,
             line_str: source.texts(b".debug_line_str", files.line_str)?,
             strings: source.texts(b".debug_str", files.strings)?,
             units: UnitSections::of_elf(source)?,
-            lowest: if is_linked {
-                elf.lowest_code_address().unwrap_or(0)
-            } else {
-                0
-            },
-            is_linked,
+            is_linked: !elf.is_relocatable(),
         })
     }
 
@@ -110,8 +102,7 @@ impl<'i> Program<'i> {
             lines: SectionBytes::Lent(files.file),
             line_str: SectionBytes::Lent(files.line_str),
             strings: SectionBytes::Lent(files.strings),
-            units: UnitSections::none(),
-            lowest: 0,
+            units: UnitSections::lent(files.units),
             is_linked: true,
         }
     }
@@ -128,7 +119,7 @@ impl<'i> Program<'i> {
             strings,
             compilations: self.units.readers(order, strings),
             address_size: self.notation.address_size,
-            lowest: self.lowest,
+            lowest: self.notation.lowest,
             is_linked: self.is_linked,
         }
     }

@@ -1,5 +1,7 @@
 //! What the command `where` is asked, one address after the other.
 
+ghost use Rattle.std.specs.Prelude.{◌≡◌, ◌↔◌, [], IsNone};
+
 use crate::numbers::parse_code_address;
 use crate::output::Output;
 use crate::request::CodeAddress;
@@ -13,10 +15,35 @@ pub(crate) enum Asked<'a> {
     Address(CodeAddress<'a>),
     /// That of a word that is no address.
     Unknown(&'a [u8]),
+    /// Nothing, by a line of blanks alone.
+    Nothing,
 }
 
-/// The addresses that are named, or where none is, those that a reader has, one a line. Lines of
-/// blanks alone are passed over.
+/// What a line asks, with its line feed. None for no line alone, at the end.
+fn asked_by(line: &[u8]) -> Option<Asked<'_>>
+    ensures { IsNone result ↔ (line.now ≡ []) }
+{
+    if line.is_empty() {
+        return None;
+    }
+    Some(asked_by_word(line.trim_ascii()))
+}
+
+/// What a word asks.
+fn asked_by_word(word: &[u8]) -> Asked<'_> {
+    if word.is_empty() {
+        return Asked::Nothing;
+    }
+    let Ok(text) = str::from_utf8(word) else {
+        return Asked::Unknown(word);
+    };
+    match parse_code_address(text) {
+        Some(address) => Asked::Address(address),
+        None => Asked::Unknown(word),
+    }
+}
+
+/// The addresses that are named, or where none is, those that a reader has, one a line.
 #[derive(Drop)]
 pub(crate) struct Questions<'q, I> {
     alloc: Global,
@@ -51,17 +78,7 @@ impl<'q, I: BufRead> Questions<'q, I> {
         if let Some(address) = self.named.first() {
             return Some(Asked::Address(*address));
         }
-        let word = self.line.trim_ascii();
-        if word.is_empty() {
-            return None;
-        }
-        let Ok(text) = str::from_utf8(word) else {
-            return Some(Asked::Unknown(word));
-        };
-        match parse_code_address(text) {
-            Some(address) => Some(Asked::Address(address)),
-            None => Some(Asked::Unknown(word)),
-        }
+        asked_by(&self.line)
     }
 
     /// The name of the section that is asked for now; None where none is.
@@ -86,22 +103,16 @@ impl<'q, I: BufRead> Questions<'q, I> {
         }
     }
 
-    /// Reads the next line that isn't blank, where lines are read.
+    /// Reads the next line, where lines are read.
     fn read<O: Write, E: Write>(&mut self, output: &mut Output<'_, O, E>) {
         self.line.clear();
-        let Some(lines) = &mut self.lines else {
+        if output.has_failed() {
             return;
-        };
-        for _ in 0..u64::MAX {
-            self.line.clear();
-            if output.has_failed() {
-                break;
-            }
-            match lines.read_until(b'\n', &mut self.line) {
-                Ok(0) => break,
-                Ok(_) if self.line.trim_ascii().is_empty() => {}
-                Ok(_) => break,
-                Err(error) => output.fail(error),
+        }
+        if let Some(lines) = &mut self.lines {
+            if let Err(error) = lines.read_until(b'\n', &mut self.line) {
+                self.line.clear();
+                output.fail(error);
             }
         }
     }

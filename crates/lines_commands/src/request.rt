@@ -3,6 +3,7 @@
 ghost use Rattle.std.specs.Prelude.{◌≡◌, ◌⊎◌, ◌↔◌, IsTrue};
 
 use crate::input::Kind;
+use crate::kinds::CheckChoice;
 
 /// What the words ask for: a command over a file.
 #[derive(Drop)]
@@ -25,13 +26,10 @@ pub enum Command<'w> {
     /// The places in the source of addresses; of those of standard input where none is named.
     Where {
         addresses: Vec<CodeAddress<'w>>,
-        form: Form,
+        form: PlaceForm<'w>,
     },
-    /// The addresses of a line of the files whose path ends so.
-    At {
-        path: &'w str,
-        line: u64,
-    },
+    /// The addresses of a line.
+    At(CodeLine<'w>),
     /// A line for each unit.
     Units,
     /// The directories and files of units.
@@ -41,8 +39,8 @@ pub enum Command<'w> {
         units: UnitChoice,
         form: Form,
     },
-    /// Each fault and each odd thing.
-    Check,
+    /// What is wrong, lost, odd or usual.
+    Check(CheckChoice),
 }
 
 /// Where code stands.
@@ -54,7 +52,40 @@ pub enum CodeAddress<'w> {
     InSection { section: &'w str, offset: u64 },
 }
 
-/// How places and rows are printed.
+/// A line of the files whose whole path ends with the components of another.
+#[derive(Clone, Copy, Debug, PartialEq, Eq)]
+pub struct CodeLine<'w> {
+    /// The end of the paths.
+    pub path: &'w str,
+    /// The line.
+    pub line: u64,
+    /// Whether columns are printed.
+    pub has_column: bool,
+}
+
+/// How places are printed.
+#[derive(Clone, Copy, Debug, PartialEq, Eq)]
+pub struct PlaceForm<'w> {
+    /// Whether each is a JSON object.
+    pub is_json: bool,
+    /// How much of a path is printed.
+    pub paths: PathForm<'w>,
+    /// What is subtracted from each address.
+    pub bias: u64,
+}
+
+/// How much of a path is printed.
+#[derive(Clone, Copy, Debug, PartialEq, Eq)]
+pub enum PathForm<'w> {
+    /// The whole path.
+    Whole,
+    /// The last component.
+    LastPart,
+    /// What stands after a directory, where the file is in it.
+    From(&'w str),
+}
+
+/// How rows are printed.
 #[derive(Clone, Copy, Debug, PartialEq, Eq)]
 pub enum Form {
     /// For people, with the last part of each path in rows.

@@ -2,6 +2,7 @@
 
 ghost use Rattle.std.specs.Prelude.{◌≡◌};
 
+use crate::input::UnitFiles;
 use crate::section_source::SectionSource;
 use elf_sections::{ElfError, SectionBytes};
 use gimli_compilation::CompilationSections;
@@ -21,12 +22,12 @@ pub(crate) struct UnitSections<'i> {
 }
 
 impl<'i> UnitSections<'i> {
-    /// No sections: no unit says where it was compiled.
-    pub(crate) fn none() -> UnitSections<'i> {
+    /// Those of these bytes.
+    pub(crate) fn lent(files: UnitFiles<'i>) -> UnitSections<'i> {
         UnitSections {
-            info: SectionBytes::Lent(&[]),
-            abbreviations: SectionBytes::Lent(&[]),
-            string_offsets: SectionBytes::Lent(&[]),
+            info: SectionBytes::Lent(files.info),
+            abbreviations: SectionBytes::Lent(files.abbreviations),
+            string_offsets: SectionBytes::Lent(files.string_offsets),
         }
     }
 

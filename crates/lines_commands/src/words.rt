@@ -5,13 +5,16 @@
 
 ghost use Rattle.std.specs.Prelude.{◌≡◌, ℕ, List, IfOk, IsOk, Some, codes};
 ghost use Rattle.clap.specs.Words.{first_value, found_of};
-ghost use Rattle.lines_commands.specs.Words.{NamesOffset, NamesTarget};
-ghost use Rattle.lines_commands.specs.Choice.{ChoosesUnits};
+ghost use Rattle.lines_commands.specs.Words.{NamesAddress, NamesOffset, NamesTarget};
+ghost use Rattle.lines_commands.specs.Choice.{ChoosesUnits, NamesBias};
 
-use crate::grammar::program;
+use crate::grammar::{command, program};
 use crate::input::{Kind, Notation};
-use crate::numbers::{parse_code_address, parse_offset, parse_target};
-use crate::request::{CodeAddress, Command, Form, Request, UnitChoice};
+use crate::kinds::{CheckChoice, KindSet};
+use crate::numbers::{parse_address, parse_code_address, parse_offset, parse_target};
+use crate::request::{
+    CodeAddress, CodeLine, Command, Form, PathForm, PlaceForm, Request, UnitChoice,
+};
 use clap::error::ErrorKind;
 use clap::{ArgMatches, Error};
 use rows_reading::{AddressSize, parse_order, parse_size};
@@ -26,7 +29,8 @@ pub fn parse<'w>(alloc: Global, words: &'w [&'w str]) -> Result<Request<'w>, Err
         Err(Mistake::Memory) => return Err(Error::from(AllocError)),
         Err(Mistake::Word(word, wanted)) => format!(in alloc; "'{word}' is not {wanted}")?,
     };
-    Err(grammar.error(ErrorKind::ValueValidation, &mistake)?)
+    let mut command = command(alloc, matches.subcommand_name().unwrap_or(""))?;
+    Err(command.error(ErrorKind::ValueValidation, &mistake)?)
 }
 
 /// Why words that the grammar takes ask for nothing.
@@ -70,6 +74,7 @@ fn kind_of<'w>(matches: &ArgMatches<'w>) -> Result<Kind, Mistake<'w>> {
     Ok(Kind::Raw(Notation {
         order,
         address_size,
+        lowest: 0,
     }))
 }
 
@@ -93,11 +98,15 @@ fn command_of<'w>(
     match name {
         "where" => Ok(Command::Where {
             addresses: addresses_of(alloc, matches)?,
-            form: form_of(matches),
+            form: place_form_of(matches)?,
         }),
         "at" => {
             let (path, line) = target_of(matches)?;
-            Ok(Command::At { path, line })
+            Ok(Command::At(CodeLine {
+                path,
+                line,
+                has_column: matches.get_flag("columns"),
+            }))
         }
         "units" => Ok(Command::Units),
         "files" => Ok(Command::Files(units_of(matches)?)),
@@ -105,7 +114,12 @@ fn command_of<'w>(
             units: units_of(matches)?,
             form: form_of(matches),
         }),
-        "check" => Ok(Command::Check),
+        "check" => Ok(Command::Check(CheckChoice {
+            denied: kinds_of(matches, "deny")?,
+            allowed: kinds_of(matches, "allow")?,
+            is_all: matches.get_flag("all"),
+            form: form_of(matches),
+        })),
         _ => Err(Mistake::Word(name, "a command")),
     }
 }
@@ -128,6 +142,17 @@ fn addresses_of<'w>(
         }
     }
     Ok(addresses)
+}
+
+/// The kinds of findings that the words of an option name.
+fn kinds_of<'w>(matches: &ArgMatches<'w>, option: &str) -> Result<KindSet, Mistake<'w>> {
+    let mut kinds = KindSet::new();
+    for word in matches.get_strs(option).unwrap_or(&[]) {
+        if !kinds.add(word) {
+            return Err(Mistake::Word(word, "a kind of findings, or fault, lost, odd or usual"));
+        }
+    }
+    Ok(kinds)
 }
 
 /// The line of a path that is named.
@@ -162,6 +187,39 @@ fn units_of<'w>(matches: &ArgMatches<'w>) -> Result<UnitChoice, Mistake<'w>>
     match parse_offset(word) {
         Some(offset) => Ok(UnitChoice::At(offset)),
         None => Err(Mistake::Word(word, "an offset, decimal or hexadecimal after 0x")),
+    }
+}
+
+/// How places are printed.
+fn place_form_of<'w>(matches: &ArgMatches<'w>) -> Result<PlaceForm<'w>, Mistake<'w>> {
+    let paths = match matches.get_str("relative-to") {
+        Some(directory) => PathForm::From(directory.trim_end_matches('/')),
+        None if matches.get_flag("basenames") => PathForm::LastPart,
+        None => PathForm::Whole,
+    };
+    Ok(PlaceForm {
+        is_json: matches.get_flag("json"),
+        paths,
+        bias: bias_of(matches)?,
+    })
+}
+
+/// What is subtracted from each address, 0 where nothing is named.
+fn bias_of<'w>(matches: &ArgMatches<'w>) -> Result<u64, Mistake<'w>>
+    ensures named { IfOk result (NamesBias (first_value (found_of matches.now) (codes "bias"))) }
+    ensures found { (word : List ℕ) (address : ℕ)
+        → first_value (found_of matches.now) (codes "bias") ≡ Some word
+        → NamesAddress word address → IsOk result }
+{
+    let Some(word) = matches.get_str("bias") else {
+        return Ok(0);
+    };
+    match parse_address(word) {
+        Some(bias) => Ok(bias),
+        None => Err(Mistake::Word(
+            word,
+            "an address, up to 16 hexadecimal digits with or without 0x",
+        )),
     }
 }
 

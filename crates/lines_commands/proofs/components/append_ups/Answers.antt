@@ -1,0 +1,12 @@
+use Rattle.std.proofs.Common.{◌-◌, ◌+◌, ◌++◌, ap, ◌∙◌}
+use Rattle.lines_commands.specs.KeptComponents.{kept}
+use Rattle.lines_commands.proofs.ComponentTexts.{dots, one_up, all_ups}
+use Rattle.lines_commands.proofs.components.append_ups.Goals as goal
+
+pub loop-preserved : goal.loop-preserved
+loop-preserved c =
+    ap (λ text. text ++ kept (dots (c.args.ups - (c.loop.counter + 1)))) c.in_ok-extend_from_slice.ensures.items
+    ∙ one_up c.loop.text.items c.args.ups c.loop.counter c.loop-test.true ∙ c.loop.invariant
+
+pub returns : goal.returns
+returns c = all_ups c.loop.text.items c.args.text.now.items c.args.ups c.loop.counter c.loop-test.false c.loop.invariant

@@ -1,0 +1,13 @@
+use Rattle.std.proofs.Common.{◌≡◌, ◌+◌, ◌<◌, ◌^◌, ◌++◌, map, vec_len}
+use Rattle.lines_commands.specs.Components.{resolved, start_of, components}
+use Rattle.lines_commands.specs.KeptComponents.{kept, up_by}
+use Rattle.lines_commands.proofs.components.components_of.Given as goal
+
+abbrev pub invariant-components : goal.invariant-components
+invariant-components l = record {
+  few : l.ups + vec_len l.written < 2 ^ 64;
+  text : l.text.items ++ kept (up_by l.ups (resolved (start_of l.path) (map (λ c. c.now) l.written.items))) ≡ kept (components l.path);
+}
+
+abbrev pub decreases-components : goal.decreases-components
+decreases-components l = vec_len l.written
