@@ -1,7 +1,7 @@
 //! What the program does, over its words, a reader in place of the file, and writers in place of standard
 //! output and standard error.
 
-ghost use Rattle.std.specs.Prelude.{◌≡◌, ◌≢◌, ◌≤◌, Err, IfErr, IsNone, map};
+ghost use Rattle.std.specs.Prelude.{◌≡◌, ◌≤◌, Err, IsNone, map};
 ghost use Rattle.linetool_commands.specs.Words.{IsCommand, ReadsFile};
 
 use crate::count::count_rows;
@@ -18,6 +18,9 @@ use rows_reading::{SequenceLine, UnitLocation};
 use std::alloc::Global;
 use std::io::{Read, Write};
 
+/// The status where the words are no command.
+const USAGE: u8 = 2;
+
 /// Does what the words after the program's name ask for, and returns the status of the program. `file` is the
 /// opened file that the second word names, where there is one.
 pub fn run<F: Read + Drop, O: Write, E: Write>(
@@ -32,27 +35,27 @@ pub fn run<F: Read + Drop, O: Write, E: Write>(
     ensures no_file { (command : Command) → IsCommand (map (λ word. word.now) words.now) command
         → ReadsFile command → IsNone file → result ≡ 1 }
 {
-    match perform(alloc, words, file, out) {
+    let Some(command) = Command::parse(words) else {
+        // Where standard error can't be written to, the status still says it.
+        let _ = err.write_all(b"usage\n");
+        return USAGE;
+    };
+    match perform(alloc, command, file, out) {
         Ok(()) => 0,
         Err(refusal) => refusal.report(err),
     }
 }
 
-/// Does what the words ask for.
+/// Does what a command asks for.
 fn perform<F: Read + Drop, O: Write>(
     alloc: Global,
-    words: &[&str],
+    command: Command,
     file: Option<F>,
     out: &mut O,
 ) -> Result<(), Refusal>
-    ensures usage { ((command : Command) → IsCommand (map (λ word. word.now) words.now) command → ⊥)
-        → result ≡ Err Refusal.Usage }
-    ensures command { (command : Command) → IsCommand (map (λ word. word.now) words.now) command
-        → result ≢ Err Refusal.Usage }
-    ensures no_file { (command : Command) → IsCommand (map (λ word. word.now) words.now) command
-        → ReadsFile command → IsNone file → result ≡ Err Refusal.File }
+    ensures no_file { ReadsFile command → IsNone file → result ≡ Err Refusal.File }
 {
-    match Command::parse(words).ok_or(Refusal::Usage)? {
+    match command {
         Command::Demo => print_demo(alloc, out),
         Command::DemoPieces => print_demo_pieces(alloc, out),
         Command::Rows(location) => print_unit(alloc, file, location, Part::Rows, out),
@@ -84,7 +87,6 @@ fn print_unit<F: Read + Drop, O: Write>(
     out: &mut O,
 ) -> Result<(), Refusal>
     ensures no_file { IsNone file → result ≡ Err Refusal.File }
-    ensures refusal { IfErr result (λ r. r ≢ Refusal.Usage) }
 {
     let section = read_section(alloc, file)?;
     print_unit_of(alloc, &section, location, part, out)
@@ -97,9 +99,7 @@ fn print_unit_of<O: Write>(
     location: UnitLocation,
     part: Part,
     out: &mut O,
-) -> Result<(), Refusal>
-    ensures refusal { IfErr result (λ r. r ≢ Refusal.Usage) }
-{
+) -> Result<(), Refusal> {
     print_part(program_at(alloc, section, location)?, part, out)
 }
 
@@ -108,9 +108,7 @@ fn print_part<R: Reader, O: Write>(
     program: IncompleteLineProgram<R>,
     part: Part,
     out: &mut O,
-) -> Result<(), Refusal>
-    ensures refusal { IfErr result (λ r. r ≢ Refusal.Usage) }
-{
+) -> Result<(), Refusal> {
     let outcome = print_lines(program, part, out);
     finish(outcome, out)
 }
@@ -120,9 +118,7 @@ fn print_lines<R: Reader, O: Write>(
     program: IncompleteLineProgram<R>,
     part: Part,
     out: &mut O,
-) -> Result<(), Refusal>
-    ensures refusal { IfErr result (λ r. r ≢ Refusal.Usage) }
-{
+) -> Result<(), Refusal> {
     match part {
         Part::Rows => print_program(program, out),
         Part::Sequences => print_sequences(program, out),
@@ -134,9 +130,7 @@ fn print_lines<R: Reader, O: Write>(
 fn print_sequences<R: Reader, O: Write>(
     program: IncompleteLineProgram<R>,
     out: &mut O,
-) -> Result<(), Refusal>
-    ensures refusal { IfErr result (λ r. r ≢ Refusal.Usage) }
-{
+) -> Result<(), Refusal> {
     match program.sequences() {
         Ok((program, sequences)) => print_each(&program, &sequences, out),
         Err(e) => Err(Refusal::of_unit(e, Refusal::Rows)),
@@ -148,9 +142,7 @@ fn print_each<R: Reader, O: Write>(
     program: &CompleteLineProgram<R>,
     sequences: &[LineSequence<R>],
     out: &mut O,
-) -> Result<(), Refusal>
-    ensures refusal { IfErr result (λ r. r ≢ Refusal.Usage) }
-{
+) -> Result<(), Refusal> {
     for sequence in sequences {
         let line = SequenceLine {
             start: sequence.start,

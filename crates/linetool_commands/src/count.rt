@@ -1,7 +1,5 @@
 //! The number of rows of a program or of a sequence.
 
-ghost use Rattle.std.specs.Prelude.{◌≢◌, IfErr};
-
 use crate::refusal::Refusal;
 use gimli_core::Reader;
 use gimli_line::{LineProgram, LineRows};
@@ -9,9 +7,7 @@ use gimli_line::{LineProgram, LineRows};
 /// Counts the rows that are still to come, ends among them. Refused by the first fault, as what rows are read for.
 pub(crate) fn count_rows<R: Reader, P: LineProgram<R> + Drop>(
     rows: LineRows<R, P>,
-) -> Result<u64, Refusal>
-    ensures refusal { IfErr result (λ r. r ≢ Refusal.Usage) }
-{
+) -> Result<u64, Refusal> {
     let mut rows = rows;
     for count in 0..u64::MAX {
         match rows.next_row() {

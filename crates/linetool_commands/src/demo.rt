@@ -1,6 +1,6 @@
 //! A unit that is built, written, and read again.
 
-ghost use Rattle.std.specs.Prelude.{◌≡◌, ◌≢◌, [], OnOk, IfErr, IfOk};
+ghost use Rattle.std.specs.Prelude.{◌≡◌, [], OnOk, IfErr, IfOk};
 ghost use Rattle.gimli_write.specs.StringTables.{no_texts};
 ghost use Rattle.gimli_write.specs.Conditions.{CanWrite};
 ghost use Rattle.linetool_commands.specs.Demo.{IsAtStart};
@@ -26,9 +26,7 @@ const LOCATION: UnitLocation = UnitLocation {
 };
 
 /// Prints the bytes of the unit, and what is read of it.
-pub fn print_demo<O: Write>(alloc: Global, out: &mut O) -> Result<(), Refusal>
-    ensures refusal { IfErr result (λ r. r ≢ Refusal.Usage) }
-{
+pub fn print_demo<O: Write>(alloc: Global, out: &mut O) -> Result<(), Refusal> {
     let mut section = DebugLine::from(EndianVec::new(alloc, LittleEndian));
     write_demo(alloc, &mut section)?;
     let outcome = print_written(alloc, section.0.slice(), out);
@@ -36,9 +34,7 @@ pub fn print_demo<O: Write>(alloc: Global, out: &mut O) -> Result<(), Refusal>
 }
 
 /// Prints the pieces of the unit, sixteen bytes each but the last, and what is read of their bytes.
-pub fn print_demo_pieces<O: Write>(alloc: Global, out: &mut O) -> Result<(), Refusal>
-    ensures refusal { IfErr result (λ r. r ≢ Refusal.Usage) }
-{
+pub fn print_demo_pieces<O: Write>(alloc: Global, out: &mut O) -> Result<(), Refusal> {
     let mut section = DebugLine::from(PieceVec::<_, 16>::new(alloc, LittleEndian));
     write_demo(alloc, &mut section)?;
     let outcome = print_pieces(alloc, section.0, out);
@@ -46,9 +42,7 @@ pub fn print_demo_pieces<O: Write>(alloc: Global, out: &mut O) -> Result<(), Ref
 }
 
 /// Writes the unit into a section.
-fn write_demo<W: Writer>(alloc: Global, section: &mut DebugLine<W>) -> Result<(), Refusal>
-    ensures refusal { IfErr result (λ r. r ≢ Refusal.Usage) }
-{
+fn write_demo<W: Writer>(alloc: Global, section: &mut DebugLine<W>) -> Result<(), Refusal> {
     match demo_program(alloc) {
         Ok(program) => write_program(alloc, &program, section),
         Err(_) => Err(Refusal::Memory),
@@ -62,7 +56,6 @@ fn write_program<W: Writer>(
     section: &mut DebugLine<W>,
 ) -> Result<(), Refusal>
     requires { CanWrite program.now no_texts }
-    ensures refusal { IfErr result (λ r. r ≢ Refusal.Usage) }
 {
     let mut strings = StringTable::default(alloc);
     let mut line_strings = LineStringTable::default(alloc);
@@ -75,9 +68,7 @@ fn write_program<W: Writer>(
 }
 
 /// Prints the bytes of the unit, and its rows. Nothing is printed where the unit is refused.
-fn print_written<O: Write>(alloc: Global, bytes: &[u8], out: &mut O) -> Result<(), Refusal>
-    ensures refusal { IfErr result (λ r. r ≢ Refusal.Usage) }
-{
+fn print_written<O: Write>(alloc: Global, bytes: &[u8], out: &mut O) -> Result<(), Refusal> {
     print_unit(program_at(alloc, bytes, LOCATION)?, bytes, out)
 }
 
@@ -86,9 +77,7 @@ fn print_unit<R: Reader, O: Write>(
     program: IncompleteLineProgram<R>,
     bytes: &[u8],
     out: &mut O,
-) -> Result<(), Refusal>
-    ensures refusal { IfErr result (λ r. r ≢ Refusal.Usage) }
-{
+) -> Result<(), Refusal> {
     match print_bytes(bytes, out) {
         Ok(()) => print_program(program, out),
         Err(_) => Err(Refusal::Output),
@@ -100,9 +89,7 @@ fn print_pieces<E: Endianity, const N: usize, O: Write>(
     alloc: Global,
     section: PieceVec<E, N>,
     out: &mut O,
-) -> Result<(), Refusal>
-    ensures refusal { IfErr result (λ r. r ≢ Refusal.Usage) }
-{
+) -> Result<(), Refusal> {
     print_each_piece(&section, out)?;
     match section.into_vec() {
         Ok(bytes) => print_rows_of(alloc, bytes.as_slice(), out),
@@ -114,9 +101,7 @@ fn print_pieces<E: Endianity, const N: usize, O: Write>(
 fn print_each_piece<E: Endianity, const N: usize, O: Write>(
     section: &PieceVec<E, N>,
     out: &mut O,
-) -> Result<(), Refusal>
-    ensures refusal { IfErr result (λ r. r ≢ Refusal.Usage) }
-{
+) -> Result<(), Refusal> {
     for piece in section.pieces() {
         if print_bytes(piece, out).is_err() {
             return Err(Refusal::Output);
@@ -126,9 +111,7 @@ fn print_each_piece<E: Endianity, const N: usize, O: Write>(
 }
 
 /// Prints the rows of the unit whose bytes these are.
-fn print_rows_of<O: Write>(alloc: Global, bytes: &[u8], out: &mut O) -> Result<(), Refusal>
-    ensures refusal { IfErr result (λ r. r ≢ Refusal.Usage) }
-{
+fn print_rows_of<O: Write>(alloc: Global, bytes: &[u8], out: &mut O) -> Result<(), Refusal> {
     print_program(program_at(alloc, bytes, LOCATION)?, out)
 }
 

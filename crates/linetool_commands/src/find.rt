@@ -1,7 +1,5 @@
 //! The rows that cover an address.
 
-ghost use Rattle.std.specs.Prelude.{◌≢◌, IfErr};
-
 use crate::print::{print_line, print_row};
 use crate::refusal::Refusal;
 use gimli_core::Reader;
@@ -15,9 +13,7 @@ pub(crate) fn print_pair<R: Reader, O: Write>(
     program: IncompleteLineProgram<R>,
     address: u64,
     out: &mut O,
-) -> Result<(), Refusal>
-    ensures refusal { IfErr result (λ r. r ≢ Refusal.Usage) }
-{
+) -> Result<(), Refusal> {
     match find_in_run(program, address) {
         Ok(Some((first, second))) => print_both(first, second, out),
         Ok(None) => print_line("none", out),
@@ -26,9 +22,7 @@ pub(crate) fn print_pair<R: Reader, O: Write>(
 }
 
 /// Prints two rows.
-fn print_both<O: Write>(first: LineRow, second: LineRow, out: &mut O) -> Result<(), Refusal>
-    ensures refusal { IfErr result (λ r. r ≢ Refusal.Usage) }
-{
+fn print_both<O: Write>(first: LineRow, second: LineRow, out: &mut O) -> Result<(), Refusal> {
     print_row(first, out)?;
     print_row(second, out)
 }

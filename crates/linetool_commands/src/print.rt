@@ -1,6 +1,6 @@
 //! Lines of text.
 
-ghost use Rattle.std.specs.Prelude.{◌≡◌, ◌≢◌, IfErr};
+ghost use Rattle.std.specs.Prelude.{◌≡◌, IfErr};
 
 use crate::refusal::Refusal;
 use gimli_core::Reader;
@@ -13,9 +13,7 @@ use std::io::Write;
 pub(crate) fn print_program<R: Reader, O: Write>(
     program: IncompleteLineProgram<R>,
     out: &mut O,
-) -> Result<(), Refusal>
-    ensures refusal { IfErr result (λ r. r ≢ Refusal.Usage) }
-{
+) -> Result<(), Refusal> {
     print_rows(program.rows(), out)
 }
 
@@ -23,9 +21,7 @@ pub(crate) fn print_program<R: Reader, O: Write>(
 pub(crate) fn print_rows<R: Reader, P: LineProgram<R> + Drop, O: Write>(
     rows: LineRows<R, P>,
     out: &mut O,
-) -> Result<(), Refusal>
-    ensures refusal { IfErr result (λ r. r ≢ Refusal.Usage) }
-{
+) -> Result<(), Refusal> {
     let mut rows = rows;
     'rows: loop {
         let row = match rows.next_row() {
@@ -68,10 +64,7 @@ pub(crate) fn write_line<O: Write>(bytes: &[u8], out: &mut O) -> Result<(), Refu
 }
 
 /// What became of a command whose output is complete.
-pub(crate) fn finish<O: Write>(outcome: Result<(), Refusal>, out: &mut O) -> Result<(), Refusal>
-    requires { IfErr outcome (λ r. r ≢ Refusal.Usage) }
-    ensures refusal { IfErr result (λ r. r ≢ Refusal.Usage) }
-{
+pub(crate) fn finish<O: Write>(outcome: Result<(), Refusal>, out: &mut O) -> Result<(), Refusal> {
     match out.flush() {
         Ok(()) => outcome,
         Err(_) => Err(Refusal::Output),

@@ -7,11 +7,12 @@ use gimli_core::Error;
 use std::io;
 use std::io::{ErrorKind, Write};
 
+/// The status where a command is refused.
+const REFUSED: u8 = 1;
+
 /// Why a command ends before its end.
 #[derive(Clone, Copy, Debug, PartialEq, Eq)]
 pub enum Refusal {
-    /// The words are no command.
-    Usage,
     /// The file can't be read.
     File,
     /// A fault in the header of the unit.
@@ -40,7 +41,6 @@ impl Refusal {
     pub fn of_unit(error: Error, fault: Refusal) -> Refusal
         ensures memory { error ≡ Error.OutOfMemory → result ≡ Refusal.Memory }
         ensures fault { error ≢ Error.OutOfMemory → result ≡ fault }
-        ensures usage { fault ≢ Refusal.Usage → result ≢ Refusal.Usage }
     {
         match error {
             Error::OutOfMemory => Refusal::Memory,
@@ -51,21 +51,16 @@ impl Refusal {
     /// Says on standard error why the command ends, and returns the status of the program. Nothing is said where
     /// standard output takes no more.
     pub fn report<E: Write>(self, err: &mut E) -> u8
-        ensures usage { self ≡ Refusal.Usage → result ≡ 2 }
-        ensures refused { self ≢ Refusal.Usage → result ≡ 1 }
+        ensures { result ≡ 1 }
     {
         // Where standard error can't be written to, the status still says it.
         let _ = err.write_all(self.text().as_bytes());
-        match self {
-            Refusal::Usage => 2,
-            _ => 1,
-        }
+        REFUSED
     }
 
     /// The line on standard error.
     fn text(self) -> &'static str {
         match self {
-            Refusal::Usage => "usage\n",
             Refusal::File => "refused: file\n",
             Refusal::Header => "refused: header\n",
             Refusal::Rows => "refused: rows\n",

@@ -1,6 +1,6 @@
 //! The section that a command reads, and the programs of its units.
 
-ghost use Rattle.std.specs.Prelude.{◌≡◌, ◌≢◌, Err, IfErr, IsNone};
+ghost use Rattle.std.specs.Prelude.{◌≡◌, Err, IsNone};
 
 use crate::refusal::Refusal;
 use gimli_core::{DebugLineOffset, EndianSlice, Reader, RunTimeEndian};
@@ -15,7 +15,6 @@ pub(crate) fn read_section<F: Read + Drop>(
     file: Option<F>,
 ) -> Result<Vec<u8>, Refusal>
     ensures no_file { IsNone file → result ≡ Err Refusal.File }
-    ensures refusal { IfErr result (λ r. r ≢ Refusal.Usage) }
 {
     let mut section = Vec::new(alloc);
     match file.ok_or(Refusal::File)?.read_to_end(&mut section) {
@@ -29,9 +28,7 @@ pub(crate) fn program_at<'i>(
     alloc: Global,
     section: &'i [u8],
     location: UnitLocation,
-) -> Result<IncompleteLineProgram<EndianSlice<'i, RunTimeEndian>>, Refusal>
-    ensures refusal { IfErr result (λ r. r ≢ Refusal.Usage) }
-{
+) -> Result<IncompleteLineProgram<EndianSlice<'i, RunTimeEndian>>, Refusal> {
     let section = DebugLine::new(section, location.order);
     let offset = DebugLineOffset(location.offset);
     program_of(alloc, &section, offset, location.address_size)
@@ -43,9 +40,7 @@ fn program_of<R: Reader>(
     section: &DebugLine<R>,
     offset: DebugLineOffset<R::Offset>,
     address_size: AddressSize,
-) -> Result<IncompleteLineProgram<R>, Refusal>
-    ensures refusal { IfErr result (λ r. r ≢ Refusal.Usage) }
-{
+) -> Result<IncompleteLineProgram<R>, Refusal> {
     section
         .program(alloc, offset, address_size.bytes(), None, None)
         .map_err(|e| Refusal::of_unit(e, Refusal::Header))

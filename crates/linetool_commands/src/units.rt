@@ -1,6 +1,6 @@
 //! The units of a section, one after the other.
 
-ghost use Rattle.std.specs.Prelude.{◌≡◌, ◌≢◌, ◌≤◌, ◌++◌, Err, IfErr, IsNone, codes, length};
+ghost use Rattle.std.specs.Prelude.{◌≡◌, ◌≤◌, ◌++◌, Err, IfErr, IsNone, codes, length};
 ghost use Rattle.std.specs.Fmt.{decimal};
 
 use crate::count::count_rows;
@@ -57,7 +57,6 @@ pub(crate) fn print_units<F: Read + Drop, O: Write>(
     out: &mut O,
 ) -> Result<(), Refusal>
     ensures no_file { IsNone file → result ≡ Err Refusal.File }
-    ensures refusal { IfErr result (λ r. r ≢ Refusal.Usage) }
 {
     let section = read_section(alloc, file)?;
     print_units_of(alloc, &section, numbers, out)
@@ -69,9 +68,7 @@ fn print_units_of<O: Write>(
     section: &[u8],
     numbers: Numbers,
     out: &mut O,
-) -> Result<(), Refusal>
-    ensures refusal { IfErr result (λ r. r ≢ Refusal.Usage) }
-{
+) -> Result<(), Refusal> {
     let section = DebugLine::new(section, numbers.order);
     let units = section.units(alloc, numbers.address_size.bytes());
     let outcome = print_each(units, out);
@@ -79,9 +76,7 @@ fn print_units_of<O: Write>(
 }
 
 /// The same of units of any reader, without what stands in the writer's own memory.
-fn print_each<R: Reader, O: Write>(units: LineUnits<R>, out: &mut O) -> Result<(), Refusal>
-    ensures refusal { IfErr result (λ r. r ≢ Refusal.Usage) }
-{
+fn print_each<R: Reader, O: Write>(units: LineUnits<R>, out: &mut O) -> Result<(), Refusal> {
     let mut units = units;
     'units: loop {
         match units.next() {
@@ -93,9 +88,7 @@ fn print_each<R: Reader, O: Write>(units: LineUnits<R>, out: &mut O) -> Result<(
 }
 
 /// The line of a unit that can be read, and whose rows can.
-fn unit_line<R: Reader>(unit: LineUnit<R>) -> Result<UnitLine, Refusal>
-    ensures refusal { IfErr result (λ r. r ≢ Refusal.Usage) }
-{
+fn unit_line<R: Reader>(unit: LineUnit<R>) -> Result<UnitLine, Refusal> {
     let offset = unit.offset;
     let program = match unit.program {
         Ok(program) => program,
