@@ -1,0 +1,133 @@
+-- Worked indexes: what the definitions say of bytes that were written by hand.
+use Rattle.std.proofs.Common.{◌≡◌, ℕ, List, [], ◌∷◌, ◌++◌, Option, Some, None, Result, Ok, Err, refl}
+use Rattle.std.specs.Prelude.{replicate, take, slice_set}
+use Rattle.gimli_core.specs.Reading.{result_map}
+use Rattle.gimli_index.specs.Parts.{index_at}
+use Rattle.gimli_index.specs.Meaning.{Place, Start, place_at, starts_of}
+use Rattle.gimli_index.specs.declared.error.IndexError.{IndexError}
+use Rattle.gimli_index.specs.declared.error.IndexError.TheVariants.{NotIndex, HeaderCut, Version, AddressSize, StartSize, Base, Cut}
+use Rattle.gimli_index.specs.declared.place.NoPath.TheVariants.{Reason, Outside}
+
+-- what an index says
+abbrev starts_in : List ℕ → Result (List Start) IndexError
+starts_in bytes = result_map starts_of (index_at bytes)
+
+-- what it says of an address
+abbrev place_in : ℕ → List ℕ → Result (Option Place) IndexError
+place_in a bytes = result_map (place_at a) (starts_in bytes)
+
+-- ---- starts of 4 bytes above 0x401000: three starts, two sources, paths of 4 bytes, an identity of 2
+
+abbrev header_4 : List ℕ
+header_4 =
+    0x4c ∷ 0x49 ∷ 0x4e ∷ 0x45 ∷ 0x49 ∷ 0x44 ∷ 0x58 ∷ 0 ∷ 1 ∷ 0 ∷ 0 ∷ 0 ∷ 8 ∷ 0 ∷ 4 ∷ 0
+    ∷ 0 ∷ 0x10 ∷ 0x40 ∷ 0 ∷ 0 ∷ 0 ∷ 0 ∷ 0 ∷ 3 ∷ 0 ∷ 0 ∷ 0 ∷ 2 ∷ 0 ∷ 0 ∷ 0 ∷ 4 ∷ 0 ∷ 0 ∷ 0 ∷ 2 ∷ 0 ∷ 0 ∷ 0 ∷ []
+
+-- /a.c of the unit at 0, and a file of the unit at 0x123 whose header has no such file
+abbrev sources_4 : List ℕ
+sources_4 =
+    replicate 8 0 ++ 0 ∷ 0 ∷ 0 ∷ 0 ∷ 4 ∷ 0 ∷ 0 ∷ 0 ∷ replicate 8 0
+    ++ 0x23 ∷ 1 ∷ replicate 14 0 ++ 7 ∷ replicate 7 0
+
+-- at 0x401000 line 3 of the first, column 5; at 0x401010 nothing; at 0x401120 line 258 of the second
+abbrev starts_4 : List ℕ
+starts_4 = 0 ∷ 0 ∷ 0 ∷ 0 ∷ 0x10 ∷ 0 ∷ 0 ∷ 0 ∷ 0x20 ∷ 1 ∷ 0 ∷ 0 ∷ []
+
+abbrev entries_4 : List ℕ
+entries_4 =
+    0 ∷ 0 ∷ 0 ∷ 0 ∷ 3 ∷ 0 ∷ 0 ∷ 0 ∷ 5 ∷ 0 ∷ 0 ∷ 0
+    ∷ 0xff ∷ 0xff ∷ 0xff ∷ 0xff ∷ replicate 8 0
+    ++ 1 ∷ 0 ∷ 0 ∷ 0 ∷ 2 ∷ 1 ∷ 0 ∷ 0 ∷ 0 ∷ 0 ∷ 0 ∷ 0 ∷ []
+
+abbrev paths_4 : List ℕ
+paths_4 = 0x2f ∷ 0x61 ∷ 0x2e ∷ 0x63 ∷ []
+
+abbrev index_4 : List ℕ
+index_4 = header_4 ++ sources_4 ++ starts_4 ++ entries_4 ++ paths_4 ++ 0xab ∷ 0xcd ∷ []
+
+abbrev first_place : Place
+first_place = record { path = Ok paths_4; line = 3; column = 5; unit = 0 }
+
+abbrev second_place : Place
+second_place = record { path = Err (Reason 7); line = 258; column = 0; unit = 0x123 }
+
+pub three_starts : starts_in index_4 ≡ Ok (
+    record { address = 0x40_1000; place = Some first_place }
+    ∷ record { address = 0x40_1010; place = None }
+    ∷ record { address = 0x40_1120; place = Some second_place }
+    ∷ [])
+three_starts = refl
+
+-- the identity comes last, and what follows the index isn't looked at
+pub identity_4 : result_map (λ index. index.identity) (index_at (index_4 ++ 0xff ∷ [])) ≡ Ok (0xab ∷ 0xcd ∷ [])
+identity_4 = refl
+
+-- an address is of the last start that isn't above it
+pub at_start : place_in 0x40_1000 index_4 ≡ Ok (Some first_place)
+at_start = refl
+
+pub before_gap : place_in 0x40_100f index_4 ≡ Ok (Some first_place)
+before_gap = refl
+
+pub in_gap : place_in 0x40_1010 index_4 ≡ Ok None
+in_gap = refl
+
+pub past_gap : place_in 0x40_1120 index_4 ≡ Ok (Some second_place)
+past_gap = refl
+
+-- before the first start nothing holds, and after the last one goes on
+pub below_all : place_in 0x40_0fff index_4 ≡ Ok None
+below_all = refl
+
+pub above_all : place_in 0xffff_ffff_ffff_ffff index_4 ≡ Ok (Some second_place)
+above_all = refl
+
+-- ---- starts of 8 bytes: one, whose source has a path of 5 bytes where there are 4
+
+abbrev index_8 : List ℕ
+index_8 =
+    take 14 header_4 ++ 8 ∷ 0 ∷ replicate 8 0 ++ 1 ∷ 0 ∷ 0 ∷ 0 ∷ 1 ∷ 0 ∷ 0 ∷ 0 ∷ 4 ∷ 0 ∷ 0 ∷ 0 ∷ 0 ∷ 0 ∷ 0 ∷ 0
+    ∷ replicate 8 0 ++ 0 ∷ 0 ∷ 0 ∷ 0 ∷ 5 ∷ 0 ∷ 0 ∷ 0 ∷ replicate 8 0
+    ++ 1 ∷ 0 ∷ 0 ∷ 0 ∷ 0 ∷ 0 ∷ 0 ∷ 0x80
+    ∷ 0 ∷ 0 ∷ 0 ∷ 0 ∷ 1 ∷ 0 ∷ 0 ∷ 0 ∷ 0 ∷ 0 ∷ 0 ∷ 0 ∷ paths_4
+
+pub high_start : starts_in index_8 ≡ Ok (
+    record { address = 0x8000_0000_0000_0001; place = Some (record { path = Err Outside; line = 1; column = 0; unit = 0 }) } ∷ [])
+high_start = refl
+
+-- ---- refusals
+
+pub not_index : starts_in (slice_set index_4 7 1) ≡ Err NotIndex
+not_index = refl
+
+pub short_magic : starts_in (take 7 index_4) ≡ Err NotIndex
+short_magic = refl
+
+pub short_header : starts_in (take 39 index_4) ≡ Err HeaderCut
+short_header = refl
+
+pub version_2 : starts_in (slice_set index_4 8 2) ≡ Err (Version 2)
+version_2 = refl
+
+pub address_size_3 : starts_in (slice_set index_4 12 3) ≡ Err (AddressSize 3)
+address_size_3 = refl
+
+pub start_size_2 : starts_in (slice_set index_4 14 2) ≡ Err (StartSize 2)
+start_size_2 = refl
+
+-- a base that isn't 0, where starts have 8 bytes
+pub base_1 : starts_in (slice_set index_8 16 1) ≡ Err (Base 1)
+base_1 = refl
+
+-- the highest base where they have 4, and the one above it
+pub highest : starts_in (take 16 header_4 ++ 0 ∷ 0 ∷ 0 ∷ 0 ∷ 0xff ∷ 0xff ∷ 0xff ∷ 0xff ∷ replicate 16 0) ≡ Ok []
+highest = refl
+
+pub above_highest : starts_in (take 16 header_4 ++ 1 ∷ 0 ∷ 0 ∷ 0 ∷ 0xff ∷ 0xff ∷ 0xff ∷ 0xff ∷ replicate 16 0) ≡ Err (Base 0xffff_ffff_0000_0001)
+above_highest = refl
+
+pub cut : starts_in (take 141 index_4) ≡ Err Cut
+cut = refl
+
+pub whole : result_map (λ index. index.starts) (index_at (take 142 index_4)) ≡ Ok 3
+whole = refl

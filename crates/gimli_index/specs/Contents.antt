@@ -1,0 +1,112 @@
+-- What an index is made of, and its bytes (docs/INDEX.md).
+use Rattle.std.specs.Prelude.{◌≡◌, ◌≤◌, ◌<◌, ℕ, ◌+◌, ◌-◌, ◌^◌, true, false, List, ◌++◌, length, flat_map, slice_get, nat_eq, if◌then◌else◌, Option, Some, None, Result, Err, All}
+use Rattle.std.specs.Option.{option_map, option_and_then}
+use Rattle.gimli_core.specs.Numbers.{is_address_size, number_bytes}
+use Rattle.gimli_index.specs.Header.{magic, size_of, highest_base}
+use Rattle.gimli_index.specs.Meaning.{Place, Start, path_in}
+use Rattle.gimli_index.specs.declared.contents.Entry.{Entry}
+use Rattle.gimli_index.specs.declared.contents.Source.{Source}
+use Rattle.gimli_index.specs.declared.contents.SourceLine.{SourceLine}
+use Rattle.gimli_index.specs.declared.header.StartSize.{StartSize}
+use Rattle.gimli_index.specs.declared.place.NoPath.{NoPath}
+use Rattle.gimli_index.specs.declared.place.NoPath.TheVariants.{Reason}
+
+pub record Contents : Type 0 where
+  pub address_size : ℕ
+  pub start_size : StartSize
+  pub base : ℕ
+  pub sources : List Source
+  pub entries : List Entry
+  pub paths : List ℕ
+  pub identity : List ℕ
+
+-- ---- what they mean
+
+abbrev pub source_path : List ℕ → Source → Result (List ℕ) NoPath
+source_path paths s = if nat_eq s.reason 0 then path_in paths s.first s.size else Err (Reason s.reason)
+
+abbrev pub line_in : List ℕ → SourceLine → Source → Place
+line_in paths l s = record { path = source_path paths s; line = l.line; column = l.column; unit = s.unit }
+
+-- the place of a line, if there is a source of its number
+abbrev pub line_place : Contents → SourceLine → Option Place
+line_place c l = option_map (line_in c.paths l) (slice_get c.sources l.source)
+
+abbrev pub entry_start : Contents → Entry → Start
+entry_start c e = record { address = e.address; place = option_and_then (line_place c) e.place }
+
+-- ---- their bytes
+
+-- a number in so many bytes, the least significant first
+abbrev pub le_bytes : ℕ → ℕ → List ℕ
+le_bytes size n = number_bytes false size n
+
+abbrev pub header_bytes : Contents → List ℕ
+header_bytes c =
+    magic
+    ++ le_bytes 4 1
+    ++ le_bytes 2 c.address_size
+    ++ le_bytes 2 (size_of c.start_size)
+    ++ le_bytes 8 c.base
+    ++ le_bytes 4 (length c.entries)
+    ++ le_bytes 4 (length c.sources)
+    ++ le_bytes 4 (length c.paths)
+    ++ le_bytes 4 (length c.identity)
+
+abbrev pub source_bytes : Source → List ℕ
+source_bytes s = le_bytes 8 s.unit ++ le_bytes 4 s.first ++ le_bytes 4 s.size ++ le_bytes 4 s.reason ++ le_bytes 4 0
+
+-- a start, as far as it is above the base
+abbrev pub start_bytes : StartSize → ℕ → Entry → List ℕ
+start_bytes size base e = le_bytes (size_of size) (e.address - base)
+
+abbrev pub line_bytes : SourceLine → List ℕ
+line_bytes l = le_bytes 4 l.source ++ le_bytes 4 l.line ++ le_bytes 4 l.column
+
+-- no source has the number of a gap
+abbrev pub place_bytes : Option SourceLine → List ℕ
+place_bytes None = le_bytes 4 0xffff_ffff ++ le_bytes 4 0 ++ le_bytes 4 0
+place_bytes (Some l) = line_bytes l
+
+abbrev pub entry_bytes : Entry → List ℕ
+entry_bytes e = place_bytes e.place
+
+abbrev pub index_bytes : Contents → List ℕ
+index_bytes c =
+    header_bytes c
+    ++ flat_map source_bytes c.sources
+    ++ flat_map (start_bytes c.start_size c.base) c.entries
+    ++ flat_map entry_bytes c.entries
+    ++ c.paths
+    ++ c.identity
+
+-- ---- what fits
+
+abbrev pub FitsLine : SourceLine → Type 0
+FitsLine l = (l.source < 2 ^ 32) × (l.line < 2 ^ 32) × (l.column < 2 ^ 32)
+
+abbrev pub FitsPlace : Option SourceLine → Type 0
+FitsPlace None = Unit {0}
+FitsPlace (Some l) = FitsLine l
+
+-- an address isn't below the base, nor further above it than a start holds
+abbrev pub IsNear : StartSize → ℕ → Entry → Type 0
+IsNear size base e = (base ≤ e.address) × (e.address < base + 256 ^ size_of size)
+
+abbrev pub FitsSource : Source → Type 0
+FitsSource s = (s.unit < 2 ^ 64) × (s.first < 2 ^ 32) × (s.size < 2 ^ 32) × (s.reason < 2 ^ 32)
+
+pub record FitsCounts (c : Contents) : Type 0 where
+  pub entries : length c.entries < 2 ^ 32
+  pub sources : length c.sources < 2 ^ 32
+  pub paths : length c.paths < 2 ^ 32
+  pub identity : length c.identity < 2 ^ 32
+
+-- the numbers fit their fields
+pub record Fits (c : Contents) : Type 0 where
+  pub address_size : is_address_size c.address_size ≡ true
+  pub base : c.base ≤ highest_base c.start_size
+  pub counts : FitsCounts c
+  pub near : All (IsNear c.start_size c.base) c.entries
+  pub places : All (λ e. FitsPlace e.place) c.entries
+  pub sources : All FitsSource c.sources

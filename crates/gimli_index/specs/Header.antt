@@ -1,0 +1,61 @@
+-- The header of an index: its first 40 bytes (docs/INDEX.md, "Header").
+use Rattle.std.specs.Prelude.{ℕ, List, [], ◌∷◌, length, nat_eq, nat_lt, not, if◌then◌else◌, Result, Ok, Err}
+use Rattle.std.specs.List.{starts_with}
+use Rattle.gimli_core.specs.Numbers.{is_address_size}
+use Rattle.gimli_index.specs.Numbers.{number_at}
+use Rattle.gimli_index.specs.Steps.{◌>>=◌}
+use Rattle.gimli_index.specs.declared.error.IndexError.{IndexError}
+use Rattle.gimli_index.specs.declared.error.IndexError.TheVariants.{NotIndex, HeaderCut, Version, AddressSize, StartSize as UnknownStartSize, Base}
+use Rattle.gimli_index.specs.declared.header.Header.{Header}
+use Rattle.gimli_index.specs.declared.header.StartSize.{StartSize}
+use Rattle.gimli_index.specs.declared.header.StartSize.TheVariants.{Four, Eight}
+
+-- the bytes that each index begins with: those of LINEIDX, and a zero byte
+abbrev pub magic : List ℕ
+magic = 0x4c ∷ 0x49 ∷ 0x4e ∷ 0x45 ∷ 0x49 ∷ 0x44 ∷ 0x58 ∷ 0 ∷ []
+
+-- the bytes of a start
+abbrev pub size_of : StartSize → ℕ
+size_of Four = 4
+size_of Eight = 8
+
+-- the highest base: what it and any start come to is an address of 64 bits
+abbrev pub highest_base : StartSize → ℕ
+highest_base Four = 0xffff_ffff_0000_0000
+highest_base Eight = 0
+
+-- ---- the fields
+
+abbrev pub address_size_of : ℕ → Result ℕ IndexError
+address_size_of n = if is_address_size n then Ok n else Err (AddressSize n)
+
+abbrev pub start_size_of : ℕ → Result StartSize IndexError
+start_size_of n =
+    if nat_eq n 4 then Ok Four else (if nat_eq n 8 then Ok Eight else Err (UnknownStartSize n))
+
+abbrev pub base_of : StartSize → ℕ → Result ℕ IndexError
+base_of size n = if nat_lt (highest_base size) n then Err (Base n) else Ok n
+
+-- the fields after the version
+abbrev pub fields_at : List ℕ → Result Header IndexError
+fields_at bytes =
+    address_size_of (number_at 2 12 bytes) >>= λ address_size.
+    start_size_of (number_at 2 14 bytes) >>= λ start_size.
+    base_of start_size (number_at 8 16 bytes) >>= λ base.
+    Ok (record {
+      address_size = address_size;
+      start_size = start_size;
+      base = base;
+      starts = number_at 4 24 bytes;
+      sources = number_at 4 28 bytes;
+      paths = number_at 4 32 bytes;
+      identity = number_at 4 36 bytes;
+    })
+
+-- the header that bytes begin with
+abbrev pub header_at : List ℕ → Result Header IndexError
+header_at bytes =
+    if not (starts_with nat_eq bytes magic) then Err NotIndex
+    else (if nat_lt (length bytes) 40 then Err HeaderCut
+    else (if nat_eq (number_at 4 8 bytes) 1 then fields_at bytes
+    else Err (Version (number_at 4 8 bytes))))

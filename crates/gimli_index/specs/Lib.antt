@@ -1,0 +1,10 @@
+pub mod Numbers
+pub mod Steps
+pub mod Header
+pub mod Parts
+pub mod Meaning
+pub mod Views
+pub mod Sound
+pub mod inside
+pub mod Contents
+pub mod Made

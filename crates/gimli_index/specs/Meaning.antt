@@ -1,0 +1,80 @@
+-- What an index says: from some addresses on a place holds, or nothing (docs/INDEX.md, "Starts").
+use Rattle.std.specs.Prelude.{◌≡◌, ℕ, ◌+◌, ◌*◌, ◌<◌, List, map, fold, length, drop, slice_get, slice_range, nat_eq, nat_le, nat_lt, if◌then◌else◌, Option, Some, None, Result, Ok, Err}
+use Rattle.std.specs.List.{range_with_len}
+use Rattle.gimli_index.specs.Numbers.{number_at}
+use Rattle.gimli_index.specs.Header.{size_of}
+use Rattle.gimli_index.specs.Parts.{Index}
+use Rattle.gimli_index.specs.declared.place.NoPath.{NoPath}
+use Rattle.gimli_index.specs.declared.place.NoPath.TheVariants.{Reason, Outside}
+
+-- where code comes from
+pub record Place : Type 0 where
+  -- the whole path of the file, or why there is none
+  pub path : Result (List ℕ) NoPath
+  -- 0 where no line is known
+  pub line : ℕ
+  -- 0 for the left edge
+  pub column : ℕ
+  -- the offset in .debug_line of the unit that says so
+  pub unit : ℕ
+
+-- from this address on, up to that of the next start, this place holds, or nothing
+pub record Start : Type 0 where
+  pub address : ℕ
+  pub place : Option Place
+
+-- ---- what holds at an address
+
+-- the place of the last start whose address is at most a
+abbrev pub place_at : ℕ → List Start → Option Place
+place_at a starts = fold (λ current s. if nat_le s.address a then s.place else current) None starts
+
+-- each start has a higher address than those before it
+abbrev pub AreAscending : List Start → Type 0
+AreAscending starts = (i j : ℕ) (x y : Start) → i < j → slice_get starts i ≡ Some x → slice_get starts j ≡ Some y → x.address < y.address
+
+-- ---- the starts of an index
+
+-- the path in these bytes of the part of paths, where it has them
+abbrev pub path_in : List ℕ → ℕ → ℕ → Result (List ℕ) NoPath
+path_in paths first size =
+    if nat_lt (length paths) (first + size) then Err Outside else Ok (slice_range paths first (first + size))
+
+-- the path of a source, unless it has the number of a reason
+abbrev pub path_of : List ℕ → List ℕ → Result (List ℕ) NoPath
+path_of paths source =
+    if nat_eq (number_at 4 16 source) 0 then path_in paths (number_at 4 8 source) (number_at 4 12 source)
+    else Err (Reason (number_at 4 16 source))
+
+-- the bytes from a source on
+abbrev pub source_at : Index → ℕ → List ℕ
+source_at index k = drop (24 * k) index.source_bytes
+
+-- the place of an entry and its source
+abbrev pub place_from : List ℕ → List ℕ → List ℕ → Place
+place_from paths entry source = record {
+  path = path_of paths source;
+  line = number_at 4 4 entry;
+  column = number_at 4 8 entry;
+  unit = number_at 8 0 source;
+}
+
+-- an entry has a place where its source is one of the index
+abbrev pub entry_place : Index → List ℕ → Option Place
+entry_place index entry =
+    if nat_lt (number_at 4 0 entry) index.sources
+    then Some (place_from index.path_bytes entry (source_at index (number_at 4 0 entry))) else None
+
+-- how far above the base a start is
+abbrev pub start_number : Index → ℕ → ℕ
+start_number index i = number_at (size_of index.start_size) (size_of index.start_size * i) index.start_bytes
+
+abbrev pub start_at : Index → ℕ → Start
+start_at index i = record {
+  address = index.base + start_number index i;
+  place = entry_place index (drop (12 * i) index.entry_bytes);
+}
+
+-- the starts, in order
+abbrev pub starts_of : Index → List Start
+starts_of index = map (start_at index) (range_with_len 0 index.starts)

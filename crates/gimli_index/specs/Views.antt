@@ -1,0 +1,33 @@
+-- What the values of the crate stand for.
+use Rattle.std.specs.Prelude.{option_map}
+use Rattle.gimli_core.specs.Reading.{result_map}
+use Rattle.gimli_index.specs.Parts.{Index}
+use Rattle.gimli_index.specs.Meaning.{Place as PlaceMeaning, Start as StartMeaning}
+use Rattle.gimli_index.specs.declared.place.Place.{Place}
+use Rattle.gimli_index.specs.declared.place.Start.{Start}
+use Rattle.gimli_index.specs.declared.line_index.LineIndex.{LineIndex}
+
+abbrev pub index_of : LineIndex → Index
+index_of a = record {
+  address_size = a.address_size;
+  start_size = a.start_size;
+  base = a.base;
+  starts = a.starts;
+  sources = a.sources;
+  source_bytes = a.source_bytes.now;
+  start_bytes = a.start_bytes.now;
+  entry_bytes = a.entry_bytes.now;
+  path_bytes = a.path_bytes.now;
+  identity = a.identity.now;
+}
+
+abbrev pub place_of : Place → PlaceMeaning
+place_of p = record {
+  path = result_map (λ path. path.now) p.path;
+  line = p.line;
+  column = p.column;
+  unit = p.unit;
+}
+
+abbrev pub start_of : Start → StartMeaning
+start_of s = record { address = s.address; place = option_map place_of s.place }

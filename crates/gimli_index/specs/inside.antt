@@ -1,0 +1,2 @@
+-- What no public clause reaches: private functions and proofs alone speak of it.
+pub mod Numbers

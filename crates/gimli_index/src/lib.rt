@@ -1,0 +1,21 @@
+//! An index of the lines of a program that is bytes: made once, mapped from a file, shared by
+//! threads, and asked without memory. `docs/INDEX.md` has its format.
+//!
+//! [`LineIndex::open`] takes the bytes as they lie there, in constant work. [`LineIndex::find`]
+//! tells where the code at an address comes from, and [`LineIndex::get`] gives what holds from each
+//! address on. [`LineIndex::check`] is for bytes that nobody vouches for.
+#![tactic(auto)]
+
+mod check;
+mod contents;
+mod error;
+mod header;
+pub mod laws;
+mod line_index;
+mod number;
+mod place;
+
+pub use contents::{Contents, Entry, Source, SourceLine};
+pub use error::{IndexError, MakeError};
+pub use line_index::LineIndex;
+pub use place::{NoPath, Place, Start};

@@ -1,0 +1,234 @@
+//! The index, as it lies in its bytes.
+
+ghost use Rattle.std.specs.Prelude.{◌≡◌, ◌*◌, ◌<◌, ◌≤◌, ◌+◌, ◌^◌, ◌↔◌, [], ℕ, length, drop, slice_get};
+ghost use Rattle.std.specs.Prelude.{option_map, IsTrue};
+ghost use Rattle.gimli_core.specs.Reading.{result_map};
+ghost use Rattle.gimli_index.specs.Header.{size_of, highest_base};
+ghost use Rattle.gimli_index.specs.Parts.{index_at, parts_at};
+ghost use Rattle.gimli_index.specs.Meaning.{entry_place, path_in, path_of, place_at, place_from};
+ghost use Rattle.gimli_index.specs.Meaning.{source_at, start_at, start_number, starts_of};
+ghost use Rattle.gimli_index.specs.Meaning.{AreAscending};
+ghost use Rattle.gimli_index.specs.inside.Numbers.{NumbersAscend};
+
+use crate::error::IndexError;
+use crate::header::{HEADER_SIZE, Header, StartSize};
+use crate::number::{long, word};
+use crate::place::{NoPath, Place, Start};
+
+/// The bytes of an entry: the number of its source, the line and the column.
+const ENTRY_SIZE: usize = 12;
+
+/// The bytes of a source: the offset of its unit, where its path is, and why there is none.
+const SOURCE_SIZE: usize = 24;
+
+/// An index of the lines of a program, as it lies in its bytes. Any number of threads may ask one.
+#[derive(Clone, Copy, Debug)]
+pub struct LineIndex<'a> {
+    address_size: u16,
+    start_size: StartSize,
+    base: u64,
+    pub(crate) starts: usize,
+    pub(crate) sources: usize,
+    source_bytes: &'a [u8],
+    start_bytes: &'a [u8],
+    entry_bytes: &'a [u8],
+    pub(crate) path_bytes: &'a [u8],
+    identity: &'a [u8],
+    ghost low: { base ≤ highest_base start_size },
+    ghost all_sources: { length source_bytes.now ≡ 24 * sources },
+    ghost all_starts: { length start_bytes.now ≡ size_of start_size * starts },
+    ghost all_entries: { length entry_bytes.now ≡ 12 * starts },
+}
+
+/// The path in these bytes of the part of paths.
+fn path_in(paths: &[u8], first: u32, size: u32) -> Result<&[u8], NoPath>
+    ensures { result_map (λ path. path.now) result ≡ path_in paths.now first size }
+{
+    let first = first as usize;
+    let end = first + size as usize;
+    if paths.len() < end {
+        return Err(NoPath::Outside);
+    }
+    Ok(&paths[first..end])
+}
+
+/// The path of a source, whose bytes stand there first.
+pub(crate) fn path_of<'a>(paths: &'a [u8], source: &[u8]) -> Result<&'a [u8], NoPath>
+    requires { 24 ≤ length source.now }
+    ensures { result_map (λ path. path.now) result ≡ path_of paths.now source.now }
+{
+    match word(source, 16) {
+        0 => path_in(paths, word(source, 8), word(source, 12)),
+        reason => Err(NoPath::Reason(reason)),
+    }
+}
+
+impl<'a> LineIndex<'a> {
+    ghost use Rattle.gimli_index.specs.Views.{index_of, place_of, start_of};
+
+    /// The index that bytes begin with. Takes no memory, and looks at the header alone.
+    ///
+    /// Refuses bytes that don't begin as an index does (`NotIndex`), an unknown version (`Version`),
+    /// a size of addresses or starts that can't be (`AddressSize`, `StartSize`), a base that is too
+    /// high for addresses of 64 bits (`Base`), and an index that ends before its header or its parts
+    /// do (`HeaderCut`, `Cut`). Bytes after the index aren't looked at.
+    pub fn open(bytes: &'a [u8]) -> Result<LineIndex<'a>, IndexError>
+        ensures { result_map index_of result ≡ index_at bytes.now }
+    {
+        let header = Header::parse(bytes)?;
+        LineIndex::parts(bytes, header)
+    }
+
+    /// The index of a header.
+    fn parts(bytes: &'a [u8], header: Header) -> Result<LineIndex<'a>, IndexError>
+        requires { header.base ≤ highest_base header.start_size }
+        ensures { result_map index_of result ≡ parts_at bytes.now header }
+    {
+        let starts = HEADER_SIZE + SOURCE_SIZE * header.sources as usize;
+        let entries = starts + header.start_size.bytes_of(header.starts);
+        let paths = entries + ENTRY_SIZE * header.starts as usize;
+        let identity = paths + header.paths as usize;
+        let end = identity + header.identity as usize;
+        if bytes.len() < end {
+            return Err(IndexError::Cut);
+        }
+        Ok(LineIndex {
+            address_size: header.address_size,
+            start_size: header.start_size,
+            base: header.base,
+            starts: header.starts as usize,
+            sources: header.sources as usize,
+            source_bytes: &bytes[HEADER_SIZE..starts],
+            start_bytes: &bytes[starts..entries],
+            entry_bytes: &bytes[entries..paths],
+            path_bytes: &bytes[paths..identity],
+            identity: &bytes[identity..end],
+        })
+    }
+
+    /// The bytes of an address: 1, 2, 4 or 8.
+    pub fn address_size(&self) -> u16
+        ensures { result ≡ (index_of self.now).address_size }
+    {
+        self.address_size
+    }
+
+    /// What the index was made of, by the name that its maker chose: a build id or a checksum.
+    pub fn identity(&self) -> &'a [u8]
+        ensures { result.now ≡ (index_of self.now).identity }
+    {
+        self.identity
+    }
+
+    /// How many starts there are.
+    pub fn len(&self) -> usize
+        ensures { result ≡ length (starts_of (index_of self.now)) }
+    {
+        self.starts
+    }
+
+    /// Whether there are none.
+    pub fn is_empty(&self) -> bool
+        ensures { IsTrue result ↔ (starts_of (index_of self.now) ≡ []) }
+    {
+        self.starts == 0
+    }
+
+    /// How far above the base the start of an index is.
+    pub(crate) fn start_number(&self, index: usize) -> u64
+        requires { index < self.now.starts }
+        ensures number { result ≡ start_number (index_of self.now) index }
+        ensures low { result + highest_base self.now.start_size < 2 ^ 64 }
+    {
+        match self.start_size {
+            StartSize::Four => u64::from(word(self.start_bytes, 4 * index)),
+            StartSize::Eight => long(self.start_bytes, 8 * index),
+        }
+    }
+
+    /// The bytes from a source on.
+    pub(crate) fn source(&self, index: usize) -> &'a [u8]
+        requires { index < self.now.sources }
+        ensures bytes { result.now ≡ source_at (index_of self.now) index }
+        ensures whole { 24 ≤ length result.now }
+    {
+        &self.source_bytes[SOURCE_SIZE * index..]
+    }
+
+    /// What the entry of an index says.
+    fn entry_place(&self, index: usize) -> Option<Place<'a>>
+        requires { index < self.now.starts }
+        ensures { option_map place_of result
+            ≡ entry_place (index_of self.now) (drop (12 * index) self.now.entry_bytes.now) }
+    {
+        let entry = &self.entry_bytes[ENTRY_SIZE * index..];
+        let source = word(entry, 0) as usize;
+        if source >= self.sources {
+            return None;
+        }
+        Some(self.place_from(entry, self.source(source)))
+    }
+
+    /// The place of an entry and its source.
+    fn place_from(&self, entry: &[u8], source: &[u8]) -> Place<'a>
+        requires entry { 12 ≤ length entry.now }
+        requires source { 24 ≤ length source.now }
+        ensures { place_of result ≡ place_from self.now.path_bytes.now entry.now source.now }
+    {
+        Place {
+            path: path_of(self.path_bytes, source),
+            line: word(entry, 4),
+            column: word(entry, 8),
+            unit: long(source, 0),
+        }
+    }
+
+    /// What holds from the start of an index on, up to the next start; None where there is no such
+    /// start. The starts have the indices from 0 on.
+    pub fn get(&self, index: usize) -> Option<Start<'a>>
+        ensures { option_map start_of result ≡ slice_get (starts_of (index_of self.now)) index }
+    {
+        if index >= self.starts {
+            return None;
+        }
+        Some(Start {
+            address: self.base + self.start_number(index),
+            place: self.entry_place(index),
+        })
+    }
+
+    /// How many starts are at most so far above the base, where they ascend.
+    fn starts_up_to(&self, number: u64) -> usize
+        ensures within { result ≤ self.now.starts }
+        ensures before { NumbersAscend (index_of self.now) → (k : ℕ) → k < result
+            → start_number (index_of self.now) k ≤ number }
+        ensures after { NumbersAscend (index_of self.now) → (k : ℕ) → result ≤ k
+            → k < self.now.starts → number < start_number (index_of self.now) k }
+    {
+        let mut low = 0;
+        let mut high = self.starts;
+        while low < high {
+            let middle = low + (high - low) / 2;
+            if self.start_number(middle) <= number {
+                low = middle + 1;
+            } else {
+                high = middle;
+            }
+        }
+        low
+    }
+
+    /// Where the code at an address comes from; None where the index says nothing of it.
+    ///
+    /// Takes no memory, changes nothing, and looks at as many starts as their number has binary
+    /// digits. It returns on any bytes; what it returns is known where the starts ascend, which
+    /// [`check`](LineIndex::check) tells, and which holds for each index that this crate made.
+    pub fn find(&self, address: u64) -> Option<Place<'a>>
+        ensures { let starts = starts_of (index_of self.now) in
+            AreAscending starts → option_map place_of result ≡ place_at address starts }
+    {
+        let number = address.checked_sub(self.base)?;
+        let index = self.starts_up_to(number).checked_sub(1)?;
+        self.entry_place(index)
+    }
+}
