@@ -35,10 +35,12 @@ fn program(alloc: Global, version: u16, lines: LineEncoding) -> Result<LineProgr
     LineProgram::new(alloc, encoding, lines, working_dir, None, source_file, None)
 }
 
-/// The initial registers of a sequence: DWARF 5, section 6.2.2.
+/// The initial registers of a sequence: DWARF 5, section 6.2.2. Version 6, which is never written, has
+/// the first file.
 fn check_initial(rt: &impl Abort, row: &LineRow, version: u16, is_statement: bool) {
     check_equal(rt, (row.address_offset, row.op_index), (0, 0));
-    check_equal(rt, (row.file.raw(version), row.line), (1, 1));
+    let file = u64::from(version < 6);
+    check_equal(rt, (row.file.raw(version), row.line), (file, 1));
     check_equal(rt, (row.column, row.discriminator, row.isa), (0, 0, 0));
     check_equal(rt, row.is_statement, is_statement);
     check(
@@ -67,9 +69,10 @@ fn at_start(row: &LineRow) -> LineRow {
 }
 
 /// A row all of whose registers were set.
-fn row_after(first: &LineRow) -> LineRow {
+fn row_after(first: &LineRow, file: FileId) -> LineRow {
     LineRow {
         address_offset: 4,
+        file,
         line: 7,
         column: 8,
         isa: 9,
@@ -79,39 +82,42 @@ fn row_after(first: &LineRow) -> LineRow {
 }
 
 /// After a row what stands for one row alone is cleared, after an address in a sequence its place,
-/// and after an end all; an address outside a sequence changes nothing.
-fn check_rows(rt: &impl Abort, program: &mut LineProgram, first: &LineRow) -> Result<()>
+/// and after an end all; an address outside a sequence and the beginning of one change nothing.
+fn check_rows(
+    rt: &impl Abort,
+    program: &mut LineProgram,
+    first: &LineRow,
+    row: &LineRow,
+) -> Result<()>
     requires { program.old.is_none ≡ false }
 {
-    let row = row_after(first);
-    *program.row() = marked(&row);
+    *program.row() = marked(row);
     program.set_address(Address::Constant(16))?;
     check_equal(rt, program.row().address_offset, 4);
     if !program.can_generate_row() {
         return Err(Error::InvalidRange);
     }
     program.generate_row()?;
-    check(rt, *program.row() == row);
+    check(rt, *program.row() == *row);
     program.set_address(Address::Constant(32))?;
-    check(rt, *program.row() == at_start(&row));
+    check(rt, *program.row() == at_start(row));
+    *program.row() = marked(&at_start(row));
     if !program.can_end_sequence(8) {
         return Err(Error::InvalidRange);
     }
     program.end_sequence(8)?;
     check(rt, *program.row() == *first);
+    *program.row() = marked(row);
+    program.begin_sequence(None)?;
+    check(rt, *program.row() == marked(row));
     Ok(())
 }
 
 /// A copy has the items that were built.
-fn check_items(
-    rt: &impl Abort,
-    alloc: Global,
-    program: &LineProgram,
-    first: &LineRow,
-) -> Result<()> {
+fn check_items(rt: &impl Abort, alloc: Global, program: &LineProgram, row: &LineRow) -> Result<()> {
     let items = [
         BuiltItem::SetAddress(Address::Constant(16)),
-        BuiltItem::Row(marked(&row_after(first))),
+        BuiltItem::Row(marked(row)),
         BuiltItem::SetAddress(Address::Constant(32)),
         BuiltItem::End {
             address_offset: 8,
@@ -120,7 +126,7 @@ fn check_items(
     ];
     let copy = program.clone()?;
     check(rt, items_of(alloc, &copy)?.as_slice() == items.as_slice());
-    check(rt, !copy.is_empty() && !copy.in_sequence());
+    check(rt, !copy.is_empty() && copy.in_sequence());
     Ok(())
 }
 
@@ -132,7 +138,8 @@ fn set_size(program: &mut LineProgram, file: FileId, size: u64)
     program.get_file_info_mut(file).size = size;
 }
 
-/// A file is found by its id, and what is known of it is set by it.
+/// A file is found by its id, and what is known of it is set by it; each is listed with its id and
+/// its directory.
 fn check_file(rt: &impl Abort, alloc: Global, program: &mut LineProgram) -> Result<()>
     requires { program.old.is_none ≡ false }
 {
@@ -144,8 +151,15 @@ fn check_file(rt: &impl Abort, alloc: Global, program: &mut LineProgram) -> Resu
     check_equal(rt, program.get_file_info(file).size, 0);
     check(rt, *program.get_directory(directory) != name);
     set_size(program, file, 3);
-    let again = program.add_file(name, directory, None)?;
+    let again = program.add_file(name.clone()?, directory, None)?;
     check_equal(rt, (again, program.get_file_info(again).size), (file, 3));
+    let other = program.add_directory(LineString::String(b"/i".to_vec(alloc)?))?;
+    let last = program.add_file(name, other, None)?;
+    let mut listed = None;
+    for (id, _, directory) in program.files() {
+        listed = Some((id, directory));
+    }
+    check_equal(rt, listed, Some((last, other)));
     Ok(())
 }
 
@@ -157,14 +171,17 @@ fn steps_of_current_rows(rt: &impl Abort, alloc: Global, version: u16) -> Result
     let mut program = program(alloc, version, lines)?;
     let first = *program.row();
     check_initial(rt, &first, version, version == 4);
-    check_rows(rt, &mut program, &first)?;
-    check_items(rt, alloc, &program, &first)
+    let mut none = LineProgram::none(alloc);
+    let row = row_after(&first, none.row().file);
+    check_rows(rt, &mut program, &first, &row)?;
+    check_items(rt, alloc, &program, &row)
 }
 
 #[test]
 fn current_rows(rt: HostRuntime) {
     check_equal(&rt, steps_of_current_rows(&rt, rt.alloc(), 4), Ok(()));
     check_equal(&rt, steps_of_current_rows(&rt, rt.alloc(), 5), Ok(()));
+    check_equal(&rt, steps_of_current_rows(&rt, rt.alloc(), 6), Ok(()));
 }
 
 fn steps_of_file(rt: &impl Abort, alloc: Global) -> Result<()> {
@@ -180,8 +197,12 @@ fn file(rt: HostRuntime) {
 /// As gimli has it.
 #[test]
 fn none(rt: HostRuntime) {
-    let none = LineProgram::none(rt.alloc());
+    let mut none = LineProgram::none(rt.alloc());
+    check_initial(&rt, none.row(), 2, true);
     check(&rt, none.is_none() && none.is_empty());
+    check(&rt, !none.in_sequence() && none.files().count() == 0);
+    check(&rt, !none.file_has_timestamp && !none.file_has_size);
+    check(&rt, !none.file_has_md5 && !none.file_has_source);
     check_equal(&rt, (none.version(), none.address_size()), (2, 0));
     check_equal(&rt, none.format(), Format::Dwarf32);
 }

@@ -129,6 +129,7 @@ fn check_last_reads<R: Reader>(
 fn check_built<R: Reader>(rt: &impl Abort, conversion: ConvertLineProgram<'_, '_, R>) {
     let (built, files) = conversion.program();
     check_equal(rt, (built.items().count(), files.len()), (1, 2));
+    check(rt, built.file_has_timestamp && built.file_has_size);
 }
 
 fn check_mixed_reads<R: Reader>(
