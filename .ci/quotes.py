@@ -5,6 +5,7 @@ The line before a block of code names the source, as a comment that a reader of 
   <!-- crates/uses/src/ends.rt -->           the block is the whole file
   <!-- part of crates/uses/src/main.rt -->   the block stands in the file, line by line, with nothing between
   <!-- lines of crates.txt -->               each line stands in the file, but one that begins with `my_program`
+  <!-- items new, find of src/a.rt -->       the block is these items of the file, each with its comment, in this order
 
 Before ` -->` may stand ` with NEW for OLD`: the page has NEW where the source has OLD. Code in Rattle, in antt and in C has to
 name its source; a script, a picture and an output needn't.
@@ -15,7 +16,7 @@ import re
 
 PAGES = ("*.md", "docs/*.md", "crates/*/CALLING.md", "crates/*/data/*.md", "tried/*/README.md")
 CODE = ("rust", "antt", "c", "cpp")
-MARK = re.compile(r"<!-- (part of |lines of |)(\S+)(?: with (\S+) for (\S+))? -->")
+MARK = re.compile(r"<!-- (part of |lines of |items [\w, ]+ of |)(\S+)(?: with (\S+) for (\S+))? -->")
 
 
 def blocks(lines):
@@ -35,6 +36,24 @@ def is_part(block, source):
     return bool(block) and any(source[i : i + len(block)] == block for i in range(len(source)))
 
 
+def item(source, name):
+    """The lines of an item of a source: the first of this name, with the comment and the attributes before it."""
+    begins = re.compile(rf"( *)(?:pub )?(?:fn|struct|enum|trait|type|int|void) {name}\b")
+    at, indent = next((i, m[1]) for i, line in enumerate(source) if (m := begins.match(line)))
+    end = next(i for i in range(at, len(source)) if source[i] == indent + "}" or source[i].endswith(";") and i == at)
+    while source[at - 1].startswith((indent + "///", indent + "#[")):
+        at -= 1
+    return source[at : end + 1]
+
+
+def items(source, names):
+    """The lines of several items, with an empty line between."""
+    lines = []
+    for name in names.split(", "):
+        lines += [""] * bool(lines) + item(source, name)
+    return lines
+
+
 def difference(top, lines, start, end, language, mark):
     """What is wrong with a quote: a sentence and the lines that belong there, where they are known; None where it is right."""
     if not mark:
@@ -51,6 +70,11 @@ def difference(top, lines, start, end, language, mark):
     if how == "lines of ":
         lost = [line for line in block if line not in source and not line.startswith("my_program")]
         return (f"has lines that {path} lacks: {lost[0]}", None) if lost else None
+    if how:
+        try:
+            source = items(source, how.removeprefix("items ").removesuffix(" of "))
+        except StopIteration:
+            return f"names an item that {path} lacks", None
     return None if block == source else (f"differs from {path}", source)
 
 

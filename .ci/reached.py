@@ -3,7 +3,7 @@
 
   .ci/reached.py               for each library: its definitions, how many are reached, and how many stand in specs/inside/
   .ci/reached.py CRATE..       the definitions of these crates that aren't reached and stand elsewhere, and those in specs/inside/ that are
-  .ci/reached.py --from NAME   what a definition reaches
+  .ci/reached.py --from NAME.. what these definitions reach, themselves among it
   .ci/reached.py --to NAME     a chain from a public item to a definition
 
 A definition is reached where a clause of a public function names it, or a `ghost` line of a public type or trait, or a
@@ -16,7 +16,7 @@ import re
 import sys
 
 TOP = os.path.join(os.path.dirname(os.path.abspath(__file__)), "..")
-LIBRARIES = ("gimli_core", "gimli_bytes", "gimli_line", "gimli_lookup", "gimli_build", "gimli_write", "gimli_c", "gimli_compilation", "inflate")
+LIBRARIES = ("gimli_core", "gimli_bytes", "gimli_line", "gimli_lookup", "gimli_build", "gimli_write", "gimli_c", "gimli_compilation", "inflate", "elf_sections", "debug_files")
 HEAD = re.compile(r"(?:(?:abbrev pub|abbrev|unfoldable pub|pub unfoldable) |(pub record|record|pub data|data) )([^\s{]\S*)")
 USE = re.compile(r"^[ \t]*(?:pub |ghost |pub ghost )?use (Rattle[\w.+]*?)(?:\.\{([^}]*)\})?;?$", re.M)
 
@@ -238,12 +238,11 @@ def roots_of(specs):
 def main(words):
     specs = Specs()
     reached = specs.reach(roots_of(specs))
-    named = [full for full in specs.all if words and (full == words[-1] or full.endswith("." + words[-1]))]
+    named = [full for full in specs.all for word in words[1:] if full == word or full.endswith("." + word)]
     if words[:1] == ["--from"]:
-        for full in named:
-            found = specs.reach({full: full})
-            print("%s reaches %d definitions, itself among them" % (full, len(found)))
-            print("".join("    %s\n" % name for name in sorted(found)), end="")
+        found = specs.reach({full: full for full in named})
+        print("%s: they reach %d definitions" % (", ".join(named), len(found)))
+        print("".join("    %s\n" % name for name in sorted(found)), end="")
     elif words[:1] == ["--to"]:
         for full in named:
             chain = [full]

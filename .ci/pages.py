@@ -1,0 +1,141 @@
+#!/usr/bin/env python3
+"""Sees that a person can read the pages.
+
+  .ci/pages.py                 says what is wrong, each with its file and line, and ends with status 1 where something is
+  .ci/pages.py --wrap PAGE..   wraps the prose of pages anew
+
+Refused are, on the pages of NARROW, a line of prose above 100 characters (what stands in a block of code or in a table is
+none) and a cell of a table above 300; and on every page a link to a file of the tree, or to a heading, that isn't there.
+"""
+import glob
+import os
+import re
+import sys
+
+TOP = os.path.dirname(os.path.dirname(os.path.realpath(__file__)))
+PAGES = ("*.md", "docs/*.md", "crates/*/*.md", "crates/*/data/*.md", "tried/*.md", "tried/*/*.md", "bindings/*/*.md")
+# The pages whose width is looked at, and those among them that are still to be wrapped.
+NARROW = ("*.md", "docs/*.md", "crates/*/CALLING.md")
+STILL_WIDE = ("docs/ROWS.md", "crates/debug_files/CALLING.md")
+WIDTH, CELL = 100, 300
+# What stands together on a line: a piece of code, a link, a name in quotes, a word.
+WORD = re.compile(r"(?:`[^`]*`|!?\[[^\]]*\]\([^)]*\)|\"[^\"]{1,70}\"|\S)+")
+ITEM = re.compile(r"(\s*)([-*+]|\d+[.)])( +)")
+LINK = re.compile(r"\]\(([^()\s]+)\)")
+
+
+def found(patterns):
+    return sorted({os.path.relpath(it, TOP) for pattern in patterns for it in glob.glob(os.path.join(TOP, pattern))})
+
+
+def lines_of(page):
+    """The lines of a page, each with its number and whether it stands in a block of code, fenced or indented."""
+    fenced = indented = in_list = False
+    before = ""
+    for number, line in enumerate(open(os.path.join(TOP, page), encoding="utf8").read().split("\n"), 1):
+        fence = line.lstrip().startswith("```")
+        if line[:1].strip():
+            in_list = ITEM.match(line) is not None
+        may_begin = indented or not before.strip() or before.startswith("#")
+        indented = line.startswith("    ") and may_begin and not in_list and not fenced
+        yield number, line, fenced or fence or indented
+        fenced ^= fence
+        before = line
+
+
+def wide(page):
+    """What is too wide on a page."""
+    for number, line, is_code in lines_of(page):
+        if is_code:
+            continue
+        if line.startswith("|"):
+            longest = max(len(cell.strip()) for cell in re.split(r"(?<!\\)\|", line))
+            if longest > CELL:
+                yield f"{page}:{number}: a cell of {longest} characters"
+        elif len(line) > WIDTH:
+            yield f"{page}:{number}: a line of {len(line)} characters"
+
+
+def headings(page):
+    """The names by which a link finds the headings of a page."""
+    names = set()
+    for _, line, is_code in lines_of(page):
+        heading = None if is_code else re.match(r"#+ (.*)", line)
+        if heading:
+            name = re.sub(r"[^\w\- ]", "", heading[1].strip().lower()).replace(" ", "-")
+            again = sum(name == it or re.fullmatch(re.escape(name) + r"-\d+", it) is not None for it in names)
+            names.add(f"{name}-{again}" if again else name)
+    return names
+
+
+def lost(page):
+    """The links of a page to what isn't there."""
+    for number, line, is_code in lines_of(page):
+        for target in [] if is_code else LINK.findall(re.sub(r"`[^`]*`", "", line)):
+            if re.match(r"[a-z]+:", target):
+                continue
+            path, _, heading = target.partition("#")
+            name = os.path.normpath(os.path.join(os.path.dirname(page), path)) if path else page
+            if not os.path.exists(os.path.join(TOP, name)):
+                yield f"{page}:{number}: a link to {target}, which isn't there"
+            elif heading and name.endswith(".md") and heading not in headings(name):
+                yield f"{page}:{number}: a link to {target}, a heading that isn't there"
+
+
+# ---- wrapping
+
+
+def wrapped(first, rest, text):
+    """The lines of a paragraph: `first` begins the first one, `rest` the others."""
+    lines, line = [], first
+    for word in WORD.findall(text):
+        is_empty = line in (first, rest)
+        # A line never begins with what would make it a list, a heading or a quote.
+        if not is_empty and len(line) + 1 + len(word) > WIDTH and not re.fullmatch(r"[-*+>#|]+|\d{1,9}[.)]", word):
+            lines.append(line)
+            line = rest + word
+        else:
+            line += word if is_empty else " " + word
+    return lines + [line]
+
+
+def wrap(page):
+    """Wraps the paragraphs and items of lists of a page."""
+    out, paragraph = [], None
+
+    def close():
+        nonlocal paragraph
+        if paragraph:
+            out.extend(wrapped(*paragraph))
+        paragraph = None
+
+    for _, line, is_code in lines_of(page):
+        item = None if is_code else ITEM.match(line)
+        if is_code or not line.strip() or re.match(r"#|\||<!--", line) or line.endswith(("  ", "\\")):
+            close()
+            out.append(line)
+        elif item:
+            close()
+            paragraph = [item[0], " " * len(item[0]), line[item.end() :]]
+        elif paragraph:
+            paragraph[2] += " " + line.strip().removeprefix("> ")
+        else:
+            indent = re.match(r"\s*(> )?", line)[0]
+            paragraph = [indent, indent, line[len(indent) :]]
+    close()
+    open(os.path.join(TOP, page), "w", encoding="utf8").write("\n".join(out))
+
+
+def main(words):
+    if words[:1] == ["--wrap"]:
+        for page in words[1:]:
+            wrap(os.path.relpath(os.path.realpath(page), TOP))
+        return
+    narrow = [it for it in found(NARROW) if it not in STILL_WIDE]
+    told = [it for page in narrow for it in wide(page)] + [it for page in found(PAGES) for it in lost(page)]
+    print("\n".join(told), end="\n" if told else "")
+    sys.exit(1 if told else 0)
+
+
+if __name__ == "__main__":
+    main(sys.argv[1:])
