@@ -120,8 +120,8 @@ fn check_refused(rt: &(impl Abort + AllocGlobal), offset: usize, number: u32, wa
 }
 
 /// Sizes and offsets that are greater than the file: of the section table (`e_shoff`), of the names
-/// (`sh_size` of section 7), of the section (`sh_offset`, `sh_size` of section 4), and of what it is
-/// compressed to (`ch_size`). None is allocated.
+/// (`sh_size` of section 7), of the section (`sh_offset`, `sh_size` of section 4), and of what it
+/// is compressed to (`ch_size`). None is allocated.
 #[test]
 fn huge_sizes_are_refused(rt: HostRuntime) {
     let smaller = ElfError::Decompression(inflate::Error::OutputSmaller);

@@ -35,8 +35,8 @@ fn program(alloc: Global, version: u16, lines: LineEncoding) -> Result<LineProgr
     LineProgram::new(alloc, encoding, lines, working_dir, None, source_file, None)
 }
 
-/// The initial registers of a sequence: DWARF 5, section 6.2.2. Version 6, which is never written, has
-/// the first file.
+/// The initial registers of a sequence: DWARF 5, section 6.2.2. Version 6, which is never written,
+/// has the first file.
 fn check_initial(rt: &impl Abort, row: &LineRow, version: u16, is_statement: bool) {
     check_equal(rt, (row.address_offset, row.op_index), (0, 0));
     let file = u64::from(version < 6);

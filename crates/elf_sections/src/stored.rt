@@ -65,8 +65,8 @@ impl SectionList<'_> {
 
     /// Where the data of the first section of a name are, and how they are stored; None where there
     /// is none. Where no section has the name, and it begins with `.debug_`, it is the section of
-    /// the older form, `.zdebug_line` for `.debug_line`. Refuses a section whose bytes aren't all in
-    /// the file (`SectionCut`), and one of the older form with `SHF_COMPRESSED` (`Compressed`).
+    /// the older form, `.zdebug_line` for `.debug_line`. Refuses a section whose bytes aren't all
+    /// in the file (`SectionCut`), and one of the older form with `SHF_COMPRESSED` (`Compressed`).
     /// It takes memory for the name of the older form, and may answer `OutOfMemory`.
     pub fn stored(&self, alloc: Global, name: &[u8]) -> Result<Option<StoredSection>, ElfError>
         ensures stored { Gives (λ found. found) result (stored_named (list_of self.now) name.now) }

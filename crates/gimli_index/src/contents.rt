@@ -146,8 +146,8 @@ fn put_sources(out: &mut Vec<u8>, sources: &[Source]) -> Result<(), AllocError>
     Ok(())
 }
 
-/// Appends a start, as far as it is above the base. Requires a base that isn't above it, and that is
-/// near where starts have 4 bytes.
+/// Appends a start, as far as it is above the base. Requires a base that isn't above it, and that
+/// is near where starts have 4 bytes.
 fn put_start(out: &mut Vec<u8>, size: StartSize, base: u64, entry: Entry) -> Result<(), AllocError>
     requires base { base ≤ entry.address }
     requires near { size ≡ Four → entry.address < base + 2 ^ 32 }
@@ -181,7 +181,8 @@ fn put_starts(
 
 /// Appends what all entries say.
 fn put_entries(out: &mut Vec<u8>, entries: &[Entry]) -> Result<(), AllocError>
-    ensures bytes { OnOk result (out.new.items ≡ out.old.items ++ flat_map entry_bytes entries.now) }
+    ensures bytes { OnOk result
+        (out.new.items ≡ out.old.items ++ flat_map entry_bytes entries.now) }
     ensures fits { OnOk result (All (λ e. FitsPlace e.place) entries.now) }
 {
     for entry in entries {
@@ -282,8 +283,8 @@ impl Contents<'_> {
     /// Refuses entries of which one isn't above the one before it (`NotAscending`), and more
     /// entries, sources or bytes of paths or of the identity than 32 bits count (`TooManyEntries`,
     /// `TooManySources`, `PathsTooLarge`, `IdentityTooLarge`), before it appends anything. Where it
-    /// fails with `OutOfMemory`, a part of the bytes may be appended. Requires an address size of 1,
-    /// 2, 4 or 8 bytes.
+    /// fails with `OutOfMemory`, a part of the bytes may be appended. Requires an address size of
+    /// 1, 2, 4 or 8 bytes.
     pub fn write(&self, out: &mut Vec<u8>) -> Result<(), MakeError>
         requires { IsTrue (is_address_size self.now.address_size) }
         ensures bytes { OnOk result

@@ -1,6 +1,7 @@
 //! The index, as it lies in its bytes.
 
-ghost use Rattle.std.specs.Prelude.{◌≡◌, ◌*◌, ◌<◌, ◌≤◌, ◌+◌, ◌^◌, ◌↔◌, [], ℕ, length, drop, slice_get};
+ghost use Rattle.std.specs.Prelude.{◌≡◌, ◌*◌, ◌<◌, ◌≤◌, ◌+◌, ◌^◌, ◌↔◌, []};
+ghost use Rattle.std.specs.Prelude.{ℕ, length, drop, slice_get};
 ghost use Rattle.std.specs.Prelude.{option_map, IsTrue};
 ghost use Rattle.gimli_core.specs.Reading.{result_map};
 ghost use Rattle.gimli_index.specs.Header.{size_of, highest_base};
@@ -68,10 +69,10 @@ impl<'a> LineIndex<'a> {
 
     /// The index that bytes begin with. Takes no memory, and looks at the header alone.
     ///
-    /// Refuses bytes that don't begin as an index does (`NotIndex`), an unknown version (`Version`),
-    /// a size of addresses or starts that can't be (`AddressSize`, `StartSize`), a base that is too
-    /// high for addresses of 64 bits (`Base`), and an index that ends before its header or its parts
-    /// do (`HeaderCut`, `Cut`). Bytes after the index aren't looked at.
+    /// Refuses bytes that don't begin as an index does (`NotIndex`), an unknown version
+    /// (`Version`), a size of addresses or starts that can't be (`AddressSize`, `StartSize`), a
+    /// base that is too high for addresses of 64 bits (`Base`), and an index that ends before its
+    /// header or its parts do (`HeaderCut`, `Cut`). Bytes after the index aren't looked at.
     pub fn open(bytes: &'a [u8]) -> Result<LineIndex<'a>, IndexError>
         ensures { result_map index_of result ≡ index_at bytes.now }
     {

@@ -7,7 +7,8 @@ ghost use Rattle.gimli_line.specs.declared.run.row.LineRow.{LineRow};
 ghost use Rattle.gimli_line.specs.header.File.{File};
 ghost use Rattle.gimli_line.specs.header.Header.{Header};
 ghost use Rattle.gimli_lookup.specs.FirstPair.{IsFirstPair};
-ghost use Rattle.gimli_lookup.specs.Paths.{Paths, is_absolute, directory_string, file_path, EndsWithOwnPath, HasAbsoluteRoot};
+ghost use Rattle.gimli_lookup.specs.Paths.{Paths, is_absolute, directory_string};
+ghost use Rattle.gimli_lookup.specs.Paths.{file_path, EndsWithOwnPath, HasAbsoluteRoot};
 ghost use Rattle.gimli_lookup.specs.Run.{AreRowsOfSequences, IsFirstFound, IsFoundInRun};
 ghost use Rattle.gimli_lookup.specs.declared.path_error.PathError.TheVariants.{StringOffsetOutOfBounds, UnterminatedString};
 ghost use Rattle.gimli_lookup.specs.Strings.{string_at, HasNoStringEnd, IsStringAt};
@@ -38,7 +39,8 @@ pub fn strings_are_spelled()
     laws::texts();
 }
 
-/// Whole paths are absolute where relative directories go on from an absolute one, as they do where directory 0 is absolute.
+/// Whole paths are absolute where relative directories go on from an absolute one, as they do where
+/// directory 0 is absolute.
 pub fn whole_paths_are_absolute()
     ensures whole { (paths : Paths) (f : File) (path : List ℕ) → HasAbsoluteRoot paths
         → file_path paths f ≡ Ok path → IsTrue (is_absolute path) }

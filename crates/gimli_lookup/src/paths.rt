@@ -6,7 +6,8 @@ ghost use Rattle.gimli_core.specs.Values.{value_seen};
 ghost use Rattle.gimli_line.specs.header.File.{file_seen};
 ghost use Rattle.gimli_lookup.specs.declared.path_error.PathError.TheVariants.{OutOfMemory};
 ghost use Rattle.gimli_lookup.specs.Strings.{strings, string_of};
-ghost use Rattle.gimli_lookup.specs.Paths.{is_separator, begins_with_separator, begins_with_drive, is_absolute, separator_after, path_in};
+ghost use Rattle.gimli_lookup.specs.Paths.{is_separator, begins_with_separator, begins_with_drive};
+ghost use Rattle.gimli_lookup.specs.Paths.{is_absolute, separator_after, path_in};
 
 use crate::path_error::PathError;
 use crate::string_sections::StringSections;
@@ -92,10 +93,11 @@ fn string_bytes<R: Reader>(
 
 /// The whole paths of the files of a header (DWARF 5, section 6.2.4).
 ///
-/// A path is absolute that begins with `/`, with a backslash, or with a drive and one of both, as `C:\`. One that isn't
-/// goes on from the directory of its file. A directory that isn't absolute goes on from the directory of the compilation,
-/// which is directory 0. In version 5 that one may be relative itself: then all relative directories, directory 0 too, go
-/// on from the directory that the caller knows. Where nobody knows an absolute one, the path stays relative.
+/// A path is absolute that begins with `/`, with a backslash, or with a drive and one of both, as
+/// `C:\`. One that isn't goes on from the directory of its file. A directory that isn't absolute
+/// goes on from the directory of the compilation, which is directory 0. In version 5 that one may
+/// be relative itself: then all relative directories, directory 0 too, go on from the directory
+/// that the caller knows. Where nobody knows an absolute one, the path stays relative.
 #[derive(Drop)]
 #[derive_where(Debug; R, R::Offset)]
 pub struct Paths<'a, R: Reader> {
@@ -120,11 +122,13 @@ impl<'a, R: Reader> Model for Paths<'a, R> {
 }
 
 impl<'a, R: Reader> Paths<'a, R> {
-    ghost use Rattle.gimli_lookup.specs.Paths.{directory_string, known_directory, base_directory, directory_path, file_path, row_path};
+    ghost use Rattle.gimli_lookup.specs.Paths.{directory_string, known_directory, base_directory};
+    ghost use Rattle.gimli_lookup.specs.Paths.{directory_path, file_path, row_path};
 
-    /// The paths of this header. `comp_dir` is the directory of the compilation (`DW_AT_comp_dir`, DWARF 5, section 3.1.1);
-    /// an empty one counts as none. Up to version 4 it is directory 0, where none was handed over when the header was read.
-    /// In version 5 the header has directory 0, and `comp_dir` counts where that is relative.
+    /// The paths of this header. `comp_dir` is the directory of the compilation (`DW_AT_comp_dir`,
+    /// DWARF 5, section 3.1.1); an empty one counts as none. Up to version 4 it is directory 0,
+    /// where none was handed over when the header was read. In version 5 the header has directory
+    /// 0, and `comp_dir` counts where that is relative.
     pub fn new(
         header: &'a LineProgramHeader<R>,
         sections: StringSections<R>,
@@ -201,7 +205,8 @@ impl<'a, R: Reader> Paths<'a, R> {
         Ok(Vec::from_slice(alloc, known)?)
     }
 
-    /// What a relative directory 0 goes on from: in version 5 the caller's directory, and nothing up to version 4.
+    /// What a relative directory 0 goes on from: in version 5 the caller's directory, and nothing
+    /// up to version 4.
     fn known_directory(&self) -> &'a [u8]
         ensures { result.now ≡ known_directory self.now }
     {

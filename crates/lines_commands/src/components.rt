@@ -3,7 +3,8 @@
 //! They are kept as text: the last one first, each with a `/` after it. So a path ends with the
 //! components of another where its text begins with that of the other.
 
-ghost use Rattle.std.specs.Prelude.{◌≡◌, ◌≤◌, ◌<◌, ◌+◌, ◌^◌, ◌++◌, ◌↔◌, ℕ, List, [], IfOk, IsTrue, OnOk, map};
+ghost use Rattle.std.specs.Prelude.{◌≡◌, ◌≤◌, ◌<◌, ◌+◌, ◌^◌, ◌++◌, ◌↔◌, ℕ};
+ghost use Rattle.std.specs.Prelude.{List, [], IfOk, IsTrue, OnOk, map};
 ghost use Rattle.std.specs.List.{slice_split};
 ghost use Rattle.gimli_lookup.specs.Paths.{is_separator};
 ghost use Rattle.lines_commands.specs.Components.{components, start_of, with_component, EndsWith};
