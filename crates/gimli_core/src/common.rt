@@ -3,7 +3,8 @@
 ghost use Rattle.std.specs.Prelude.{◌≡◌, true, pos, negsuc, IsTrue};
 ghost use Rattle.gimli_core.specs.Numbers.{initial_length_size, word_size};
 
-/// Whether the words of a unit, as its lengths and its references into sections, have 32 or 64 bits.
+/// Whether the words of a unit, as its lengths and its references into sections, have 32 or 64
+/// bits.
 #[derive(Clone, Copy, Debug, PartialEq, Eq)]
 pub enum Format {
     /// Words of four bytes.
@@ -23,7 +24,8 @@ impl Format {
         }
     }
 
-    /// The number of bytes that the length of a unit takes: 4, or in the 64-bit format 12 (DWARF 5, section 7.4).
+    /// The number of bytes that the length of a unit takes: 4, or in the 64-bit format 12 (DWARF 5,
+    /// section 7.4).
     pub fn initial_length_size(self) -> u8
         ensures { result ≡ initial_length_size self }
     {

@@ -27,7 +27,8 @@ pub trait ReaderOffset: Copy + Eq + Ord {
     fn from_u32(offset: u32) -> Self
         ensures { number result ≡ offset };
 
-    /// The offset of a number. Refused by `UnsupportedOffset`, exactly where it is too large for the type.
+    /// The offset of a number. Refused by `UnsupportedOffset`, exactly where it is too large for
+    /// the type.
     fn from_u64(offset: u64) -> Result<Self>
         ensures { result_map number result ≡ offset_of limit offset };
 
@@ -72,14 +73,15 @@ pub trait ReaderAddress: Copy {
     /// The number that it stands for.
     ghost number: { Self → ℕ };
 
-    /// The address so many bytes further on. Refused by `AddressOverflow`, exactly where it is above the
-    /// greatest address of the size. Requires that `size` is 1, 2, 4 or 8.
+    /// The address so many bytes further on. Refused by `AddressOverflow`, exactly where it is
+    /// above the greatest address of the size. Requires that `size` is 1, 2, 4 or 8.
     fn add_sized(self, length: u64, size: u8) -> Result<Self>
         requires { IsTrue (is_address_size size) }
         ensures { result_map number result ≡ sized_sum (number self) length size };
 
-    /// The least address that stands for nothing: the greatest of the size but one. Linkers put it, or the
-    /// greatest, in place of an address that they dropped. Requires that `size` is 1, 2, 4 or 8.
+    /// The least address that stands for nothing: the greatest of the size but one. Linkers put it,
+    /// or the greatest, in place of an address that they dropped. Requires that `size` is 1, 2, 4
+    /// or 8.
     fn min_tombstone(size: u8) -> Self
         requires { IsTrue (is_address_size size) }
         ensures { number result ≡ 2 ^ (8 * size) - 2 };

@@ -23,5 +23,6 @@ pub trait Section<R>: From<R> {
         ensures { result.now ≡ contents self.now };
 
     /// A section that is made from a reader holds that reader.
-    ghost holds_reader: { (reader : R) (made : Self) → Self.from_gives reader made → contents made ≡ reader };
+    ghost holds_reader: { (reader : R) (made : Self) → Self.from_gives reader made
+        → contents made ≡ reader };
 }
