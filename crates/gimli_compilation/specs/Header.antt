@@ -2,12 +2,14 @@
 use Rattle.std.specs.Prelude.{ℕ, ◌+◌, List, Bool, ◌&&◌, ◌||◌, nat_eq, nat_le, if◌then◌else◌}
 use Rattle.gimli_core.specs.Notation.{Notation}
 use Rattle.gimli_core.specs.Numbers.{word_size}
-use Rattle.gimli_core.specs.Production.{Production, ◌>>=◌, done, check, choose, byte, number, some_bytes, address_size, offset_word, unit_length}
+use Rattle.gimli_core.specs.Production.{Production, ◌>>=◌, done, check, choose, byte, number}
+use Rattle.gimli_core.specs.Production.{some_bytes, address_size, offset_word, unit_length}
 use Rattle.gimli_core.specs.declared.common.Encoding.{Encoding}
 use Rattle.gimli_core.specs.declared.common.Format.{Format}
 use Rattle.gimli_core.specs.declared.error.Error.TheVariants.{UnknownVersion}
 
--- the frame of a unit: its length, and as many bytes as that says; the format goes with these (section 7.4)
+-- the frame of a unit: its length, and as many bytes as that says; the format goes with these
+-- (section 7.4)
 abbrev pub frame_production : Notation → Production (List ℕ × Format)
 frame_production notation = do
   unit ← unit_length notation
@@ -25,11 +27,12 @@ version_production big = do
 abbrev pub is_unit_type : ℕ → Bool
 is_unit_type unit_type = nat_le 1 unit_type && nat_le unit_type 6
 
--- what stands in the headers of some types alone: a signature and an offset for type and split_type, eight bytes that name
--- the compilation for skeleton and split_compile
+-- what stands in the headers of some types alone: a signature and an offset for type and
+-- split_type, eight bytes that name the compilation for skeleton and split_compile
 abbrev pub type_fields_size : ℕ → Format → ℕ
 type_fields_size unit_type format =
-    if nat_eq unit_type 2 || nat_eq unit_type 6 then 8 + word_size format else (if nat_eq unit_type 4 || nat_eq unit_type 5 then 8 else 0)
+    if nat_eq unit_type 2 || nat_eq unit_type 6 then 8 + word_size format
+    else (if nat_eq unit_type 4 || nat_eq unit_type 5 then 8 else 0)
 
 pub record Header : Type 0 where
   pub encoding : Encoding

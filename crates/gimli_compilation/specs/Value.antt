@@ -12,9 +12,15 @@ section_offset v = None
 
 -- none of the attributes
 abbrev pub no_attributes : {R : Type 0} → Attributes R
-no_attributes = record { stmt_list = Passed; comp_dir = Passed; name = Passed; str_offsets_base = Passed }
+no_attributes = record {
+  stmt_list = Passed;
+  comp_dir = Passed;
+  name = Passed;
+  str_offsets_base = Passed;
+}
 
--- one more attribute, by its name (DWARF 5, section 7.5.4): where two have one name, the last counts
+-- one more attribute, by its name (DWARF 5, section 7.5.4): where two have one name, the last
+-- counts
 abbrev pub attributes_with : {R : Type 0} → Attributes R → ℕ → Value R → Attributes R
 attributes_with before name value = record {
   stmt_list = if nat_eq name 0x10 then value else before.stmt_list;
