@@ -1,5 +1,6 @@
 -- Parts of a file.
-use Rattle.std.specs.Prelude.{ℕ, ◌+◌, List, slice_range, nat_eq, nat_lt, if◌then◌else◌, Option, Some, None, Result, Ok, Err}
+use Rattle.std.specs.Prelude.{ℕ, ◌+◌, List, slice_range, nat_eq, nat_lt, if◌then◌else◌, Option}
+use Rattle.std.specs.Prelude.{Some, None, Result, Ok, Err}
 use Rattle.elf_sections.specs.SectionHeader.{has_flag}
 use Rattle.elf_sections.specs.declared.error.ElfError.{ElfError}
 use Rattle.elf_sections.specs.declared.error.ElfError.TheVariants.{SectionCut, Compressed}

@@ -1,5 +1,6 @@
 -- The notes of a section (System V ABI, chapter 5, "Note Section").
-use Rattle.std.specs.Prelude.{ℕ, ◌+◌, ◌*◌, ◌/◌, zero, suc, List, [], ◌∷◌, length, drop, slice_range, find, nat_eq, nat_lt, Bool, ◌&&◌, if◌then◌else◌, Option, Some, None}
+use Rattle.std.specs.Prelude.{ℕ, ◌+◌, ◌*◌, ◌/◌, zero, suc, List, [], ◌∷◌, length, drop, slice_range}
+use Rattle.std.specs.Prelude.{find, nat_eq, nat_lt, Bool, ◌&&◌, if◌then◌else◌, Option, Some, None}
 use Rattle.std.specs.Str.{bytes_eq}
 use Rattle.std.specs.Option.{option_map, option_map_or}
 use Rattle.elf_sections.specs.Layout.{number_at}
@@ -57,4 +58,5 @@ is_build_id note = nat_eq note.kind 3 && bytes_eq note.name (0x47 ∷ 0x4e ∷ 0
 
 -- the build id: the descriptor of the first such note
 abbrev pub build_id_in : Layout → List ℕ → Option (List ℕ)
-build_id_in layout bytes = option_map (λ note. note.descriptor) (find is_build_id (notes layout bytes))
+build_id_in layout bytes =
+    option_map (λ note. note.descriptor) (find is_build_id (notes layout bytes))

@@ -1,5 +1,6 @@
 -- Section headers (System V ABI, chapter 4, "Sections"), and the bytes of a section.
-use Rattle.std.specs.Prelude.{ℕ, ◌+◌, ◌*◌, List, [], length, slice_range, bit_and, nat_eq, nat_lt, Bool, not, ◌&&◌, if◌then◌else◌, Result, Ok, Err}
+use Rattle.std.specs.Prelude.{ℕ, ◌+◌, ◌*◌, List, [], length, slice_range, bit_and, nat_eq, nat_lt}
+use Rattle.std.specs.Prelude.{Bool, not, ◌&&◌, if◌then◌else◌, Result, Ok, Err}
 use Rattle.elf_sections.specs.Layout.{address_size, number_at}
 use Rattle.elf_sections.specs.declared.error.ElfError.{ElfError}
 use Rattle.elf_sections.specs.declared.error.ElfError.TheVariants.{SectionCut, Compressed}
@@ -11,8 +12,8 @@ use Rattle.elf_sections.specs.declared.section_header.SectionHeader.{SectionHead
 abbrev pub section_header_size : Class → ℕ
 section_header_size class = 16 + 6 * address_size class
 
--- the section header that bytes begin with: sh_name, sh_type, sh_flags, sh_addr, sh_offset, sh_size, sh_link,
--- sh_info, and sh_entsize after sh_addralign
+-- the section header that bytes begin with: sh_name, sh_type, sh_flags, sh_addr, sh_offset,
+-- sh_size, sh_link, sh_info, and sh_entsize after sh_addralign
 abbrev pub section_header : Layout → List ℕ → SectionHeader
 section_header layout bytes = record {
   name = number_at layout 4 0 bytes;
@@ -23,7 +24,8 @@ section_header layout bytes = record {
   size = number_at layout (address_size layout.class) (8 + 3 * address_size layout.class) bytes;
   link = number_at layout 4 (8 + 4 * address_size layout.class) bytes;
   info = number_at layout 4 (12 + 4 * address_size layout.class) bytes;
-  entry_size = number_at layout (address_size layout.class) (16 + 5 * address_size layout.class) bytes;
+  entry_size =
+      number_at layout (address_size layout.class) (16 + 5 * address_size layout.class) bytes;
 }
 
 -- SHT_NULL: the header is inactive, and no section's
@@ -47,4 +49,5 @@ stored_bytes file header =
 
 -- the bytes of a section that isn't compressed (SHF_COMPRESSED)
 abbrev pub section_bytes : List ℕ → SectionHeader → Result (List ℕ) ElfError
-section_bytes file header = if has_flag header 0x800 then Err Compressed else stored_bytes file header
+section_bytes file header =
+    if has_flag header 0x800 then Err Compressed else stored_bytes file header

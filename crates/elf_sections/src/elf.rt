@@ -84,8 +84,8 @@ impl<'a> Elf<'a> {
         self.layout.address_size()
     }
 
-    /// Whether this is an object file that isn't linked (`e_type` is `ET_REL`): its sections have no
-    /// addresses yet, and the addresses in them are still to be relocated.
+    /// Whether this is an object file that isn't linked (`e_type` is `ET_REL`): its sections have
+    /// no addresses yet, and the addresses in them are still to be relocated.
     pub fn is_relocatable(&self) -> bool
         ensures { result ≡ nat_eq (file_of self.now).kind 1 }
     {

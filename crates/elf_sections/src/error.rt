@@ -14,8 +14,8 @@ pub enum ElfError {
     NotElf,
     /// The class (`EI_CLASS`) is neither 1, for 32 bits, nor 2, for 64 bits.
     Class(u8),
-    /// The order of bytes (`EI_DATA`) is neither 1, the least significant one first, nor 2, the most
-    /// significant one first.
+    /// The order of bytes (`EI_DATA`) is neither 1, the least significant one first, nor 2, the
+    /// most significant one first.
     ByteOrder(u8),
     /// The version (`EI_VERSION`) isn't 1.
     Version(u8),
