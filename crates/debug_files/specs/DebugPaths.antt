@@ -16,7 +16,8 @@ folder (b ∷ path) = if list_any is_slash (b ∷ path) then b ∷ folder path e
 -- by a build id: its first byte names a folder, and the rest a file in it
 abbrev pub build_id_path : ℕ → List ℕ → List ℕ
 build_id_path first rest =
-    codes "/usr/lib/debug/.build-id/" ++ encode_lower (first ∷ []) ++ codes "/" ++ encode_lower rest ++ codes ".debug"
+    codes "/usr/lib/debug/.build-id/" ++ encode_lower (first ∷ []) ++ codes "/" ++ encode_lower rest
+    ++ codes ".debug"
 
 abbrev pub build_id_paths : List ℕ → List (List ℕ)
 build_id_paths [] = []
@@ -26,7 +27,8 @@ build_id_paths (first ∷ rest) = build_id_path first rest ∷ []
 abbrev pub link_paths : List ℕ → List ℕ → List (List ℕ)
 link_paths folder name =
     (folder ++ name) ∷ (folder ++ codes ".debug/" ++ name)
-    ∷ (if starts_with nat_eq folder (codes "/") then (codes "/usr/lib/debug" ++ folder ++ name) ∷ [] else [])
+    ∷ (if starts_with nat_eq folder (codes "/") then (codes "/usr/lib/debug" ++ folder ++ name) ∷ []
+    else [])
 
 -- by the build id first, then by the name of the link, where the program has them
 abbrev pub debug_file_paths : List ℕ → Option (List ℕ) → Option (List ℕ) → List (List ℕ)
