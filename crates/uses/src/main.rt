@@ -4,8 +4,8 @@
 //! - `where_is FILE ADDRESS..` prints `path:line:column` of each address of an ELF file.
 //! - `ends LINES` prints all units of a section, and their sequences.
 //! - `make_unit` prints the bytes of a unit of version 5 that it builds, and those of its texts.
-//! - `shift LINES OFFSET BY [DIRECTORY [NAME]]` prints the rows of a unit up to version 4 in version
-//!   5, each address moved.
+//! - `shift LINES OFFSET BY [DIRECTORY [NAME]]` prints the rows of a unit up to version 4 in
+//!   version 5, each address moved.
 //!
 //! After the word `then` another command may follow. A command that is refused says why, and the
 //! next one is run.
