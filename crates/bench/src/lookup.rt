@@ -1,5 +1,5 @@
-//! The cost of lookups: `lookup FILE OFFSET WORK TIMES` does some work so many times on the unit at OFFSET of a section,
-//! and prints what it counted and a sum over it.
+//! The cost of lookups: `lookup FILE OFFSET WORK TIMES` does some work so many times on the unit at
+//! OFFSET of a section, and prints what it counted and a sum over it.
 //!
 //! | WORK | Does | Counts | Sums |
 //! |---|---|---|---|
