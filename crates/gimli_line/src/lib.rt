@@ -13,6 +13,7 @@ mod units;
 pub use debug_line::DebugLine;
 pub use header::file_entry::{FileEntry, FileEntryFormat};
 pub use header::program_header::LineProgramHeader;
+pub use run::from_bytes::Executed;
 pub use run::instruction::{LineInstruction, LineInstructions};
 pub use run::program::{CompleteLineProgram, IncompleteLineProgram, LineProgram};
 pub use run::row::{ColumnType, LineRow};

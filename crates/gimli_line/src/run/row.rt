@@ -1,6 +1,6 @@
 //! Rows, and what each instruction does to the registers: the state machine of DWARF 5, 6.2.2.
 
-ghost use Rattle.std.specs.Prelude.{◌≡◌, ◌<◌, ◌≤◌, ◌+◌, Bool, true, false, IfErr, IfOk, IfSome, IsNone, IsTrue, MatchOption, OnErr, OnOk, option_map};
+ghost use Rattle.std.specs.Prelude.{◌≡◌, ◌<◌, ◌≤◌, ◌+◌, Bool, true, false, IfErr, IfOk, IsTrue, MatchOption, OnErr, OnOk, option_map};
 ghost use Rattle.std.specs.Int.NonZero.{non_zero_u64_get};
 ghost use Rattle.gimli_core.specs.Numbers.{is_address_size};
 ghost use Rattle.gimli_core.specs.Reading.{result_map, sized_sum};
@@ -9,9 +9,8 @@ use crate::header::file_entry::FileEntry;
 use crate::header::parameters::Parameters;
 use crate::header::program_header::LineProgramHeader;
 use crate::run::instruction::LineInstruction;
-use crate::run::leb128::{read_short_sleb128, read_short_uleb128};
 use crate::run::program::LineProgram;
-use gimli_core::{DwLns, Error, Reader, ReaderAddress, ReaderOffset, Result, constants};
+use gimli_core::{Error, Reader, ReaderAddress, ReaderOffset, Result};
 use std::num::NonZeroU64;
 
 /// A row, or the registers on the way to one (DWARF 5, 6.2.2).
@@ -56,16 +55,13 @@ fn sum_of_size(address: u64, length: u64, size: u8) -> Result<u64>
 }
 
 impl LineRow {
-    ghost use Rattle.gimli_core.specs.Notation.{Notation};
-    ghost use Rattle.gimli_line.specs.header.Header.{Header, file_of, own_file_of};
+    ghost use Rattle.gimli_line.specs.header.Header.{file_of, own_file_of};
     ghost use Rattle.gimli_line.specs.header.Orders.{AreOneOrder};
     ghost use Rattle.gimli_line.specs.run.Instruction.{ins_seen, makes_row, header_after, InsHasOrder};
     ghost use Rattle.gimli_line.specs.header.File.{file_seen};
     ghost use Rattle.gimli_line.specs.run.Machine.{initial, reset_row, rebase_of, IsAllowed, is_refused, step_of, with_register};
     ghost use Rattle.gimli_line.specs.run.OperationPointer.{is_too_large};
     ghost use Rattle.gimli_line.specs.run.Execution.{OverflowIs, OtherRefusalIs};
-    ghost use Rattle.gimli_line.specs.inside.run.Execution.{ExecutedWell};
-    ghost use Rattle.gimli_line.specs.run.InstructionReading.{standard_at};
     ghost use Rattle.gimli_line.specs.run.Row.{column_number};
     ghost use Rattle.gimli_line.specs.run.Registers.{advanced_line};
 
@@ -287,7 +283,8 @@ impl LineRow {
     }
 
     /// Executes an instruction that sets a register by its operand alone; any other changes nothing.
-    fn set_register<R: Reader>(&mut self, instruction: LineInstruction<R>)
+    #[inline(always)]
+    pub(super) fn set_register<R: Reader>(&mut self, instruction: LineInstruction<R>)
         ensures { self.new ≡ with_register (ins_seen R.bytes R.Offset.number instruction) self.old }
     {
         match instruction {
@@ -303,47 +300,6 @@ impl LineRow {
             LineInstruction::EndSequence => self.end_sequence = true,
             _ => {}
         }
-    }
-
-    /// Executes one of the standard opcodes that are met most, from the bytes after it, and says whether it makes a
-    /// row. None at another opcode, or where its operand isn't short; no register changes then.
-    #[inline(always)]
-    pub(crate) fn exec_common_opcode<R: Reader>(
-        &mut self,
-        opcode: DwLns,
-        input: &mut R,
-    ) -> Option<bool>
-        ensures executed { IfSome result (λ made. (n : Notation) → (h : Header) →
-            ExecutedWell h.parameters (standard_at n h opcode.0 (R.bytes input.old)) (R.bytes input.new)
-            self.old self.new made) }
-        ensures some { IfSome result (λ _. 0 < opcode.0) }
-        ensures none { IsNone result → self.new ≡ self.old }
-        ensures order { R.big input.new ≡ R.big input.old }
-    {
-        match opcode {
-            constants::DW_LNS_copy => return Some(true),
-            constants::DW_LNS_advance_line => {
-                let Some(line_advance) = read_short_sleb128(input) else {
-                    return None;
-                };
-                self.apply_line_advance(line_advance);
-            }
-            constants::DW_LNS_set_file => {
-                let Some(file) = read_short_uleb128(input) else {
-                    return None;
-                };
-                self.file = file;
-            }
-            constants::DW_LNS_set_column => {
-                let Some(column) = read_short_uleb128(input) else {
-                    return None;
-                };
-                self.column = column;
-            }
-            constants::DW_LNS_negate_stmt => self.is_stmt = !self.is_stmt,
-            _ => return None,
-        }
-        Some(false)
     }
 
     /// Makes the registers ready for what follows a row: discriminator, basic_block, prologue_end and epilogue_begin
@@ -459,7 +415,7 @@ impl LineRow {
     /// Advances line, address and op_index at once, by the formula of DWARF 5, 6.2.5.1: the opcode above the opcode
     /// base counts lines from line_base on, and an operation for each line_range of it.
     #[inline(always)]
-    pub(crate) fn exec_special_opcode(&mut self, opcode: u8, parameters: &Parameters) -> Result<()>
+    pub(super) fn exec_special_opcode(&mut self, opcode: u8, parameters: &Parameters) -> Result<()>
         requires { parameters.now.opcode_base ≤ opcode }
         ensures some { 0 < opcode }
         ensures step { self.new ≡ step_of parameters.now (LineInstruction.Special opcode) self.old }

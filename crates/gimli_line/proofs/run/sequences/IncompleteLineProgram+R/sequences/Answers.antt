@@ -73,10 +73,10 @@ rows-preserved g c =
         subst (λ (es : List Event). Progress (with_reset_row (start_of_run true h c.args.self.notation at_offset no_orders unread)) (with_reset_row next) es) (sym (map-append row b.0 (next.row ∷ [])))
             (passes_both (with_reset_row (start_of_run true h c.args.self.notation at_offset no_orders unread)) (with_reset_row c.rows.rows) (with_reset_row next) (map row b.0) (row next.row ∷ []) b.2 m),
       );
-      notation = c.in_ok-advance.ensures.notation ∙ c.rows.invariant.notation;
-      offset = c.in_ok-advance.ensures.offset ∙ c.rows.invariant.offset;
-      order = λ has. c.in_ok-advance.ensures.order (c.rows.invariant.order has);
-      handed = c.in_ok-advance.ensures.handed ∙ c.rows.invariant.handed;
+      notation = c.in_ok-advance.ensures.keeps.notation ∙ c.rows.invariant.notation;
+      offset = c.in_ok-advance.ensures.keeps.offset ∙ c.rows.invariant.offset;
+      order = λ has. c.in_ok-advance.ensures.keeps.order (c.rows.invariant.order has);
+      handed = c.in_ok-advance.ensures.keeps.handed ∙ c.rows.invariant.handed;
     }
 
 pub returns-clause-ok : goal.returns-clause-ok
@@ -93,21 +93,21 @@ returns-clause-ok g c =
     (ap (λ v. without_files v.meaning) c.header.view_is ∙ c.into_program.ensures.header) (ap (λ v. v.meaning.files) c.header.view_is ∙ c.into_program.ensures.files))
 
 pub returns-clause-notation : goal.returns-clause-notation
-returns-clause-notation g c = ap (λ v. v.notation) c.header.view_is ∙ c.into_program.ensures.notation ∙ c.in_ok-advance.ensures.notation ∙ c.rows.invariant.notation
+returns-clause-notation g c = ap (λ v. v.notation) c.header.view_is ∙ c.into_program.ensures.notation ∙ c.in_ok-advance.ensures.keeps.notation ∙ c.rows.invariant.notation
 
 pub returns-clause-offset : goal.returns-clause-offset
 returns-clause-offset g c =
-    ap (λ v. g.R.Offset.ReaderOffset.number v.offset.0) c.header.view_is ∙ c.into_program.ensures.offset ∙ c.in_ok-advance.ensures.offset ∙ c.rows.invariant.offset
+    ap (λ v. g.R.Offset.ReaderOffset.number v.offset.0) c.header.view_is ∙ c.into_program.ensures.offset ∙ c.in_ok-advance.ensures.keeps.offset ∙ c.rows.invariant.offset
 
 pub returns-clause-order : goal.returns-clause-order
 returns-clause-order g c = λ has.
     let last = c.advance.new.self in
-    let so = c.in_ok-advance.ensures.order (c.rows.invariant.order has) in
+    let so = c.in_ok-advance.ensures.keeps.order (c.rows.invariant.order has) in
     has_one_order g.R.Reader.big _ last.notation.big last.orders (ap (λ v. header_orders g.R.Reader.big v) c.header.view_is ∙ c.into_program.ensures.orders) (ap (λ v. v.notation.big) c.header.view_is ∙ ap (λ n. n.big) c.into_program.ensures.notation) so.readers
 
 pub returns-clause-handed : goal.returns-clause-handed
 returns-clause-handed g c =
-    ap (λ v. (header_orders g.R.Reader.big v).handed) c.header.view_is ∙ ap (λ o. o.handed) c.into_program.ensures.orders ∙ c.in_ok-advance.ensures.handed ∙ c.rows.invariant.handed
+    ap (λ v. (header_orders g.R.Reader.big v).handed) c.header.view_is ∙ ap (λ o. o.handed) c.into_program.ensures.orders ∙ c.in_ok-advance.ensures.keeps.handed ∙ c.rows.invariant.handed
 
 pub returns-clause-unrefused : goal.returns-clause-unrefused
 returns-clause-unrefused g c =

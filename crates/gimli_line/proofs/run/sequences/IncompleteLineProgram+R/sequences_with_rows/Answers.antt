@@ -78,10 +78,10 @@ run-preserved g c =
         subst (λ (es : List Event). Progress (with_reset_row (start_of_run true h c.args.self.notation at_offset no_orders unread)) (with_reset_row next) es) (sym (map-append row b.0 (next.row ∷ [])))
             (passes_both (with_reset_row (start_of_run true h c.args.self.notation at_offset no_orders unread)) (with_reset_row c.run.run) (with_reset_row next) (map row b.0) (row next.row ∷ []) b.2 m),
       );
-      notation = c.in_ok-advance.ensures.notation ∙ c.run.invariant.notation;
-      offset = c.in_ok-advance.ensures.offset ∙ c.run.invariant.offset;
-      order = λ has. c.in_ok-advance.ensures.order (c.run.invariant.order has);
-      handed = c.in_ok-advance.ensures.handed ∙ c.run.invariant.handed;
+      notation = c.in_ok-advance.ensures.keeps.notation ∙ c.run.invariant.notation;
+      offset = c.in_ok-advance.ensures.keeps.offset ∙ c.run.invariant.offset;
+      order = λ has. c.in_ok-advance.ensures.keeps.order (c.run.invariant.order has);
+      handed = c.in_ok-advance.ensures.keeps.handed ∙ c.run.invariant.handed;
     }
 
 pub returns-clause-ok : goal.returns-clause-ok
@@ -107,21 +107,21 @@ returns-clause-each g c =
     rw c.into_rows.ensures (runs_are_kept c.args.self.notation h c.header.inside.header.meaning parts runs (returns-clause-ok g c) have)
 
 pub returns-clause-notation : goal.returns-clause-notation
-returns-clause-notation g c = ap (λ v. v.notation) c.header.view_is ∙ c.into_program.ensures.notation ∙ c.in_ok-advance.ensures.notation ∙ c.run.invariant.notation
+returns-clause-notation g c = ap (λ v. v.notation) c.header.view_is ∙ c.into_program.ensures.notation ∙ c.in_ok-advance.ensures.keeps.notation ∙ c.run.invariant.notation
 
 pub returns-clause-offset : goal.returns-clause-offset
 returns-clause-offset g c =
-    ap (λ v. g.R.Offset.ReaderOffset.number v.offset.0) c.header.view_is ∙ c.into_program.ensures.offset ∙ c.in_ok-advance.ensures.offset ∙ c.run.invariant.offset
+    ap (λ v. g.R.Offset.ReaderOffset.number v.offset.0) c.header.view_is ∙ c.into_program.ensures.offset ∙ c.in_ok-advance.ensures.keeps.offset ∙ c.run.invariant.offset
 
 pub returns-clause-order : goal.returns-clause-order
 returns-clause-order g c = λ has.
     let last = c.advance.new.self in
-    let so = c.in_ok-advance.ensures.order (c.run.invariant.order has) in
+    let so = c.in_ok-advance.ensures.keeps.order (c.run.invariant.order has) in
     has_one_order g.R.Reader.big _ last.notation.big last.orders (ap (λ v. header_orders g.R.Reader.big v) c.header.view_is ∙ c.into_program.ensures.orders) (ap (λ v. v.notation.big) c.header.view_is ∙ ap (λ n. n.big) c.into_program.ensures.notation) so.readers
 
 pub returns-clause-handed : goal.returns-clause-handed
 returns-clause-handed g c =
-    ap (λ v. (header_orders g.R.Reader.big v).handed) c.header.view_is ∙ ap (λ o. o.handed) c.into_program.ensures.orders ∙ c.in_ok-advance.ensures.handed ∙ c.run.invariant.handed
+    ap (λ v. (header_orders g.R.Reader.big v).handed) c.header.view_is ∙ ap (λ o. o.handed) c.into_program.ensures.orders ∙ c.in_ok-advance.ensures.keeps.handed ∙ c.run.invariant.handed
 
 pub returns-clause-unrefused : goal.returns-clause-unrefused
 returns-clause-unrefused g c =

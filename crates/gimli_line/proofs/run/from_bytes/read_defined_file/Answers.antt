@@ -3,8 +3,8 @@ use Rattle.std.specs.Prelude.{nat_le}
 use Rattle.gimli_core.specs.Notation.{notation_of}
 use Rattle.gimli_line.specs.header.Header.{Header}
 use Rattle.gimli_line.specs.header.Parameters.{Parameters}
-use Rattle.gimli_line.proofs.RarerExecutions.{opened, defines}
-use Rattle.gimli_line.proofs.run.rarer.read_defined_file.Goals as goal
+use Rattle.gimli_line.proofs.OtherExecutions.{opened, defines}
+use Rattle.gimli_line.proofs.run.from_bytes.read_defined_file.Goals as goal
 
 pub returns-in-Ok-parse-clause-read : goal.returns-in-Ok-parse-clause-read
 returns-in-Ok-parse-clause-read g c =

@@ -1,15 +1,22 @@
-use Rattle.std.proofs.Common.{rules, ◌≡◌, refl, ap, arith}
+use Rattle.std.proofs.Common.{rules, ◌≡◌, ◌∙◌, refl, sym, ap, arith}
 use Rattle.gimli_core.specs.Notation.{notation_of}
 use Rattle.gimli_line.specs.declared.run.instruction.LineInstruction.TheVariants.{AdvancePc, ConstAddPc}
 use Rattle.gimli_line.specs.header.Header.{Header}
-use Rattle.gimli_line.proofs.RarerExecutions.{below_executed, advance_read, const_add_read, extended_first}
-use Rattle.gimli_line.proofs.run.instruction.LineInstructions.execute_rarer.Goals as goal
+use Rattle.gimli_line.proofs.Executions.{executes_it, executes_none}
+use Rattle.gimli_line.proofs.OtherExecutions.{below_executed, advance_read, const_add_read, extended_first}
+use Rattle.gimli_line.proofs.run.instruction.LineInstructions.execute_other.Goals as goal
 
-pub returns-then-is_some-clause-ok : goal.returns-then-is_some-clause-ok
-returns-then-is_some-clause-ok g c =
+pub returns-then-is_executed-clause-ok : goal.returns-then-is_executed-clause-ok
+returns-then-is_executed-clause-ok g c =
     let n = notation_of (g.R.Reader.big c.self.inside.input) g.R.Offset.ReaderOffset.limit in
     let first = extended_first n c.args.header.now.meaning _ _ c.in-Ok.opcode c.if-opcode-eq0.true c.in-Ok.ensures.read in
-    rw (← c.self.view_is, first) (rw c.in-Ok.ensures.order at c.exec_extended_opcode-executed.ensures.executed)
+    let is = sym c.is_executed.ensures ∙ c.if-is_executed.true in
+    rw (← c.self.view_is) (executes_it _ _ _ _ _ _ is (rw first (rw c.in-Ok.ensures.order at (c.exec_extended_opcode-executed.ensures.executed is))))
+
+pub returns-else-is_executed-clause-ok : goal.returns-else-is_executed-clause-ok
+returns-else-is_executed-clause-ok g c =
+    let is = sym c.is_executed.ensures ∙ c.if-is_executed.false in
+    rw (← c.self.view_is) (executes_none _ _ _ _ _ _ is (λ none. (refl, c.exec_extended_opcode-executed.ensures.none none)))
 
 pub returns-in-Err-clause-err : goal.returns-in-Err-clause-err
 returns-in-Err-clause-err g c =
