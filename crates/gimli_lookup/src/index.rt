@@ -1,15 +1,18 @@
 //! An index of sequences: few stored addresses are looked at to find the first sequence that covers an address.
 
-ghost use Rattle.std.specs.Prelude.{◌≡◌, ◌≤◌, ◌<◌, ◌+◌, ◌*◌, ◌^◌, ℕ, true, false, length, slice_index_or, sum_by, take, All, Any, IfErr, IfOk, MatchOption};
+ghost use Rattle.std.specs.Prelude.{◌≡◌, ◌≤◌, ◌<◌, ◌+◌, ◌*◌, ◌^◌, ℕ, true, false, length, slice_index_or, sum_by, take, All, Any, IfErr, IfOk, IfSome, MatchOption};
 ghost use Rattle.gimli_line.specs.declared.run.row.LineRow.{LineRow};
 ghost use Rattle.gimli_lookup.specs.declared.steps.Step.{Step};
 ghost use Rattle.gimli_lookup.specs.FirstPair.{HasNoPair};
+ghost use Rattle.gimli_lookup.specs.Ranges.{IsBefore};
+ghost use Rattle.gimli_lookup.specs.inside.Ends.{IsFoundIn};
 ghost use Rattle.gimli_lookup.specs.inside.FirstPair.{IsFirstPairIn};
 ghost use Rattle.gimli_lookup.specs.Covering.{covering_probes, scan_probes, IsLookedInto};
 ghost use Rattle.gimli_lookup.specs.Probes.{binary_digits};
 ghost use Rattle.gimli_lookup.specs.Steps.{step_at, indexes_out_of_order, AreInOrder, IsIndexOf};
 ghost use Rattle.gimli_lookup.specs.inside.Steps.{HaveNoUnorderedPair, IsFirstUnorderedPair};
 
+use crate::ends::{nearer, next_step, next_unordered};
 use crate::kept_rows::KeptRows;
 use crate::search;
 use crate::steps::{Step, steps_of};
@@ -191,5 +194,39 @@ impl Index {
             next,
         };
         (Some(found), probes)
+    }
+
+    /// What `find` returns at `a`, and the address up to which it returns the same; None where it does so at all addresses
+    /// from `a` on. Requires the sequences that the index was made of.
+    pub(crate) fn find_with_end(
+        &self,
+        sequences: &[KeptRows],
+        a: u64,
+    ) -> (Option<Found>, Option<u64>)
+        requires { IsIndexOf self.now sequences.now }
+        ensures above { IfSome result.1 (λ end. a < end) }
+        ensures found { (b : ℕ) → a ≤ b → IsBefore b result.1 → IsFoundIn b sequences.now result.0 }
+    {
+        let (found, _) = self.find(sequences, a);
+        let end = self.end_after(sequences, a, &found);
+        (found, end)
+    }
+
+    /// The address up to which what is found at `a` is found. Requires the sequences that the index was made of.
+    fn end_after(&self, sequences: &[KeptRows], a: u64, found: &Option<Found>) -> Option<u64>
+        requires index { IsIndexOf self.now sequences.now }
+        requires found { IsFoundIn a sequences.now found.now }
+        ensures above { IfSome result (λ end. a < end) }
+        ensures found { (b : ℕ) → a ≤ b → IsBefore b result → IsFoundIn b sequences.now found.now }
+    {
+        let steps = self.steps.as_slice();
+        let mut probes = 0;
+        let count = steps_up_to(steps, a, &mut probes);
+        let unordered = next_unordered(self.unordered.as_slice(), sequences, a);
+        let end = nearer(next_step(steps, a, count), unordered);
+        match found {
+            Some(found) => nearer(end, Some(found.next.address())),
+            None => end,
+        }
     }
 }

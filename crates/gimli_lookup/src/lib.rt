@@ -7,6 +7,7 @@
 //! [`Addresses`], goes by the same rows.
 #![tactic(auto)]
 
+mod ends;
 mod index;
 mod kept_rows;
 pub mod laws;
@@ -14,6 +15,7 @@ mod lookup;
 mod path_error;
 mod path_files;
 mod paths;
+mod ranges;
 mod run;
 mod search;
 mod section_addresses;
@@ -28,6 +30,7 @@ mod unit_run;
 pub use lookup::Lookup;
 pub use path_error::PathError;
 pub use paths::Paths;
+pub use ranges::{CoveredRange, Ranges};
 pub use run::find_in_run;
 pub use section_lookup::{CoveringRows, SectionLookup};
 pub use section_unit::UnitLookup;

@@ -9,11 +9,13 @@ ghost use Rattle.gimli_line.specs.run.Unread.{unread_of};
 ghost use Rattle.gimli_lookup.specs.Covering.{covering_probes, scan_probes, IsLookedInto};
 ghost use Rattle.gimli_lookup.specs.FirstPair.{HasNoPair, IsFirstPair};
 ghost use Rattle.gimli_lookup.specs.Probes.{binary_digits};
+ghost use Rattle.gimli_lookup.specs.Ranges.{AreFoundIn};
 ghost use Rattle.gimli_lookup.specs.Section.{all_sequences, without_header, unit_without_header, AreAdjacent, IsFirstPairOfUnit, KeptUnit, ListedUnit};
 ghost use Rattle.gimli_lookup.specs.SectionUnits.{IsUnitOf};
 
 use crate::index::Index;
 use crate::kept_rows::KeptRows;
+use crate::ranges::CoveredRange;
 use crate::section_unit::UnitLookup;
 use gimli_core::{EndianSlice, Endianity, Error, Reader, ReaderOffset, Result};
 use gimli_line::{DebugLine, LineRow};
@@ -194,6 +196,28 @@ impl<R: Reader> SectionLookup<R> {
                 };
                 (Some(rows), probes)
             }
+        }
+    }
+
+    /// What `find` returns at the address `a`, and up to where it returns the same.
+    pub(crate) fn range_from(&self, a: u64) -> CoveredRange
+        ensures start { result.start ≡ a }
+        ensures end { IfSome result.end (λ end. a < end) }
+        ensures found { AreFoundIn self.now result }
+    {
+        let (found, end) = self.index.find_with_end(self.sequences.as_slice(), a);
+        let rows = match found {
+            None => None,
+            Some(found) => Some(CoveringRows {
+                unit: unit_of(self.units.as_slice(), found.sequence),
+                row: found.row,
+                next: found.next,
+            }),
+        };
+        CoveredRange {
+            start: a,
+            end,
+            rows,
         }
     }
 
