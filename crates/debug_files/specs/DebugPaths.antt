@@ -5,8 +5,12 @@ use Rattle.std.specs.List.{list_any, starts_with}
 use Rattle.std.specs.Option.{option_map_or}
 use Rattle.hex.specs.Hex.{encode_lower}
 
+-- what parts a folder from what stands in it
+abbrev pub slash : ℕ
+slash = 0x2f
+
 abbrev pub is_slash : ℕ → Bool
-is_slash b = nat_eq b 0x2f
+is_slash b = nat_eq b slash
 
 -- the folder of a path: up to its last slash, nothing where it has none
 abbrev pub folder : List ℕ → List ℕ

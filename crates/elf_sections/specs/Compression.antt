@@ -7,6 +7,7 @@ use Rattle.inflate.specs.declared.error.Error.{Error}
 use Rattle.inflate.specs.declared.error.Error.TheVariants.{OutputSmaller}
 use Rattle.inflate.specs.Zlib.{decompressed}
 use Rattle.gimli_core.specs.Numbers.{value_of}
+use Rattle.elf_sections.specs.ElfNumbers.{SHF_COMPRESSED, ELFCOMPRESS_ZLIB, ELFCOMPRESS_ZSTD}
 use Rattle.elf_sections.specs.Steps.{◌>>=◌}
 use Rattle.elf_sections.specs.Fault.{fault_of}
 use Rattle.elf_sections.specs.Layout.{address_size, number_at}
@@ -35,11 +36,11 @@ stream_bytes size stream =
     if nat_lt (length stream) (size / 1032) then Err (Decompression OutputSmaller)
     else bytes_or_fault (decompressed size stream)
 
--- a way of compression (ch_type): 1 is ELFCOMPRESS_ZLIB, and 2 ELFCOMPRESS_ZSTD
+-- a way of compression (ch_type) that is undone here
 abbrev pub zlib_kind : ℕ → Result (Unit {0}) ElfError
 zlib_kind kind =
-    if nat_eq kind 1 then Ok tt
-    else (if nat_eq kind 2 then Err Zstd else Err (UnknownCompression kind))
+    if nat_eq kind ELFCOMPRESS_ZLIB then Ok tt
+    else (if nat_eq kind ELFCOMPRESS_ZSTD then Err Zstd else Err (UnknownCompression kind))
 
 -- what a compressed section holds. Its header has three fields of an address's size: ch_type,
 -- ch_size, which is the size of what it holds, and ch_addralign; of 64 bits, ch_reserved takes half
@@ -55,7 +56,7 @@ uncompressed layout bytes =
 abbrev pub data_of : Layout → List ℕ → SectionHeader → Result (List ℕ) ElfError
 data_of layout file header =
     stored_bytes file header >>= λ bytes.
-    if has_flag header 0x800 then uncompressed layout bytes else Ok bytes
+    if has_flag header SHF_COMPRESSED then uncompressed layout bytes else Ok bytes
 
 -- what a section of the older form holds: after ZLIB stands the size of that, in 8 bytes of which
 -- the most significant comes first, whatever the file's order is

@@ -3,6 +3,7 @@
 use Rattle.std.specs.Prelude.{ℕ, ◌*◌, ◌/◌, List, map, length, drop, slice_get, nat_eq, nat_lt}
 use Rattle.std.specs.Prelude.{if◌then◌else◌, Option, Some, None, Result, Ok, Err}
 use Rattle.std.specs.List.{range_with_len}
+use Rattle.elf_sections.specs.ElfNumbers.{SHT_SYMTAB}
 use Rattle.elf_sections.specs.Steps.{◌>>=◌}
 use Rattle.elf_sections.specs.Layout.{address_size, number_at}
 use Rattle.elf_sections.specs.SectionHeader.{section_bytes}
@@ -51,11 +52,11 @@ symbol layout bytes = record {
   section = number_at layout 2 (section_offset layout.class) bytes;
 }
 
--- the entries of a symbol table (SHT_SYMTAB)
+-- the entries of a symbol table
 abbrev pub symbols_in : Layout → List ℕ → Option SectionHeader → Result (List (List ℕ)) ElfError
 symbols_in layout file None = Err NoSymbols
 symbols_in layout file (Some header) =
-    if nat_eq header.kind 2 then entries_at file (symbol_size layout.class) header
+    if nat_eq header.kind SHT_SYMTAB then entries_at file (symbol_size layout.class) header
     else Err NoSymbols
 
 -- the symbol of an index

@@ -2,6 +2,8 @@
 -- System V ABI that compilers write into debug sections.
 use Rattle.std.specs.Prelude.{ℕ, ◌+◌, ◌-◌, ◌*◌, ◌/◌, ◌%◌, ◌^◌, List, [], ◌∷◌, nat_eq, if◌then◌else◌}
 use Rattle.std.specs.Prelude.{Option, Some, None, Result, Ok, Err}
+use Rattle.elf_sections.specs.ElfNumbers.{EM_X86_64, EM_386, EM_AARCH64, EM_ARM, EM_RISCV, EM_PPC64}
+use Rattle.elf_sections.specs.ElfNumbers.{EM_S390}
 use Rattle.elf_sections.specs.declared.error.ElfError.{ElfError}
 use Rattle.elf_sections.specs.declared.error.ElfError.TheVariants.{
   UnknownMachine,
@@ -70,13 +72,13 @@ known kind None = Err (UnknownRelocation kind)
 
 abbrev pub change_of : ℕ → ℕ → Result Change ElfError
 change_of machine kind =
-    if nat_eq machine 62 then known kind (change_in x86_64_kinds kind) else (
-    if nat_eq machine 3 then known kind (change_in i386_kinds kind) else (
-    if nat_eq machine 183 then known kind (change_in aarch64_kinds kind) else (
-    if nat_eq machine 40 then known kind (change_in arm_kinds kind) else (
-    if nat_eq machine 243 then known kind (change_in riscv_kinds kind) else (
-    if nat_eq machine 21 then known kind (change_in powerpc64_kinds kind) else (
-    if nat_eq machine 22 then known kind (change_in s390x_kinds kind) else (
+    if nat_eq machine EM_X86_64 then known kind (change_in x86_64_kinds kind) else (
+    if nat_eq machine EM_386 then known kind (change_in i386_kinds kind) else (
+    if nat_eq machine EM_AARCH64 then known kind (change_in aarch64_kinds kind) else (
+    if nat_eq machine EM_ARM then known kind (change_in arm_kinds kind) else (
+    if nat_eq machine EM_RISCV then known kind (change_in riscv_kinds kind) else (
+    if nat_eq machine EM_PPC64 then known kind (change_in powerpc64_kinds kind) else (
+    if nat_eq machine EM_S390 then known kind (change_in s390x_kinds kind) else (
     Err (UnknownMachine machine))))))))
 
 -- the bytes of a number

@@ -4,6 +4,7 @@ use Rattle.std.specs.Prelude.{ℕ, ◌+◌, ◌-◌, ◌%◌, ◌^◌, List, len
 use Rattle.std.specs.Prelude.{nat_lt, Bool, false, not, ◌&&◌, if◌then◌else◌, Option, Some, None}
 use Rattle.std.specs.Prelude.{Result, Ok, Err}
 use Rattle.std.specs.List.{position_from}
+use Rattle.elf_sections.specs.ElfNumbers.{SHF_ALLOC, SHN_XINDEX}
 use Rattle.elf_sections.specs.Steps.{◌>>=◌, steps}
 use Rattle.elf_sections.specs.Layout.{number_at, with_number}
 use Rattle.elf_sections.specs.SectionHeader.{is_active, has_flag}
@@ -28,9 +29,9 @@ use Rattle.elf_sections.specs.declared.symbol.Symbol.{Symbol}
 
 -- ---- one entry
 
--- SHF_ALLOC: the section is in memory when the program runs
+-- the section is in memory when the program runs
 abbrev pub is_in_memory : Option SectionHeader → Bool
-is_in_memory (Some header) = has_flag header 2
+is_in_memory (Some header) = has_flag header SHF_ALLOC
 is_in_memory None = false
 
 -- the address of a symbol; none where it is in another section's memory than the one that counts.
@@ -38,7 +39,7 @@ is_in_memory None = false
 abbrev pub address_of : List SectionHeader → SectionPlace → Symbol → Result (Option ℕ) ElfError
 address_of headers AllAtZero symbol = Ok (Some symbol.value)
 address_of headers (Only index) symbol =
-    if nat_eq symbol.section 0xffff then Err SymbolSection
+    if nat_eq symbol.section SHN_XINDEX then Err SymbolSection
     else (if not (nat_eq symbol.section index) && is_in_memory (slice_get headers symbol.section)
     then Ok None
     else Ok (Some symbol.value))

@@ -1,6 +1,7 @@
 -- The entries of relocation sections (System V ABI, chapter 4, "Relocation").
 use Rattle.std.specs.Prelude.{ℕ, ◌+◌, ◌-◌, ◌*◌, ◌/◌, ◌%◌, ◌^◌, List, nat_eq, nat_lt, Bool, ◌&&◌}
 use Rattle.std.specs.Prelude.{◌||◌, if◌then◌else◌, Option, Some, None}
+use Rattle.elf_sections.specs.ElfNumbers.{SHT_RELA, SHT_REL}
 use Rattle.elf_sections.specs.Layout.{address_size, number_at}
 use Rattle.elf_sections.specs.declared.layout.Class.{Class}
 use Rattle.elf_sections.specs.declared.layout.Class.TheVariants.{Elf32, Elf64}
@@ -49,10 +50,11 @@ relocation layout form bytes = record {
   addend = addend_of layout form bytes;
 }
 
--- SHT_RELA, and otherwise SHT_REL
+-- the form of the entries of a section of relocations
 abbrev pub form_of : SectionHeader → Form
-form_of header = if nat_eq header.kind 4 then Rela else Rel
+form_of header = if nat_eq header.kind SHT_RELA then Rela else Rel
 
 -- whether a section has relocations of the section of an index (sh_info)
 abbrev pub relocates : ℕ → SectionHeader → Bool
-relocates index header = (nat_eq header.kind 4 || nat_eq header.kind 9) && nat_eq header.info index
+relocates index header =
+    (nat_eq header.kind SHT_RELA || nat_eq header.kind SHT_REL) && nat_eq header.info index

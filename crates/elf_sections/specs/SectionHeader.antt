@@ -1,6 +1,8 @@
 -- Section headers (System V ABI, chapter 4, "Sections"), and the bytes of a section.
 use Rattle.std.specs.Prelude.{ℕ, ◌+◌, ◌*◌, List, [], length, slice_range, bit_and, nat_eq, nat_lt}
 use Rattle.std.specs.Prelude.{Bool, not, ◌&&◌, if◌then◌else◌, Result, Ok, Err}
+use Rattle.elf_sections.specs.ElfNumbers.{SHT_NULL, SHT_NOBITS, SHF_ALLOC, SHF_EXECINSTR}
+use Rattle.elf_sections.specs.ElfNumbers.{SHF_COMPRESSED}
 use Rattle.elf_sections.specs.Layout.{address_size, number_at}
 use Rattle.elf_sections.specs.declared.error.ElfError.{ElfError}
 use Rattle.elf_sections.specs.declared.error.ElfError.TheVariants.{SectionCut, Compressed}
@@ -28,26 +30,27 @@ section_header layout bytes = record {
       number_at layout (address_size layout.class) (16 + 5 * address_size layout.class) bytes;
 }
 
--- SHT_NULL: the header is inactive, and no section's
+-- the header is a section's
 abbrev pub is_active : SectionHeader → Bool
-is_active header = not (nat_eq header.kind 0)
+is_active header = not (nat_eq header.kind SHT_NULL)
 
 -- whether the flags have this bit
 abbrev pub has_flag : SectionHeader → ℕ → Bool
 has_flag header bit = not (nat_eq (bit_and header.flags bit) 0)
 
--- code that is in memory when the program runs: SHF_ALLOC and SHF_EXECINSTR, and not empty
+-- code that is in memory when the program runs, and not empty
 abbrev pub is_code : SectionHeader → Bool
-is_code header = has_flag header 2 && has_flag header 4 && not (nat_eq header.size 0)
+is_code header =
+    has_flag header SHF_ALLOC && has_flag header SHF_EXECINSTR && not (nat_eq header.size 0)
 
--- the bytes of a section as they stand in its file: none where its kind is SHT_NOBITS
+-- the bytes of a section as they stand in its file: none where it has none there
 abbrev pub stored_bytes : List ℕ → SectionHeader → Result (List ℕ) ElfError
 stored_bytes file header =
-    if nat_eq header.kind 8 then Ok []
+    if nat_eq header.kind SHT_NOBITS then Ok []
     else (if nat_lt (length file) (header.offset + header.size) then Err SectionCut
     else Ok (slice_range file header.offset (header.offset + header.size)))
 
--- the bytes of a section that isn't compressed (SHF_COMPRESSED)
+-- the bytes of a section that isn't compressed
 abbrev pub section_bytes : List ℕ → SectionHeader → Result (List ℕ) ElfError
 section_bytes file header =
-    if has_flag header 0x800 then Err Compressed else stored_bytes file header
+    if has_flag header SHF_COMPRESSED then Err Compressed else stored_bytes file header

@@ -1,6 +1,7 @@
 -- Where the data of a section are in a file that isn't read whole, and what they are once they are
 -- read.
 use Rattle.std.specs.Prelude.{ℕ, List, if◌then◌else◌, Option, Some, None, Result, Ok, Err}
+use Rattle.elf_sections.specs.ElfNumbers.{SHF_COMPRESSED}
 use Rattle.elf_sections.specs.Steps.{◌>>=◌}
 use Rattle.elf_sections.specs.SectionHeader.{has_flag}
 use Rattle.elf_sections.specs.Compression.{uncompressed, uncompressed_old, has_old_name, old_name}
@@ -22,9 +23,9 @@ abbrev pub stored_at : Layout → StoredForm → Result FileRange ElfError
 stored_at layout form range =
     range >>= λ range. Ok (Some (record { layout = layout; range = range; form = form }))
 
--- SHF_COMPRESSED
+-- how a section that has its own name is stored
 abbrev pub stored_form : SectionHeader → StoredForm
-stored_form header = if has_flag header 0x800 then Compressed else Plain
+stored_form header = if has_flag header SHF_COMPRESSED then Compressed else Plain
 
 abbrev pub old_stored : Listed → Option SectionHeader → Result (Option StoredSection) ElfError
 old_stored list None = Ok None

@@ -31,6 +31,14 @@ const REL: u16 = 1;
 const DEBUG: &[u8] = b".debug_";
 
 /// An ELF file, whose sections are looked up by their names.
+///
+/// <!-- part of crates/uses/src/where_is.rt -->
+/// ```rust
+/// fn section<'a>(elf: &Elf<'a>, name: &[u8]) -> Result<EndianSlice<'a, LittleEndian>> {
+///     let bytes = elf.section(name)?.unwrap_or(&[]);
+///     Ok(EndianSlice::new(bytes, LittleEndian))
+/// }
+/// ```
 #[derive(Clone, Copy, Debug)]
 pub struct Elf<'a> {
     pub(crate) bytes: &'a [u8],

@@ -89,6 +89,14 @@ fn put(pieces: &mut Vec<Piece>, size: usize, at: usize, bytes: &[u8])
 
 /// A section in pieces of `N` bytes, all full but the last, and the order of its numbers. It keeps exactly its bytes and fails for
 /// memory alone, where a length past the greatest `usize` counts as a refused growth. A refused `write` changes nothing.
+///
+/// <!-- part of crates/checks_writing/src/many.rt -->
+/// ```rust
+/// let mut section: PieceVec<BigEndian, 16> = PieceVec::new(alloc, BigEndian);
+/// fill(&mut section)?;
+/// check(rt, section.into_vec()?.as_slice() == wanted);
+/// Ok(())
+/// ```
 #[derive(Debug, Drop)]
 pub struct PieceVec<E: Endianity, const N: usize> {
     pieces: Vec<Piece>,
@@ -219,6 +227,13 @@ impl<E: Endianity, const N: usize> Writer for PieceVec<E, N> {
 }
 
 /// The pieces of a [`PieceVec`], in order.
+///
+/// <!-- part of crates/linetool_commands/src/demo.rt -->
+/// ```rust
+/// for piece in section.pieces() {
+///     if print_bytes(piece, out).is_err() {
+///         return Err(Refusal::Output);
+/// ```
 #[derive(Debug, Drop)]
 pub struct Pieces<'a> {
     pieces: &'a [Piece],

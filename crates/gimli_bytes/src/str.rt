@@ -110,10 +110,26 @@ impl Texts {
 }
 
 /// The index of a text in its [`StringTable`].
+///
+/// <!-- part of crates/checks_writing/src/own_writer.rt -->
+/// ```rust
+/// strings.add(b"pp")?;
+/// line_strings.add(b"q")?;
+/// let file = strings.add(b"a.c")?;
+/// Ok((line_strings.add(b"/w")?, file))
+/// ```
 #[derive(Clone, Copy, Debug, PartialEq, Eq, Hash)]
 pub struct StringId(pub usize);
 
 /// A table of distinct texts that is written to a section `.debug_str`.
+///
+/// <!-- part of crates/checks_writing/src/own_writer.rt -->
+/// ```rust
+/// strings.add(b"pp")?;
+/// line_strings.add(b"q")?;
+/// let file = strings.add(b"a.c")?;
+/// Ok((line_strings.add(b"/w")?, file))
+/// ```
 #[derive(Debug, Drop)]
 pub struct StringTable {
     texts: Texts,
@@ -192,10 +208,25 @@ impl StringTable {
 }
 
 /// The index of a text in its [`LineStringTable`].
+///
+/// <!-- part of crates/checks_writing/src/own_writer.rt -->
+/// ```rust
+/// let working_dir = LineString::LineStringRef(directory);
+/// let source_file = LineString::StringRef(file);
+/// let lines = LineEncoding::default();
+/// ```
 #[derive(Clone, Copy, Debug, PartialEq, Eq, Hash)]
 pub struct LineStringId(pub usize);
 
 /// A table of distinct texts that is written to a section `.debug_line_str`.
+///
+/// <!-- part of crates/uses/src/make_unit.rt -->
+/// ```rust
+/// let mut line_strings = LineStringTable::default(alloc);
+/// let program = build(alloc, &mut line_strings)?;
+/// print_unit(alloc, &program, &mut line_strings, text)?;
+/// print_texts(alloc, &line_strings, text)
+/// ```
 #[derive(Debug, Drop)]
 pub struct LineStringTable {
     texts: Texts,

@@ -1,8 +1,9 @@
 -- Declarations of `.debug_abbrev` (DWARF 5, section 7.5.3).
 use Rattle.std.specs.Prelude.{◌≡◌, ℕ, List, [], ◌++◌, Bool, ◌&&◌, ◌||◌, nat_eq, if◌then◌else◌}
 use Rattle.std.specs.Prelude.{IsTrue, IsFalse, Option, Some, None}
-use Rattle.gimli_core.specs.Production.{Production, ◌>>=◌, done, choose, byte, unsigned}
+use Rattle.gimli_core.specs.Production.{Production, ◌>>=◌, ◌>>◌, done, choose, byte, unsigned}
 use Rattle.gimli_core.specs.Production.{unsigned_16, signed, Each}
+use Rattle.gimli_compilation.specs.DwarfNumbers.{DW_FORM_implicit_const}
 use Rattle.gimli_compilation.specs.declared.abbreviation.Specification.{Specification}
 
 -- values one after the other up to the first that ends them, which comes last: those before it, and
@@ -21,8 +22,8 @@ until ends l =
 
 -- a number that stands in the declaration, in DW_FORM_implicit_const alone
 abbrev pub constant_production : ℕ → Production (Unit {0})
-constant_production form = choose (nat_eq form 0x21) (do
-  z ← signed
+constant_production form = choose (nat_eq form DW_FORM_implicit_const) (do
+  signed
   done tt) (done tt)
 
 -- the name and the form of an attribute
@@ -30,7 +31,7 @@ abbrev pub specification_production : Production Specification
 specification_production = do
   name ← unsigned_16
   form ← unsigned_16
-  constant ← constant_production form
+  constant_production form
   done (record { name = record { 0 = name }; form = record { 0 = form } })
 
 -- the pair of zeros that ends a declaration

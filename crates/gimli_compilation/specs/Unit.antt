@@ -4,7 +4,8 @@ use Rattle.std.specs.Prelude.{◌≡◌, ◌⊎◌, ℕ, ◌+◌, ◌*◌, ◌^�
 use Rattle.std.specs.Prelude.{Some, None, nat_lt}
 use Rattle.gimli_core.specs.Notation.{Notation}
 use Rattle.gimli_core.specs.Numbers.{word_size}
-use Rattle.gimli_core.specs.Production.{Production, ◌>>=◌, done, check, choose, within, number}
+use Rattle.gimli_core.specs.Production.{Production, ◌>>=◌, ◌>>◌, done, check, choose, within}
+use Rattle.gimli_core.specs.Production.{number}
 use Rattle.gimli_core.specs.Production.{unsigned, text, some_bytes, below_limit}
 use Rattle.gimli_core.specs.declared.common.Encoding.{Encoding}
 use Rattle.gimli_core.specs.declared.common.Format.{Format}
@@ -50,7 +51,7 @@ apart others l = do
 abbrev pub from_offset : {A : Type 0} → Notation → ℕ → Production A → Production A
 from_offset notation offset l = do
   count ← below_limit notation (done offset)
-  before ← some_bytes count
+  some_bytes count
   l
 
 -- the values of an entry, in the order of its specifications; each takes the place of what stood
@@ -65,13 +66,13 @@ attributes_production notation encoding before (s ∷ specifications) = do
 -- the string offset of an index: a word in the table that begins at a base (section 7.26)
 abbrev pub string_offset_production : Notation → Format → ℕ → ℕ → Production ℕ
 string_offset_production notation format base index = do
-  small ← check (nat_lt (base + index * word_size format) (2 ^ 64)) UnsupportedOffset
+  check (nat_lt (base + index * word_size format) (2 ^ 64)) UnsupportedOffset
   from_offset notation (base + index * word_size format) (number notation.big (word_size format))
 
 -- the specifications of a code in the table at an offset
 abbrev pub table_production : ℕ → ℕ → Production (Option (List Specification))
 table_production offset code = do
-  before ← some_bytes offset
+  some_bytes offset
   abbreviation_production code
 
 -- the offset after the unit that begins at an offset of a section: its own, and the size of its

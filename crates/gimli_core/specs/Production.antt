@@ -45,6 +45,11 @@ l >>= next = record {
       × (next x).Fault rest e);
 }
 
+-- the same, where the value doesn't matter
+infixl 10 ◌>>◌
+abbrev pub ◌>>◌ : {A B : Type 0} → Production A → Production B → Production B
+l >> next = l >>= λ _. next
+
 -- a refusal, whatever comes
 abbrev pub refuse : {A : Type 0} → Error → Production A
 refuse d = record { Spells = λ bytes x. ⊥; Fault = λ bytes e. e ≡ d }
@@ -170,7 +175,7 @@ signed = record {
 abbrev pub address_size : Production ℕ
 address_size = do
   size ← byte
-  allowed ← check (is_address_size size) (UnsupportedAddressSize size)
+  check (is_address_size size) (UnsupportedAddressSize size)
   done size
 
 -- a word of the format
@@ -192,7 +197,7 @@ initial_length big = record {
 abbrev pub below_limit : Notation → Production ℕ → Production ℕ
 below_limit notation l = do
   n ← l
-  fits ← check (nat_lt n notation.limit) UnsupportedOffset
+  check (nat_lt n notation.limit) UnsupportedOffset
   done n
 
 -- an offset of the reader holds a word: one of four bytes always fits
@@ -204,14 +209,14 @@ fits_offset notation Dwarf64 n = nat_lt n notation.limit
 abbrev pub offset_word : Notation → Format → Production ℕ
 offset_word notation format = do
   n ← word notation.big format
-  fits ← check (fits_offset notation format n) UnsupportedOffset
+  check (fits_offset notation format n) UnsupportedOffset
   done n
 
 -- the length of a unit, and its format
 abbrev pub unit_length : Notation → Production (ℕ × Format)
 unit_length notation = do
   unit ← initial_length notation.big
-  fits ← check (fits_offset notation unit.1 unit.0) UnsupportedOffset
+  check (fits_offset notation unit.1 unit.0) UnsupportedOffset
   done unit
 
 -- ---- reading a production

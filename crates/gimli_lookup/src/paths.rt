@@ -98,6 +98,13 @@ fn string_bytes<R: Reader>(
 /// goes on from the directory of the compilation, which is directory 0. In version 5 that one may
 /// be relative itself: then all relative directories, directory 0 too, go on from the directory
 /// that the caller knows. Where nobody knows an absolute one, the path stays relative.
+///
+/// <!-- part of crates/uses/src/where_is.rt -->
+/// ```rust
+/// let Some(directory) = self.compilations.directory_of(offset) else {
+///     return Paths::new(header, self.strings, None).of_row(alloc, row);
+/// };
+/// ```
 #[derive(Drop)]
 #[derive_where(Debug; R, R::Offset)]
 pub struct Paths<'a, R: Reader> {

@@ -79,6 +79,18 @@ fn without_headers<E: Endianity>(
 }
 
 /// The rows that cover an address, and their unit.
+///
+/// <!-- part of crates/rows_reading/src/covering_rows.rt -->
+/// ```rust
+/// match lookup.find(address) {
+///     Some(found) => {
+///         let unit = found.unit;
+///         lines.put(format_args!("{address:016x} unit {unit}"));
+///         lines.put(RowLine(found.row));
+///         lines.put(RowLine(found.next));
+///     }
+///     None => lines.put(format_args!("{address:016x} none")),
+/// ```
 #[derive(Clone, Copy, Debug)]
 pub struct CoveringRows {
     /// The index of the unit, from 0 on.
@@ -91,6 +103,14 @@ pub struct CoveringRows {
 }
 
 /// The units of a section and the rows of their sequences, kept so that those that cover an address are found.
+///
+/// <!-- part of crates/uses/src/where_is.rt -->
+/// ```rust
+/// let Some(found) = program.lookup.find(address) else {
+///     return Ok(None);
+/// };
+/// let unit = program.lookup.units().get(found.unit);
+/// ```
 #[derive(Drop)]
 #[derive_where(Debug; R, R::Offset)]
 pub struct SectionLookup<R: Reader> {

@@ -12,6 +12,15 @@ use std::marker::Model;
 use std::ops::Range;
 
 /// A unit of a section, as a [`SectionLookup`](crate::SectionLookup) lists it.
+///
+/// <!-- part of crates/uses/src/where_is.rt -->
+/// ```rust
+/// let unit = program.lookup.units().get(found.unit);
+/// let Some(header) = unit.and_then(|unit| unit.header()) else {
+///     return Err(PathError::InvalidFileIndex(found.row.file_index()));
+/// };
+/// let path = program.path_of(alloc, header, &found.row)?;
+/// ```
 #[derive(Drop)]
 #[derive_where(Debug; R, R::Offset)]
 pub struct UnitLookup<R: Reader> {

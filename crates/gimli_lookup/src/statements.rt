@@ -12,6 +12,14 @@ use gimli_line::LineRow;
 use std::alloc::Global;
 
 /// A line, and the addresses at which its code begins.
+///
+/// <!-- part of crates/checks_reading/src/many.rt -->
+/// ```rust
+/// Some(found) => {
+///     check_equal(rt, found.line, 1);
+///     check_equal(rt, found.addresses.len(), MANY / 2 + SEQUENCES);
+/// }
+/// ```
 #[derive(Debug, Drop)]
 pub struct Addresses {
     /// The line.

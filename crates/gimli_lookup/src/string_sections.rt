@@ -9,6 +9,14 @@ use crate::path_error::PathError;
 use gimli_core::{AttributeValue, Reader};
 
 /// The sections that hold strings (DWARF 5, section 7.26). Where a program has no such section, it is a reader of no bytes.
+///
+/// <!-- part of crates/uses/src/where_is.rt -->
+/// ```rust
+/// strings: StringSections {
+///     debug_line_str: sections.debug_line_str,
+///     debug_str: sections.debug_str,
+/// },
+/// ```
 #[derive(Clone, Copy, Debug)]
 pub struct StringSections<R> {
     /// The section `.debug_line_str`.

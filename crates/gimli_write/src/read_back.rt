@@ -31,6 +31,13 @@ use std::alloc::Global;
 use std::marker::Model;
 
 /// What is read of a unit.
+///
+/// <!-- part of crates/uses/src/shift.rt -->
+/// ```rust
+/// let shifted = shift(alloc, unit, by)?;
+/// print_rows(&shifted.rows, text)?;
+/// Ok(())
+/// ```
 #[derive(Debug, Drop)]
 pub struct RoundTrip {
     /// The offset of the unit in its section.
@@ -44,6 +51,15 @@ pub struct RoundTrip {
 }
 
 /// What is read of a file.
+///
+/// <!-- part of crates/rows_writing/src/output.rt -->
+/// ```rust
+/// path: Text(file.path.as_slice()),
+/// directory: file.directory_index,
+/// timestamp: file.timestamp,
+/// size: file.size,
+/// md5: Digits(&file.md5),
+/// ```
 #[derive(Debug, Drop)]
 pub struct RoundTripFile {
     /// The path.

@@ -10,6 +10,13 @@ use std::alloc::{AllocError, Global};
 use std::marker::Model;
 
 /// The index of a directory in its line program, from 0 on.
+///
+/// <!-- part of crates/checks_writing/src/builder.rt -->
+/// ```rust
+/// let other = program.add_directory(LineString::String(b"/i".to_vec(alloc)?))?;
+/// let last = program.add_file(name, other, None)?;
+/// let mut listed = None;
+/// ```
 #[derive(Clone, Copy, Debug, PartialEq, Eq, Hash)]
 pub struct DirectoryId(usize);
 
@@ -40,6 +47,18 @@ impl DirectoryId {
 }
 
 /// The index of a file in its line program, from 0 on.
+///
+/// <!-- part of crates/uses/src/make_unit.rt -->
+/// ```rust
+/// let Some((file, _, _)) = program.files().next() else {
+///     bail!("the program has no file");
+/// };
+/// program.set_address(Address::Constant(0x1000))?;
+/// for (offset, line) in [(0, 3), (4, 4)] {
+///     let row = program.row();
+///     row.file = file;
+///     row.address_offset = offset;
+/// ```
 #[derive(Clone, Copy, Debug, PartialEq, Eq, Hash)]
 pub struct FileId(usize);
 
@@ -78,6 +97,16 @@ impl FileId {
 }
 
 /// What is known of a file beside its path and its directory.
+///
+/// <!-- part of crates/rows_writing/src/builder.rt -->
+/// ```rust
+/// Ok(Some(FileInfo {
+///     timestamp: details.timestamp,
+///     size: details.size,
+///     md5: details.md5,
+///     source: self.optional_text(&details.source, encoding)?,
+/// }))
+/// ```
 #[derive(Debug, PartialEq, Eq, Drop)]
 pub struct FileInfo {
     /// When the file was last changed, in the producer's own way to count time; 0 where it isn't known.
@@ -391,6 +420,13 @@ impl Clone for FileTable {
 }
 
 /// The files of a line program in order, each with its id, its path and its directory.
+///
+/// <!-- part of crates/uses/src/make_unit.rt -->
+/// ```rust
+/// let Some((file, _, _)) = program.files().next() else {
+///     bail!("the program has no file");
+/// };
+/// ```
 #[derive(Debug, Drop)]
 pub struct Files<'a> {
     table: &'a FileTable,

@@ -17,6 +17,15 @@ use std::marker::Model;
 ///
 /// It keeps what was built as it was given: directories and files, set addresses, rows and ends. Nothing of
 /// it is encoded before it is written.
+///
+/// <!-- part of crates/uses/src/make_unit.rt -->
+/// ```rust
+/// let directory = LineString::new(b"/w", encoding, line_strings)?;
+/// let path = LineString::new(b"a.c", encoding, line_strings)?;
+/// let lines = LineEncoding::default();
+/// let program = LineProgram::new(alloc, encoding, lines, directory, None, path, None)?;
+/// Ok(program)
+/// ```
 #[derive(Debug, Drop)]
 pub struct LineProgram {
     none: bool,

@@ -4,6 +4,7 @@ use Rattle.std.specs.Prelude.{Option, Some, None, Ok, Err}
 use Rattle.gimli_core.specs.Reading.{Read, ◌>>=◌, eof, byte_at, unsigned_at, unsigned_16_at}
 use Rattle.gimli_core.specs.Reading.{signed_at}
 use Rattle.gimli_compilation.specs.declared.abbreviation.Specification.{Specification}
+use Rattle.gimli_compilation.specs.DwarfNumbers.{DW_FORM_implicit_const}
 use Rattle.gimli_compilation.specs.Abbreviation.{Declaration, is_end, ends_search}
 
 -- fewer than so many values before the one that ends them
@@ -21,7 +22,8 @@ until_at ends read bytes = until_below (suc (length bytes)) ends read bytes
 
 abbrev pub constant_at : ℕ → List ℕ → Read (Unit {0})
 constant_at form bytes =
-    if nat_eq form 0x21 then (signed_at bytes >>= λ z rest. (Ok tt, rest)) else (Ok tt, bytes)
+    if nat_eq form DW_FORM_implicit_const then (signed_at bytes >>= λ z rest. (Ok tt, rest))
+    else (Ok tt, bytes)
 
 unfoldable pub specification_at : List ℕ → Read Specification
 specification_at bytes =

@@ -11,6 +11,7 @@ use Rattle.gimli_compilation.specs.declared.form.Shape.{Shape}
 use Rattle.gimli_compilation.specs.declared.form.Shape.TheVariants.{Fixed, Unsigned, Signed, Block}
 use Rattle.gimli_compilation.specs.declared.form.Shape.TheVariants.{Counted, UnsignedCounted}
 use Rattle.gimli_compilation.specs.declared.form.Shape.TheVariants.{String}
+use Rattle.gimli_compilation.specs.DwarfNumbers.{DW_FORM_indirect, DW_FORM_implicit_const}
 use Rattle.gimli_compilation.specs.Form.{shape_among, shapes}
 
 -- a number of this shape is one that `read_uint` takes
@@ -47,6 +48,6 @@ module _ (notation : Notation) where
     -- a value in a form
     unfoldable pub form_at : ℕ → List ℕ → Read (Value (List ℕ))
     form_at form bytes =
-        if nat_eq form 0x21 then (Ok Passed, bytes)
-        else (if nat_eq form 0x16 then (unsigned_16_at bytes >>= known_form_at)
+        if nat_eq form DW_FORM_implicit_const then (Ok Passed, bytes)
+        else (if nat_eq form DW_FORM_indirect then (unsigned_16_at bytes >>= known_form_at)
         else known_form_at form bytes)

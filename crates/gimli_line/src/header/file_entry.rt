@@ -11,6 +11,15 @@ use gimli_core::{AttributeValue, DwForm, DwLnct, Reader, ReaderOffset, Result, c
 use std::alloc::AllocError;
 
 /// What a table of version 5 holds of each entry: a kind of value, and the form that it has.
+///
+/// <!-- part of crates/rows_reading/src/header_text.rt -->
+/// ```rust
+/// for format in formats {
+///     let content = format.content_type.0;
+///     let form = format.form.0;
+///     lines.put(format_args!("{word} {content:x} {form:x}"));
+/// }
+/// ```
 #[derive(Clone, Copy, Debug, PartialEq, Eq)]
 pub struct FileEntryFormat {
     /// The kind of value.
@@ -20,6 +29,17 @@ pub struct FileEntryFormat {
 }
 
 /// A source file.
+///
+/// <!-- part of crates/uses/src/reading.rt -->
+/// ```rust
+/// let Some(file) = row.file(header) else {
+///     return Ok(None);
+/// };
+/// match file.directory(header) {
+///     Some(directory) => Ok(Some(text(directory, sections)?)),
+///     None => Ok(None),
+/// }
+/// ```
 #[derive(Copy, Debug, PartialEq, Eq)]
 pub struct FileEntry<R, Offset = <R as Reader>::Offset>
 where

@@ -6,6 +6,18 @@ use gimli_core::{Error, Reader, ReaderOffset, Result};
 use std::marker::Model;
 
 /// What has the header of a line program, and takes the files that the program defines.
+///
+/// <!-- part of crates/linetool_commands/src/print.rt -->
+/// ```rust
+/// let mut rows = rows;
+/// 'rows: loop {
+///     let row = match rows.next_row() {
+///         Ok(Some((_, row))) => *row,
+///         Ok(None) => return Ok(()),
+///         Err(e) => return Err(Refusal::of_unit(e, Refusal::Rows)),
+///     };
+///     print_row(row, out)?;
+/// ```
 pub trait LineProgram<R: Reader> {
     ghost use Rattle.std.specs.Prelude.{◌≡◌, ℕ, Bool, true, OnOk, OnErr, IfErr};
     ghost use Rattle.gimli_core.specs.Notation.{Notation};
@@ -50,6 +62,13 @@ pub trait LineProgram<R: Reader> {
 }
 
 /// A line program that was not run yet, so that files may still be defined.
+///
+/// <!-- part of crates/uses/src/lookup.rt -->
+/// ```rust
+/// let program = section.program(alloc, offset, 8, None, None)?;
+/// let lookup = Lookup::new(program)?;
+/// Ok(row_at(&lookup, address))
+/// ```
 #[derive(Clone, Debug, PartialEq, Eq, Drop)]
 pub struct IncompleteLineProgram<R, Offset = <R as Reader>::Offset>
 where
@@ -138,6 +157,16 @@ impl<R: Reader> LineProgram<R> for IncompleteLineProgram<R> {
 }
 
 /// A line program of which all files are known, so that its sequences can be run one by one.
+///
+/// <!-- part of crates/checks_reading/src/headers.rt -->
+/// ```rust
+/// for sequence in sequences {
+///     match program.resume_from(sequence).next_row() {
+///         Ok(Some((_, row))) => check_equal(rt, row.address(), 0x1000),
+///         _ => check_equal(rt, true, false),
+///     }
+/// }
+/// ```
 #[derive(Clone, Debug, PartialEq, Eq, Drop)]
 pub struct CompleteLineProgram<R, Offset = <R as Reader>::Offset>
 where

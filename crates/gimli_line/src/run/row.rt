@@ -14,6 +14,14 @@ use gimli_core::{Error, Reader, ReaderAddress, ReaderOffset, Result};
 use std::num::NonZeroU64;
 
 /// A row, or the registers on the way to one (DWARF 5, 6.2.2).
+///
+/// <!-- part of crates/uses/src/shift.rt -->
+/// ```rust
+/// let address = row.address();
+/// let file = row.file_index();
+/// let line = row.line().map_or(0, |line| line.get());
+/// let end = if row.end_sequence() { " end" } else { "" };
+/// ```
 #[derive(Clone, Copy, Debug, PartialEq, Eq)]
 pub struct LineRow {
     /// The last set address is a tombstone.
@@ -33,6 +41,14 @@ pub struct LineRow {
 }
 
 /// The column of a row. The left edge is below all columns.
+///
+/// <!-- part of crates/uses/src/where_is.rt -->
+/// ```rust
+/// match row.column() {
+///     ColumnType::LeftEdge => 0,
+///     ColumnType::Column(column) => column.get(),
+/// }
+/// ```
 #[derive(Clone, Copy, Debug, PartialEq, Eq, PartialOrd, Ord)]
 pub enum ColumnType {
     /// The left edge of the line.

@@ -26,6 +26,14 @@ use gimli_line::IncompleteLineProgram;
 use std::marker::Model;
 
 /// A source, as far as it was read, and the program that is built of it.
+///
+/// <!-- part of crates/checks_writing/src/conversions.rt -->
+/// ```rust
+/// let mut conversion = conversion_of(program, None, &mut line_strings, &mut strings)?;
+/// check_first_reads(rt, &mut conversion)?;
+/// check_last_reads(rt, &mut conversion)?;
+/// check_built(rt, conversion);
+/// ```
 #[derive(Drop)]
 #[derive_where(Debug; R, R::Offset)]
 pub struct Conversion<R: Reader> {

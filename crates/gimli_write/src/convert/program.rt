@@ -29,6 +29,13 @@ use std::marker::{Model, PhantomData};
 ///
 /// It holds the tables of strings until it is dropped. What owns memory stands at the last type parameter, which is
 /// never written.
+///
+/// <!-- part of crates/checks_writing/src/conversions.rt -->
+/// ```rust
+/// check_equal(rt, conversion.read_row()?, FIRST);
+/// let sequence = conversion.read_sequence()?;
+/// let found = sequence.map(|sequence| (sequence.start, sequence.rows.len(), sequence.end));
+/// ```
 #[derive(Debug)]
 pub struct ConvertLineProgram<'a, 'b, R: Reader, P = Conversion<R>> {
     line_strings: &'a mut LineStringTable,
@@ -53,6 +60,12 @@ impl<R: Reader, P: Drop> Drop for ConvertLineProgram<'_, '_, R, P> {
 }
 
 /// The header of a source, made into the directories and files of a program that is to be built. It borrows no table.
+///
+/// <!-- part of crates/uses/src/converting.rt -->
+/// ```rust
+/// let mut converter = header.converter(line_strings, strings);
+/// converter.read_row()
+/// ```
 #[derive(Drop)]
 #[derive_where(Debug; R, R::Offset)]
 pub struct ConvertLineHeader<R: Reader> {
