@@ -9,6 +9,7 @@ use Rattle.gimli_bytes.specs.declared.address.Address.TheVariants.{Constant, Sym
 use Rattle.gimli_bytes.specs.declared.error.Error.{Error}
 use Rattle.gimli_bytes.specs.declared.error.Error.TheVariants.{OutOfMemory, IncompatibleLineProgramEncoding, UnsupportedVersion, NeedVersion, LineStringFormMismatch, ValueTooLarge, InvalidAddress, InitialLengthOverflow}
 use Rattle.gimli_bytes.specs.Texts.{offset_of, StringTables}
+use Rattle.gimli_build.specs.Codes.{DW_FORM_string}
 use Rattle.gimli_build.specs.LineText.{LineText, Inline, InStrings, InLineStrings}
 use Rattle.gimli_build.specs.Tables.{File}
 use Rattle.gimli_build.specs.Built.{Built}
@@ -56,7 +57,7 @@ file_texts p texts f =
 -- string, and the working directory isn't emitted
 abbrev pub emitted_texts : Built → StringTables → List (ℕ × LineText)
 emitted_texts p texts =
-    if nat_le p.encoding.version 4 then map (λ t. (0x08, t)) (drop 1 p.directories ++ path_texts p.files)
+    if nat_le p.encoding.version 4 then map (λ t. (DW_FORM_string, t)) (drop 1 p.directories ++ path_texts p.files)
     else map (λ t. (first_form p.directories, t)) p.directories ++ flat_map (file_texts p texts) p.files
 
 -- a symbol as address, or a constant that is wider than an address

@@ -8,25 +8,27 @@ use Rattle.gimli_bytes.specs.declared.error.Error.{Error}
 use Rattle.gimli_line.specs.declared.run.instruction.LineInstruction.TheVariants.{Special, Copy, AdvancePc, AdvanceLine, SetFile, SetColumn, NegateStatement, SetBasicBlock, ConstAddPc, SetPrologueEnd, SetEpilogueBegin, SetIsa, EndSequence, SetDiscriminator}
 use Rattle.gimli_line.specs.run.Instruction.{Ins}
 use Rattle.gimli_build.specs.declared.built.row.LineRow.{LineRow}
+use Rattle.gimli_build.specs.Codes.{DW_LNE_end_sequence, DW_LNE_set_address, DW_LNE_set_discriminator, DW_LNS_advance_line, DW_LNS_advance_pc, DW_LNS_const_add_pc, DW_LNS_copy, DW_LNS_negate_stmt, DW_LNS_set_basic_block, DW_LNS_set_column, DW_LNS_set_epilogue_begin, DW_LNS_set_file, DW_LNS_set_isa, DW_LNS_set_prologue_end}
 use Rattle.gimli_build.specs.FileNumber.{file_number}
 use Rattle.gimli_build.specs.Encode.{built_opcode_base}
 
 -- an instruction of a row or an end; no other is written but set addresses
 abbrev pub instruction_bytes : Ins → List ℕ
 instruction_bytes (Special o) = o ∷ []
-instruction_bytes Copy = 0x01 ∷ []
-instruction_bytes (AdvancePc n) = 0x02 ∷ uleb n
-instruction_bytes (AdvanceLine z) = 0x03 ∷ sleb z
-instruction_bytes (SetFile n) = 0x04 ∷ uleb n
-instruction_bytes (SetColumn n) = 0x05 ∷ uleb n
-instruction_bytes NegateStatement = 0x06 ∷ []
-instruction_bytes SetBasicBlock = 0x07 ∷ []
-instruction_bytes ConstAddPc = 0x08 ∷ []
-instruction_bytes SetPrologueEnd = 0x0a ∷ []
-instruction_bytes SetEpilogueBegin = 0x0b ∷ []
-instruction_bytes (SetIsa n) = 0x0c ∷ uleb n
-instruction_bytes EndSequence = 0 ∷ 1 ∷ 0x01 ∷ []
-instruction_bytes (SetDiscriminator n) = 0 ∷ uleb (length (uleb n) + 1) ++ 0x04 ∷ uleb n
+instruction_bytes Copy = DW_LNS_copy ∷ []
+instruction_bytes (AdvancePc n) = DW_LNS_advance_pc ∷ uleb n
+instruction_bytes (AdvanceLine z) = DW_LNS_advance_line ∷ sleb z
+instruction_bytes (SetFile n) = DW_LNS_set_file ∷ uleb n
+instruction_bytes (SetColumn n) = DW_LNS_set_column ∷ uleb n
+instruction_bytes NegateStatement = DW_LNS_negate_stmt ∷ []
+instruction_bytes SetBasicBlock = DW_LNS_set_basic_block ∷ []
+instruction_bytes ConstAddPc = DW_LNS_const_add_pc ∷ []
+instruction_bytes SetPrologueEnd = DW_LNS_set_prologue_end ∷ []
+instruction_bytes SetEpilogueBegin = DW_LNS_set_epilogue_begin ∷ []
+instruction_bytes (SetIsa n) = DW_LNS_set_isa ∷ uleb n
+instruction_bytes EndSequence = 0 ∷ 1 ∷ DW_LNE_end_sequence ∷ []
+instruction_bytes (SetDiscriminator n) =
+    0 ∷ uleb (length (uleb n) + 1) ++ DW_LNE_set_discriminator ∷ uleb n
 instruction_bytes i = []
 
 -- instructions one after the other
@@ -35,7 +37,8 @@ instructions_bytes list = flat_map instruction_bytes list
 
 -- a set address: what a symbol stands for isn't known
 abbrev pub set_address_bytes : Bool → Address → ℕ → Result (List ℕ) Error
-set_address_bytes big address size = result_map (λ operand. 0 ∷ uleb (size + 1) ++ 0x02 ∷ operand) (address_bytes big address size)
+set_address_bytes big address size =
+    result_map (λ operand. 0 ∷ uleb (size + 1) ++ DW_LNE_set_address ∷ operand) (address_bytes big address size)
 
 -- an instruction that rows and ends are written with, whose operand 64 bits hold
 abbrev pub IsWritten : Ins → Type 0

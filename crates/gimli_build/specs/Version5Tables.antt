@@ -7,6 +7,7 @@ use Rattle.gimli_bytes.specs.Number.{uleb}
 use Rattle.gimli_bytes.specs.Texts.{with_text, index_of_text, offset_of, StringTables}
 use Rattle.gimli_bytes.specs.declared.error.Error.{Error}
 use Rattle.gimli_bytes.specs.declared.error.Error.TheVariants.{LineStringFormMismatch}
+use Rattle.gimli_build.specs.Codes.{DW_FORM_data16, DW_FORM_line_strp, DW_FORM_string, DW_FORM_strp, DW_FORM_udata, DW_LNCT_LLVM_source, DW_LNCT_MD5, DW_LNCT_directory_index, DW_LNCT_path, DW_LNCT_size, DW_LNCT_timestamp}
 use Rattle.gimli_build.specs.Due.{when}
 use Rattle.gimli_build.specs.LineText.{LineText, Inline, InStrings, InLineStrings}
 use Rattle.gimli_build.specs.Tables.{File}
@@ -18,13 +19,13 @@ use Rattle.gimli_build.specs.Built.{Built}
 
 -- the form of a text: string, strp or line_strp
 abbrev pub text_form : LineText → ℕ
-text_form (Inline text) = 0x08
-text_form (InStrings i) = 0x0e
-text_form (InLineStrings i) = 0x1f
+text_form (Inline text) = DW_FORM_string
+text_form (InStrings i) = DW_FORM_strp
+text_form (InLineStrings i) = DW_FORM_line_strp
 
 -- the form of a table's texts: that of its first one
 abbrev pub first_form : List LineText → ℕ
-first_form [] = 0x08
+first_form [] = DW_FORM_string
 first_form (t ∷ texts) = text_form t
 
 -- the paths of files
@@ -45,15 +46,19 @@ needs_empty p = nat_le 5 p.encoding.version && p.file_has_source && list_any (λ
 -- the empty text in a form, with these tables
 abbrev pub empty_text : ℕ → StringTables → LineText
 empty_text form texts =
-    if nat_eq form 0x0e then InStrings (index_of_text texts.strings [])
-    else (if nat_eq form 0x1f then InLineStrings (index_of_text texts.line_strings [])
+    if nat_eq form DW_FORM_strp then InStrings (index_of_text texts.strings [])
+    else (if nat_eq form DW_FORM_line_strp then InLineStrings (index_of_text texts.line_strings [])
     else Inline [])
 
 -- the tables once a program is written: they have gained the empty text where it is needed and has their form
 abbrev pub texts_after : Built → StringTables → StringTables
 texts_after p texts = record {
-  strings = if needs_empty p && nat_eq (first_form (sources p.files)) 0x0e then with_text texts.strings [] else texts.strings;
-  line_strings = if needs_empty p && nat_eq (first_form (sources p.files)) 0x1f then with_text texts.line_strings [] else texts.line_strings;
+  strings =
+      if needs_empty p && nat_eq (first_form (sources p.files)) DW_FORM_strp
+      then with_text texts.strings [] else texts.strings;
+  line_strings =
+      if needs_empty p && nat_eq (first_form (sources p.files)) DW_FORM_line_strp
+      then with_text texts.line_strings [] else texts.line_strings;
 }
 
 -- ---- formats
@@ -64,16 +69,16 @@ formats_bytes formats = length formats ∷ flat_map (λ f. uleb f.0 ++ uleb f.1)
 
 -- a path
 abbrev pub directory_formats : Built → List (ℕ × ℕ)
-directory_formats p = (0x0001, first_form p.directories) ∷ []
+directory_formats p = (DW_LNCT_path, first_form p.directories) ∷ []
 
 -- a path and the index of a directory, and what the flags say: a timestamp, a size, an MD5 digest and a source
 abbrev pub file_formats : Built → List (ℕ × ℕ)
 file_formats p =
-    (0x0001, first_form (path_texts p.files)) ∷ (0x0002, 0x0f)
-    ∷ when p.file_has_timestamp (0x0003, 0x0f)
-    ++ when p.file_has_size (0x0004, 0x0f)
-    ++ when p.file_has_md5 (0x0005, 0x1e)
-    ++ when p.file_has_source (0x2001, first_form (sources p.files))
+    (DW_LNCT_path, first_form (path_texts p.files)) ∷ (DW_LNCT_directory_index, DW_FORM_udata)
+    ∷ when p.file_has_timestamp (DW_LNCT_timestamp, DW_FORM_udata)
+    ++ when p.file_has_size (DW_LNCT_size, DW_FORM_udata)
+    ++ when p.file_has_md5 (DW_LNCT_MD5, DW_FORM_data16)
+    ++ when p.file_has_source (DW_LNCT_LLVM_source, first_form (sources p.files))
 
 -- ---- entries
 

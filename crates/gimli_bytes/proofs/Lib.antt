@@ -8,3 +8,6 @@ pub mod Parts
 pub mod WrittenAs
 pub mod InitialLengths
 pub mod TablesWritten
+pub mod RelocationLemmas
+pub mod Relocating
+pub mod CallsRelocated

@@ -1,6 +1,8 @@
 pub mod Written
 pub mod Number
 pub mod Section
+pub mod Relocatable
+pub mod Relocations
 pub mod Pieces
 pub mod Texts
 pub mod HashAlike

@@ -97,18 +97,49 @@ length_word big Dwarf64 n = Ok (number_bytes big 8 n)
 
 -- ---- pointers of .eh_frame
 
+-- the formats of a pointer, and how it is applied (Linux Standard Base, "DWARF Exception Header Encoding")
+abbrev pub DW_EH_PE_absptr : ℕ
+DW_EH_PE_absptr = 0x00
+
+abbrev pub DW_EH_PE_uleb128 : ℕ
+DW_EH_PE_uleb128 = 0x01
+
+abbrev pub DW_EH_PE_udata2 : ℕ
+DW_EH_PE_udata2 = 0x02
+
+abbrev pub DW_EH_PE_udata4 : ℕ
+DW_EH_PE_udata4 = 0x03
+
+abbrev pub DW_EH_PE_udata8 : ℕ
+DW_EH_PE_udata8 = 0x04
+
+abbrev pub DW_EH_PE_sleb128 : ℕ
+DW_EH_PE_sleb128 = 0x09
+
+abbrev pub DW_EH_PE_sdata2 : ℕ
+DW_EH_PE_sdata2 = 0x0a
+
+abbrev pub DW_EH_PE_sdata4 : ℕ
+DW_EH_PE_sdata4 = 0x0b
+
+abbrev pub DW_EH_PE_sdata8 : ℕ
+DW_EH_PE_sdata8 = 0x0c
+
+abbrev pub DW_EH_PE_pcrel : ℕ
+DW_EH_PE_pcrel = 0x10
+
 -- a value in a pointer format; the size is that of the format absptr
 abbrev pub pointer_data : Bool → ℕ → DwEhPe → ℕ → Result (List ℕ) Error
 pointer_data big n format size =
-    if nat_eq format.0 0x00 then udata big n size
-    else (if nat_eq format.0 0x01 then Ok (uleb n)
-    else (if nat_eq format.0 0x02 then udata big n 2
-    else (if nat_eq format.0 0x03 then udata big n 4
-    else (if nat_eq format.0 0x04 then udata big n 8
-    else (if nat_eq format.0 0x09 then Ok (sleb (cast_signed w64 n))
-    else (if nat_eq format.0 0x0a then sdata big (cast_signed w64 n) 2
-    else (if nat_eq format.0 0x0b then sdata big (cast_signed w64 n) 4
-    else (if nat_eq format.0 0x0c then sdata big (cast_signed w64 n) 8
+    if nat_eq format.0 DW_EH_PE_absptr then udata big n size
+    else (if nat_eq format.0 DW_EH_PE_uleb128 then Ok (uleb n)
+    else (if nat_eq format.0 DW_EH_PE_udata2 then udata big n 2
+    else (if nat_eq format.0 DW_EH_PE_udata4 then udata big n 4
+    else (if nat_eq format.0 DW_EH_PE_udata8 then udata big n 8
+    else (if nat_eq format.0 DW_EH_PE_sleb128 then Ok (sleb (cast_signed w64 n))
+    else (if nat_eq format.0 DW_EH_PE_sdata2 then sdata big (cast_signed w64 n) 2
+    else (if nat_eq format.0 DW_EH_PE_sdata4 then sdata big (cast_signed w64 n) 4
+    else (if nat_eq format.0 DW_EH_PE_sdata8 then sdata big (cast_signed w64 n) 8
     else Err (UnsupportedPointerEncoding format)))))))))
 
 -- the format of an encoding: its low four bits
@@ -119,8 +150,8 @@ format_of encoding = record { 0 = bit_and encoding.0 0x0f }
 -- isn't looked at
 abbrev pub pointer_bytes : Bool → ℕ → Address → DwEhPe → ℕ → Result (List ℕ) Error
 pointer_bytes big place (Constant n) encoding size =
-    if nat_eq (bit_and encoding.0 0x70) 0x00 then pointer_data big n (format_of encoding) size
-    else (if nat_eq (bit_and encoding.0 0x70) 0x10 then pointer_data big ((n + (2 ^ 64 - place)) % 2 ^ 64) (format_of encoding) size
+    if nat_eq (bit_and encoding.0 0x70) DW_EH_PE_absptr then pointer_data big n (format_of encoding) size
+    else (if nat_eq (bit_and encoding.0 0x70) DW_EH_PE_pcrel then pointer_data big ((n + (2 ^ 64 - place)) % 2 ^ 64) (format_of encoding) size
     else Err (UnsupportedPointerEncoding encoding))
 pointer_bytes big place (Symbol symbol addend) encoding size = Err InvalidAddress
 

@@ -1,6 +1,6 @@
 //! Laws of what is written, of equality and of clones.
 
-ghost use Rattle.std.specs.Prelude.{◌≡◌, ◌≢◌, ℕ, ◌+◌, ◌<◌, ◌≤◌, ◌^◌, ℤ, List, ◌∷◌, ◌++◌, length, drop, Some, All, slice_get, FitsSigned};
+ghost use Rattle.std.specs.Prelude.{◌≡◌, ◌≢◌, ℕ, ◌+◌, ◌<◌, ◌≤◌, ◌^◌, ℤ, List, ◌∷◌, ◌++◌, length, drop, Some, Ok, All, slice_get, FitsSigned};
 ghost use Rattle.std.specs.Bool.{Decides};
 ghost use Rattle.std.specs.Int.{w64};
 ghost use Rattle.gimli_core.specs.Equality.{ClonesGiveSame, IsExact, IsSameClone};
@@ -10,6 +10,9 @@ ghost use Rattle.gimli_bytes.specs.Number.{uleb, sleb};
 ghost use Rattle.gimli_bytes.specs.declared.address.Address.{Address};
 ghost use Rattle.gimli_bytes.specs.declared.str.StringId.{StringId};
 ghost use Rattle.gimli_bytes.specs.declared.str.LineStringId.{LineStringId};
+ghost use Rattle.gimli_bytes.specs.Relocatable.{Relocatable};
+ghost use Rattle.gimli_bytes.specs.Relocations.{Placement, Call, AreInside, CallsFit, applied};
+ghost use Rattle.gimli_bytes.specs.Relocations.{after_calls, plainly_after_calls};
 ghost use Rattle.gimli_bytes.specs.Texts.{AreTexts, with_text, table_bytes, byte_count, offset_of};
 
 use crate::address::Address;
@@ -83,4 +86,12 @@ pub fn text_at_offset()
 /// A table is written as so many bytes.
 pub fn table_bytes_length()
     ensures { (texts : List (List ℕ)) → length (table_bytes texts) ≡ byte_count texts }
+{}
+
+/// Where each sum fits its size, and no call writes over a place, the relocations applied to what
+/// calls wrote give what a vector of bytes alone holds of the same calls with the symbols replaced.
+pub fn relocations_give_the_same()
+    ensures { (placement : Placement) (v w : Relocatable) (calls : List Call) → AreInside v →
+        CallsFit placement v calls → after_calls v calls ≡ Ok w →
+        plainly_after_calls placement v.big (applied placement v) calls ≡ Ok (applied placement w) }
 {}

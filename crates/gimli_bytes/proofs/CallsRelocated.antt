@@ -1,0 +1,376 @@
+-- What calls leave, once the relocations are applied.
+use Rattle.std.proofs.Common.{arith, ◌≡◌, ◌≢◌, ◌⊎◌, inl, inr, ℕ, ◌+◌, ◌*◌, ◌^◌, ◌<◌, ◌≤◌, ℤ, pos, negsuc, Bool, true, false, if◌then◌else◌, List, [], ◌∷◌, ◌++◌, length, refl, ap, sym, ◌∙◌, subst, Ok, Err, length-append, w64}
+use Rattle.std.specs.Prelude.{All, Result, nat_lt, nat_eq, ◌||◌, ◌+ℤ◌, FitsSigned}
+use Rattle.std.specs.Int.{cast_unsigned, cast_signed}
+use Rattle.std.proofs.lemmas.Int.{ints, of_z-to_z}
+use Rattle.std.proofs.lemmas.Bool.{cases_lt, ne_eqb, lt-ltb, ltb-true, ltb-false}
+use Rattle.gimli_core.specs.Numbers.{number_bytes}
+use Rattle.gimli_core.specs.Reading.{result_map}
+use Rattle.gimli_bytes.specs.inside.Pieces.{put_over}
+use Rattle.gimli_bytes.specs.Number.{udata}
+use Rattle.gimli_bytes.specs.Written.{overwrite_of, patch}
+use Rattle.gimli_bytes.specs.Relocatable.{Relocatable}
+use Rattle.gimli_bytes.specs.Relocations.{Placement, Call, Bytes, AddressOf, OffsetInto, ReferenceTo, BytesAt, OffsetAt, place_of, relocated, all_relocated, applied, IsApart, AreInside, number_in_place, with_place, with_place_at, relocation_at, with_relocation, result_then, after_call, after_calls, plainly_after, plainly_after_calls, CallFits, LeavesPlaces, CallsFit}
+use Rattle.gimli_bytes.specs.declared.address.Address.TheVariants.{Constant, Symbol}
+use Rattle.gimli_bytes.specs.declared.error.Error.{Error}
+use Rattle.gimli_bytes.specs.declared.error.Error.TheVariants.{
+  ValueTooLarge,
+  UnsupportedWordSize,
+  OffsetOutOfBounds,
+  LengthOutOfBounds,
+}
+use Rattle.gimli_bytes.specs.declared.relocation.Relocation.{Relocation}
+use Rattle.gimli_bytes.specs.declared.relocation.RelocationTarget.{RelocationTarget}
+use Rattle.gimli_bytes.specs.declared.relocation.RelocationTarget.TheVariants.{OfSymbol, OfSection}
+use Rattle.gimli_bytes.proofs.PieceLemmas.{patched-inside, length-put_over}
+use Rattle.gimli_bytes.proofs.RelocationLemmas.{length-number}
+use Rattle.gimli_bytes.proofs.Relocating.{
+  sum_is,
+  word_at,
+  relocated-end,
+  relocated-put,
+  all-more,
+  length-all,
+  all-over,
+  all-last,
+  inside_more,
+  inside_last,
+}
+
+same_ok : {A : Type 0} (x y : A) → (let r : Result A Error = Ok x in r) ≡ Ok y → x ≡ y
+same_ok x y h = cc
+
+-- ---- numbers of a size
+
+abbrev is_size : ℕ → Bool
+is_size size = nat_eq size 1 || nat_eq size 2 || nat_eq size 3 || nat_eq size 4 || nat_eq size 8
+
+size_short : (size : ℕ) → is_size size ≡ true → size ≤ 8
+size_short size is = by (cases_lt 8 size)
+  where
+    by : (8 < size) ⊎ (size ≤ 8) → size ≤ 8
+    by (inl long) =
+        let a : size ≢ 1 = omega arith in
+        let b : size ≢ 2 = omega arith in
+        let c : size ≢ 3 = omega arith in
+        let d : size ≢ 4 = omega arith in
+        let e : size ≢ 8 = omega arith in
+        let none : is_size size ≡ false =
+        rw (ne_eqb size 1 a, ne_eqb size 2 b, ne_eqb size 3 c, ne_eqb size 4 d, ne_eqb size 8 e)
+        refl in
+        cc
+    by (inr short) = short
+
+-- what is known of a size where a number of it is written
+pub record Sized (big : Bool) (m size : ℕ) (word : List ℕ) : Type 0 where
+  pub short : size ≤ 8
+  pub small : m < 256 ^ size
+  pub word_is : word ≡ number_bytes big size m
+  pub other : (n : ℕ) → n < 256 ^ size → udata big n size ≡ Ok (number_bytes big size n)
+
+udata_parts : (big : Bool) (m size : ℕ) (word : List ℕ) → udata big m size ≡ Ok word
+    → Sized big m size word
+udata_parts big m size word h = by (is_size size) (nat_lt m (256 ^ size)) refl refl h
+  where
+    by : (t b : Bool) → is_size size ≡ t → nat_lt m (256 ^ size) ≡ b
+        → (let r : Result (List ℕ) Error =
+        if t then (if b then Ok (number_bytes big size m) else Err ValueTooLarge) else Err
+        (UnsupportedWordSize size) in r) ≡ Ok word
+        → Sized big m size word
+    by true true t b e = record {
+      short = size_short size t;
+      small = ltb-true m (256 ^ size) b;
+      word_is = sym (same_ok (number_bytes big size m) word e);
+      other = λ n fits. rw (t, lt-ltb n (256 ^ size) fits) refl;
+    }
+    by true false t b e = cc
+    by false b t c e = cc
+
+-- ---- places
+
+-- what a call leaves that writes this number once the relocations are applied
+pub record Puts (p : Placement) (v w : Relocatable) (size n : ℕ) : Type 0 where
+  pub wanted : udata v.big n size ≡ Ok (number_bytes v.big size n)
+  pub bytes_are : applied p w ≡ applied p v ++ number_bytes v.big size n
+  pub inside : AreInside w
+  pub big_is : w.big ≡ v.big
+
+pub puts_place : (p : Placement) (v w : Relocatable) (target : RelocationTarget) (z : ℤ)
+    (size n q : ℕ) → AreInside v → with_place v target z size ≡ Ok w
+    → place_of p target + cast_unsigned w64 z ≡ n + q * 2 ^ 64 → n < 256 ^ size → Puts p v w size n
+puts_place p v w target z size n q inside called sum fits =
+    by (udata v.big (number_in_place v.addends z size) size) refl called
+  where
+    r : Relocation
+    r = relocation_at v (length v.bytes) target z size
+
+    by : (u : Result (List ℕ) Error) → udata v.big (number_in_place v.addends z size) size ≡ u
+        → result_map (λ word. with_relocation v r (v.bytes ++ word)) u ≡ Ok w → Puts p v w size n
+    by (Ok word) is e =
+        let sized = udata_parts v.big (number_in_place v.addends z size) size word is in
+        let long : length word ≡ size = ap length sized.word_is
+        ∙ length-number v.big size (number_in_place v.addends z size) in
+        let old = all_relocated p v.big v.bytes v.relocations in
+        let here : length v.bytes ≡ length old =
+        sym (length-all p v.big v.relocations v.bytes inside) in
+        let number : word_at p v.big r word ≡ number_bytes v.big size n =
+        ap (word_at p v.big r) sized.word_is
+        ∙ sum_is v.big v.addends z size (place_of p target) n q sized.short sized.small sum fits
+        in
+        let all : length (v.bytes ++ word) ≡ length v.bytes + size =
+        omega (arith, length-append v.bytes word, long) in
+        subst (λ x. Puts p v x size n) (same_ok (with_relocation v r (v.bytes ++ word)) w e)
+        (record {
+          wanted = sized.other n fits;
+          bytes_are =
+              all-last p v.big v.relocations r (v.bytes ++ word)
+              ∙ ap (λ (l : List ℕ). relocated p v.big l r)
+              (all-more p v.big v.relocations v.bytes word inside)
+              ∙ relocated-end p v.big old word r here (sym long)
+              ∙ ap (λ (l : List ℕ). old ++ l) number;
+          inside = inside_last (length (v.bytes ++ word)) v.relocations r
+              (inside_more (length v.bytes) (length (v.bytes ++ word)) v.relocations (omega arith)
+              inside) (omega arith);
+          big_is = refl;
+        })
+    by (Err x) is e = cc
+
+-- ---- bytes over others
+
+-- what an overwrite that isn't refused leaves
+pub record Over (old new : List ℕ) (at : ℕ) (x : List ℕ) : Type 0 where
+  pub fits : at + length x ≤ length old
+  pub new_is : new ≡ put_over old at x
+
+pub overwrite_parts : (old new : List ℕ) (at : ℕ) (x : List ℕ) → overwrite_of old at x ≡ Ok new
+    → Over old new at x
+overwrite_parts old new at x h =
+    by (nat_lt (length old) at) (nat_lt (length old) (at + length x)) refl refl h
+  where
+    by : (a b : Bool) → nat_lt (length old) at ≡ a → nat_lt (length old) (at + length x) ≡ b
+        → (let r : Result (List ℕ) Error =
+        if a then Err OffsetOutOfBounds else
+        (if b then Err LengthOutOfBounds else Ok (put_over old at x)) in r) ≡ Ok new
+        → Over old new at x
+    by true b e f h = cc
+    by false true e f h = cc
+    by false false e f h = record {
+      fits = ltb-false (length old) (at + length x) f;
+      new_is = sym (same_ok (put_over old at x) new h);
+    }
+
+-- a number of a size over others
+pub puts_place_at : (p : Placement) (v w : Relocatable) (at : ℕ) (target : RelocationTarget) (z : ℤ)
+    (size n q : ℕ) → AreInside v → All (IsApart at size) v.relocations
+    → with_place_at v at target z size ≡ Ok w
+    → place_of p target + cast_unsigned w64 z ≡ n + q * 2 ^ 64 → n < 256 ^ size
+    → (patch (udata v.big n size) (applied p v) at ≡ Ok (applied p w)) × AreInside w ×
+    (w.big ≡ v.big)
+puts_place_at p v w at target z size n q inside apart called sum fits =
+    by (udata v.big (number_in_place v.addends z size) size) refl called
+  where
+    Is : Relocatable → Type 0
+    Is x = (patch (udata v.big n size) (applied p v) at ≡ Ok (applied p x)) × AreInside x ×
+        (x.big ≡ v.big)
+
+    r : Relocation
+    r = relocation_at v at target z size
+
+    old : List ℕ
+    old = all_relocated p v.big v.bytes v.relocations
+
+    over : (word new : List ℕ) → udata v.big (number_in_place v.addends z size) size ≡ Ok word
+        → overwrite_of v.bytes at word ≡ Ok new → Is (with_relocation v r new)
+    over word new is h =
+        let sized = udata_parts v.big (number_in_place v.addends z size) size word is in
+        let long : length word ≡ size = ap length sized.word_is
+        ∙ length-number v.big size (number_in_place v.addends z size) in
+        let put = overwrite_parts v.bytes new at word h in
+        let same : length old ≡ length v.bytes = length-all p v.big v.relocations v.bytes inside in
+        let number : word_at p v.big r word ≡ number_bytes v.big size n =
+        ap (word_at p v.big r) sized.word_is
+        ∙ sum_is v.big v.addends z size (place_of p target) n q sized.short sized.small sum fits
+        in
+        let there : All (IsApart at (length word)) v.relocations =
+        subst (λ k. All (IsApart at k) v.relocations) (sym long) apart in
+        let bytes_are : all_relocated p v.big new (v.relocations ++ r ∷ []) ≡ put_over old at
+        (number_bytes v.big size n) =
+        ap (λ (l : List ℕ). all_relocated p v.big l (v.relocations ++ r ∷ [])) put.new_is
+        ∙ all-last p v.big v.relocations r (put_over v.bytes at word)
+        ∙ ap (λ (l : List ℕ). relocated p v.big l r)
+        (all-over p v.big v.relocations v.bytes at word inside put.fits there)
+        ∙ relocated-put p v.big old word r (sym long) (omega (arith, put.fits))
+        ∙ ap (λ (l : List ℕ). put_over old at l) number in
+        let size_is = length-number v.big size n in
+        let plain : overwrite_of old at (number_bytes v.big size n) ≡ Ok
+        (all_relocated p v.big new (v.relocations ++ r ∷ [])) =
+        patched-inside old at (number_bytes v.big size n)
+        (all_relocated p v.big new (v.relocations ++ r ∷ [])) (omega (arith, put.fits))
+        bytes_are in
+        let kept : length new ≡ length v.bytes = ap length put.new_is
+        ∙ length-put_over v.bytes at word put.fits in (
+          rw (sized.other n fits) plain,
+          inside_last (length new) v.relocations r
+              (subst (λ k. All (λ r. r.offset + r.size ≤ k) v.relocations) (sym kept) inside)
+              (omega (arith, put.fits)),
+          refl,
+        )
+
+    by : (u : Result (List ℕ) Error) → udata v.big (number_in_place v.addends z size) size ≡ u
+        → result_map (with_relocation v r) (patch u v.bytes at) ≡ Ok w → Is w
+    by (Err x) is e = cc
+    by (Ok word) is e = after (overwrite_of v.bytes at word) refl e
+      where
+        after : (u : Result (List ℕ) Error) → overwrite_of v.bytes at word ≡ u
+            → result_map (with_relocation v r) u ≡ Ok w → Is w
+        after (Ok new) h e = subst Is (same_ok (with_relocation v r new) w e) (over word new is h)
+        after (Err x) h e = cc
+
+-- ---- sums
+
+wraps : (t : ℕ) (z : ℤ) (n : ℕ) → pos t +ℤ z ≡ pos n → FitsSigned w64 z
+    → (q : ℕ) × (t + cast_unsigned w64 z ≡ n + q * 2 ^ 64)
+wraps t (pos a) n e f = (0, omega (arith, ints, e))
+wraps t (negsuc a) n e f = (1, omega (arith, ints, e, f.sfits))
+
+-- ---- calls
+
+-- a call that is plain writes the same plainly
+pub record SameCall (p : Placement) (v w : Relocatable) (call : Call) : Type 0 where
+  pub same : plainly_after p v.big (applied p v) call ≡ Ok (applied p w)
+  pub inside : AreInside w
+  pub big_is : w.big ≡ v.big
+
+-- bytes after the others
+more_same : (p : Placement) (v w : Relocatable) (x : List ℕ) → AreInside v
+    → (let u : Relocatable = record v { bytes = v.bytes ++ x } in u) ≡ w → SameCall p v w (Bytes x)
+more_same p v w x inside is = subst (λ u. SameCall p v u (Bytes x)) is (record {
+  same = ap Ok (sym (all-more p v.big v.relocations v.bytes x inside));
+  inside = inside_more (length v.bytes) (length (v.bytes ++ x)) v.relocations
+      (omega (arith, length-append v.bytes x)) inside;
+  big_is = refl;
+})
+
+-- a number after the others
+number_same : (p : Placement) (v w : Relocatable) (n size : ℕ) → AreInside v
+    → result_map (λ word. let u : Relocatable =
+    record v { bytes = v.bytes ++ word } in u) (udata v.big n size) ≡ Ok w
+    → SameCall p v w (AddressOf (Constant n) size)
+number_same p v w n size inside called = by (udata v.big n size) refl called
+  where
+    by : (r : Result (List ℕ) Error) → udata v.big n size ≡ r
+        → result_map (λ word. let u : Relocatable =
+        record v { bytes = v.bytes ++ word } in u) r ≡ Ok w
+        → SameCall p v w (AddressOf (Constant n) size)
+    by (Ok word) is e =
+        let u : Relocatable = record v { bytes = v.bytes ++ word } in
+        let more = more_same p v w word inside (same_ok u w e) in
+        record { same = rw is more.same; inside = more.inside; big_is = more.big_is }
+    by (Err x) is e = cc
+
+-- a number that a linker puts
+placed_same : (p : Placement) (v w : Relocatable) (size n : ℕ) → Puts p v w size n
+    → result_map (λ word. applied p v ++ word) (udata v.big n size) ≡ Ok (applied p w)
+placed_same p v w size n puts = rw puts.wanted (ap Ok (sym puts.bytes_are))
+
+-- bytes over others
+over_same : (p : Placement) (v w : Relocatable) (at : ℕ) (x : List ℕ) → AreInside v
+    → All (IsApart at (length x)) v.relocations
+    → result_map (λ new. let u : Relocatable =
+    record v { bytes = new } in u) (overwrite_of v.bytes at x) ≡ Ok w
+    → SameCall p v w (BytesAt at x)
+over_same p v w at x inside apart called = by (overwrite_of v.bytes at x) refl called
+  where
+    by : (r : Result (List ℕ) Error) → overwrite_of v.bytes at x ≡ r
+        → result_map (λ new. let u : Relocatable = record v { bytes = new } in u) r ≡ Ok w
+        → SameCall p v w (BytesAt at x)
+    by (Ok new) is e =
+        let u : Relocatable = record v { bytes = new } in
+        let put = overwrite_parts v.bytes new at x is in
+        let old = all_relocated p v.big v.bytes v.relocations in
+        let same : length old ≡ length v.bytes = length-all p v.big v.relocations v.bytes inside in
+        let kept : length new ≡ length v.bytes = ap length put.new_is
+        ∙ length-put_over v.bytes at x put.fits in
+        let bytes_are : all_relocated p v.big new v.relocations ≡ put_over old at x =
+        ap (λ (l : List ℕ). all_relocated p v.big l v.relocations) put.new_is
+        ∙ all-over p v.big v.relocations v.bytes at x inside put.fits apart in
+        subst (λ u. SameCall p v u (BytesAt at x)) (same_ok u w e) (record {
+          same = patched-inside old at x (all_relocated p v.big new v.relocations)
+              (omega (arith, put.fits)) bytes_are;
+          inside = subst (λ k. All (λ r. r.offset + r.size ≤ k) v.relocations) (sym kept) inside;
+          big_is = refl;
+        })
+    by (Err y) is e = cc
+
+no_more : (t n : ℕ) → t + n ≡ t + n + 0 * 2 ^ 64
+no_more t n = omega arith
+
+pub call_same : (p : Placement) (v w : Relocatable) (call : Call) → AreInside v → CallFits p call
+    → LeavesPlaces v.relocations call → after_call v call ≡ Ok w → SameCall p v w call
+call_same p v w (Bytes x) inside fits leaves called =
+    let u : Relocatable = record v { bytes = v.bytes ++ x } in
+    more_same p v w x inside (same_ok u w called)
+call_same p v w (AddressOf (Constant n) size) inside fits leaves called =
+    number_same p v w n size inside called
+call_same p v w (AddressOf (Symbol symbol addend) size) inside fits leaves called =
+    let n = fits.0.0 in
+    let wrapped = wraps (p.symbol symbol) addend n fits.0.1 fits.1 in
+    let puts = puts_place p v w (OfSymbol symbol) addend size n wrapped.0 inside called wrapped.1
+    fits.0.2 in
+    record {
+      same = rw fits.0.1 (placed_same p v w size n puts);
+      inside = puts.inside;
+      big_is =
+          puts.big_is;
+    }
+call_same p v w (OffsetInto section n size) inside fits leaves called =
+    let bits = of_z-to_z w64 n fits.1 in
+    let sum : p.section section + cast_unsigned w64 (cast_signed w64 n) ≡ p.section section + n + 0
+    * 2 ^ 64 = rw bits (no_more (p.section section) n) in
+    let puts = puts_place p v w (OfSection section) (cast_signed w64 n) size (p.section section + n)
+    0 inside called sum fits.0 in
+    record {
+      same = placed_same p v w size (p.section section + n) puts;
+      inside =
+          puts.inside;
+      big_is = puts.big_is;
+    }
+call_same p v w (ReferenceTo symbol size) inside fits leaves called =
+    let puts = puts_place p v w (OfSymbol symbol) (pos 0) size (p.symbol symbol) 0 inside called
+    (omega arith) fits in
+    record {
+      same = placed_same p v w size (p.symbol symbol) puts;
+      inside = puts.inside;
+      big_is =
+          puts.big_is;
+    }
+call_same p v w (BytesAt at x) inside fits leaves called = over_same p v w at x inside leaves called
+call_same p v w (OffsetAt at section n size) inside fits leaves called =
+    let bits = of_z-to_z w64 n fits.1 in
+    let sum : p.section section + cast_unsigned w64 (cast_signed w64 n) ≡ p.section section + n + 0
+    * 2 ^ 64 = rw bits (no_more (p.section section) n) in
+    let puts = puts_place_at p v w at (OfSection section) (cast_signed w64 n) size
+    (p.section section + n) 0 inside leaves called sum fits.0 in
+    record { same = puts.0; inside = puts.1; big_is = puts.2 }
+
+pub calls_same : (p : Placement) (v w : Relocatable) (calls : List Call) → AreInside v
+    → CallsFit p v calls → after_calls v calls ≡ Ok w
+    → plainly_after_calls p v.big (applied p v) calls ≡ Ok (applied p w)
+calls_same p v w [] inside fit called =
+    ap (λ u. let r : Result (List ℕ) Error = Ok (applied p u) in r) (same_ok v w called)
+calls_same p v w (call ∷ calls) inside fit called =
+    by (λ u is there e. calls_same p u w calls there (fit.2 u is) e) (after_call v call) refl called
+  where
+    Others : Type 0
+    Others = (u : Relocatable) → after_call v call ≡ Ok u → AreInside u → after_calls u calls ≡ Ok w
+        → plainly_after_calls p u.big (applied p u) calls ≡ Ok (applied p w)
+
+    by : Others → (r : Result Relocatable Error) → after_call v call ≡ r
+        → result_then r (λ u. after_calls u calls) ≡ Ok w
+        → plainly_after_calls p v.big (applied p v) (call ∷ calls) ≡ Ok (applied p w)
+    by others (Ok u) is e =
+        let first = call_same p v u call inside fit.0 fit.1 is in
+        rw first.same (subst (λ b. ◌≡◌ {A =
+        Result (List ℕ) Error} (plainly_after_calls p b (applied p u) calls) (Ok (applied p w)))
+        first.big_is (others u is first.inside e))
+    by others (Err x) is e = cc

@@ -1,0 +1,206 @@
+-- Relocations that are applied, call by call.
+use Rattle.std.proofs.Common.{arith, ◌≡◌, inl, inr, ℕ, ◌+◌, ◌-◌, ◌*◌, ◌/◌, ◌%◌, ◌^◌, ◌<◌, ◌≤◌, ℤ, Bool, List, [], ◌∷◌, ◌++◌, length, take, drop, refl, ap, sym, ◌∙◌, subst, w64}
+use Rattle.std.specs.Prelude.{All}
+use Rattle.std.specs.Int.{cast_unsigned}
+use Rattle.std.proofs.Math.Nat.{add-mul-mod_self_right, mod-eq_of_lt}
+use Rattle.std.proofs.lemmas.Nat.{pow-add, div-add-mod'}
+use Rattle.std.proofs.lemmas.List.{drop_at, drop_all, take_all, append-nil}
+use Rattle.std.proofs.lemmas.List.Elements.{All-head, All-tail, All-append, All-cons}
+use Rattle.gimli_core.specs.Numbers.{number_bytes, value_of}
+use Rattle.gimli_core.proofs.Written.{number_spelled}
+use Rattle.gimli_bytes.specs.inside.Pieces.{put_over}
+use Rattle.gimli_bytes.specs.Relocations.{Placement, place_of, relocated, all_relocated, IsApart, number_in_place, addend_in_list}
+use Rattle.gimli_bytes.specs.declared.relocation.Relocation.{Relocation}
+use Rattle.gimli_bytes.specs.declared.relocation.Addends.{Addends}
+use Rattle.gimli_bytes.specs.declared.relocation.Addends.TheVariants.{Listed, InPlace}
+use Rattle.gimli_bytes.proofs.PieceLemmas.{length-put_over, put_over-front, put_over-after}
+use Rattle.gimli_bytes.proofs.RelocationLemmas.{
+  length-number,
+  front_same,
+  put_over-apart,
+  after-put_over,
+  before-put_over,
+  there-put_over,
+  put_over-again,
+  number-mod,
+}
+
+-- ---- one relocation
+
+-- the number that a linker puts at a place where this stands
+abbrev pub sum_at : Placement → Bool → Relocation → List ℕ → ℕ
+sum_at p big r there = place_of p r.target + cast_unsigned w64 r.addend + value_of big there
+
+abbrev pub word_at : Placement → Bool → Relocation → List ℕ → List ℕ
+word_at p big r there = number_bytes big r.size (sum_at p big r there)
+
+abbrev pub stands_at : Relocation → List ℕ → List ℕ
+stands_at r bytes = take r.size (drop r.offset bytes)
+
+abbrev pub Inside : ℕ → List Relocation → Type 0
+Inside n rs = All (λ r. r.offset + r.size ≤ n) rs
+
+word_fits : (p : Placement) (big : Bool) (r : Relocation) (n : ℕ) (there : List ℕ)
+    → r.offset + r.size ≤ n → r.offset + length (word_at p big r there) ≤ n
+word_fits p big r n there inside =
+    omega (arith, length-number big r.size (sum_at p big r there), inside)
+
+pub length-relocated : (p : Placement) (big : Bool) (bytes : List ℕ) (r : Relocation)
+    → r.offset + r.size ≤ length bytes → length (relocated p big bytes r) ≡ length bytes
+length-relocated p big bytes r inside =
+    length-put_over bytes r.offset (word_at p big r (stands_at r bytes))
+    (word_fits p big r (length bytes) (stands_at r bytes) inside)
+
+pub relocated-more : (p : Placement) (big : Bool) (bytes more : List ℕ) (r : Relocation)
+    → r.offset + r.size ≤ length bytes
+    → relocated p big (bytes ++ more) r ≡ relocated p big bytes r ++ more
+relocated-more p big bytes more r inside =
+    let front = front_same bytes more r.offset r.size inside in
+    ap (λ (l : List ℕ). put_over (bytes ++ more) r.offset (word_at p big r l)) front
+    ∙ sym (put_over-front bytes more r.offset (word_at p big r (stands_at r bytes))
+    (word_fits p big r (length bytes) (stands_at r bytes) inside))
+
+-- bytes that are put apart from its place
+pub relocated-over : (p : Placement) (big : Bool) (bytes : List ℕ) (at : ℕ) (x : List ℕ)
+    (r : Relocation) → r.offset + r.size ≤ length bytes → at + length x ≤ length bytes
+    → IsApart at (length x) r
+    → relocated p big (put_over bytes at x) r ≡ put_over (relocated p big bytes r) at x
+relocated-over p big bytes at x r inside fits (inl before) =
+    let same = before-put_over bytes at x r.offset r.size before (omega arith) in
+    ap (λ (l : List ℕ). put_over (put_over bytes at x) r.offset (word_at p big r l)) same
+    ∙ sym (put_over-apart bytes r.offset (word_at p big r (stands_at r bytes)) at x
+    (word_fits p big r at (stands_at r bytes) before) (omega arith))
+relocated-over p big bytes at x r inside fits (inr after) =
+    let same = ap (λ (l : List ℕ). take r.size l) (after-put_over bytes at x r.offset after fits) in
+    ap (λ (l : List ℕ). put_over (put_over bytes at x) r.offset (word_at p big r l)) same
+    ∙ put_over-apart bytes at x r.offset (word_at p big r (stands_at r bytes)) after (omega arith)
+
+-- a place after the bytes
+pub relocated-end : (p : Placement) (big : Bool) (bytes word : List ℕ) (r : Relocation)
+    → r.offset ≡ length bytes → r.size ≡ length word
+    → relocated p big (bytes ++ word) r ≡ bytes ++ word_at p big r word
+relocated-end p big bytes word r at size =
+    let rest : drop r.offset (bytes ++ word) ≡ word = drop_at bytes word r.offset (sym at) in
+    let there : stands_at r (bytes ++ word) ≡ word = ap (λ (l : List ℕ). take r.size l) rest
+    ∙ take_all r.size word (omega arith) in
+    let long = length-number big r.size (sum_at p big r word) in
+    let whole : put_over (bytes ++ word) (length bytes + 0) (word_at p big r word) ≡ bytes ++
+    put_over word 0 (word_at p big r word) =
+    put_over-after bytes word 0 (word_at p big r word) in
+    let place : r.offset ≡ length bytes + 0 = omega arith in
+    let none : drop (0 + length (word_at p big r word)) word ≡ [] =
+    drop_all (0 + length (word_at p big r word)) word (omega arith) in
+    ap (λ (l : List ℕ). put_over (bytes ++ word) r.offset (word_at p big r l)) there
+    ∙ ap (λ (k : ℕ). put_over (bytes ++ word) k (word_at p big r word)) place
+    ∙ whole
+    ∙ ap (λ (l : List ℕ). bytes ++ (word_at p big r word ++ l)) none
+    ∙ ap (λ (l : List ℕ). bytes ++ l) (append-nil (word_at p big r word))
+
+-- a place over some of the bytes
+pub relocated-put : (p : Placement) (big : Bool) (bytes word : List ℕ) (r : Relocation)
+    → r.size ≡ length word → r.offset + length word ≤ length bytes
+    → relocated p big (put_over bytes r.offset word) r ≡ put_over bytes r.offset
+    (word_at p big r word)
+relocated-put p big bytes word r size fits =
+    let there : stands_at r (put_over bytes r.offset word) ≡ word =
+    ap (λ (k : ℕ). take k (drop r.offset (put_over bytes r.offset word))) size
+    ∙ there-put_over bytes r.offset word fits in
+    let long : length word ≡ length (word_at p big r word) = sym size
+    ∙ sym (length-number big r.size (sum_at p big r word)) in
+    ap (λ (l : List ℕ). put_over (put_over bytes r.offset word) r.offset (word_at p big r l)) there
+    ∙ put_over-again bytes r.offset word (word_at p big r word) long fits
+
+-- ---- all of them
+
+pub all-more : (p : Placement) (big : Bool) (rs : List Relocation) (bytes more : List ℕ)
+    → Inside (length bytes) rs
+    → all_relocated p big (bytes ++ more) rs ≡ all_relocated p big bytes rs ++ more
+all-more p big [] bytes more inside = refl
+all-more p big (r ∷ rs) bytes more inside =
+    let first = All-head (λ r. r.offset + r.size ≤ length bytes) r rs inside in
+    let others = All-tail (λ r. r.offset + r.size ≤ length bytes) r rs inside in
+    ap (λ (l : List ℕ). all_relocated p big l rs) (relocated-more p big bytes more r first)
+    ∙ all-more p big rs (relocated p big bytes r) more
+    (subst (λ n. Inside n rs) (sym (length-relocated p big bytes r first)) others)
+
+pub length-all : (p : Placement) (big : Bool) (rs : List Relocation) (bytes : List ℕ)
+    → Inside (length bytes) rs → length (all_relocated p big bytes rs) ≡ length bytes
+length-all p big [] bytes inside = refl
+length-all p big (r ∷ rs) bytes inside =
+    let first = All-head (λ r. r.offset + r.size ≤ length bytes) r rs inside in
+    let others = All-tail (λ r. r.offset + r.size ≤ length bytes) r rs inside in
+    length-all p big rs (relocated p big bytes r)
+    (subst (λ n. Inside n rs) (sym (length-relocated p big bytes r first)) others)
+    ∙ length-relocated p big bytes r first
+
+pub all-over : (p : Placement) (big : Bool) (rs : List Relocation) (bytes : List ℕ) (at : ℕ)
+    (x : List ℕ) → Inside (length bytes) rs → at + length x ≤ length bytes
+    → All (IsApart at (length x)) rs
+    → all_relocated p big (put_over bytes at x) rs ≡ put_over (all_relocated p big bytes rs) at x
+all-over p big [] bytes at x inside fits apart = refl
+all-over p big (r ∷ rs) bytes at x inside fits apart =
+    let first = All-head (λ r. r.offset + r.size ≤ length bytes) r rs inside in
+    let others = All-tail (λ r. r.offset + r.size ≤ length bytes) r rs inside in
+    let same = length-relocated p big bytes r first in
+    ap (λ (l : List ℕ). all_relocated p big l rs)
+    (relocated-over p big bytes at x r first fits (All-head (IsApart at (length x)) r rs apart))
+    ∙ all-over p big rs (relocated p big bytes r) at x (subst (λ n. Inside n rs) (sym same) others)
+    (omega arith) (All-tail (IsApart at (length x)) r rs apart)
+
+pub all-last : (p : Placement) (big : Bool) (rs : List Relocation) (r : Relocation) (bytes : List ℕ)
+    → all_relocated p big bytes (rs ++ r ∷ []) ≡ relocated p big (all_relocated p big bytes rs) r
+all-last p big [] r bytes = refl
+all-last p big (q ∷ rs) r bytes = all-last p big rs r (relocated p big bytes q)
+
+pub inside_more : (n m : ℕ) (rs : List Relocation) → n ≤ m → Inside n rs → Inside m rs
+inside_more n m rs le inside = λ k d lt. omega (arith, inside k d lt)
+
+pub inside_last : (n : ℕ) (rs : List Relocation) (r : Relocation) → Inside n rs
+    → r.offset + r.size ≤ n → Inside n (rs ++ r ∷ [])
+inside_last n rs r inside fits =
+    All-append (λ r. r.offset + r.size ≤ n) rs (r ∷ []) inside
+    (All-cons (λ r. r.offset + r.size ≤ n) r [] fits (λ k d lt. absurd (omega arith)))
+
+-- ---- sums
+
+-- the sum of 64 bits, in the lowest bytes
+sum_low : (size t c n q : ℕ) → size ≤ 8 → t + c ≡ n + q * 2 ^ 64 → n < 256 ^ size
+    → (t + c) % 256 ^ size ≡ n
+sum_low size t c n q short sum fits =
+    let parts : 8 - size + size ≡ 8 = omega arith in
+    let whole : 256 ^ (8 - size) * 256 ^ size ≡ 2 ^ 64 = sym (pow-add 256 (8 - size) size)
+    ∙ ap (λ (k : ℕ). 256 ^ k) parts in
+    let split : t + c ≡ n + q * 256 ^ (8 - size) * 256 ^ size = sum ∙ rw (← whole) (grind arith) in
+    ap (λ (k : ℕ). k % 256 ^ size) split
+    ∙ add-mul-mod_self_right n (q * 256 ^ (8 - size)) (256 ^ size)
+    ∙ mod-eq_of_lt fits
+
+low_sum : (t c m : ℕ) → (t + c % m) % m ≡ (t + c) % m
+low_sum t c m =
+    let split : t + c ≡ t + c % m + c / m * m = omega (arith, div-add-mod' c m) in
+    sym (add-mul-mod_self_right (t + c % m) (c / m) m) ∙ ap (λ (k : ℕ). k % m) (sym split)
+
+-- what stands at a place and what the list has make one addend
+pub sum_is : (big : Bool) (addends : Addends) (z : ℤ) (size t n q : ℕ) → size ≤ 8
+    → number_in_place addends z size < 256 ^ size → t + cast_unsigned w64 z ≡ n + q * 2 ^ 64
+    → n < 256 ^ size
+    → number_bytes big size
+    (t + cast_unsigned w64 (addend_in_list addends z) + value_of big
+    (number_bytes big size (number_in_place addends z size))) ≡ number_bytes big size n
+sum_is big addends z size t n q short small sum fits =
+    let there = (number_spelled big size (number_in_place addends z size) small).value_is in
+    ap (λ (k : ℕ). number_bytes big size (t + cast_unsigned w64 (addend_in_list addends z) + k))
+    there
+    ∙ number-mod big size
+    (t + cast_unsigned w64 (addend_in_list addends z) + number_in_place addends z size)
+    ∙ ap (number_bytes big size) (low addends)
+  where
+    low : (a : Addends) → (t + cast_unsigned w64 (addend_in_list a z) + number_in_place a z size) %
+        256 ^ size ≡ n
+    low Listed =
+        let none : t + cast_unsigned w64 z + 0 ≡ t + cast_unsigned w64 z = omega arith in
+        rw none (sum_low size t (cast_unsigned w64 z) n q short sum fits)
+    low InPlace =
+        let none : t + 0 ≡ t = omega arith in
+        rw none (low_sum t (cast_unsigned w64 z) (256 ^ size)
+        ∙ sum_low size t (cast_unsigned w64 z) n q short sum fits)

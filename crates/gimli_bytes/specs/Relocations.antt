@@ -1,0 +1,221 @@
+-- What is written where addresses aren't known yet: bytes, and the places that a linker fills in
+-- (System V ABI,
+-- chapter 4, "Relocation").
+use Rattle.std.specs.Prelude.{
+  ◌≡◌,
+  ◌⊎◌,
+  ℕ,
+  ◌+◌,
+  ◌%◌,
+  ◌<◌,
+  ◌≤◌,
+  ◌^◌,
+  ℤ,
+  pos,
+  negsuc,
+  ◌+ℤ◌,
+  FitsSigned,
+  Bool,
+  List,
+  [],
+  ◌∷◌,
+  ◌++◌,
+  length,
+  take,
+  drop,
+  All,
+  Result,
+  Ok,
+  Err,
+}
+use Rattle.std.specs.Int.{w64, cast_signed, cast_unsigned}
+use Rattle.gimli_core.specs.Numbers.{number_bytes, value_of}
+use Rattle.gimli_core.specs.Reading.{result_map}
+use Rattle.gimli_core.specs.declared.common.SectionId.{SectionId}
+use Rattle.gimli_bytes.specs.Number.{udata}
+use Rattle.gimli_bytes.specs.Written.{overwrite_of, patch}
+use Rattle.gimli_bytes.specs.declared.address.Address.{Address}
+use Rattle.gimli_bytes.specs.declared.address.Address.TheVariants.{Constant, Symbol}
+use Rattle.gimli_bytes.specs.declared.error.Error.{Error}
+use Rattle.gimli_bytes.specs.declared.error.Error.TheVariants.{OutOfMemory, ValueTooLarge}
+use Rattle.gimli_bytes.specs.declared.relocation.Addends.{Addends}
+use Rattle.gimli_bytes.specs.declared.relocation.Addends.TheVariants.{Listed, InPlace}
+use Rattle.gimli_bytes.specs.declared.relocation.RelocationTarget.{RelocationTarget}
+use Rattle.gimli_bytes.specs.declared.relocation.RelocationTarget.TheVariants.{OfSymbol, OfSection}
+use Rattle.gimli_bytes.specs.declared.relocation.Relocation.{Relocation}
+use Rattle.gimli_bytes.specs.Relocatable.{Relocatable}
+
+-- ---- what a linker does
+
+-- the address of each symbol, and where each section begins
+pub record Placement : Type 0 where
+  pub symbol : ℕ → ℕ
+  pub section : SectionId → ℕ
+
+abbrev pub place_of : Placement → RelocationTarget → ℕ
+place_of placement (OfSymbol symbol) = placement.symbol symbol
+place_of placement (OfSection section) = placement.section section
+
+-- bytes put over others from a place on
+abbrev pub bytes_over : List ℕ → ℕ → List ℕ → List ℕ
+bytes_over old at bytes = take at old ++ bytes ++ drop (at + length bytes) old
+
+-- what a linker puts at a place: what the target is known by then, the addend of the list, and the
+-- number at the place,
+-- in as many of their lowest bytes as the place has. One of the last two is 0
+abbrev pub relocated : Placement → Bool → List ℕ → Relocation → List ℕ
+relocated placement big bytes r =
+    let there = value_of big (take r.size (drop r.offset bytes)) in
+    bytes_over bytes r.offset
+    (number_bytes big r.size (place_of placement r.target + cast_unsigned w64 r.addend + there))
+
+-- the bytes once the relocations are applied, one after the other
+abbrev pub all_relocated : Placement → Bool → List ℕ → List Relocation → List ℕ
+all_relocated placement big bytes [] = bytes
+all_relocated placement big bytes (r ∷ others) =
+    all_relocated placement big (relocated placement big bytes r) others
+
+abbrev pub applied : Placement → Relocatable → List ℕ
+applied placement v = all_relocated placement v.big v.bytes v.relocations
+
+-- ---- what is written
+
+-- what a call of a writer asks for; the last number is the size
+pub data Call : Type 0 where
+  Bytes : List ℕ → Call
+  AddressOf : Address → ℕ → Call
+  OffsetInto : SectionId → ℕ → ℕ → Call
+  ReferenceTo : ℕ → ℕ → Call
+  BytesAt : ℕ → List ℕ → Call
+  OffsetAt : ℕ → SectionId → ℕ → ℕ → Call
+
+-- the number that stands at the place of a relocation with this addend, until it is applied
+abbrev pub number_in_place : Addends → ℤ → ℕ → ℕ
+number_in_place Listed addend size = 0
+number_in_place InPlace addend size = cast_unsigned w64 addend % 256 ^ size
+
+abbrev pub addend_in_list : Addends → ℤ → ℤ
+addend_in_list Listed addend = addend
+addend_in_list InPlace addend = pos 0
+
+-- a relocation at an offset
+abbrev pub relocation_at : Relocatable → ℕ → RelocationTarget → ℤ → ℕ → Relocation
+relocation_at v offset target addend size =
+    record {
+      offset = offset;
+      size = size;
+      target = target;
+      addend =
+          addend_in_list v.addends addend;
+    }
+
+-- these bytes, and one relocation more
+abbrev pub with_relocation : Relocatable → Relocation → List ℕ → Relocatable
+with_relocation v r bytes = record v { bytes = bytes; relocations = v.relocations ++ r ∷ [] }
+
+-- a place after the bytes, which a linker fills in
+abbrev pub with_place : Relocatable → RelocationTarget → ℤ → ℕ → Result Relocatable Error
+with_place v target addend size =
+    result_map (λ word. with_relocation v (relocation_at v (length v.bytes) target addend size)
+    (v.bytes ++ word))
+    (udata v.big (number_in_place v.addends addend size) size)
+
+-- a place over the bytes from an offset on, which a linker fills in
+abbrev pub with_place_at : Relocatable → ℕ → RelocationTarget → ℤ → ℕ → Result Relocatable Error
+with_place_at v offset target addend size =
+    result_map (with_relocation v (relocation_at v offset target addend size))
+    (patch (udata v.big (number_in_place v.addends addend size) size) v.bytes offset)
+
+abbrev pub result_then : {A B : Type 0} → Result A Error → (A → Result B Error) → Result B Error
+result_then (Ok x) f = f x
+result_then (Err e) f = Err e
+
+-- what a call leaves of a list of relocations and its bytes, or its refusal
+abbrev pub after_call : Relocatable → Call → Result Relocatable Error
+after_call v (Bytes bytes) = Ok (record v { bytes = v.bytes ++ bytes })
+after_call v (AddressOf (Constant n) size) =
+    result_map (λ word. record v { bytes = v.bytes ++ word }) (udata v.big n size)
+after_call v (AddressOf (Symbol symbol addend) size) = with_place v (OfSymbol symbol) addend size
+after_call v (OffsetInto section n size) = with_place v (OfSection section) (cast_signed w64 n) size
+after_call v (ReferenceTo symbol size) = with_place v (OfSymbol symbol) (pos 0) size
+after_call v (BytesAt offset bytes) =
+    result_map (λ new. record v { bytes = new }) (overwrite_of v.bytes offset bytes)
+after_call v (OffsetAt offset section n size) =
+    with_place_at v offset (OfSection section) (cast_signed w64 n) size
+
+-- why a call is refused: memory, or what it asks for
+abbrev pub IsRefusal : Relocatable → Call → Error → Type 0
+IsRefusal v call e = (e ≡ OutOfMemory) ⊎ (after_call v call ≡ Err e)
+
+-- what calls leave, up to the first that is refused
+abbrev pub after_calls : Relocatable → List Call → Result Relocatable Error
+after_calls v [] = Ok v
+after_calls v (call ∷ calls) = result_then (after_call v call) (λ w. after_calls w calls)
+
+-- ---- the same calls with the symbols replaced
+
+-- a sum of so many bytes: a negative one is none
+abbrev pub sum_bytes : Bool → ℤ → ℕ → Result (List ℕ) Error
+sum_bytes big (pos n) size = udata big n size
+sum_bytes big (negsuc n) size = Err ValueTooLarge
+
+-- what a vector of bytes alone holds after a call in which each symbol is a number, and an offset
+-- into a section is
+-- counted from where the sections are counted from
+abbrev pub plainly_after : Placement → Bool → List ℕ → Call → Result (List ℕ) Error
+plainly_after placement big old (Bytes bytes) = Ok (old ++ bytes)
+plainly_after placement big old (AddressOf (Constant n) size) =
+    result_map (λ word. old ++ word) (udata big n size)
+plainly_after placement big old (AddressOf (Symbol symbol addend) size) =
+    result_map (λ word. old ++ word) (sum_bytes big (pos (placement.symbol symbol) +ℤ addend) size)
+plainly_after placement big old (OffsetInto section n size) =
+    result_map (λ word. old ++ word) (udata big (placement.section section + n) size)
+plainly_after placement big old (ReferenceTo symbol size) =
+    result_map (λ word. old ++ word) (udata big (placement.symbol symbol) size)
+plainly_after placement big old (BytesAt offset bytes) = overwrite_of old offset bytes
+plainly_after placement big old (OffsetAt offset section n size) =
+    patch (udata big (placement.section section + n) size) old offset
+
+abbrev pub plainly_after_calls : Placement → Bool → List ℕ → List Call → Result (List ℕ) Error
+plainly_after_calls placement big old [] = Ok old
+plainly_after_calls placement big old (call ∷ calls) =
+    result_then (plainly_after placement big old call)
+    (λ new. plainly_after_calls placement big new calls)
+
+-- ---- what calls keep
+
+-- a sum that so many bytes hold
+abbrev pub SumFits : ℤ → ℕ → Type 0
+SumFits sum size = (n : ℕ) × (sum ≡ pos n) × (n < 256 ^ size)
+
+-- the sum that a call asks for fits its size, and its numbers are of 64 bits
+abbrev pub CallFits : Placement → Call → Type 0
+CallFits placement (AddressOf (Symbol symbol addend) size) =
+    SumFits (pos (placement.symbol symbol) +ℤ addend) size × FitsSigned w64 addend
+CallFits placement (OffsetInto section n size) =
+    (placement.section section + n < 256 ^ size) × (n < 2 ^ 64)
+CallFits placement (ReferenceTo symbol size) = placement.symbol symbol < 256 ^ size
+CallFits placement (OffsetAt offset section n size) =
+    (placement.section section + n < 256 ^ size) × (n < 2 ^ 64)
+CallFits placement _ = Unit {0}
+
+-- the place of a relocation is before so many bytes from an offset on, or after them
+abbrev pub IsApart : ℕ → ℕ → Relocation → Type 0
+IsApart offset size r = (r.offset + r.size ≤ offset) ⊎ (offset + size ≤ r.offset)
+
+-- a call over bytes that are there leaves the places that a linker fills in
+abbrev pub LeavesPlaces : List Relocation → Call → Type 0
+LeavesPlaces relocations (BytesAt offset bytes) = All (IsApart offset (length bytes)) relocations
+LeavesPlaces relocations (OffsetAt offset section n size) = All (IsApart offset size) relocations
+LeavesPlaces relocations _ = Unit {0}
+
+-- each call does both
+abbrev pub CallsFit : Placement → Relocatable → List Call → Type 0
+CallsFit placement v [] = Unit {0}
+CallsFit placement v (call ∷ calls) =
+    CallFits placement call × LeavesPlaces v.relocations call
+    × ((w : Relocatable) → after_call v call ≡ Ok w → CallsFit placement w calls)
+
+-- each place is within the bytes
+abbrev pub AreInside : Relocatable → Type 0
+AreInside v = All (λ r. r.offset + r.size ≤ length v.bytes) v.relocations

@@ -1,0 +1,279 @@
+//! A writer into one vector that takes symbols and references, and lists their relocations.
+
+ghost use Rattle.std.specs.Prelude.{◌≡◌, ◌⊎◌, ◌%◌, ◌^◌, [], Bool, Ok, Err, false, true};
+ghost use Rattle.std.specs.Prelude.{IfErr, OnOk, OnErr, length, take};
+ghost use Rattle.gimli_bytes.specs.Number.{udata};
+ghost use Rattle.gimli_bytes.specs.Relocations.{number_in_place, addend_in_list, with_place};
+ghost use Rattle.gimli_bytes.specs.Relocations.{with_place_at, after_call, IsRefusal, Bytes};
+ghost use Rattle.gimli_bytes.specs.Relocations.{AddressOf, OffsetInto, ReferenceTo};
+ghost use Rattle.gimli_bytes.specs.Relocations.{BytesAt, OffsetAt};
+
+use crate::address::Address;
+use crate::endian_vec::EndianVec;
+use crate::error::{Error, Result};
+use crate::relocation::{Addends, Relocation, RelocationTarget};
+use crate::sink::Sink;
+use crate::writer::Writer;
+use gimli_core::{Endianity, SectionId};
+use std::alloc::Global;
+use std::marker::Model;
+
+/// A section in one vector, and its relocations: a symbol that is written, and an offset into a
+/// section, is a place that a linker fills in.
+#[derive(Debug, Drop)]
+pub struct RelocatableVec<E: Endianity> {
+    section: EndianVec<E>,
+    relocations: Vec<Relocation>,
+    addends: Addends,
+}
+
+impl<E: Endianity> Model for RelocatableVec<E> {
+    ghost use Rattle.gimli_bytes.specs.Relocatable.{Relocatable};
+
+    ghost Value = { Relocatable };
+
+    ghost view = { λ v. record {
+      bytes = v.section.bytes;
+      big = E.big v.section.endian;
+      relocations = v.relocations.items;
+      addends = v.addends;
+    } };
+}
+
+impl<E: Endianity> RelocatableVec<E> {
+    /// An empty section without relocations, whose addends will stand there.
+    pub fn new(alloc: Global, endian: E, addends: Addends) -> RelocatableVec<E>
+        ensures { result ≡ record {
+          bytes = [];
+          big = E.big endian;
+          relocations = [];
+          addends = addends;
+        } }
+    {
+        RelocatableVec {
+            section: EndianVec::new(alloc, endian),
+            relocations: Vec::new(alloc),
+            addends,
+        }
+    }
+
+    /// The bytes, in which no relocation is applied.
+    pub fn slice(&self) -> &[u8]
+        ensures { result.now ≡ self.now.bytes }
+    {
+        self.section.slice()
+    }
+
+    /// The relocations, in the order in which their places were written.
+    pub fn relocations(&self) -> &[Relocation]
+        ensures { result.now ≡ self.now.relocations }
+    {
+        self.relocations.as_slice()
+    }
+
+    /// Appends bytes. Fails only with `OutOfMemory`, and then nothing is changed.
+    pub fn write(&mut self, bytes: &[u8]) -> Result<()>
+        ensures ok { OnOk result (after_call self.old (Bytes bytes.now) ≡ Ok self.new) }
+        ensures err { OnErr result (self.new ≡ self.old) }
+        ensures cause { IfErr result (IsRefusal self.old (Bytes bytes.now)) }
+    {
+        self.section.write(bytes)
+    }
+
+    /// Writes over the bytes from an offset on.
+    pub fn write_at(&mut self, offset: usize, bytes: &[u8]) -> Result<()>
+        ensures ok { OnOk result (after_call self.old (BytesAt offset bytes.now) ≡ Ok self.new) }
+        ensures err { OnErr result (self.new ≡ self.old) }
+        ensures cause { IfErr result (IsRefusal self.old (BytesAt offset bytes.now)) }
+    {
+        self.section.write_at(offset, bytes)
+    }
+
+    /// Appends an address of `size` bytes. A symbol's is a place with a relocation.
+    pub fn write_address(&mut self, address: Address, size: u8) -> Result<()>
+        ensures ok { OnOk result (after_call self.old (AddressOf address size) ≡ Ok self.new) }
+        ensures err { OnErr result (self.new ≡ self.old) }
+        ensures cause { IfErr result (IsRefusal self.old (AddressOf address size)) }
+    {
+        match address {
+            Address::Constant(val) => self.section.write_udata(val, size),
+            Address::Symbol { symbol, addend } => {
+                self.write_place(RelocationTarget::OfSymbol(symbol), addend, size)
+            }
+        }
+    }
+
+    /// Appends an offset into a section, of `size` bytes: a place with a relocation.
+    pub fn write_offset(&mut self, val: usize, section: SectionId, size: u8) -> Result<()>
+        ensures ok { OnOk result (after_call self.old (OffsetInto section val size) ≡ Ok self.new) }
+        ensures err { OnErr result (self.new ≡ self.old) }
+        ensures cause { IfErr result (IsRefusal self.old (OffsetInto section val size)) }
+    {
+        let addend = (val as u64).cast_signed();
+        self.write_place(RelocationTarget::OfSection(section), addend, size)
+    }
+
+    /// Appends a reference to a symbol, of `size` bytes: a place with a relocation.
+    pub fn write_reference(&mut self, symbol: usize, size: u8) -> Result<()>
+        ensures ok { OnOk result (after_call self.old (ReferenceTo symbol size) ≡ Ok self.new) }
+        ensures err { OnErr result (self.new ≡ self.old) }
+        ensures cause { IfErr result (IsRefusal self.old (ReferenceTo symbol size)) }
+    {
+        self.write_place(RelocationTarget::OfSymbol(symbol), 0, size)
+    }
+
+    /// Writes an offset into a section, of `size` bytes, over the bytes from an offset on: a place
+    /// with a relocation.
+    pub fn write_offset_at(
+        &mut self,
+        offset: usize,
+        val: usize,
+        section: SectionId,
+        size: u8,
+    ) -> Result<()>
+        ensures ok { OnOk result
+            (after_call self.old (OffsetAt offset section val size) ≡ Ok self.new) }
+        ensures err { OnErr result (self.new ≡ self.old) }
+        ensures cause { IfErr result (IsRefusal self.old (OffsetAt offset section val size)) }
+    {
+        let addend = (val as u64).cast_signed();
+        self.write_place_at(offset, RelocationTarget::OfSection(section), addend, size)
+    }
+
+    /// Appends a place of `size` bytes, and lists its relocation.
+    fn write_place(&mut self, target: RelocationTarget, addend: i64, size: u8) -> Result<()>
+        ensures ok { OnOk result (with_place self.old target addend size ≡ Ok self.new) }
+        ensures err { OnErr result (self.new ≡ self.old) }
+        ensures cause { IfErr result (λ e. (e ≡ Error.OutOfMemory)
+            ⊎ (with_place self.old target addend size ≡ Err e)) }
+    {
+        self.relocations.reserve(1)?;
+        let offset = self.section.len();
+        let word = number_in_place(self.addends, addend, size);
+        self.section.write_udata(word, size)?;
+        self.relocations.push_reserved(Relocation {
+            offset,
+            size,
+            target,
+            addend: addend_in_list(self.addends, addend),
+        });
+        Ok(())
+    }
+
+    /// Writes a place of `size` bytes over those from an offset on, and lists its relocation.
+    fn write_place_at(
+        &mut self,
+        offset: usize,
+        target: RelocationTarget,
+        addend: i64,
+        size: u8,
+    ) -> Result<()>
+        ensures ok { OnOk result (with_place_at self.old offset target addend size ≡ Ok self.new) }
+        ensures len { length self.new.bytes ≡ length self.old.bytes }
+        ensures before { take offset self.new.bytes ≡ take offset self.old.bytes }
+        ensures ordered { self.new.big ≡ self.old.big }
+        ensures err { OnErr result (self.new ≡ self.old) }
+        ensures cause { IfErr result (λ e. (e ≡ Error.OutOfMemory)
+            ⊎ (with_place_at self.old offset target addend size ≡ Err e)) }
+    {
+        self.relocations.reserve(1)?;
+        let word = number_in_place(self.addends, addend, size);
+        self.section.write_udata_at(offset, word, size)?;
+        self.relocations.push_reserved(Relocation {
+            offset,
+            size,
+            target,
+            addend: addend_in_list(self.addends, addend),
+        });
+        Ok(())
+    }
+}
+
+/// The addend that a relocation has in the list.
+fn addend_in_list(addends: Addends, addend: i64) -> i64
+    ensures { result ≡ addend_in_list addends addend }
+{
+    match addends {
+        Addends::Listed => addend,
+        Addends::InPlace => 0,
+    }
+}
+
+/// The number that stands at the place of a relocation until it is applied.
+fn number_in_place(addends: Addends, addend: i64, size: u8) -> u64
+    ensures { (big : Bool) →
+        udata big result size ≡ udata big (number_in_place addends addend size) size }
+{
+    match addends {
+        Addends::Listed => 0,
+        Addends::InPlace => low_bytes(addend.cast_unsigned(), size),
+    }
+}
+
+/// The number that the lowest `size` bytes of a word are.
+fn low_bytes(word: u64, size: u8) -> u64
+    ensures { (big : Bool) → udata big result size ≡ udata big (word % 256 ^ size) size }
+{
+    match size {
+        1 => word % 0x100,
+        2 => word % 0x1_0000,
+        3 => word % 0x100_0000,
+        4 => word % 0x1_0000_0000,
+        _ => word,
+    }
+}
+
+impl<E: Endianity> Sink for RelocatableVec<E> {
+    ghost contents = { λ v. v.bytes };
+
+    ghost big = { λ v. v.big };
+
+    ghost keeps_bytes = { false };
+
+    ghost fails_for_memory_alone = { false };
+
+    ghost all_or_none = { true };
+}
+
+impl<E: Endianity> Writer for RelocatableVec<E> {
+    type Endian = E;
+
+    fn endian(&self) -> E {
+        self.section.endian()
+    }
+
+    fn len(&self) -> usize {
+        self.section.len()
+    }
+
+    fn write(&mut self, bytes: &[u8]) -> Result<()> {
+        RelocatableVec::write(self, bytes)
+    }
+
+    fn write_at(&mut self, offset: usize, bytes: &[u8]) -> Result<()> {
+        RelocatableVec::write_at(self, offset, bytes)
+    }
+
+    fn write_address(&mut self, address: Address, size: u8) -> Result<()> {
+        RelocatableVec::write_address(self, address, size)
+    }
+
+    fn write_offset(&mut self, val: usize, section: SectionId, size: u8) -> Result<()> {
+        RelocatableVec::write_offset(self, val, section, size)
+    }
+
+    fn write_offset_at(
+        &mut self,
+        offset: usize,
+        val: usize,
+        section: SectionId,
+        size: u8,
+    ) -> Result<()> {
+        let addend = (val as u64).cast_signed();
+        self.write_place_at(offset, RelocationTarget::OfSection(section), addend, size)
+    }
+
+    fn write_reference(&mut self, symbol: usize, size: u8) -> Result<()> {
+        RelocatableVec::write_reference(self, symbol, size)
+    }
+}

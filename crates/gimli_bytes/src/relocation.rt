@@ -1,0 +1,34 @@
+//! Relocations: the places of a section that a linker fills in.
+
+use gimli_core::SectionId;
+
+/// What the value of a place is counted from.
+#[derive(Clone, Copy, Debug, PartialEq, Eq)]
+pub enum RelocationTarget {
+    /// A symbol, by the number that [`Address::Symbol`](crate::Address::Symbol) has.
+    OfSymbol(usize),
+    /// The beginning of a section.
+    OfSection(SectionId),
+}
+
+/// Where the addends of relocations stand (System V ABI, chapter 4, "Relocation").
+#[derive(Clone, Copy, Debug, PartialEq, Eq)]
+pub enum Addends {
+    /// In the list, as in a section `SHT_RELA`. The places are zero.
+    Listed,
+    /// At the places, as for a section `SHT_REL`. Those in the list are zero.
+    InPlace,
+}
+
+/// A place that a linker fills in: with what the target's address is then, and the addend.
+#[derive(Clone, Copy, Debug, PartialEq, Eq)]
+pub struct Relocation {
+    /// The offset of the place in the section, in bytes.
+    pub offset: usize,
+    /// The size of the place, in bytes: 1, 2, 3, 4 or 8.
+    pub size: u8,
+    /// What the value is counted from.
+    pub target: RelocationTarget,
+    /// What is added to it; 0 where addends stand at the places.
+    pub addend: i64,
+}
