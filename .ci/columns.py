@@ -5,8 +5,9 @@
   .ci/columns.py --write [CRATE..]   lays such lines out, and lists those that it leaves
 
 Only what is too long is laid out, so a second run changes nothing: the paragraphs of comments are wrapped, a list of imports
-becomes several lines of one module, and a term, which is a clause of .rt or anything of .antt, is broken at its operators
-(`.ci/terms.py`). `rt fmt` formats the crates that changed. A longer line of code in .rt is a person's to break.
+becomes several lines of one module, a text that stands alone is broken by a backslash, and a term, which is a clause of .rt or
+anything of .antt, at its operators (`.ci/terms.py`). `rt fmt` formats the crates that changed. Another longer line of code in
+.rt is a person's to break.
 
 What a wrong body names by its text (`old:` of an edit) is never broken, and may be longer. A belief may have line breaks: where
 what it names was broken, it is written anew. An attribute may be longer too, since `rt fmt` keeps it on one line.
@@ -25,6 +26,7 @@ import terms
 TOP = os.path.dirname(os.path.dirname(os.path.realpath(__file__)))
 LIMITS = {"src": 100, "specs": 100, "proofs": 160}
 COMMENT = re.compile(r"(\s*)(///|//!|//|--)(?: |$)")
+TEXT = re.compile(r'(\s*)"((?:[^"\\]|\\.)*)"(,?)')
 IMPORTS = re.compile(r"(\s*(?:pub )?(?:ghost )?use [^{]*\{)(.*)(\};?)")
 # So many imports on a line make it worth to name the module again.
 FEW = 2
@@ -98,6 +100,21 @@ def imports(found, width, kept):
     return [head] + [f"{indent}  {unit}," for unit in units] + [indent + end]
 
 
+def text(found, width, kept):
+    """A text that stands alone on its line, over several: a backslash at the end of a line leaves out what the next begins with."""
+    indent, rest, end = found.groups()
+    term, lines = terms.Term(found[0], width, kept), []
+    start = len(indent) + 1
+    while len(indent) + len(rest) + len(end) + 2 > width:
+        cuts = [i for i in range(width - len(indent) - 2) if rest[i : i + 1] == " " and start + i + 1 not in term.kept]
+        if not cuts:
+            break
+        cut = cuts[-1] + 1
+        lines.append(f"{indent}{'' if lines else chr(34)}{rest[:cut]}\\")
+        rest, start = rest[cut:], start + cut
+    return lines + [f"{indent}{'' if lines else chr(34)}{rest}{chr(34)}{end}"]
+
+
 def comment(lines, width):
     """A block of a comment with its paragraphs wrapped that have a line that is too long."""
     indent, mark = COMMENT.match(lines[0]).groups()
@@ -139,10 +156,10 @@ def in_terms(text):
     return found
 
 
-def written(text, is_rust, width, hard, kept):
+def written(source, is_rust, width, hard, kept):
     """A file with its long lines laid out."""
-    lines, out, i = text.split("\n"), [], 0
-    is_term = in_terms(text) if is_rust else range(len(lines))
+    lines, out, i = source.split("\n"), [], 0
+    is_term = in_terms(source) if is_rust else range(len(lines))
     while i < len(lines):
         found = COMMENT.match(lines[i])
         if found:
@@ -156,6 +173,8 @@ def written(text, is_rust, width, hard, kept):
             out.append(line)
         elif imported and ("ghost" in imported[1] or not is_rust):
             out += imports(imported, width, kept)
+        elif is_rust and TEXT.fullmatch(line):
+            out += text(TEXT.fullmatch(line), width, hard)
         elif i in is_term and not re.search(r" do \S| where \S| (--|//) |\{-", line):
             out += terms.broken(line, width, hard, bool(out) and out[-1].endswith(("=", " in", ".", "↦")))
         else:

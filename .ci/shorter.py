@@ -27,6 +27,7 @@ SAID = (
     (r"\[\w+\]$", "`[a]`: the clause given first"),
     (r"\bNAME\b", "`NAME`: the call's own"),
     (r"\w/\w.*\(|`\w+/\w", "`a/b`: two calls, in order"),
+    (r"; [a-z_][\w/, ]*[<(].*\)", "`;` parts calls"),
     (r"\w>?\.(eq|Clone)\b", "`T.eq`: the `eq` of T"),
     (r" _\.\w+ \(|_ \(\w+: ", "`P _ (a: X, b: Y)`: P X and P Y"),
 )

@@ -138,7 +138,7 @@ class Term:
     def hung(self, words, column, base, level, tail):
         """The last argument begun on the first line, and broken within its brackets; None where it has none."""
         start, last = words[0].start, words[-1]
-        if self.of(last) == "in" and len(words) > 1:
+        if self.of(last) in ("in", "{") and len(words) > 1:
             last = Word(words[-2].start, last.end)
         opened = self.opened(last)
         if opened is None or re.search('["⟦]', self.text[last.start : opened]):
