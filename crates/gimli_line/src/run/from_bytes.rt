@@ -204,12 +204,39 @@ impl LineRow {
 }
 
 impl<R: Reader> LineInstructions<R> {
+    /// Executes the next instruction on the registers, from its bytes, where it is one of those that
+    /// are met often and has short operands: what [`LineInstructions::next_instruction`] and
+    /// [`LineRow::execute`] do of it, in less time. `Executed::No`, and nothing is changed, where it is
+    /// another one, defines a file, or isn't there as a whole: it has to be parsed then. Refused by
+    /// `AddressOverflow`, as `execute` is (DWARF 5, 6.2.5).
+    #[inline(always)]
+    pub fn execute_next(
+        &mut self,
+        header: &LineProgramHeader<R>,
+        row: &mut LineRow,
+    ) -> Result<Executed>
+        ensures ok { IfOk result
+            (ExecutesNext header.now.meaning self.old self.new row.old row.new) }
+        ensures err { IfErr result
+            (RefusesNext header.now.meaning self.old self.new row.old row.new) }
+        ensures notation { self.new.notation ≡ self.old.notation }
+    {
+        let executed = match self.execute_common(header, row) {
+            Ok(executed) => executed,
+            Err(e) => return Err(e),
+        };
+        match executed {
+            Executed::No => self.execute_other(header, row),
+            _ => Ok(executed),
+        }
+    }
+
     /// Executes the next instruction on the registers, from its bytes, where it is a special opcode,
     /// a copy, or an advance of the line, a file, a column or a turn of is_stmt with a short operand.
     /// `Executed::No`, and nothing is changed, where it is another one or isn't there as a whole.
     /// Refused by `AddressOverflow`, as `LineRow::execute` is (DWARF 5, 6.2.5.1 and 6.2.5.2).
     #[inline(always)]
-    pub fn execute_common(
+    pub(crate) fn execute_common(
         &mut self,
         header: &LineProgramHeader<R>,
         row: &mut LineRow,
@@ -241,7 +268,10 @@ impl<R: Reader> LineInstructions<R> {
     /// Takes the next instruction where it defines a file (DWARF 4, 6.2.5.3). None, and nothing is
     /// changed, where it is another one, or its length is long, or it isn't there as a whole.
     #[inline(always)]
-    pub fn next_defined_file(&mut self, header: &LineProgramHeader<R>) -> Option<FileEntry<R>>
+    pub(super) fn next_defined_file(
+        &mut self,
+        header: &LineProgramHeader<R>,
+    ) -> Option<FileEntry<R>>
         ensures read { IfSome result (λ file.
             ins_at self.old.notation header.now.meaning self.old.bytes
             ≡ (Ok (DefineFile (file_seen R.bytes R.Offset.number file)), self.new.bytes)) }
@@ -268,7 +298,7 @@ impl<R: Reader> LineInstructions<R> {
     /// `Executed::No`, and nothing is changed, where it is another one, has a long operand or isn't
     /// there as a whole. Refused by `AddressOverflow`, as `LineRow::execute` is (DWARF 5, 6.2.5.2 and
     /// 6.2.5.3).
-    pub fn execute_other(
+    pub(super) fn execute_other(
         &mut self,
         header: &LineProgramHeader<R>,
         row: &mut LineRow,

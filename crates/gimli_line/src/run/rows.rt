@@ -113,6 +113,7 @@ impl<R: Reader, P: LineProgram<R>> LineRows<R, P> {
     /// and the header has all files then. Refused as an instruction is, or by `OutOfMemory` where it defines a file:
     /// it returns None after such a refusal, as it is after the end. Refused by `AddressOverflow` too, and then
     /// goes on after it. A program whose files are complete isn't refused for memory.
+    #[inline(always)]
     pub fn next_row(&mut self) -> Result<Option<(&LineProgramHeader<R>, &LineRow)>>
         ensures* after { sem 𝓛 (Rests ⟦<LineRows<R, P> as Lent>⟧.lent self.entry
             (λ new. KeepsHeader self.old new × NextIs self.old new result)) }
