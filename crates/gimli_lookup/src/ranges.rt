@@ -19,6 +19,7 @@ pub struct CoveredRange {
 }
 
 /// The ranges of a [`SectionLookup`], from the address 0 on, each from the end of the one before it.
+#[derive(Drop)]
 pub struct Ranges<'a, R: Reader> {
     lookup: &'a SectionLookup<R>,
     from: Option<u64>,
