@@ -44,7 +44,7 @@ class Term:
     """A line of a term, and where it may be broken."""
 
     def __init__(self, text, width, kept):
-        self.text, self.width, self.kept = text, width, set()
+        self.text, self.width, self.kept, self.laid = text, width, set(), {}
         self.is_head = BLOCK_HEAD.match(text.lstrip()) is not None
         for old in kept:
             at = text.find(old)
@@ -98,7 +98,13 @@ class Term:
     def fits(self, start, end, column, tail):
         return column + end - start + tail <= self.width
 
-    def lay(self, start, end, column, base, level, tail):
+    def lay(self, *place):
+        """What `anew` gives, which is remembered: each part is asked for again at each depth of brackets around it."""
+        if place not in self.laid:
+            self.laid[place] = self.anew(*place)
+        return list(self.laid[place])
+
+    def anew(self, start, end, column, base, level, tail):
         """The lines of a part as (column, text): the first stands at `column` of a line that begins at `base`, the others at
         `level`. `tail` more characters follow the last one."""
         if self.fits(start, end, column, tail):
