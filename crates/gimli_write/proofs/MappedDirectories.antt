@@ -25,7 +25,7 @@ use Rattle.gimli_write.specs.convert.Mapped.{IsDirectoryPath}
 use Rattle.gimli_write.specs.convert.Preparation.{SourceFile, first_path, working_directory, first_texts, start_of_tables, first_ids, Handed, encoding_of, needed_from_5}
 use Rattle.gimli_write.proofs.ReadTexts.{text_read}
 use Rattle.gimli_write.proofs.MappedTables.{took, same_ok, sources_table, IsPrepared}
-use Rattle.gimli_write.proofs.MappedTexts.{grown_index, grown_any, own_index, own_any, same_text, IsMade, HasMade, has_itself, has_then, is_made, is_same, table_has, made_apart}
+use Rattle.gimli_write.proofs.MappedTexts.{grown_index, grown_any, own_index, own_any, same_text, IsMade, HasMade, has_itself, has_then, is_made, is_same, table_has, made_differ}
 
 -- ---- texts of a source
 
@@ -138,7 +138,7 @@ one_path version line_strings directories a b id x y =
     let first = directory_there version line_strings directories a id x in
     let second = directory_there version line_strings directories b id y in
     let same : made_text version line_strings a ≡ made_text version line_strings b = cc in
-    made_apart version line_strings a b x.made y.made same
+    made_differ version line_strings a b x.made y.made same
 
 -- the texts that were there are there after a source, if one is made
 pub sources_has : (version : ℕ) (paths : List (List ℕ)) (source : Option (List ℕ)) → HasMade version paths (sources_table version paths source)

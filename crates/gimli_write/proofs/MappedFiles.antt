@@ -20,7 +20,7 @@ use Rattle.gimli_write.specs.convert.SourceTables.{TablesAndTexts, version_of, F
 use Rattle.gimli_write.specs.convert.Items.{tables_after_definition, tables_at}
 use Rattle.gimli_write.specs.convert.Preparation.{first_ids}
 use Rattle.gimli_write.proofs.MappedTables.{took, same_ok, sources_table}
-use Rattle.gimli_write.proofs.MappedTexts.{index_stays, index_new, any_stays, any_new, index_none, last_element, same_key, IsMade, HasMade, has_then, is_made, is_same, table_has, made_apart}
+use Rattle.gimli_write.proofs.MappedTexts.{index_stays, index_new, any_stays, any_new, index_none, last_element, same_key, IsMade, HasMade, has_then, is_made, is_same, table_has, made_differ}
 use Rattle.gimli_write.proofs.MappedDirectories.{sources_has}
 
 -- ---- elements one by one
@@ -311,9 +311,9 @@ module _ (sections : Sections) (tables : TablesAndTexts) (g : File) (added : Fil
       -- the added file has others
       left : (SamePaths added so.parts → ⊥) → IsFileOf sections (version_of tables) texts_after tables.directory_ids files_after_it (source ++ g ∷ []) f id
       left other =
-          let apart : (let k : FileKey = (made_text (version_of tables) tables.line_strings so.parts.path, so.parts.directory) in k) ≢ key_of = λ is.
+          let other_key : (let k : FileKey = (made_text (version_of tables) tables.line_strings so.parts.path, so.parts.directory) in k) ≢ key_of = λ is.
           let text : made_text (version_of tables) texts_after so.parts.path ≡ made_text (version_of tables) texts_after added.path = text_same ∙ ap (λ (k : FileKey). k.0) is ∙ sym own_same in
-          other (sym (made_apart (version_of tables) texts_after so.parts.path added.path (texts_stay.there so.parts.path so.made) own_made text), sym (ap (λ (k : FileKey). k.1) is)) in
+          other (sym (made_differ (version_of tables) texts_after so.parts.path added.path (texts_stay.there so.parts.path so.made) own_made text), sym (ap (λ (k : FileKey). k.1) is)) in
           record {
             parts = so.parts;
             parts_are = so.parts_are;
@@ -323,7 +323,7 @@ module _ (sections : Sections) (tables : TablesAndTexts) (g : File) (added : Fil
             details = so.details;
             entry =
                 subst (λ (t : LineText). slice_get files_after_it id ≡ Some ((t, so.parts.directory), so.details)) (sym text_same)
-                (other_entry tables.program.files key_of details_of (made_text (version_of tables) tables.line_strings so.parts.path, so.parts.directory) so.details id so.entry apart);
+                (other_entry tables.program.files key_of details_of (made_text (version_of tables) tables.line_strings so.parts.path, so.parts.directory) so.details id so.entry other_key);
             last = so.last;
             last_parts = so.last_parts;
             last_are = so.last_are;

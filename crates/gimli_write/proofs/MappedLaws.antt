@@ -26,7 +26,7 @@ use Rattle.gimli_write.specs.declared.convert_error.ConvertError.{ConvertError}
 use Rattle.gimli_write.specs.convert.Conversion.{IsConverted}
 use Rattle.gimli_write.specs.convert.Outcome.{Outcome, outcome_of}
 use Rattle.gimli_write.specs.convert.SourceTables.{TablesAndTexts}
-use Rattle.gimli_write.specs.convert.Mapped.{CanBeFaithful, IsMapped, IsReadAs, AreRowsMapped, HasPaths, AreFilesMapped, AreFilesReadAs, HasConstantAddresses}
+use Rattle.gimli_write.specs.convert.Mapped.{CanBeFaithful, IsFaithful, IsReadAs, AreRowsMapped, HasPaths, AreFilesMapped, AreFilesReadAs, HasConstantAddresses}
 use Rattle.gimli_write.specs.convert.Items.{Reading, ReadsItems}
 use Rattle.gimli_write.specs.convert.Preparation.{encoding_of, tables_of_header}
 use Rattle.gimli_write.specs.convert.Sources.{Source}
@@ -106,22 +106,12 @@ module _ (convert_address : ℕ → Option Address) (s : Source) (line_strings :
         let w = was_converted convert_address s line_strings c so in
         rows_mapped s.notation s.sections s.header s.given line_strings w.first s.header.program w.reading convert_address c w.ready w.reads can.itself can.wide can.no_end_under_tombstone w.is
 
-    pub conversion_mapped : (strings : List (List ℕ)) → IsMapped s strings c
-    conversion_mapped strings =
-        let w = was_converted convert_address s line_strings c so in
-        record {
-          rows = mapped_rows;
-          source_files = defined_files s.header.files (past_at_end [] w.reads.list);
-          at_end = record { list = w.reads.list; end = w.reads.end; decoding = w.reads.decoding; given = refl };
-          files = files_same s.notation s.sections s.header s.given line_strings w.first s.header.program w.reading convert_address c w.ready w.reads w.is strings;
-        }
-
-    pub conversion_fits : AddressesFit c.program.encoding.address_size 0 (0, 0) c.program.items
+    conversion_fits : AddressesFit c.program.encoding.address_size 0 (0, 0) c.program.items
     conversion_fits =
         let w = was_converted convert_address s line_strings c so in
         addresses_fit s.notation s.sections s.header s.given line_strings w.first s.header.program w.reading convert_address c w.ready w.reads can.itself can.wide can.no_end_under_tombstone w.is
 
-    pub conversion_constant : HasConstantAddresses c.program
+    conversion_constant : HasConstantAddresses c.program
     conversion_constant =
         let w = was_converted convert_address s line_strings c so in
         constants_set s.notation s.sections s.header s.given line_strings w.first s.header.program w.reading convert_address c w.ready w.reads can.itself can.wide can.no_end_under_tombstone w.is
@@ -134,6 +124,20 @@ module _ (convert_address : ℕ → Option Address) (s : Source) (line_strings :
         let same : mapped.rows ≡ rows = same_rows mapped.rows rows (events_once s.notation s.header s.header.program (map row mapped.rows) (map row rows) mapped.events events) in
         subst (λ (source : List ReadRow). OneByOne (IsReadAs s.header.parameters.encoding.version c.program.encoding.version c.file_ids) source back) same
         (rows_again s.header.parameters.encoding.version c.program.encoding.version c.file_ids [] c.program.items mapped.rows back mapped.mapped (built conversion_fits))
+
+    pub conversion_faithful : (strings : List (List ℕ)) → IsFaithful s strings c
+    conversion_faithful strings =
+        let w = was_converted convert_address s line_strings c so in
+        record {
+          rows = mapped_rows;
+          source_files = defined_files s.header.files (past_at_end [] w.reads.list);
+          at_end = record { list = w.reads.list; end = w.reads.end; decoding = w.reads.decoding; given = refl };
+          files = files_same s.notation s.sections s.header s.given line_strings w.first s.header.program w.reading convert_address c w.ready w.reads w.is strings;
+          can_write = conversion_written strings;
+          constants = conversion_constant;
+          addresses = conversion_fits;
+          read_back = λ rows back events built. conversion_back rows back events (λ fits. built);
+        }
 
     -- the same of a unit that is read back
     pub unit_back : (rows : List ReadRow) → Events s.notation s.header s.header.program (map row rows)

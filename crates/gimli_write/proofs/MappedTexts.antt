@@ -149,7 +149,7 @@ made_bytes version texts text so = by (nat_le version 4) so.any
         ap (λ (o : Option (List ℕ)). unwrap_or o []) found
 
 -- so texts that are made the same are the same
-pub made_apart : (version : ℕ) (line_strings : List (List ℕ)) (a b : List ℕ) → IsMade version line_strings a → IsMade version line_strings b
+pub made_differ : (version : ℕ) (line_strings : List (List ℕ)) (a b : List ℕ) → IsMade version line_strings a → IsMade version line_strings b
     → made_text version line_strings a ≡ made_text version line_strings b → a ≡ b
-made_apart version line_strings a b x y is =
+made_differ version line_strings a b x y is =
     sym (made_bytes version (texts_in [] line_strings) a x) ∙ ap (bytes_in (texts_in [] line_strings)) is ∙ made_bytes version (texts_in [] line_strings) b y

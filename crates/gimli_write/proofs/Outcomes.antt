@@ -1,6 +1,6 @@
 -- What a conversion reads, handed to the builder.
 use Rattle.std.proofs.Common.{◌≡◌, ◌⊎◌, ℕ, suc, ◌<◌, arith, false, true, Bool, if◌then◌else◌, List, refl, sym, ap, ◌∙◌, subst, inl, inr}
-use Rattle.std.specs.Prelude.{Option, Result, Ok, Err, IfOk, IfErr, MatchResult}
+use Rattle.std.specs.Prelude.{Option, Result, Ok, Err}
 use Rattle.gimli_core.specs.declared.error.Error.TheVariants.{AddressOverflow}
 use Rattle.gimli_bytes.specs.declared.address.Address.{Address}
 use Rattle.gimli_line.specs.header.Parameters.{Parameters}
@@ -146,9 +146,3 @@ module _ (m : ℕ → Option Address) (s : Source) (line_strings : List (List �
       → IsRefusedBy (outcome_of m reading first.program) e → (e ≡ OutOfMemory) ⊎ IsConverted m s line_strings (Err e)
   rows_refused first reading e is reads (inl memory) = inl memory
   rows_refused first reading e is reads (inr refused) = inr (all_converted first reading (Err e) is reads refused)
-
--- ---- what is answered, either way
-
-pub matched : {A E : Type 0} (r : Result A E) (P P' : A → Type 0) (Q Q' : E → Type 0) → ((x : A) → P x → P' x) → ((e : E) → Q e → Q' e) → IfOk r P → IfErr r Q → MatchResult r P' Q'
-matched (Ok x) P P' Q Q' f g ok err = f x ok
-matched (Err e) P P' Q Q' f g ok err = g e err

@@ -10,10 +10,10 @@ ghost use Rattle.gimli_line.specs.header.File.{File};
 ghost use Rattle.gimli_line.specs.declared.run.row.LineRow.{LineRow as ReadRow};
 ghost use Rattle.gimli_build.specs.Conditions.{CanBuild, CanWrite};
 ghost use Rattle.gimli_build.specs.declared.built.items.BuiltItem.{BuiltItem};
-ghost use Rattle.gimli_write.specs.RoundTrip.{HasFittingAddresses, AreBuiltRows};
+ghost use Rattle.gimli_write.specs.RoundTrip.{AreBuiltRows};
 ghost use Rattle.gimli_write.specs.convert.Outcome.{can_build};
 ghost use Rattle.gimli_write.specs.convert.Sequences.{sequence_read};
-ghost use Rattle.gimli_write.specs.convert.Mapped.{IsMapped, HasConstantAddresses};
+ghost use Rattle.gimli_write.specs.convert.Mapped.{IsFaithful};
 ghost use Rattle.gimli_write.specs.convert.Preparation.{encoding_of};
 ghost use Rattle.gimli_write.specs.convert.DoneConversions.{DoneConversion, IsToBeFaithful, SourceGives, AreReadAs, UnitReadBack, GivesBack, SourceFilesAre, AreFilesReadBack};
 
@@ -42,12 +42,8 @@ pub fn converted_programs_keep_their_encoding()
 /// the source that gave a row ends under a tombstone, a converted program says what its source says. No address in it
 /// is a tombstone for a row, all of them fit its address size, and each that is set is a number, not a symbol.
 pub fn conversions_are_faithful()
-    ensures mapped { (d : DoneConversion) (strings : List (List ℕ)) → IsToBeFaithful d
-        → IsMapped d.source strings d.outcome }
-    ensures addresses { (d : DoneConversion) → IsToBeFaithful d
-        → HasFittingAddresses d.outcome.program }
-    ensures constants { (d : DoneConversion) → IsToBeFaithful d
-        → HasConstantAddresses d.outcome.program }
+    ensures { (d : DoneConversion) (strings : List (List ℕ)) → IsToBeFaithful d
+        → IsFaithful d.source strings d.outcome }
 {}
 
 /// So the rows that are read back of it say what the rows of the source say, one by one: an end has its address, and

@@ -1,5 +1,5 @@
 -- What it means that a converted program says what its source says, and what is asked of the source for it.
-use Rattle.std.specs.Prelude.{◌≡◌, ◌≢◌, ℕ, ◌+◌, ◌≤◌, Bool, true, false, not, ◌&&◌, ◌||◌, if◌then◌else◌, List, [], ◌∷◌, ◌++◌, map, slice_get, Option, Some, None, option_map, Result, MatchResult}
+use Rattle.std.specs.Prelude.{◌≡◌, ◌≢◌, ℕ, ◌+◌, ◌≤◌, Bool, true, false, not, ◌&&◌, ◌||◌, if◌then◌else◌, List, [], ◌∷◌, ◌++◌, map, slice_get, Option, Some, None, option_map}
 use Rattle.std.specs.List.{AllByRecursion}
 use Rattle.std.specs.declared.vec.Vec.{Vec}
 use Rattle.std.specs.declared.alloc.Global.{Global}
@@ -32,8 +32,7 @@ use Rattle.gimli_write.specs.RoundTrip.{FileAnswer, HasFittingAddresses}
 use Rattle.gimli_write.specs.convert.Outcome.{Outcome}
 use Rattle.gimli_write.specs.convert.Preparation.{encoding_of}
 use Rattle.gimli_write.specs.convert.Sources.{Source}
-use Rattle.gimli_write.specs.declared.convert_error.ConvertError.{ConvertError}
-use Rattle.gimli_write.specs.convert.Conversion.{AnswersAs, outcome_with, ConvertsTo, IsConvertRefusal}
+use Rattle.gimli_write.specs.convert.Conversion.{AnswersAs, outcome_with, ConvertsTo}
 
 -- ---- what is asked
 
@@ -137,15 +136,6 @@ pub record AreFilesMapped (sections : Sections) (h : Header) (files : List File)
       → (id : ℕ) × IsFileId h.parameters.encoding.version c.file_ids n id × IsMappedFile sections h files strings c f id
   pub only : (n id : ℕ) → IsFileId h.parameters.encoding.version c.file_ids n id → (f : File) × (entry_of h.parameters.encoding.version None files n ≡ Some f)
 
--- ---- all of it
-
--- a converted program says what its source says: its rows and ends, and its files, those that the program defines too
-pub record IsMapped (s : Source) (strings : List (List ℕ)) (c : Outcome) : Type 0 where
-  pub rows : AreRowsMapped s.notation s.header s.header.program c
-  pub source_files : List File
-  pub at_end : FilesAtEnd s.notation true s.header s.header.program source_files
-  pub files : AreFilesMapped s.sections s.header source_files strings c
-
 -- ---- what is read back
 
 -- a row that is read back of a conversion in this version says what a row of the source in its version says: an end has
@@ -179,29 +169,28 @@ SetsConstant item = Unit {0}
 abbrev pub HasConstantAddresses : Built → Type 0
 HasConstantAddresses p = AllByRecursion SetsConstant p.items
 
--- a converted program can be written; it says what its source says, in addresses that are numbers, fit and hide nothing;
--- and rows that are read back as it was built say what the rows of the source say
+-- ---- all of it
+
+-- a converted program says what its source says, beside these strings
 pub record IsFaithful (s : Source) (strings : List (List ℕ)) (c : Outcome) : Type 0 where
+  -- its rows and ends are those of the source, one by one
+  pub rows : AreRowsMapped s.notation s.header s.header.program c
+  -- its files stand for those of the source, the ones that its program defines too
+  pub source_files : List File
+  pub at_end : FilesAtEnd s.notation true s.header s.header.program source_files
+  pub files : AreFilesMapped s.sections s.header source_files strings c
+  -- it can be written, and its addresses are numbers, fit and hide nothing
   pub can_write : CanWrite c.program (texts_in strings c.line_strings)
-  pub mapped : IsMapped s strings c
-  pub addresses : HasFittingAddresses c.program
   pub constants : HasConstantAddresses c.program
+  pub addresses : HasFittingAddresses c.program
+  -- rows that are read back as it was built say what the rows of the source say
   pub read_back : (rows back : List ReadRow) → Events s.notation s.header s.header.program (map row rows)
       → RowsMatch c.program.encoding.version [] c.program.items back
       → OneByOne (IsReadAs s.header.parameters.encoding.version c.program.encoding.version c.file_ids) rows back
 
--- where what is asked of a source, of what is handed and of the map of addresses holds, what was answered is faithful, with
--- these tables after it
-abbrev pub IsFaithfulIfItCan : (ℕ → Option Address → Type 0) → Source → Built × Vec ℕ Global → StringTables → Type 0
-IsFaithfulIfItCan map s answer texts =
-    (g : ℕ → Option Address) → AnswersAs map g → CanBeFaithful g s → IsFaithful s texts.strings (outcome_with answer texts.line_strings)
-
--- by such a map a source is converted to this answer, which is faithful where it can be, with these tables after it
+-- a source is converted to this answer, for each function that gives what this map of addresses may return; and it
+-- says what the source says, where what is asked for that holds. The old line strings are those before it
 pub record ConvertsWell (map : ℕ → Option Address → Type 0) (s : Source) (old : List (List ℕ)) (answer : Built × Vec ℕ Global) (texts : StringTables) : Type 0 where
   pub converts : ConvertsTo map s old answer texts.line_strings
-  pub faithful : IsFaithfulIfItCan map s answer texts
-
--- what a call returns that converts a source by such a map: the old line strings are those before it
-abbrev pub IsAnswerOf : (ℕ → Option Address → Type 0) → Source → List (List ℕ) → Result (Built × Vec ℕ Global) ConvertError → StringTables → Type 0
-IsAnswerOf map s old result texts =
-    MatchResult result (λ answer. ConvertsWell map s old answer texts) (IsConvertRefusal map s old)
+  pub faithful : (g : ℕ → Option Address) → AnswersAs map g → CanBeFaithful g s
+      → IsFaithful s texts.strings (outcome_with answer texts.line_strings)

@@ -10,7 +10,7 @@ use Rattle.gimli_write.specs.declared.convert.rows.ConvertLineSequenceEnd.TheVar
 use Rattle.gimli_write.specs.convert.SourceTables.{TablesAndTexts}
 use Rattle.gimli_write.specs.convert.Items.{Reading, ends, stops, defines, offers}
 use Rattle.gimli_write.specs.convert.Texts.{IsRefusedBy}
-use Rattle.gimli_write.specs.convert.Conversion.{Conversion, still_to_read}
+use Rattle.gimli_write.specs.convert.Conversion.{Progress, reading_of}
 
 -- rows whose offsets count from one address
 pub record SequenceRead : Type 0 where
@@ -42,10 +42,10 @@ sequence_from start (row ∷ rows) (offers (SetAddress a) tables rest) =
     Ok (Some (sequence_with start (row ∷ rows) (Address a)), offers (SetAddress a) tables rest)
 
 -- a read gathers this sequence, and leaves what is still to be read after it
-abbrev pub GathersNext : Conversion → List (List ℕ) → Option ConvertLineSequence → Conversion → List (List ℕ) → Type 0
-GathersNext old old_strings sequence new new_strings =
-    sequence_from None [] (still_to_read old old_strings) ≡ Ok (option_map sequence_read sequence, still_to_read new new_strings)
+abbrev pub GathersNext : Progress → Option ConvertLineSequence → Progress → Type 0
+GathersNext old sequence new =
+    sequence_from None [] (reading_of old) ≡ Ok (option_map sequence_read sequence, reading_of new)
 
 -- why a read gathers none: what refuses it, or `OutOfMemory`
-abbrev pub IsGatherRefusal : Conversion → List (List ℕ) → ConvertError → Type 0
-IsGatherRefusal c line_strings = IsRefusedBy (sequence_from None [] (still_to_read c line_strings))
+abbrev pub IsGatherRefusal : Progress → ConvertError → Type 0
+IsGatherRefusal old = IsRefusedBy (sequence_from None [] (reading_of old))

@@ -1,6 +1,7 @@
 //! What is made of the header of a source, before its program is read.
 
-ghost use Rattle.std.specs.Prelude.{◌≡◌, ◌≢◌, All, IfOk, IfErr, IfSome, IsTrue, OnOk, Ok, None, Some, false, option_map};
+ghost use Rattle.std.specs.Prelude.{◌≡◌, ◌≢◌, All, IfOk, IfErr, IfSome, IsTrue, OnOk};
+ghost use Rattle.std.specs.Prelude.{Ok, None, Some, false, option_map};
 ghost use Rattle.gimli_core.specs.Numbers.{is_address_size};
 ghost use Rattle.gimli_core.specs.Values.{value_seen};
 ghost use Rattle.gimli_line.specs.header.File.{file_seen};
@@ -9,9 +10,18 @@ ghost use Rattle.gimli_line.specs.header.Header.{has_content};
 ghost use Rattle.gimli_bytes.specs.Texts.{KeepsTexts};
 ghost use Rattle.gimli_build.specs.Advance.{CanEncode};
 ghost use Rattle.gimli_build.specs.Conditions.{Accepts};
-ghost use Rattle.gimli_write.specs.convert.Texts.{◌>>=◌ as ◌>>>◌, IsRefusedBy};
-ghost use Rattle.gimli_write.specs.convert.SourceTables.{tables_with, directory_added, file_added, all_added};
-ghost use Rattle.gimli_write.specs.convert.Preparation.{first_path, working_directory, file_directory, own_source_file, named_source_file, source_file, is_out_of_range, line_encoding_of, first_texts, start_of_program, start_of_tables, first_ids, has_before_5, handed_of, tables_of_header};
+ghost use Rattle.gimli_write.specs.convert.Texts.{IsRefusedBy};
+ghost use Rattle.gimli_write.specs.convert.SourceTables.{tables_with};
+ghost use Rattle.gimli_write.specs.convert.Preparation.{first_path, working_directory};
+ghost use Rattle.gimli_write.specs.convert.Preparation.{file_directory};
+ghost use Rattle.gimli_write.specs.convert.Preparation.{own_source_file, named_source_file};
+ghost use Rattle.gimli_write.specs.convert.Preparation.{source_file};
+ghost use Rattle.gimli_write.specs.convert.Preparation.{is_out_of_range, line_encoding_of};
+ghost use Rattle.gimli_write.specs.convert.Preparation.{first_texts, start_of_program, first_ids};
+ghost use Rattle.gimli_write.specs.convert.Preparation.{has_before_5};
+ghost use Rattle.gimli_write.specs.convert.Preparation.{handed_of, tables_of_header};
+ghost use Rattle.gimli_write.specs.inside.convert.Preparation.{with_first_texts, tables_at_start};
+ghost use Rattle.gimli_write.specs.inside.convert.Preparation.{lists_added};
 
 use crate::convert::tables::SourceTables;
 use crate::convert::texts::{
@@ -216,10 +226,12 @@ fn first_program<R: Reader>(
     requires working { All (λ b. b ≢ 0) directory.now }
     requires directory { IfSome file.now.directory (λ text. All (λ b. b ≢ 0) text) }
     requires path { All (λ b. b ≢ 0) file.now.path }
+    // What is made of the texts.
     ensures ok { IfOk result (λ program. program ≡ start_of_program encoding line_encoding header.now.meaning
         (first_texts encoding.version line_strings.old directory.now file.now)) }
     ensures table { OnOk result (line_strings.new
         ≡ (first_texts encoding.version line_strings.old directory.now file.now).line_strings) }
+    // However it ends.
     ensures stays { KeepsTexts line_strings.old line_strings.new }
     ensures memory { IfErr result (λ e. e ≡ ConvertError.OutOfMemory) }
 {
@@ -306,10 +318,8 @@ fn tables_with_texts<R: Reader>(
     requires working { All (λ b. b ≢ 0) directory.now }
     requires directory { IfSome file.now.directory (λ text. All (λ b. b ≢ 0) text) }
     requires path { All (λ b. b ≢ 0) file.now.path }
-    ensures ok { IfOk result (λ tables.
-        (line_encoding_of header.now.meaning.parameters.line_encoding line_encoding >>> λ e.
-        Ok (start_of_tables encoding e header.now.meaning
-        (first_texts encoding.version line_strings.old directory.now file.now)))
+    ensures ok { IfOk result (λ tables. with_first_texts encoding line_encoding header.now.meaning
+        (first_texts encoding.version line_strings.old directory.now file.now)
         ≡ Ok (tables_with line_strings.new tables)) }
     ensures err { IfErr result
         (IsRefusedBy (line_encoding_of header.now.meaning.parameters.line_encoding line_encoding)) }
@@ -333,19 +343,11 @@ fn tables_at_start<R: Reader>(
 ) -> ConvertResult<SourceTables>
     requires address_size { IsTrue (is_address_size encoding.address_size) }
     requires lines { IfSome line_encoding CanEncode }
-    ensures ok { IfOk result (λ tables.
-        (working_directory encoding.version sections.now header.now.meaning >>> λ directory.
-        source_file encoding.version sections.now header.now.meaning (option_map R.bytes from_comp_name) >>> λ file.
-        line_encoding_of header.now.meaning.parameters.line_encoding line_encoding >>> λ e.
-        Ok (start_of_tables encoding e header.now.meaning
-        (first_texts encoding.version line_strings.old directory file)))
+    ensures ok { IfOk result (λ tables. tables_at_start sections.now header.now.meaning
+        encoding line_encoding (option_map R.bytes from_comp_name) line_strings.old
         ≡ Ok (tables_with line_strings.new tables)) }
-    ensures err { IfErr result (IsRefusedBy
-        (working_directory encoding.version sections.now header.now.meaning >>> λ directory.
-        source_file encoding.version sections.now header.now.meaning (option_map R.bytes from_comp_name) >>> λ file.
-        line_encoding_of header.now.meaning.parameters.line_encoding line_encoding >>> λ e.
-        Ok (start_of_tables encoding e header.now.meaning
-        (first_texts encoding.version line_strings.old directory file)))) }
+    ensures err { IfErr result (IsRefusedBy (tables_at_start sections.now header.now.meaning
+        encoding line_encoding (option_map R.bytes from_comp_name) line_strings.old)) }
     ensures stays { KeepsTexts line_strings.old line_strings.new }
 {
     let alloc = *line_strings.allocator();
@@ -369,15 +371,10 @@ fn add_directories_and_files<R: Reader>(
     header: &LineProgramHeader<R>,
     line_strings: &mut LineStringTable,
 ) -> ConvertResult<()>
-    ensures ok { OnOk result
-        ((all_added (directory_added sections.now) header.now.meaning.directories
-        (tables_with line_strings.old tables.old) >>> λ between.
-        all_added (file_added sections.now) header.now.meaning.files between)
-        ≡ Ok (tables_with line_strings.new tables.new)) }
+    ensures ok { OnOk result (lists_added sections.now header.now.meaning
+        (tables_with line_strings.old tables.old) ≡ Ok (tables_with line_strings.new tables.new)) }
     ensures err { IfErr result (IsRefusedBy
-        (all_added (directory_added sections.now) header.now.meaning.directories
-        (tables_with line_strings.old tables.old) >>> λ between.
-        all_added (file_added sections.now) header.now.meaning.files between)) }
+        (lists_added sections.now header.now.meaning (tables_with line_strings.old tables.old))) }
     ensures stays { KeepsTexts line_strings.old line_strings.new }
 {
     tables.add_directories(header.include_directories(), sections, line_strings)?;

@@ -1,17 +1,23 @@
 //! The conversion of a line program, as its callers see it.
 
-ghost use Rattle.std.specs.Prelude.{◌≡◌, ◌≢◌, false, Option, Some, None, Err, IfErr, IfOk, IfSome, IsTrue, OnErr, OnOk};
+ghost use Rattle.std.specs.Prelude.{◌≡◌, false, IfErr, IfOk, IfSome, IsTrue};
 ghost use Rattle.gimli_core.specs.Numbers.{is_address_size};
 ghost use Rattle.gimli_bytes.specs.Texts.{KeepsTexts, texts_in};
 ghost use Rattle.gimli_build.specs.Calls.{after_begin, after_address, after_row, after_end};
 ghost use Rattle.gimli_build.specs.Advance.{CanEncode};
 ghost use Rattle.gimli_build.specs.Conditions.{CanEndSequence};
 ghost use Rattle.gimli_write.specs.declared.convert_error.ConvertError.TheVariants.{OutOfMemory};
-ghost use Rattle.gimli_write.specs.convert.KeptTables.{IsUnread, IsWritable, StaysWritable, KeepsFiles, HasFinalTables, KeepsFinalTables};
-ghost use Rattle.gimli_write.specs.convert.LentTables.{SameStringTables, KeepsStringTables};
+ghost use Rattle.gimli_write.specs.convert.KeptTables.{IsWritable, HasWritable};
+ghost use Rattle.gimli_write.specs.convert.LentTables.{lent, SameStringTables, KeepsStringTables};
+ghost use Rattle.gimli_write.specs.convert.Reads.{ReadsOn, LeavesTables, RepeatsRefusal};
+ghost use Rattle.gimli_write.specs.convert.Converter.{progress, lent_tables, program_of, Builds};
 ghost use Rattle.gimli_write.specs.convert.Sources.{source_of};
-ghost use Rattle.gimli_write.specs.convert.Mapped.{IsAnswerOf};
-ghost use Rattle.gimli_write.specs.convert.Conversion.{still_to_read, IsPrepared, IsHeaderRefusal, ReadsWhole, GivesNext, IsReadRefusal, AddsFiles, CanBuildRow, IsBuildRefusal, with_program, RestConvertsTo, IsRestRefusal};
+ghost use Rattle.gimli_write.specs.convert.Mapped.{ConvertsWell};
+ghost use Rattle.gimli_write.specs.convert.Conversion.{beside, reading_of, Asks, CanBuildRow};
+ghost use Rattle.gimli_write.specs.convert.Conversion.{IsBegun, IsHeaderRefusal};
+ghost use Rattle.gimli_write.specs.convert.Conversion.{GivesNext, IsReadRefusal};
+ghost use Rattle.gimli_write.specs.convert.Conversion.{IsConvertRefusal, RestConvertsTo};
+ghost use Rattle.gimli_write.specs.convert.Conversion.{IsRestRefusal};
 ghost use Rattle.gimli_write.specs.convert.Sequences.{GathersNext, IsGatherRefusal};
 
 use crate::convert::conversion::{Conversion, convert_all};
@@ -47,8 +53,8 @@ pub struct ConvertLineProgram<'a, 'b, R: Reader, P = Conversion<R>> {
 impl<R: Reader, P: Drop> Drop for ConvertLineProgram<'_, '_, R, P> {
     /// Leaves both tables as they are. A derived `Drop` wouldn't say so to a caller.
     fn drop(self)
-        ensures line_strings { self.exit.0.now ≡ self.entry.line_strings.now }
-        ensures strings { self.exit.1.0.now ≡ self.entry.strings.now }
+        ensures line_strings { self.exit.0.now ≡ (lent_tables self.entry).line_strings.now }
+        ensures strings { self.exit.1.0.now ≡ (lent_tables self.entry).strings.now }
     {
         let ConvertLineProgram {
             line_strings: _line_strings,
@@ -103,15 +109,13 @@ impl<R: Reader> ConvertLineHeader<R> {
     ) -> ConvertResult<Self>
         requires address_size { IfSome encoding (λ e. IsTrue (is_address_size e.address_size)) }
         requires lines { IfSome line_encoding CanEncode }
-        ensures ok { IfOk result (λ header. IsPrepared (source_of R.bytes debug_str debug_line_str
-            from_program from_comp_name encoding line_encoding) line_strings.old header line_strings.new) }
+        ensures ok { IfOk result (λ header. IsBegun (source_of R.bytes debug_str debug_line_str
+            from_program from_comp_name encoding line_encoding) line_strings.old
+            (beside line_strings.new header)) }
         ensures err { IfErr result (IsHeaderRefusal (source_of R.bytes debug_str debug_line_str
             from_program from_comp_name encoding line_encoding) line_strings.old) }
-        ensures reads { IfOk result (λ header. ReadsWhole (source_of R.bytes debug_str debug_line_str
-            from_program from_comp_name encoding line_encoding) header line_strings.new) }
-        ensures unread { IfOk result (λ header. IsUnread (source_of R.bytes debug_str debug_line_str
-            from_program from_comp_name encoding line_encoding) header) }
-        ensures writable { IfOk result (λ header. IsWritable header.tables.program line_strings.new) }
+        // What was begun can be written.
+        ensures writable { IfOk result (λ header. HasWritable (beside line_strings.new header)) }
         ensures stays { KeepsTexts line_strings.old line_strings.new }
     {
         let sections = TextSections {
@@ -139,9 +143,9 @@ impl<R: Reader> ConvertLineHeader<R> {
         line_strings: &'a mut LineStringTable,
         strings: &'b mut StringTable,
     ) -> ConvertLineProgram<'a, 'b, R>
-        ensures header { result.conversion ≡ self }
-        ensures string_tables { SameStringTables line_strings.entry strings.entry
-            result.line_strings result.strings }
+        ensures header { (progress result).conversion ≡ self }
+        ensures string_tables { SameStringTables (lent line_strings.entry strings.entry)
+            (lent_tables result) }
     {
         ConvertLineProgram {
             line_strings,
@@ -177,18 +181,15 @@ impl<'a, 'b, R: Reader> ConvertLineProgram<'a, 'b, R, Conversion<R>> {
     ) -> ConvertResult<Self>
         requires address_size { IfSome encoding (λ e. IsTrue (is_address_size e.address_size)) }
         requires lines { IfSome line_encoding CanEncode }
-        ensures ok { IfOk result (λ convert. IsPrepared (source_of R.bytes debug_str debug_line_str from_program
-            from_comp_name encoding line_encoding) line_strings.old convert.conversion convert.line_strings.now) }
+        ensures ok { IfOk result (λ convert. IsBegun (source_of R.bytes debug_str debug_line_str
+            from_program from_comp_name encoding line_encoding)
+            line_strings.old (progress convert)) }
         ensures err { IfErr result (IsHeaderRefusal (source_of R.bytes debug_str debug_line_str
             from_program from_comp_name encoding line_encoding) line_strings.old) }
-        ensures reads { IfOk result (λ convert. ReadsWhole (source_of R.bytes debug_str debug_line_str
-            from_program from_comp_name encoding line_encoding) convert.conversion convert.line_strings.now) }
-        ensures unread { IfOk result (λ convert. IsUnread (source_of R.bytes debug_str debug_line_str
-            from_program from_comp_name encoding line_encoding) convert.conversion) }
-        ensures writable { IfOk result
-            (λ convert. IsWritable convert.conversion.tables.program convert.line_strings.now) }
-        ensures string_tables { IfOk result (λ convert. KeepsStringTables line_strings.entry strings.entry
-            convert.line_strings convert.strings) }
+        // What was begun can be written, and both tables are those that were handed.
+        ensures writable { IfOk result (λ convert. HasWritable (progress convert)) }
+        ensures string_tables { IfOk result (λ convert.
+            KeepsStringTables (lent line_strings.entry strings.entry) (lent_tables convert)) }
     {
         let header = ConvertLineHeader::new(
             debug_str,
@@ -205,16 +206,9 @@ impl<'a, 'b, R: Reader> ConvertLineProgram<'a, 'b, R, Conversion<R>> {
     /// Begins a sequence in the program that is built. Refused as `UnsupportedLineInstruction` where one has begun, or
     /// by `OutOfMemory`; then nothing changes.
     pub fn begin_sequence(&mut self, address: Option<Address>) -> ConvertResult<()>
-        ensures ok { OnOk result (self.new.conversion ≡ with_program
-            (after_begin address self.old.conversion.tables.program) self.old.conversion) }
-        ensures outside { OnOk result (self.old.conversion.tables.program.in_sequence ≡ false) }
-        ensures err { IfErr result
-            (IsBuildRefusal (self.old.conversion.tables.program.in_sequence ≡ false)) }
-        ensures kept { OnErr result (self.new.conversion ≡ self.old.conversion) }
-        ensures writable { StaysWritable self.old.conversion.tables self.old.line_strings.now
-            self.new.conversion.tables self.new.line_strings.now }
-        ensures string_tables { SameStringTables self.old.line_strings self.old.strings
-            self.new.line_strings self.new.strings }
+        ensures builds { Builds (after_begin address (program_of self.old))
+            self.old result self.new }
+        ensures asks { Asks ((program_of self.old).in_sequence ≡ false) result }
     {
         self.conversion.tables.begin_sequence(address)
     }
@@ -222,14 +216,9 @@ impl<'a, 'b, R: Reader> ConvertLineProgram<'a, 'b, R, Conversion<R>> {
     /// Sets the address in the program that is built, where a sequence begins if none has. Refused by `OutOfMemory`
     /// alone; then nothing changes.
     pub fn set_address(&mut self, address: Address) -> ConvertResult<()>
-        ensures ok { OnOk result (self.new.conversion ≡ with_program
-            (after_address address self.old.conversion.tables.program) self.old.conversion) }
+        ensures builds { Builds (after_address address (program_of self.old))
+            self.old result self.new }
         ensures memory { IfErr result (λ e. e ≡ ConvertError.OutOfMemory) }
-        ensures kept { OnErr result (self.new.conversion ≡ self.old.conversion) }
-        ensures writable { StaysWritable self.old.conversion.tables self.old.line_strings.now
-            self.new.conversion.tables self.new.line_strings.now }
-        ensures string_tables { SameStringTables self.old.line_strings self.old.strings
-            self.new.line_strings self.new.strings }
     {
         self.conversion.tables.set_address(address)
     }
@@ -238,16 +227,8 @@ impl<'a, 'b, R: Reader> ConvertLineProgram<'a, 'b, R, Conversion<R>> {
     /// `UnsupportedLineInstruction` where it can't be generated after the row before it, or by `OutOfMemory`; then
     /// nothing changes, nor does the current row.
     pub fn generate_row(&mut self, row: LineRow) -> ConvertResult<()>
-        ensures ok { OnOk result (self.new.conversion ≡ with_program
-            (after_row row self.old.conversion.tables.program) self.old.conversion) }
-        ensures can { OnOk result (CanBuildRow self.old.conversion.tables.program row) }
-        ensures err { IfErr result
-            (IsBuildRefusal (CanBuildRow self.old.conversion.tables.program row)) }
-        ensures kept { OnErr result (self.new.conversion ≡ self.old.conversion) }
-        ensures writable { StaysWritable self.old.conversion.tables self.old.line_strings.now
-            self.new.conversion.tables self.new.line_strings.now }
-        ensures string_tables { SameStringTables self.old.line_strings self.old.strings
-            self.new.line_strings self.new.strings }
+        ensures builds { Builds (after_row row (program_of self.old)) self.old result self.new }
+        ensures asks { Asks (CanBuildRow (program_of self.old) row) result }
     {
         self.conversion.tables.generate_row(row)
     }
@@ -255,24 +236,16 @@ impl<'a, 'b, R: Reader> ConvertLineProgram<'a, 'b, R, Conversion<R>> {
     /// Ends a sequence of the program that is built, so many bytes after the address that was last set. Refused as
     /// `UnsupportedLineInstruction` where it can't end there, or by `OutOfMemory`; then nothing changes.
     pub fn end_sequence(&mut self, address_offset: u64) -> ConvertResult<()>
-        ensures ok { OnOk result (self.new.conversion ≡ with_program
-            (after_end address_offset self.old.conversion.tables.program) self.old.conversion) }
-        ensures can { OnOk result
-            (CanEndSequence self.old.conversion.tables.program address_offset) }
-        ensures err { IfErr result
-            (IsBuildRefusal (CanEndSequence self.old.conversion.tables.program address_offset)) }
-        ensures kept { OnErr result (self.new.conversion ≡ self.old.conversion) }
-        ensures writable { StaysWritable self.old.conversion.tables self.old.line_strings.now
-            self.new.conversion.tables self.new.line_strings.now }
-        ensures string_tables { SameStringTables self.old.line_strings self.old.strings
-            self.new.line_strings self.new.strings }
+        ensures builds { Builds (after_end address_offset (program_of self.old))
+            self.old result self.new }
+        ensures asks { Asks (CanEndSequence (program_of self.old) address_offset) result }
     {
         self.conversion.tables.end_sequence(address_offset)
     }
 
     /// Whether a sequence has begun in the program that is built.
     pub fn in_sequence(&self) -> bool
-        ensures { result ≡ self.now.conversion.tables.program.in_sequence }
+        ensures { result ≡ (program_of self.now).in_sequence }
     {
         self.conversion.tables.in_sequence()
     }
@@ -280,10 +253,10 @@ impl<'a, 'b, R: Reader> ConvertLineProgram<'a, 'b, R, Conversion<R>> {
     /// The program that was built so far, and for each file number of the source its id there; up to version 4 of the
     /// source none has number 0.
     pub fn program(self) -> (LineProgram, Vec<FileId>)
-        ensures program { result.0 ≡ self.entry.conversion.tables.program }
-        ensures files { result.1.items ≡ self.entry.conversion.tables.file_ids }
-        ensures line_strings { self.exit.0.now ≡ self.entry.line_strings.now }
-        ensures strings { self.exit.1.0.now ≡ self.entry.strings.now }
+        ensures program { result.0 ≡ program_of self.entry }
+        ensures files { result.1.items ≡ (progress self.entry).conversion.tables.file_ids }
+        ensures line_strings { self.exit.0.now ≡ (lent_tables self.entry).line_strings.now }
+        ensures strings { self.exit.1.0.now ≡ (lent_tables self.entry).strings.now }
     {
         let ConvertLineProgram {
             line_strings: _line_strings,
@@ -303,26 +276,13 @@ impl<'a, 'b, R: Reader> ConvertLineProgram<'a, 'b, R, Conversion<R>> {
     /// cause than memory, and at the end, all files are there that the source defines before. A program that met what
     /// `write` asks still does.
     pub fn read_row(&mut self) -> ConvertResult<Option<ConvertLineRow>>
-        ensures ok { IfOk result (λ row. GivesNext self.old.conversion self.old.line_strings.now
-            row self.new.conversion self.new.line_strings.now) }
-        ensures err { IfErr result
-            (IsReadRefusal (still_to_read self.old.conversion self.old.line_strings.now)) }
-        ensures repeats { (e : ConvertError)
-            → self.old.conversion.failed ≡ Some e → result ≡ Err e }
-        ensures failed { IfErr result (λ e. self.new.conversion.failed ≡ Some e) }
-        ensures well { OnOk result (self.new.conversion.failed ≡ None) }
-        ensures adds { AddsFiles self.old.conversion.tables.program self.new.conversion.tables.program }
-        ensures keeps { KeepsFiles self.old.conversion.tables self.new.conversion.tables }
-        ensures writable { StaysWritable self.old.conversion.tables self.old.line_strings.now
-            self.new.conversion.tables self.new.line_strings.now }
-        ensures last { OnOk result (KeepsFinalTables self.old.conversion self.old.line_strings.now
-            self.new.conversion self.new.line_strings.now) }
-        ensures ended { IfOk result (λ row. row ≡ None → HasFinalTables self.old.conversion
-            self.old.line_strings.now self.new.conversion self.new.line_strings.now) }
-        ensures stopped { IfErr result (λ e. e ≢ OutOfMemory → HasFinalTables self.old.conversion
-            self.old.line_strings.now self.new.conversion self.new.line_strings.now) }
-        ensures string_tables { KeepsStringTables self.old.line_strings self.old.strings
-            self.new.line_strings self.new.strings }
+        ensures ok { IfOk result (λ row. GivesNext (progress self.old) row (progress self.new)) }
+        ensures err { IfErr result (IsReadRefusal (reading_of (progress self.old))) }
+        // Refusals are kept; files and texts stay.
+        ensures repeats { RepeatsRefusal (progress self.old) result (progress self.new) }
+        ensures reads_on { ReadsOn (progress self.old) (progress self.new) }
+        ensures leaves { LeavesTables (progress self.old) result (progress self.new) }
+        ensures string_tables { KeepsStringTables (lent_tables self.old) (lent_tables self.new) }
     {
         self.conversion.read_row(self.line_strings)
     }
@@ -333,25 +293,14 @@ impl<'a, 'b, R: Reader> ConvertLineProgram<'a, 'b, R, Conversion<R>> {
     /// So do files their ids and their numbers in the source; after a refusal for another cause than memory, and at the
     /// end, all files are there that the source defines before. A program that met what `write` asks still does.
     pub fn read_sequence(&mut self) -> ConvertResult<Option<ConvertLineSequence>>
-        ensures ok { IfOk result (λ sequence. GathersNext self.old.conversion
-            self.old.line_strings.now sequence self.new.conversion self.new.line_strings.now) }
-        ensures err { IfErr result (IsGatherRefusal self.old.conversion self.old.line_strings.now) }
-        ensures repeats { (e : ConvertError)
-            → self.old.conversion.failed ≡ Some e → result ≡ Err e }
-        ensures failed { IfErr result (λ e. self.new.conversion.failed ≡ Some e) }
-        ensures well { OnOk result (self.new.conversion.failed ≡ None) }
-        ensures adds { AddsFiles self.old.conversion.tables.program self.new.conversion.tables.program }
-        ensures keeps { KeepsFiles self.old.conversion.tables self.new.conversion.tables }
-        ensures writable { StaysWritable self.old.conversion.tables self.old.line_strings.now
-            self.new.conversion.tables self.new.line_strings.now }
-        ensures last { OnOk result (KeepsFinalTables self.old.conversion self.old.line_strings.now
-            self.new.conversion self.new.line_strings.now) }
-        ensures ended { IfOk result (λ sequence. sequence ≡ None → HasFinalTables self.old.conversion
-            self.old.line_strings.now self.new.conversion self.new.line_strings.now) }
-        ensures stopped { IfErr result (λ e. e ≢ OutOfMemory → HasFinalTables self.old.conversion
-            self.old.line_strings.now self.new.conversion self.new.line_strings.now) }
-        ensures string_tables { KeepsStringTables self.old.line_strings self.old.strings
-            self.new.line_strings self.new.strings }
+        ensures ok { IfOk result (λ sequence.
+            GathersNext (progress self.old) sequence (progress self.new)) }
+        ensures err { IfErr result (IsGatherRefusal (progress self.old)) }
+        // Refusals are kept; files and texts stay.
+        ensures repeats { RepeatsRefusal (progress self.old) result (progress self.new) }
+        ensures reads_on { ReadsOn (progress self.old) (progress self.new) }
+        ensures leaves { LeavesTables (progress self.old) result (progress self.new) }
+        ensures string_tables { KeepsStringTables (lent_tables self.old) (lent_tables self.new) }
     {
         self.conversion.read_sequence(self.line_strings)
     }
@@ -367,13 +316,13 @@ impl<'a, 'b, R: Reader> ConvertLineProgram<'a, 'b, R, Conversion<R>> {
     ) -> ConvertResult<(LineProgram, Vec<FileId>)>
         requires { F.IsAlwaysCallable convert_address }
         ensures ok { IfOk result (λ answer. RestConvertsTo (F.post convert_address)
-            self.entry.conversion self.entry.line_strings.now answer self.exit.0.now) }
-        ensures err { IfErr result (IsRestRefusal (F.post convert_address)
-            self.entry.conversion self.entry.line_strings.now) }
-        ensures writable { IsWritable self.entry.conversion.tables.program self.entry.line_strings.now
+            (progress self.entry) answer self.exit.0.now) }
+        ensures err { IfErr result (IsRestRefusal (F.post convert_address) (progress self.entry)) }
+        // What can be written, and both tables.
+        ensures writable { HasWritable (progress self.entry)
             → IfOk result (λ answer. IsWritable answer.0 self.exit.0.now) }
-        ensures stays { KeepsTexts self.entry.line_strings.now self.exit.0.now }
-        ensures strings { self.exit.1.0.now ≡ self.entry.strings.now }
+        ensures stays { KeepsTexts (lent_tables self.entry).line_strings.now self.exit.0.now }
+        ensures strings { self.exit.1.0.now ≡ (lent_tables self.entry).strings.now }
     {
         let ConvertLineProgram {
             line_strings,
@@ -404,8 +353,13 @@ pub fn convert_program<R: Reader, F: Fn(u64) -> Option<Address>>(
     requires address_size { IfSome encoding (λ e. IsTrue (is_address_size e.address_size)) }
     requires lines { IfSome line_encoding CanEncode }
     requires callable { F.IsAlwaysCallable convert_address }
-    ensures outcome { IsAnswerOf (F.post convert_address) (source_of R.bytes debug_str debug_line_str from_program
-        from_comp_name encoding line_encoding) line_strings.old result (texts_in strings.new line_strings.new) }
+    ensures outcome { IfOk result (λ answer. ConvertsWell (F.post convert_address)
+        (source_of R.bytes debug_str debug_line_str
+        from_program from_comp_name encoding line_encoding)
+        line_strings.old answer (texts_in strings.new line_strings.new)) }
+    ensures refusal { IfErr result (IsConvertRefusal (F.post convert_address)
+        (source_of R.bytes debug_str debug_line_str
+        from_program from_comp_name encoding line_encoding) line_strings.old) }
     ensures stays { KeepsTexts line_strings.old line_strings.new }
     ensures strings { strings.new ≡ strings.old }
 {

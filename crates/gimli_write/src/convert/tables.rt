@@ -1,23 +1,24 @@
 //! The directories and files of a source, as they are added to the program that is built of it.
 
-ghost use Rattle.std.specs.Prelude.{◌≡◌, ◌≢◌, ◌≤◌, ℕ, List, [], false, All, IfOk, IfErr, IfSome, OnErr, OnOk, Ok, length, map, slice_get, ◌<◌};
+ghost use Rattle.std.specs.Prelude.{◌≡◌, ◌≢◌, ◌≤◌, ℕ, List, [], false, All, IfOk, IfErr, IfSome};
+ghost use Rattle.std.specs.Prelude.{OnErr, OnOk, Ok, length, map, slice_get, ◌<◌};
 ghost use Rattle.gimli_core.specs.Values.{value_seen};
 ghost use Rattle.gimli_line.specs.header.File.{file_seen};
 ghost use Rattle.gimli_bytes.specs.Texts.{KeepsTexts};
-ghost use Rattle.gimli_build.specs.Built.{previous_position};
 ghost use Rattle.gimli_build.specs.Calls.{after_begin, after_address, after_row, after_end};
-ghost use Rattle.gimli_build.specs.Conditions.{CanBuild, CanGenerateRow, CanEndSequence};
+ghost use Rattle.gimli_build.specs.Conditions.{CanGenerateRow, CanEndSequence};
 ghost use Rattle.gimli_write.specs.convert.Texts.{IsRefusedBy};
 ghost use Rattle.gimli_write.specs.convert.Items.{file_id};
-ghost use Rattle.gimli_write.specs.convert.Conversion.{AddsFiles, IsBuildRefusal};
+ghost use Rattle.gimli_write.specs.convert.Conversion.{AddsFiles, Asks, CanBuildRow};
 ghost use Rattle.gimli_write.specs.convert.KeptTables.{KeepsFiles, StaysWritable};
-ghost use Rattle.gimli_write.specs.convert.SourceTables.{tables_with, directory_added, file_added, file_parts, with_parts, all_added};
+ghost use Rattle.gimli_write.specs.convert.SourceTables.{tables_with, directory_added, file_added};
+ghost use Rattle.gimli_write.specs.convert.SourceTables.{file_parts, with_parts, all_added};
 ghost use Rattle.gimli_write.specs.declared.convert_error.ConvertError.TheVariants.{OutOfMemory};
 
 use crate::convert::texts::{optional_program_text, optional_text, program_text, source_path};
 use crate::convert_error::{ConvertError, ConvertResult, from_write};
 use crate::text::TextSections;
-use gimli_build::{BuiltItem, DirectoryId, FileId, FileInfo, LineProgram, LineRow};
+use gimli_build::{DirectoryId, FileId, FileInfo, LineProgram, LineRow};
 use gimli_bytes::{Address, LineStringTable};
 use gimli_core::{AttributeValue, Reader, ReaderOffset};
 use gimli_line::FileEntry;
@@ -110,6 +111,7 @@ impl SourceTables {
             self.now.directory_ids (file_seen R.bytes R.Offset.number file.now) ≡ Ok parts) }
         ensures err { IfErr result (IsRefusedBy (file_parts self.now.program.encoding.version sections.now
             self.now.directory_ids (file_seen R.bytes R.Offset.number file.now))) }
+        // What a program asks of them.
         ensures no_zero { IfOk result (λ parts. All (λ b. b ≢ 0) parts.path) }
         ensures not_empty { IfOk result (λ parts. self.now.program.encoding.version ≤ 4 → parts.path ≢ []) }
         ensures source_no_zero { IfOk result (λ parts. IfSome parts.source (λ text. All (λ b. b ≢ 0) text)) }
@@ -143,6 +145,7 @@ impl SourceTables {
         ensures ok { OnOk result (with_parts (tables_with line_strings.old self.old)
             (file_seen R.bytes R.Offset.number file.now) parts.now ≡ tables_with line_strings.new self.new) }
         ensures memory { IfErr result (λ e. e ≡ ConvertError.OutOfMemory) }
+        // However it ends.
         ensures adds { AddsFiles self.old.program self.new.program }
         ensures keeps { KeepsFiles self.old self.new }
         ensures writable { StaysWritable self.old line_strings.old self.new line_strings.new }
@@ -177,6 +180,7 @@ impl SourceTables {
             (file_seen R.bytes R.Offset.number file.now))) }
         ensures kept { IfErr result (λ e. e ≢ ConvertError.OutOfMemory → self.new ≡ self.old) }
         ensures texts { IfErr result (λ e. e ≢ ConvertError.OutOfMemory → line_strings.new ≡ line_strings.old) }
+        // However it ends.
         ensures adds { AddsFiles self.old.program self.new.program }
         ensures keeps { KeepsFiles self.old self.new }
         ensures writable { StaysWritable self.old line_strings.old self.new line_strings.new }
@@ -245,8 +249,7 @@ impl SourceTables {
     /// changes.
     pub(crate) fn begin_sequence(&mut self, address: Option<Address>) -> ConvertResult<()>
         ensures ok { OnOk result (self.new ≡ record self.old { program = after_begin address self.old.program }) }
-        ensures outside { OnOk result (self.old.program.in_sequence ≡ false) }
-        ensures err { IfErr result (IsBuildRefusal (self.old.program.in_sequence ≡ false)) }
+        ensures asks { Asks (self.old.program.in_sequence ≡ false) result }
         ensures kept { OnErr result (self.new ≡ self.old) }
     {
         if self.program.in_sequence() {
@@ -274,10 +277,7 @@ impl SourceTables {
     /// nothing changes.
     pub(crate) fn generate_row(&mut self, row: LineRow) -> ConvertResult<()>
         ensures ok { OnOk result (self.new ≡ record self.old { program = after_row row self.old.program }) }
-        ensures can { OnOk result
-            (CanBuild self.old.program.line_encoding (previous_position self.old.program.items) (BuiltItem.Row row)) }
-        ensures err { IfErr result (IsBuildRefusal
-            (CanBuild self.old.program.line_encoding (previous_position self.old.program.items) (BuiltItem.Row row))) }
+        ensures asks { Asks (CanBuildRow self.old.program row) result }
         ensures kept { OnErr result (self.new ≡ self.old) }
     {
         let program = &mut self.program;
@@ -294,8 +294,7 @@ impl SourceTables {
     /// then nothing changes.
     pub(crate) fn end_sequence(&mut self, address_offset: u64) -> ConvertResult<()>
         ensures ok { OnOk result (self.new ≡ record self.old { program = after_end address_offset self.old.program }) }
-        ensures can { OnOk result (CanEndSequence self.old.program address_offset) }
-        ensures err { IfErr result (IsBuildRefusal (CanEndSequence self.old.program address_offset)) }
+        ensures asks { Asks (CanEndSequence self.old.program address_offset) result }
         ensures kept { OnErr result (self.new ≡ self.old) }
     {
         if !self.program.can_end_sequence(address_offset) {
@@ -336,8 +335,7 @@ fn file_at(ids: &[FileId], number: u64) -> Option<FileId>
 fn generate_current(program: &mut LineProgram) -> ConvertResult<()>
     requires { program.old.is_none ≡ false }
     ensures ok { OnOk result (program.new ≡ after_row program.old.row program.old) }
-    ensures can { OnOk result (CanGenerateRow program.old) }
-    ensures err { IfErr result (IsBuildRefusal (CanGenerateRow program.old)) }
+    ensures asks { Asks (CanGenerateRow program.old) result }
     ensures kept { OnErr result (program.new ≡ program.old) }
 {
     if !program.can_generate_row() {

@@ -1,12 +1,15 @@
 //! The texts of a source that is converted, and those of the program that is built of it.
 
-ghost use Rattle.std.specs.Prelude.{◌≡◌, ◌≢◌, ◌≤◌, ℕ, List, [], All, IfOk, IfErr, IfSome, OnOk, Ok, option_map};
+ghost use Rattle.std.specs.Prelude.{◌≡◌, ◌≢◌, ◌≤◌, ℕ, List, [], All, IfOk, IfErr, IfSome, OnOk, Ok};
+ghost use Rattle.std.specs.Prelude.{option_map};
 ghost use Rattle.std.specs.Option.{option_map_or};
 ghost use Rattle.gimli_core.specs.Reading.{result_map};
 ghost use Rattle.gimli_core.specs.Values.{value_seen};
 ghost use Rattle.gimli_bytes.specs.Texts.{KeepsTexts, texts_in};
-ghost use Rattle.gimli_build.specs.LineText.{line_text, made_text, made_table, IsWithin, HasNoZero, IsNotEmpty};
-ghost use Rattle.gimli_write.specs.convert.Texts.{IsRefusedBy, if_there, without_zero, source_text, source_path};
+ghost use Rattle.gimli_build.specs.LineText.{line_text, made_text, made_table, IsWithin, HasNoZero};
+ghost use Rattle.gimli_build.specs.LineText.{IsNotEmpty};
+ghost use Rattle.gimli_write.specs.convert.Texts.{IsRefusedBy, if_there, without_zero, source_text};
+ghost use Rattle.gimli_write.specs.convert.Texts.{source_path};
 
 use crate::convert_error::{ConvertError, ConvertResult, from_write};
 use crate::text::{TextSections, text};
@@ -97,9 +100,12 @@ pub(crate) fn program_text(
     requires { All (λ b. b ≢ 0) text.now }
     ensures ok { IfOk result (λ made. line_text made ≡ made_text encoding.version line_strings.old text.now) }
     ensures table { OnOk result (line_strings.new ≡ made_table encoding.version line_strings.old text.now) }
-    ensures within { IfOk result (λ made. (strings : List (List ℕ)) → IsWithin (texts_in strings line_strings.new) (line_text made)) }
+    // What a program asks of it.
+    ensures within { IfOk result (λ made. (strings : List (List ℕ)) →
+        IsWithin (texts_in strings line_strings.new) (line_text made)) }
     ensures no_zero { IfOk result (λ made. HasNoZero (line_text made)) }
     ensures not_empty { encoding.version ≤ 4 → text.now ≢ [] → IfOk result (λ made. IsNotEmpty (line_text made)) }
+    // However it ends.
     ensures stays { KeepsTexts line_strings.old line_strings.new }
     ensures memory { IfErr result (λ e. e ≡ ConvertError.OutOfMemory) }
 {
@@ -120,9 +126,11 @@ pub(crate) fn optional_program_text(
         ≡ option_map (made_text encoding.version line_strings.old) (option_map (λ text. text.items) text.now)) }
     ensures table { OnOk result (line_strings.new ≡ option_map_or (made_table encoding.version line_strings.old)
         (option_map (λ text. text.items) text.now) line_strings.old) }
+    // What a program asks of it.
     ensures within { IfOk result (λ made. IfSome made (λ made. (strings : List (List ℕ)) →
         IsWithin (texts_in strings line_strings.new) (line_text made))) }
     ensures no_zero { IfOk result (λ made. IfSome made (λ made. HasNoZero (line_text made))) }
+    // However it ends.
     ensures stays { KeepsTexts line_strings.old line_strings.new }
     ensures memory { IfErr result (λ e. e ≡ ConvertError.OutOfMemory) }
 {
