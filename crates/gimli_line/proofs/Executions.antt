@@ -38,7 +38,8 @@ module _ (notation : Notation) (h : Header) (bytes rest : List ℕ) (r : LineRow
   pub advances_line : opcode ≡ 3 → (advance : ℤ) → (Ok advance, rest) ≡ signed_at bytes
       → ExecutedWell h.parameters (standard_at notation h opcode bytes) rest r (record r { line = advanced_line advance r.line }) false
   unfolding standard_at
-  advances_line is advance read = rw is (record { instruction = AdvanceLine advance; reading = rw (← read) refl; defines = refl; refusal = refl; registers = refl }, refl)
+  advances_line is advance read =
+      rw is (record { instruction = AdvanceLine advance; reading = rw (← read) refl; defines = refl; refusal = refl; registers = refl }, refl)
 
   pub sets_file : opcode ≡ 4 → (file : ℕ) → (Ok file, rest) ≡ unsigned_at bytes
       → ExecutedWell h.parameters (standard_at notation h opcode bytes) rest r (record r { file = file }) false
@@ -48,7 +49,8 @@ module _ (notation : Notation) (h : Header) (bytes rest : List ℕ) (r : LineRow
   pub sets_column : opcode ≡ 5 → (column : ℕ) → (Ok column, rest) ≡ unsigned_at bytes
       → ExecutedWell h.parameters (standard_at notation h opcode bytes) rest r (record r { column = column }) false
   unfolding standard_at
-  sets_column is column read = rw is (record { instruction = SetColumn column; reading = rw (← read) refl; defines = refl; refusal = refl; registers = refl }, refl)
+  sets_column is column read =
+      rw is (record { instruction = SetColumn column; reading = rw (← read) refl; defines = refl; refusal = refl; registers = refl }, refl)
 
 -- ---- a program whose first byte was taken
 
@@ -65,7 +67,8 @@ module _ (notation : Notation) (h : Header) (bytes rest : List ℕ) where
   standard_first zero some standard read = absurd (omega (arith, some))
   standard_first (suc o) some standard read = rw (← read, eqb-suc-zero o, standard) refl
 
-  abbrev pub special_executed : (opcode base : ℕ) (k : Parameters) → k ≡ h.parameters → base ≡ h.parameters.opcode_base → 0 < opcode → base ≤ opcode → (Ok opcode, rest) ≡ byte_at bytes
+  abbrev pub special_executed : (opcode base : ℕ) (k : Parameters) → k ≡ h.parameters → base ≡ h.parameters.opcode_base → 0 < opcode → base ≤ opcode
+      → (Ok opcode, rest) ≡ byte_at bytes
       → (old new : LineRow) (refused : Bool) → new ≡ step_of k (Special opcode) old → is_refused k (Special opcode) old ≡ refused
       → Executed h.parameters (ins_at notation h bytes) rest old new refused
   special_executed opcode base k same is some le read old new refused step refusal =
@@ -93,7 +96,8 @@ files_kept a h (DefineFile f) none = absurd cc
 files_kept a h i none = refl
 
 -- k is the header that was lent, s2 what was left of the instructions
-module _ (a : Bool) (h k : Header) (same : k ≡ h) (o : Notation) (n : ℕ) (w : HeaderOrders) (r r2 : LineRow) (s s2 : Unread) (notation : s2.notation ≡ s.notation) where
+module _ (a : Bool) (h k : Header) (same : k ≡ h) (o : Notation) (n : ℕ) (w : HeaderOrders) (r r2 : LineRow) (s s2 : Unread)
+    (notation : s2.notation ≡ s.notation) where
   module _ (x : Executed k.parameters (ins_at s.notation k s.bytes) s2.bytes r r2 false) where
     pub executed_quiet : false ≡ makes_row x.instruction → StepIs (state a h o n w r s) (state a h o n w r2 s2) More
     executed_quiet made =
@@ -116,7 +120,8 @@ module _ (a : Bool) (h k : Header) (same : k ≡ h) (o : Notation) (n : ℕ) (w 
           passes_made a h k same o o n n w w r s s2 notation x.instruction f.0 f.1 f.2 h r2 kept fits (sym made) step,
         )
 
-  pub executed_overflow : Executed k.parameters (ins_at s.notation k s.bytes) s2.bytes r r2 true → AnyFaultIs (state a h o n w r s) (state a h o n w r2 s2) AddressOverflow
+  pub executed_overflow : Executed k.parameters (ins_at s.notation k s.bytes) s2.bytes r r2 true
+      → AnyFaultIs (state a h o n w r s) (state a h o n w r2 s2) AddressOverflow
   executed_overflow x =
       let f = (reads_instruction s.notation k).found s.bytes x.instruction s2.bytes x.reading in
       let over = subst (λ (j : Header). is_refused j.parameters x.instruction r ≡ true) same x.refusal in

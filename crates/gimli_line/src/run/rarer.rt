@@ -36,20 +36,22 @@ fn read_short_offset<R: Reader>(input: &mut R) -> Option<R::Offset>
 /// Takes the operand of a set address.
 fn read_set_address<R: Reader>(operands: &mut R, parameters: &Parameters) -> Result<u64>
     ensures read { (result, R.bytes operands.new)
-        ≡ number_at (R.big operands.old) parameters.now.encoding.address_size (R.bytes operands.old) }
+        ≡ number_at (R.big operands.old) parameters.now.encoding.address_size
+        (R.bytes operands.old) }
 {
     operands.read_address(parameters.encoding.address_size)
 }
 
-/// Takes a definition of a file, from the bytes after the zero byte. None at another opcode, or where its length is
-/// long or its operands aren't there.
+/// Takes a definition of a file, from the bytes after the zero byte. None at another opcode, or
+/// where its length is long or its operands aren't there.
 #[inline(always)]
 fn read_defined_file<R: Reader>(
     header: &LineProgramHeader<R>,
     input: &mut R,
 ) -> Option<FileEntry<R>>
     ensures read { IfSome result (λ file.
-        extended_at (notation_of (R.big input.old) R.Offset.limit) header.now.meaning (R.bytes input.old)
+        extended_at (notation_of (R.big input.old) R.Offset.limit) header.now.meaning
+        (R.bytes input.old)
         ≡ (Ok (DefineFile (file_seen R.bytes R.Offset.number file)), R.bytes input.new)) }
     ensures order { R.big input.new ≡ R.big input.old }
     ensures file { IfSome result (FileHasOrder R.big (R.big input.old)) }
@@ -82,15 +84,16 @@ impl LineRow {
     ghost use Rattle.gimli_line.specs.inside.run.Execution.{ExecutedWell};
 
     /// Executes one of the extended opcodes that are met most, from the bytes after the zero byte,
-    /// and says whether it makes a row. None at another opcode, or where its length or its operand is
-    /// long or isn't there; no register changes then.
+    /// and says whether it makes a row. None at another opcode, or where its length or its operand
+    /// is long or isn't there; no register changes then.
     fn exec_extended_opcode<R: Reader>(
         &mut self,
         header: &LineProgramHeader<R>,
         input: &mut R,
     ) -> Option<bool>
         ensures executed { IfSome result (λ made. ExecutedWell header.now.meaning.parameters
-            (extended_at (notation_of (R.big input.old) R.Offset.limit) header.now.meaning (R.bytes input.old))
+            (extended_at (notation_of (R.big input.old) R.Offset.limit) header.now.meaning
+            (R.bytes input.old))
             (R.bytes input.new) self.old self.new made) }
         ensures none { IsNone result → self.new ≡ self.old }
         ensures order { R.big input.new ≡ R.big input.old }
@@ -133,14 +136,15 @@ impl<R: Reader> LineInstructions<R> {
     ghost use Rattle.gimli_line.specs.inside.run.Execution.{Executed, ExecutedWell};
     ghost use Rattle.gimli_line.specs.run.InstructionReading.{ins_at};
 
-    /// Takes the next instruction where it defines a file. None, and nothing is changed, where it is another
-    /// one, or its length is long, or it isn't there as a whole.
+    /// Takes the next instruction where it defines a file. None, and nothing is changed, where it
+    /// is another one, or its length is long, or it isn't there as a whole.
     #[inline(always)]
     pub(super) fn next_defined_file(
         &mut self,
         header: &LineProgramHeader<R>,
     ) -> Option<FileEntry<R>>
-        ensures read { IfSome result (λ file. ins_at self.old.notation header.now.meaning self.old.bytes
+        ensures read { IfSome result (λ file.
+            ins_at self.old.notation header.now.meaning self.old.bytes
             ≡ (Ok (DefineFile (file_seen R.bytes R.Offset.number file)), self.new.bytes)) }
         ensures none { IsNone result → self.new ≡ self.old }
         ensures notation { self.new.notation ≡ self.old.notation }
@@ -169,11 +173,14 @@ impl<R: Reader> LineInstructions<R> {
     ) -> Result<Option<bool>>
         ensures ok { IfOk result (λ found. IfSome found (λ made.
             ExecutedWell header.now.meaning.parameters
-            (ins_at self.old.notation header.now.meaning self.old.bytes) self.new.bytes row.old row.new made)) }
-        ensures none { IfOk result (λ found. IsNone found → (self.new ≡ self.old) × (row.new ≡ row.old)) }
+            (ins_at self.old.notation header.now.meaning self.old.bytes) self.new.bytes row.old
+            row.new made)) }
+        ensures none { IfOk result (λ found.
+            IsNone found → (self.new ≡ self.old) × (row.new ≡ row.old)) }
         ensures err { IfErr result (λ e. (e ≡ Error.AddressOverflow)
             × Executed header.now.meaning.parameters
-            (ins_at self.old.notation header.now.meaning self.old.bytes) self.new.bytes row.old row.new true) }
+            (ins_at self.old.notation header.now.meaning self.old.bytes) self.new.bytes row.old
+            row.new true) }
         ensures notation { self.new.notation ≡ self.old.notation }
     {
         let mut input = self.input;

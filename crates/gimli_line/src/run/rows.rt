@@ -67,25 +67,30 @@ trait Lent {
 impl<R: Reader, P: LineProgram<R>> Lent for LineRows<R, P> {
     ghost use Rattle.gimli_line.specs.contracts.run.rows.LineRows.{the_row};
 
-    ghost lent = { the_row R.row P.row R.Endian.row R.Offset.row R.Reader.own R.Endian.Endianity.own R.Endian.PartialEq.own R.Offset.ReaderOffset.own R.Offset.PartialEq.own R.Offset.Ord.own R.Offset.PartialOrd.own P.LineProgram.own };
+    ghost lent = { the_row R.row P.row R.Endian.row R.Offset.row R.Reader.own R.Endian.Endianity.own
+        R.Endian.PartialEq.own R.Offset.ReaderOffset.own R.Offset.PartialEq.own R.Offset.Ord.own
+        R.Offset.PartialOrd.own P.LineProgram.own };
 }
 
 impl<R: Reader, P: LineProgram<R>> LineRows<R, P> {
-    ghost use Rattle.std.specs.Prelude.{◌≡◌, [], ◌∷◌, None, Ok, IfErr, IfOk, IfSome, IsOk, MatchBool};
+    ghost use Rattle.std.specs.Prelude.{◌≡◌, [], ◌∷◌, None, Ok, IfErr, IfOk, IfSome, IsOk};
+    ghost use Rattle.std.specs.Prelude.{MatchBool};
     ghost use Rattle.std.specs.Borrow.{sem};
     ghost use Rattle.std.specs.Io.BufRead.{Rests};
     ghost use Rattle.gimli_line.specs.run.Events.{row as row_event};
     ghost use Rattle.gimli_line.specs.header.Header.{without_files, HasOneOrder};
     ghost use Rattle.gimli_line.specs.header.Orders.{header_orders};
     ghost use Rattle.gimli_line.specs.run.Progress.{with_reset_row, Progress};
-    ghost use Rattle.gimli_line.specs.run.Rows.{start_of_run, GivesRowsAlone, IsOfOneOrder, KeepsHeader, NextIs, RowIs, EndIs, FaultIs};
+    ghost use Rattle.gimli_line.specs.run.Rows.{start_of_run, GivesRowsAlone, IsOfOneOrder};
+    ghost use Rattle.gimli_line.specs.run.Rows.{KeepsHeader, NextIs, RowIs, EndIs, FaultIs};
     ghost use Rattle.gimli_line.specs.run.Made.{given_of};
     ghost use Rattle.gimli_line.specs.run.AnyRows.{AnyFaultIs, AnyRowIs, NextAnyIs, NoneIs};
     ghost use Rattle.gimli_line.specs.inside.run.Rows.{StepIs};
 
     /// The rows of these instructions of a program, from the start of a sequence on.
     pub(crate) fn start(program: P, instructions: LineInstructions<R>) -> Self
-        ensures { result ≡ start_of_run P.appends (P.meaning program) (P.notation program) (P.offset program)
+        ensures { result
+            ≡ start_of_run P.appends (P.meaning program) (P.notation program) (P.offset program)
             (P.orders program) instructions }
     {
         let row = LineRow::new(program.header());
@@ -108,10 +113,11 @@ impl<R: Reader, P: LineProgram<R>> LineRows<R, P> {
         self.program.header()
     }
 
-    /// The next row that isn't under a tombstone, with the header as it is there; None where the program has no more,
-    /// and the header has all files then. Refused as an instruction is, or by `OutOfMemory` where it defines a file:
-    /// it returns None after such a refusal, as it is after the end. Refused by `AddressOverflow` too, and then
-    /// goes on after it. A program whose files are complete isn't refused for memory.
+    /// The next row that isn't under a tombstone, with the header as it is there; None where the
+    /// program has no more, and the header has all files then. Refused as an instruction is, or by
+    /// `OutOfMemory` where it defines a file: it returns None after such a refusal, as it is after
+    /// the end. Refused by `AddressOverflow` too, and then goes on after it. A program whose files
+    /// are complete isn't refused for memory.
     pub fn next_row(&mut self) -> Result<Option<(&LineProgramHeader<R>, &LineRow)>>
         ensures* after { sem 𝓛 (Rests ⟦<LineRows<R, P> as Lent>⟧.lent self.entry
             (λ new. KeepsHeader self.old new × NextIs self.old new result)) }
@@ -185,7 +191,8 @@ impl<R: Reader, P: LineProgram<R>> LineRows<R, P> {
         self.program
     }
 
-    /// Executes instructions up to the next row that isn't under a tombstone, and says whether there is one.
+    /// Executes instructions up to the next row that isn't under a tombstone, and says whether
+    /// there is one.
     #[inline(always)]
     pub(crate) fn advance(&mut self) -> Result<bool>
         ensures row { IfOk result (λ found. MatchBool found
@@ -199,7 +206,8 @@ impl<R: Reader, P: LineProgram<R>> LineRows<R, P> {
         ensures order { IsOfOneOrder self.old → IsOfOneOrder self.new }
         ensures handed { self.new.orders.handed ≡ self.old.orders.handed }
         ensures passes { IfOk result (λ found. MatchBool found
-            (Progress (with_reset_row self.old) (with_reset_row self.new) (row_event self.new.row ∷ []))
+            (Progress (with_reset_row self.old) (with_reset_row self.new)
+            (row_event self.new.row ∷ []))
             ((self.new.unread.bytes ≡ []) × Progress (with_reset_row self.old) self.new [])) }
     {
         'rows: loop {
@@ -278,8 +286,8 @@ impl<R: Reader, P: LineProgram<R>> LineRows<R, P> {
         self.step_apart()
     }
 
-    /// Does what `step_rarer` does. Its answer has memory of its own, which is cleared here alone and
-    /// not in front of the loop above.
+    /// Does what `step_rarer` does. Its answer has memory of its own, which is cleared here alone
+    /// and not in front of the loop above.
     #[inline(always)]
     fn step_apart(&mut self) -> Result<Step>
         ensures ok { IfOk result (StepIs self.old self.new) }

@@ -21,7 +21,8 @@ rows-init g c = record {
 
 pub returns-in-Err-clause-err : goal.returns-in-Err-clause-err
 returns-in-Err-clause-err g c =
-    refused_after (with_reset_row c.args.self.now) (with_reset_row c.rows.self) c.advance_any.new.self c.in-Err.e c.rows.invariant.events c.rows.invariant.passes
+    refused_after (with_reset_row c.args.self.now) (with_reset_row c.rows.self) c.advance_any.new.self c.in-Err.e c.rows.invariant.events
+    c.rows.invariant.passes
     (fault_given (with_reset_row c.rows.self) c.advance_any.new.self c.in-Err.e c.in-Err.ensures.err)
 
 pub returns-then-not-is_under_tombstone-clause-row : goal.returns-then-not-is_under_tombstone-clause-row
@@ -37,7 +38,8 @@ returns-then-not-is_under_tombstone-clause-passes g c =
     let shown = ap (λ (r : LineRow). r.tombstone) (sym c.row.ensures) ∙ sym c.is_under_tombstone.ensures ∙ c.if-not-is_under_tombstone.true in
     let given : given_of c.advance_any.new.self.row ≡ row c.advance_any.new.self.row ∷ [] = rw shown refl in
     subst (λ (es : List Event). Progress (with_reset_row c.args.self.now) (with_reset_row c.advance_any.new.self) es) given
-    (passes_both (with_reset_row c.args.self.now) (with_reset_row c.rows.self) (with_reset_row c.advance_any.new.self) [] (given_of c.advance_any.new.self.row) c.rows.invariant.passes passes)
+    (passes_both (with_reset_row c.args.self.now) (with_reset_row c.rows.self) (with_reset_row c.advance_any.new.self) [] (given_of c.advance_any.new.self.row)
+    c.rows.invariant.passes passes)
 
 pub rows-smaller : goal.rows-smaller
 rows-smaller g c =
@@ -59,7 +61,8 @@ rows-preserved g c =
       order = λ so. c.in-Ok-true.ensures.order (c.rows.invariant.order so);
       handed = c.in-Ok-true.ensures.handed ∙ c.rows.invariant.handed;
       passes = subst (λ (es : List Event). Progress (with_reset_row c.args.self.now) (with_reset_row c.advance_any.new.self) es) given
-          (passes_both (with_reset_row c.args.self.now) (with_reset_row c.rows.self) (with_reset_row c.advance_any.new.self) [] (given_of c.advance_any.new.self.row) c.rows.invariant.passes passes);
+          (passes_both (with_reset_row c.args.self.now) (with_reset_row c.rows.self) (with_reset_row c.advance_any.new.self) []
+          (given_of c.advance_any.new.self.row) c.rows.invariant.passes passes);
     }
 
 pub returns-in-Ok-false-clause-row : goal.returns-in-Ok-false-clause-row

@@ -10,7 +10,9 @@ use Rattle.gimli_line.proofs.run.rows.LineRows.advance_any.Goals as goal
 pub instructions-init : goal.instructions-init
 instructions-init g c =
     let h = g.P.LineProgram.meaning c.self.inside.program in
-    let at_row = λ (r : LineRow). state g.P.LineProgram.appends h (g.P.LineProgram.notation c.self.inside.program) (g.P.LineProgram.offset c.self.inside.program) (g.P.LineProgram.orders c.self.inside.program) r c.self.inside.instructions in
+    let at_row = λ (r : LineRow).
+    state g.P.LineProgram.appends h (g.P.LineProgram.notation c.self.inside.program) (g.P.LineProgram.offset c.self.inside.program)
+    (g.P.LineProgram.orders c.self.inside.program) r c.self.inside.instructions in
     record {
       made = search rules;
       fixed = rw (← c.self.view_is) refl;
@@ -19,12 +21,15 @@ instructions-init g c =
       offset = rw (← c.self.view_is) refl;
       order = rw (← c.self.view_is) (keeps_order (at_row c.self.inside.row) (at_row c.reset.new.self) refl refl refl (λ so. so.readers));
       handed = rw (← c.self.view_is) refl;
-      passes = rw (← c.self.view_is) (passes_none (with_reset_row (at_row c.self.inside.row)) (at_row c.reset.new.self) (ap at_row (c.reset.ensures ∙ ap (λ (k : Header). reset_row k.parameters c.self.inside.row) c.header.ensures.meaning)));
+      passes =
+          rw (← c.self.view_is) (passes_none (with_reset_row (at_row c.self.inside.row)) (at_row c.reset.new.self)
+          (ap at_row (c.reset.ensures ∙ ap (λ (k : Header). reset_row k.parameters c.self.inside.row) c.header.ensures.meaning)));
     }
 
 pub returns-in-Err-clause-err : goal.returns-in-Err-clause-err
 returns-in-Err-clause-err g c =
-    any_refused_after (with_reset_row c.args.self.now) c.instructions.self c.step.new.self c.in-Err.e c.instructions.invariant.made c.instructions.invariant.passes c.in-Err.ensures.err
+    any_refused_after (with_reset_row c.args.self.now) c.instructions.self c.step.new.self c.in-Err.e c.instructions.invariant.made
+    c.instructions.invariant.passes c.in-Err.ensures.err
 
 pub returns-in-Ok-Done-clause-row : goal.returns-in-Ok-Done-clause-row
 returns-in-Ok-Done-clause-row g c =
@@ -45,13 +50,15 @@ pub returns-in-Ok-Made-clause-row : goal.returns-in-Ok-Made-clause-row
 returns-in-Ok-Made-clause-row g c =
     let m = rw c.in-Ok-Made.field-0-is at c.in-Ok-Made.ensures.ok in
     let events = given_of c.step.new.self.row in
-    let passed = passes_both (with_reset_row c.args.self.now) c.instructions.self (with_reset_row c.step.new.self) [] events c.instructions.invariant.passes m.1 in
+    let passed =
+    passes_both (with_reset_row c.args.self.now) c.instructions.self (with_reset_row c.step.new.self) [] events c.instructions.invariant.passes m.1 in
     (c.instructions.invariant.made ∙ m.0, refl, same_end (with_reset_row c.args.self.now) (with_reset_row c.step.new.self) events passed)
 
 pub returns-in-Ok-Made-clause-passes : goal.returns-in-Ok-Made-clause-passes
 returns-in-Ok-Made-clause-passes g c =
     let m = rw c.in-Ok-Made.field-0-is at c.in-Ok-Made.ensures.ok in
-    passes_both (with_reset_row c.args.self.now) c.instructions.self (with_reset_row c.step.new.self) [] (given_of c.step.new.self.row) c.instructions.invariant.passes m.1
+    passes_both (with_reset_row c.args.self.now) c.instructions.self (with_reset_row c.step.new.self) [] (given_of c.step.new.self.row)
+    c.instructions.invariant.passes m.1
 
 pub instructions-preserved : goal.instructions-preserved
 instructions-preserved g c =

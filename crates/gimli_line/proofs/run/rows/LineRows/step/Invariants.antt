@@ -6,7 +6,9 @@ use Rattle.gimli_line.proofs.run.rows.LineRows.step.Given as goal
 
 abbrev pub invariant-common : goal.invariant-common
 invariant-common g l =
-    let now = state g.P.LineProgram.appends (g.P.LineProgram.meaning l.self-inside.program) (g.P.LineProgram.notation l.self-inside.program) (g.P.LineProgram.offset l.self-inside.program) (g.P.LineProgram.orders l.self-inside.program) l.self-inside.row l.instructions in
+    let now =
+    state g.P.LineProgram.appends (g.P.LineProgram.meaning l.self-inside.program) (g.P.LineProgram.notation l.self-inside.program)
+    (g.P.LineProgram.offset l.self-inside.program) (g.P.LineProgram.orders l.self-inside.program) l.self-inside.row l.instructions in
     record {
       program : l.self-inside.program ≡ l.initial.self-inside.program;
       made : live_made l.fn.self ≡ live_made now;

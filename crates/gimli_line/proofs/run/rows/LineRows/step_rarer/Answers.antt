@@ -5,17 +5,22 @@ use Rattle.gimli_line.proofs.run.rows.LineRows.step_rarer.Goals as goal
 pub returns-in-Err-clause-err : goal.returns-in-Err-clause-err
 returns-in-Err-clause-err g c =
     let e = c.in-Err.ensures.err in
-    rw (e.0, ← c.self.view_is) (executed_overflow g.P.LineProgram.appends _ _ c.header-header.ensures.meaning (g.P.LineProgram.notation c.self.inside.program) (g.P.LineProgram.offset c.self.inside.program) (g.P.LineProgram.orders c.self.inside.program) _ _ _ _ c.in-Err.ensures.notation e.1)
+    rw (e.0, ← c.self.view_is) (executed_overflow g.P.LineProgram.appends _ _ c.header-header.ensures.meaning (g.P.LineProgram.notation c.self.inside.program)
+    (g.P.LineProgram.offset c.self.inside.program) (g.P.LineProgram.orders c.self.inside.program) _ _ _ _ c.in-Err.ensures.notation e.1)
 
 pub returns-then-not-made-clause-ok : goal.returns-then-not-made-clause-ok
 returns-then-not-made-clause-ok g c =
     let x = rw c.in-Ok-Some.field-0-is at c.in-Ok-Some.ensures.ok in
-    rw (← c.self.view_is) (executed_quiet g.P.LineProgram.appends _ _ c.header-header.ensures.meaning (g.P.LineProgram.notation c.self.inside.program) (g.P.LineProgram.offset c.self.inside.program) (g.P.LineProgram.orders c.self.inside.program) _ _ _ _ c.in-Ok-Some.ensures.notation x.0 (sym c.if-not-made.true ∙ x.1))
+    rw (← c.self.view_is) (executed_quiet g.P.LineProgram.appends _ _ c.header-header.ensures.meaning (g.P.LineProgram.notation c.self.inside.program)
+    (g.P.LineProgram.offset c.self.inside.program) (g.P.LineProgram.orders c.self.inside.program) _ _ _ _ c.in-Ok-Some.ensures.notation x.0
+    (sym c.if-not-made.true ∙ x.1))
 
 pub returns-clause-ok : goal.returns-clause-ok
 returns-clause-ok g c =
     let x = rw c.in-Ok-Some.field-0-is at c.in-Ok-Some.ensures.ok in
-    rw (← c.self.view_is) (executed_made g.P.LineProgram.appends _ _ c.header-header.ensures.meaning (g.P.LineProgram.notation c.self.inside.program) (g.P.LineProgram.offset c.self.inside.program) (g.P.LineProgram.orders c.self.inside.program) _ _ _ _ c.in-Ok-Some.ensures.notation x.0 (sym c.if-not-made.false ∙ x.1))
+    rw (← c.self.view_is) (executed_made g.P.LineProgram.appends _ _ c.header-header.ensures.meaning (g.P.LineProgram.notation c.self.inside.program)
+    (g.P.LineProgram.offset c.self.inside.program) (g.P.LineProgram.orders c.self.inside.program) _ _ _ _ c.in-Ok-Some.ensures.notation x.0
+    (sym c.if-not-made.false ∙ x.1))
 
 -- what stays as it was
 
