@@ -1,6 +1,9 @@
-//! An index of sequences: few stored addresses are looked at to find the first sequence that covers an address.
+//! An index of sequences: few stored addresses are looked at to find the first sequence that covers
+//! an address.
 
-ghost use Rattle.std.specs.Prelude.{◌≡◌, ◌≤◌, ◌<◌, ◌+◌, ◌*◌, ◌^◌, ℕ, true, false, length, slice_index_or, sum_by, take, All, Any, IfErr, IfOk, MatchOption};
+ghost use Rattle.std.specs.Prelude.{◌≡◌, ◌≤◌, ◌<◌, ◌+◌, ◌*◌, ◌^◌, ℕ, true, false, length};
+ghost use Rattle.std.specs.Prelude.{slice_index_or, sum_by, take, All, Any, IfErr, IfOk};
+ghost use Rattle.std.specs.Prelude.{MatchOption};
 ghost use Rattle.gimli_line.specs.declared.run.row.LineRow.{LineRow};
 ghost use Rattle.gimli_lookup.specs.declared.steps.Step.{Step};
 ghost use Rattle.gimli_lookup.specs.FirstPair.{HasNoPair};
@@ -25,8 +28,8 @@ pub(crate) struct Found {
     pub(crate) next: LineRow,
 }
 
-/// Which of some sequences is the first that covers an address. Sequences whose addresses go down stand beside, and are
-/// searched row by row.
+/// Which of some sequences is the first that covers an address. Sequences whose addresses go down
+/// stand beside, and are searched row by row.
 #[derive(Debug, Drop)]
 pub(crate) struct Index {
     steps: Vec<Step>,
@@ -114,8 +117,8 @@ fn sequence_at(steps: &[Step], a: u64, probes: &mut u64) -> Option<usize>
     steps[count - 1].sequence
 }
 
-/// The first rows that cover `a`, of the sequences whose addresses go down and that stand before `end`; None where there
-/// are none. Each is searched row by row.
+/// The first rows that cover `a`, of the sequences whose addresses go down and that stand before
+/// `end`; None where there are none. Each is searched row by row.
 fn find_unordered(
     indexes: &[usize],
     sequences: &[KeptRows],
@@ -162,9 +165,9 @@ impl Index {
         Ok(Index { steps, unordered })
     }
 
-    /// The first rows that cover `a` of the first of these sequences that has some, with its index; None where no
-    /// sequence has any. And the number of probes: of stored addresses that were looked at, of steps and of rows.
-    /// Requires the sequences that the index was made of.
+    /// The first rows that cover `a` of the first of these sequences that has some, with its index;
+    /// None where no sequence has any. And the number of probes: of stored addresses that were
+    /// looked at, of steps and of rows. Requires the sequences that the index was made of.
     pub(crate) fn find(&self, sequences: &[KeptRows], a: u64) -> (Option<Found>, u64)
         requires { IsIndexOf self.now sequences.now }
         ensures found { MatchOption result.0 (All (HasNoPair a) sequences.now)
