@@ -1,11 +1,27 @@
 -- The bytes of instructions as they are written (DWARF 5, sections 6.2.5.2 and 6.2.5.3).
-use Rattle.std.specs.Prelude.{ℕ, ◌+◌, ◌^◌, ◌<◌, ◌≤◌, Bool, List, [], ◌∷◌, ◌++◌, length, flat_map, Result, FitsSigned}
+use Rattle.std.specs.Prelude.{ℕ, ◌+◌, ◌^◌, ◌<◌, ◌≤◌, Bool, List, [], ◌∷◌, ◌++◌, length, flat_map}
+use Rattle.std.specs.Prelude.{Result, FitsSigned}
 use Rattle.std.specs.Int.{w64}
 use Rattle.gimli_core.specs.Reading.{result_map}
 use Rattle.gimli_bytes.specs.Number.{uleb, sleb, address_bytes}
 use Rattle.gimli_bytes.specs.declared.address.Address.{Address}
 use Rattle.gimli_bytes.specs.declared.error.Error.{Error}
-use Rattle.gimli_line.specs.declared.run.instruction.LineInstruction.TheVariants.{Special, Copy, AdvancePc, AdvanceLine, SetFile, SetColumn, NegateStatement, SetBasicBlock, ConstAddPc, SetPrologueEnd, SetEpilogueBegin, SetIsa, EndSequence, SetDiscriminator}
+use Rattle.gimli_line.specs.declared.run.instruction.LineInstruction.TheVariants.{
+  Special,
+  Copy,
+  AdvancePc,
+  AdvanceLine,
+  SetFile,
+  SetColumn,
+  NegateStatement,
+  SetBasicBlock,
+  ConstAddPc,
+  SetPrologueEnd,
+  SetEpilogueBegin,
+  SetIsa,
+  EndSequence,
+  SetDiscriminator,
+}
 use Rattle.gimli_line.specs.run.Instruction.{Ins}
 use Rattle.gimli_build.specs.declared.built.row.LineRow.{LineRow}
 use Rattle.gimli_build.specs.FileNumber.{file_number}
@@ -35,7 +51,8 @@ instructions_bytes list = flat_map instruction_bytes list
 
 -- a set address: what a symbol stands for isn't known
 abbrev pub set_address_bytes : Bool → Address → ℕ → Result (List ℕ) Error
-set_address_bytes big address size = result_map (λ operand. 0 ∷ uleb (size + 1) ++ 0x02 ∷ operand) (address_bytes big address size)
+set_address_bytes big address size =
+    result_map (λ operand. 0 ∷ uleb (size + 1) ++ 0x02 ∷ operand) (address_bytes big address size)
 
 -- an instruction that rows and ends are written with, whose operand 64 bits hold
 abbrev pub IsWritten : Ins → Type 0

@@ -1,5 +1,6 @@
 -- The tables of a unit of version 5 as they are written (DWARF 5, section 6.2.4, parts 13 to 20).
-use Rattle.std.specs.Prelude.{ℕ, ◌++◌, List, [], ◌∷◌, length, map, Bool, ◌&&◌, nat_eq, nat_le, if◌then◌else◌, Some, None, unwrap_or, Result, Ok, Err}
+use Rattle.std.specs.Prelude.{ℕ, ◌++◌, List, [], ◌∷◌, length, map, Bool, ◌&&◌, nat_eq, nat_le}
+use Rattle.std.specs.Prelude.{if◌then◌else◌, Some, None, unwrap_or, Result, Ok, Err}
 use Rattle.std.specs.Option.{is_none}
 use Rattle.std.specs.List.{flat_map, list_any}
 use Rattle.gimli_core.specs.declared.common.Format.{Format}
@@ -40,7 +41,8 @@ sources (f ∷ files) = elim f.1.source [ Some t ↦ t ∷ sources files | None 
 
 -- a source is to be written, and a file has none: the empty text stands for it
 abbrev pub needs_empty : Built → Bool
-needs_empty p = nat_le 5 p.encoding.version && p.file_has_source && list_any (λ f. is_none f.1.source) p.files
+needs_empty p =
+    nat_le 5 p.encoding.version && p.file_has_source && list_any (λ f. is_none f.1.source) p.files
 
 -- the empty text in a form, with these tables
 abbrev pub empty_text : ℕ → StringTables → LineText
@@ -49,11 +51,16 @@ empty_text form texts =
     else (if nat_eq form 0x1f then InLineStrings (index_of_text texts.line_strings [])
     else Inline [])
 
--- the tables once a program is written: they have gained the empty text where it is needed and has their form
+-- the tables once a program is written: they have gained the empty text where it is needed and has
+-- their form
 abbrev pub texts_after : Built → StringTables → StringTables
 texts_after p texts = record {
-  strings = if needs_empty p && nat_eq (first_form (sources p.files)) 0x0e then with_text texts.strings [] else texts.strings;
-  line_strings = if needs_empty p && nat_eq (first_form (sources p.files)) 0x1f then with_text texts.line_strings [] else texts.line_strings;
+  strings =
+      if needs_empty p && nat_eq (first_form (sources p.files)) 0x0e then with_text texts.strings []
+      else texts.strings;
+  line_strings =
+      if needs_empty p && nat_eq (first_form (sources p.files)) 0x1f
+      then with_text texts.line_strings [] else texts.line_strings;
 }
 
 -- ---- formats
@@ -66,7 +73,8 @@ formats_bytes formats = length formats ∷ flat_map (λ f. uleb f.0 ++ uleb f.1)
 abbrev pub directory_formats : Built → List (ℕ × ℕ)
 directory_formats p = (0x0001, first_form p.directories) ∷ []
 
--- a path and the index of a directory, and what the flags say: a timestamp, a size, an MD5 digest and a source
+-- a path and the index of a directory, and what the flags say: a timestamp, a size, an MD5 digest
+-- and a source
 abbrev pub file_formats : Built → List (ℕ × ℕ)
 file_formats p =
     (0x0001, first_form (path_texts p.files)) ∷ (0x0002, 0x0f)
@@ -94,7 +102,8 @@ module _ (big : Bool) (format : Format) (texts : StringTables) where
 
   -- a text of a table whose texts have this form
   abbrev pub text_in_form : ℕ → LineText → Result (List ℕ) Error
-  text_in_form form t = if nat_eq (text_form t) form then text_bytes t else Err LineStringFormMismatch
+  text_in_form form t =
+      if nat_eq (text_form t) form then text_bytes t else Err LineStringFormMismatch
 
   -- the directories, after their formats and their number
   abbrev pub directory_table_bytes : Built → Result (List ℕ) Error
@@ -106,7 +115,8 @@ module _ (big : Bool) (format : Format) (texts : StringTables) where
   abbrev pub source_bytes : Built → File → Result (List ℕ) Error
   source_bytes p f =
       if p.file_has_source
-      then (let form = first_form (sources p.files) in text_in_form form (unwrap_or f.1.source (empty_text form texts)))
+      then (let form = first_form (sources p.files) in
+      text_in_form form (unwrap_or f.1.source (empty_text form texts)))
       else Ok []
 
   abbrev pub file_entry_bytes : Built → File → Result (List ℕ) Error
