@@ -1,17 +1,23 @@
 //! The conversion of a line program, as its callers see it.
 
-ghost use Rattle.std.specs.Prelude.{◌≡◌, ◌≢◌, false, Option, Some, None, Err, IfErr, IfOk, IfSome, IsTrue, OnErr, OnOk};
+ghost use Rattle.std.specs.Prelude.{◌≡◌, ◌≢◌, false, Option, Some, None, Err, IfErr, IfOk, IfSome};
+ghost use Rattle.std.specs.Prelude.{IsTrue, OnErr, OnOk};
 ghost use Rattle.gimli_core.specs.Numbers.{is_address_size};
 ghost use Rattle.gimli_bytes.specs.Texts.{KeepsTexts, texts_in};
 ghost use Rattle.gimli_build.specs.Calls.{after_begin, after_address, after_row, after_end};
 ghost use Rattle.gimli_build.specs.Advance.{CanEncode};
 ghost use Rattle.gimli_build.specs.Conditions.{CanEndSequence};
 ghost use Rattle.gimli_write.specs.declared.convert_error.ConvertError.TheVariants.{OutOfMemory};
-ghost use Rattle.gimli_write.specs.convert.KeptTables.{IsUnread, IsWritable, StaysWritable, KeepsFiles, HasFinalTables, KeepsFinalTables};
+ghost use Rattle.gimli_write.specs.convert.KeptTables.{IsUnread, IsWritable, StaysWritable};
+ghost use Rattle.gimli_write.specs.convert.KeptTables.{KeepsFiles, HasFinalTables};
+ghost use Rattle.gimli_write.specs.convert.KeptTables.{KeepsFinalTables};
 ghost use Rattle.gimli_write.specs.convert.LentTables.{SameStringTables, KeepsStringTables};
 ghost use Rattle.gimli_write.specs.convert.Sources.{source_of};
 ghost use Rattle.gimli_write.specs.convert.Mapped.{IsAnswerOf};
-ghost use Rattle.gimli_write.specs.convert.Conversion.{still_to_read, IsPrepared, IsHeaderRefusal, ReadsWhole, GivesNext, IsReadRefusal, AddsFiles, CanBuildRow, IsBuildRefusal, with_program, RestConvertsTo, IsRestRefusal};
+ghost use Rattle.gimli_write.specs.convert.Conversion.{still_to_read, IsPrepared, IsHeaderRefusal};
+ghost use Rattle.gimli_write.specs.convert.Conversion.{ReadsWhole, GivesNext, IsReadRefusal};
+ghost use Rattle.gimli_write.specs.convert.Conversion.{AddsFiles, CanBuildRow, IsBuildRefusal};
+ghost use Rattle.gimli_write.specs.convert.Conversion.{with_program, RestConvertsTo, IsRestRefusal};
 ghost use Rattle.gimli_write.specs.convert.Sequences.{GathersNext, IsGatherRefusal};
 
 use crate::convert::conversion::{Conversion, convert_all};
@@ -27,8 +33,8 @@ use std::marker::{Model, PhantomData};
 
 /// A line program that is read and built again.
 ///
-/// It holds the tables of strings until it is dropped. What owns memory stands at the last type parameter, which is
-/// never written.
+/// It holds the tables of strings until it is dropped. What owns memory stands at the last type
+/// parameter, which is never written.
 ///
 /// <!-- part of crates/checks_writing/src/conversions.rt -->
 /// ```rust
@@ -59,7 +65,8 @@ impl<R: Reader, P: Drop> Drop for ConvertLineProgram<'_, '_, R, P> {
     }
 }
 
-/// The header of a source, made into the directories and files of a program that is to be built. It borrows no table.
+/// The header of a source, made into the directories and files of a program that is to be built. It
+/// borrows no table.
 ///
 /// <!-- part of crates/uses/src/converting.rt -->
 /// ```rust
@@ -81,17 +88,20 @@ impl<R: Reader> Model for ConvertLineHeader<R> {
 }
 
 impl<R: Reader> ConvertLineHeader<R> {
-    /// The first half of `ConvertLineProgram::new`: all of it that can be refused. The directories and files of the
-    /// source are added to the program that is built, by the encodings that are handed, else by the source's own.
-    /// Requires encodings that a program may have, where they are handed. The program that is begun meets what `write`
-    /// asks. The table keeps its texts, also where it is refused.
+    /// The first half of `ConvertLineProgram::new`: all of it that can be refused. The directories
+    /// and files of the source are added to the program that is built, by the encodings that are
+    /// handed, else by the source's own. Requires encodings that a program may have, where they are
+    /// handed. The program that is begun meets what `write` asks. The table keeps its texts, also
+    /// where it is refused.
     ///
-    /// Refused by the first of these that is, or by `OutOfMemory`: the working directory, as `MissingCompilationDirectory`
-    /// where a program from version 5 on would have none; the source file, as `MissingCompilationName` there, and as
-    /// `InvalidDirectoryIndex` in a directory that isn't there; the encoding of lines, as `InvalidLineBase`; the
-    /// directories; the files, as `InvalidDirectoryIndex` too. A text is refused as `Read` where it isn't there, as
-    /// `UnsupportedLineStringForm` in a supplementary file, and as `InvalidAttributeValue` for a zero byte, or where it is
-    /// an empty path of the source's tables and the program is of version 4 or less.
+    /// Refused by the first of these that is, or by `OutOfMemory`: the working directory, as
+    /// `MissingCompilationDirectory` where a program from version 5 on would have none; the source
+    /// file, as `MissingCompilationName` there, and as `InvalidDirectoryIndex` in a directory that
+    /// isn't there; the encoding of lines, as `InvalidLineBase`; the directories; the files, as
+    /// `InvalidDirectoryIndex` too. A text is refused as `Read` where it isn't there, as
+    /// `UnsupportedLineStringForm` in a supplementary file, and as `InvalidAttributeValue` for a
+    /// zero byte, or where it is an empty path of the source's tables and the program is of version
+    /// 4 or less.
     pub fn new(
         debug_str: R,
         debug_line_str: R,
@@ -104,14 +114,17 @@ impl<R: Reader> ConvertLineHeader<R> {
         requires address_size { IfSome encoding (λ e. IsTrue (is_address_size e.address_size)) }
         requires lines { IfSome line_encoding CanEncode }
         ensures ok { IfOk result (λ header. IsPrepared (source_of R.bytes debug_str debug_line_str
-            from_program from_comp_name encoding line_encoding) line_strings.old header line_strings.new) }
+            from_program from_comp_name encoding line_encoding) line_strings.old header
+            line_strings.new) }
         ensures err { IfErr result (IsHeaderRefusal (source_of R.bytes debug_str debug_line_str
             from_program from_comp_name encoding line_encoding) line_strings.old) }
-        ensures reads { IfOk result (λ header. ReadsWhole (source_of R.bytes debug_str debug_line_str
+        ensures reads { IfOk result (λ header.
+            ReadsWhole (source_of R.bytes debug_str debug_line_str
             from_program from_comp_name encoding line_encoding) header line_strings.new) }
         ensures unread { IfOk result (λ header. IsUnread (source_of R.bytes debug_str debug_line_str
             from_program from_comp_name encoding line_encoding) header) }
-        ensures writable { IfOk result (λ header. IsWritable header.tables.program line_strings.new) }
+        ensures writable { IfOk result (λ header.
+            IsWritable header.tables.program line_strings.new) }
         ensures stays { KeepsTexts line_strings.old line_strings.new }
     {
         let sections = TextSections {
@@ -130,10 +143,11 @@ impl<R: Reader> ConvertLineHeader<R> {
         Ok(ConvertLineHeader { conversion })
     }
 
-    /// The second half of `ConvertLineProgram::new`, which is never refused: the conversion of the program after the
-    /// header. It holds both tables until it is dropped, and so far they are as they were. The line strings have to be
-    /// the table that `new` was handed, since directories and files name texts by their index there: with another table
-    /// the program that is built has other names.
+    /// The second half of `ConvertLineProgram::new`, which is never refused: the conversion of the
+    /// program after the header. It holds both tables until it is dropped, and so far they are as
+    /// they were. The line strings have to be the table that `new` was handed, since directories
+    /// and files name texts by their index there: with another table the program that is built has
+    /// other names.
     pub fn converter<'a, 'b>(
         self,
         line_strings: &'a mut LineStringTable,
@@ -160,11 +174,13 @@ impl<R: Reader> ConvertLineHeader<R> {
 }
 
 impl<'a, 'b, R: Reader> ConvertLineProgram<'a, 'b, R, Conversion<R>> {
-    /// A conversion of a source, over the sections that hold its texts. Its directories and files are added to the
-    /// program that is built, by the encodings that are handed, else by the source's own. The name is that of the source
-    /// file, where the source is of version 4 or less; else file 0 is it. Requires encodings that a program may have, where
-    /// they are handed. The program that is begun meets what `write` asks. Refused as `ConvertLineHeader::new` is. Where it
-    /// isn't refused, the tables keep their texts; where it is, only the clauses of `ConvertLineHeader::new` say so.
+    /// A conversion of a source, over the sections that hold its texts. Its directories and files
+    /// are added to the program that is built, by the encodings that are handed, else by the
+    /// source's own. The name is that of the source file, where the source is of version 4 or less;
+    /// else file 0 is it. Requires encodings that a program may have, where they are handed. The
+    /// program that is begun meets what `write` asks. Refused as `ConvertLineHeader::new` is. Where
+    /// it isn't refused, the tables keep their texts; where it is, only the clauses of
+    /// `ConvertLineHeader::new` say so.
     pub fn new(
         debug_str: R,
         debug_line_str: R,
@@ -177,17 +193,23 @@ impl<'a, 'b, R: Reader> ConvertLineProgram<'a, 'b, R, Conversion<R>> {
     ) -> ConvertResult<Self>
         requires address_size { IfSome encoding (λ e. IsTrue (is_address_size e.address_size)) }
         requires lines { IfSome line_encoding CanEncode }
-        ensures ok { IfOk result (λ convert. IsPrepared (source_of R.bytes debug_str debug_line_str from_program
-            from_comp_name encoding line_encoding) line_strings.old convert.conversion convert.line_strings.now) }
+        ensures ok { IfOk result (λ convert.
+            IsPrepared (source_of R.bytes debug_str debug_line_str from_program
+            from_comp_name encoding line_encoding) line_strings.old convert.conversion
+            convert.line_strings.now) }
         ensures err { IfErr result (IsHeaderRefusal (source_of R.bytes debug_str debug_line_str
             from_program from_comp_name encoding line_encoding) line_strings.old) }
-        ensures reads { IfOk result (λ convert. ReadsWhole (source_of R.bytes debug_str debug_line_str
-            from_program from_comp_name encoding line_encoding) convert.conversion convert.line_strings.now) }
-        ensures unread { IfOk result (λ convert. IsUnread (source_of R.bytes debug_str debug_line_str
+        ensures reads { IfOk result (λ convert.
+            ReadsWhole (source_of R.bytes debug_str debug_line_str
+            from_program from_comp_name encoding line_encoding) convert.conversion
+            convert.line_strings.now) }
+        ensures unread { IfOk result (λ convert.
+            IsUnread (source_of R.bytes debug_str debug_line_str
             from_program from_comp_name encoding line_encoding) convert.conversion) }
         ensures writable { IfOk result
             (λ convert. IsWritable convert.conversion.tables.program convert.line_strings.now) }
-        ensures string_tables { IfOk result (λ convert. KeepsStringTables line_strings.entry strings.entry
+        ensures string_tables { IfOk result (λ convert.
+            KeepsStringTables line_strings.entry strings.entry
             convert.line_strings convert.strings) }
     {
         let header = ConvertLineHeader::new(
@@ -202,8 +224,8 @@ impl<'a, 'b, R: Reader> ConvertLineProgram<'a, 'b, R, Conversion<R>> {
         Ok(header.converter(line_strings, strings))
     }
 
-    /// Begins a sequence in the program that is built. Refused as `UnsupportedLineInstruction` where one has begun, or
-    /// by `OutOfMemory`; then nothing changes.
+    /// Begins a sequence in the program that is built. Refused as `UnsupportedLineInstruction`
+    /// where one has begun, or by `OutOfMemory`; then nothing changes.
     pub fn begin_sequence(&mut self, address: Option<Address>) -> ConvertResult<()>
         ensures ok { OnOk result (self.new.conversion ≡ with_program
             (after_begin address self.old.conversion.tables.program) self.old.conversion) }
@@ -219,8 +241,8 @@ impl<'a, 'b, R: Reader> ConvertLineProgram<'a, 'b, R, Conversion<R>> {
         self.conversion.tables.begin_sequence(address)
     }
 
-    /// Sets the address in the program that is built, where a sequence begins if none has. Refused by `OutOfMemory`
-    /// alone; then nothing changes.
+    /// Sets the address in the program that is built, where a sequence begins if none has. Refused
+    /// by `OutOfMemory` alone; then nothing changes.
     pub fn set_address(&mut self, address: Address) -> ConvertResult<()>
         ensures ok { OnOk result (self.new.conversion ≡ with_program
             (after_address address self.old.conversion.tables.program) self.old.conversion) }
@@ -235,8 +257,8 @@ impl<'a, 'b, R: Reader> ConvertLineProgram<'a, 'b, R, Conversion<R>> {
     }
 
     /// Makes this row the current one of the program that is built, and builds it. Refused as
-    /// `UnsupportedLineInstruction` where it can't be generated after the row before it, or by `OutOfMemory`; then
-    /// nothing changes, nor does the current row.
+    /// `UnsupportedLineInstruction` where it can't be generated after the row before it, or by
+    /// `OutOfMemory`; then nothing changes, nor does the current row.
     pub fn generate_row(&mut self, row: LineRow) -> ConvertResult<()>
         ensures ok { OnOk result (self.new.conversion ≡ with_program
             (after_row row self.old.conversion.tables.program) self.old.conversion) }
@@ -252,8 +274,9 @@ impl<'a, 'b, R: Reader> ConvertLineProgram<'a, 'b, R, Conversion<R>> {
         self.conversion.tables.generate_row(row)
     }
 
-    /// Ends a sequence of the program that is built, so many bytes after the address that was last set. Refused as
-    /// `UnsupportedLineInstruction` where it can't end there, or by `OutOfMemory`; then nothing changes.
+    /// Ends a sequence of the program that is built, so many bytes after the address that was last
+    /// set. Refused as `UnsupportedLineInstruction` where it can't end there, or by `OutOfMemory`;
+    /// then nothing changes.
     pub fn end_sequence(&mut self, address_offset: u64) -> ConvertResult<()>
         ensures ok { OnOk result (self.new.conversion ≡ with_program
             (after_end address_offset self.old.conversion.tables.program) self.old.conversion) }
@@ -277,8 +300,8 @@ impl<'a, 'b, R: Reader> ConvertLineProgram<'a, 'b, R, Conversion<R>> {
         self.conversion.tables.in_sequence()
     }
 
-    /// The program that was built so far, and for each file number of the source its id there; up to version 4 of the
-    /// source none has number 0.
+    /// The program that was built so far, and for each file number of the source its id there; up
+    /// to version 4 of the source none has number 0.
     pub fn program(self) -> (LineProgram, Vec<FileId>)
         ensures program { result.0 ≡ self.entry.conversion.tables.program }
         ensures files { result.1.items ≡ self.entry.conversion.tables.file_ids }
@@ -294,14 +317,15 @@ impl<'a, 'b, R: Reader> ConvertLineProgram<'a, 'b, R, Conversion<R>> {
         conversion.into_program()
     }
 
-    /// Reads up to the next row, end, or address that one of these follows. An address that is a tombstone, and what
-    /// is under it, gives nothing. Files that are defined on the way are added to the program that is built. Refused
-    /// as `Read` for a fault of the source, and as `InvalidFileIndex` for a row of no file. A file that is defined is
-    /// refused as `InvalidDirectoryIndex` in a directory that isn't there, as `InvalidAttributeValue` for an empty
-    /// path where the program is of version 4 or less, or by `OutOfMemory`. Every later read repeats the refusal. The
-    /// tables keep their texts. So do files their ids and their numbers in the source; after a refusal for another
-    /// cause than memory, and at the end, all files are there that the source defines before. A program that met what
-    /// `write` asks still does.
+    /// Reads up to the next row, end, or address that one of these follows. An address that is a
+    /// tombstone, and what is under it, gives nothing. Files that are defined on the way are added
+    /// to the program that is built. Refused as `Read` for a fault of the source, and as
+    /// `InvalidFileIndex` for a row of no file. A file that is defined is refused as
+    /// `InvalidDirectoryIndex` in a directory that isn't there, as `InvalidAttributeValue` for an
+    /// empty path where the program is of version 4 or less, or by `OutOfMemory`. Every later read
+    /// repeats the refusal. The tables keep their texts. So do files their ids and their numbers in
+    /// the source; after a refusal for another cause than memory, and at the end, all files are
+    /// there that the source defines before. A program that met what `write` asks still does.
     pub fn read_row(&mut self) -> ConvertResult<Option<ConvertLineRow>>
         ensures ok { IfOk result (λ row. GivesNext self.old.conversion self.old.line_strings.now
             row self.new.conversion self.new.line_strings.now) }
@@ -311,7 +335,8 @@ impl<'a, 'b, R: Reader> ConvertLineProgram<'a, 'b, R, Conversion<R>> {
             → self.old.conversion.failed ≡ Some e → result ≡ Err e }
         ensures failed { IfErr result (λ e. self.new.conversion.failed ≡ Some e) }
         ensures well { OnOk result (self.new.conversion.failed ≡ None) }
-        ensures adds { AddsFiles self.old.conversion.tables.program self.new.conversion.tables.program }
+        ensures adds { AddsFiles self.old.conversion.tables.program
+            self.new.conversion.tables.program }
         ensures keeps { KeepsFiles self.old.conversion.tables self.new.conversion.tables }
         ensures writable { StaysWritable self.old.conversion.tables self.old.line_strings.now
             self.new.conversion.tables self.new.line_strings.now }
@@ -327,11 +352,12 @@ impl<'a, 'b, R: Reader> ConvertLineProgram<'a, 'b, R, Conversion<R>> {
         self.conversion.read_row(self.line_strings)
     }
 
-    /// Reads up to the end of a sequence, or to an address that is set after a row; the next read gives that address
-    /// first. Refused as `read_row` is, as `MissingLineEndSequence` for rows without an end, or by `OutOfMemory`; every
-    /// later read repeats the refusal. The tables keep their texts.
-    /// So do files their ids and their numbers in the source; after a refusal for another cause than memory, and at the
-    /// end, all files are there that the source defines before. A program that met what `write` asks still does.
+    /// Reads up to the end of a sequence, or to an address that is set after a row; the next read
+    /// gives that address first. Refused as `read_row` is, as `MissingLineEndSequence` for rows
+    /// without an end, or by `OutOfMemory`; every later read repeats the refusal. The tables keep
+    /// their texts. So do files their ids and their numbers in the source; after a refusal for
+    /// another cause than memory, and at the end, all files are there that the source defines
+    /// before. A program that met what `write` asks still does.
     pub fn read_sequence(&mut self) -> ConvertResult<Option<ConvertLineSequence>>
         ensures ok { IfOk result (λ sequence. GathersNext self.old.conversion
             self.old.line_strings.now sequence self.new.conversion self.new.line_strings.now) }
@@ -340,13 +366,15 @@ impl<'a, 'b, R: Reader> ConvertLineProgram<'a, 'b, R, Conversion<R>> {
             → self.old.conversion.failed ≡ Some e → result ≡ Err e }
         ensures failed { IfErr result (λ e. self.new.conversion.failed ≡ Some e) }
         ensures well { OnOk result (self.new.conversion.failed ≡ None) }
-        ensures adds { AddsFiles self.old.conversion.tables.program self.new.conversion.tables.program }
+        ensures adds { AddsFiles self.old.conversion.tables.program
+            self.new.conversion.tables.program }
         ensures keeps { KeepsFiles self.old.conversion.tables self.new.conversion.tables }
         ensures writable { StaysWritable self.old.conversion.tables self.old.line_strings.now
             self.new.conversion.tables self.new.line_strings.now }
         ensures last { OnOk result (KeepsFinalTables self.old.conversion self.old.line_strings.now
             self.new.conversion self.new.line_strings.now) }
-        ensures ended { IfOk result (λ sequence. sequence ≡ None → HasFinalTables self.old.conversion
+        ensures ended { IfOk result (λ sequence.
+            sequence ≡ None → HasFinalTables self.old.conversion
             self.old.line_strings.now self.new.conversion self.new.line_strings.now) }
         ensures stopped { IfErr result (λ e. e ≢ OutOfMemory → HasFinalTables self.old.conversion
             self.old.line_strings.now self.new.conversion self.new.line_strings.now) }
@@ -356,11 +384,13 @@ impl<'a, 'b, R: Reader> ConvertLineProgram<'a, 'b, R, Conversion<R>> {
         self.conversion.read_sequence(self.line_strings)
     }
 
-    /// Reads and builds all that is still to be read: what `read_row` gives is handed to the builder, each before the next
-    /// is read. The map gives for each address of the source the one that is set in its place. Refused by the first of
-    /// these: an address that has no other, as `InvalidAddress`; what can't be built, as `UnsupportedLineInstruction`; a
-    /// refusal of reading; a sequence that is left open, as `MissingLineEndSequence`; or by `OutOfMemory`. The tables keep
-    /// their texts. Where the program met what `write` asks, the new one does. Requires a map that may always be called.
+    /// Reads and builds all that is still to be read: what `read_row` gives is handed to the
+    /// builder, each before the next is read. The map gives for each address of the source the one
+    /// that is set in its place. Refused by the first of these: an address that has no other, as
+    /// `InvalidAddress`; what can't be built, as `UnsupportedLineInstruction`; a refusal of
+    /// reading; a sequence that is left open, as `MissingLineEndSequence`; or by `OutOfMemory`. The
+    /// tables keep their texts. Where the program met what `write` asks, the new one does. Requires
+    /// a map that may always be called.
     pub fn convert<F: Fn(u64) -> Option<Address>>(
         self,
         convert_address: F,
@@ -370,7 +400,8 @@ impl<'a, 'b, R: Reader> ConvertLineProgram<'a, 'b, R, Conversion<R>> {
             self.entry.conversion self.entry.line_strings.now answer self.exit.0.now) }
         ensures err { IfErr result (IsRestRefusal (F.post convert_address)
             self.entry.conversion self.entry.line_strings.now) }
-        ensures writable { IsWritable self.entry.conversion.tables.program self.entry.line_strings.now
+        ensures writable { IsWritable self.entry.conversion.tables.program
+            self.entry.line_strings.now
             → IfOk result (λ answer. IsWritable answer.0 self.exit.0.now) }
         ensures stays { KeepsTexts self.entry.line_strings.now self.exit.0.now }
         ensures strings { self.exit.1.0.now ≡ self.entry.strings.now }
@@ -385,11 +416,12 @@ impl<'a, 'b, R: Reader> ConvertLineProgram<'a, 'b, R, Conversion<R>> {
     }
 }
 
-/// A conversion that is begun and done in one call: `ConvertLineProgram::new`, and then its `convert`. Requires
-/// encodings that a program may have, where they are handed, and a map that may always be called. Refused as these
-/// are; the tables keep their texts, also then. Where each address is mapped to itself, addresses are at least as wide
-/// as the source's, and no sequence that gave a row ends under a tombstone, the program says what its source says, and
-/// so do the rows that are read back of it.
+/// A conversion that is begun and done in one call: `ConvertLineProgram::new`, and then its
+/// `convert`. Requires encodings that a program may have, where they are handed, and a map that may
+/// always be called. Refused as these are; the tables keep their texts, also then. Where each
+/// address is mapped to itself, addresses are at least as wide as the source's, and no sequence
+/// that gave a row ends under a tombstone, the program says what its source says, and so do the
+/// rows that are read back of it.
 pub fn convert_program<R: Reader, F: Fn(u64) -> Option<Address>>(
     debug_str: R,
     debug_line_str: R,
@@ -404,8 +436,10 @@ pub fn convert_program<R: Reader, F: Fn(u64) -> Option<Address>>(
     requires address_size { IfSome encoding (λ e. IsTrue (is_address_size e.address_size)) }
     requires lines { IfSome line_encoding CanEncode }
     requires callable { F.IsAlwaysCallable convert_address }
-    ensures outcome { IsAnswerOf (F.post convert_address) (source_of R.bytes debug_str debug_line_str from_program
-        from_comp_name encoding line_encoding) line_strings.old result (texts_in strings.new line_strings.new) }
+    ensures outcome { IsAnswerOf (F.post convert_address)
+        (source_of R.bytes debug_str debug_line_str from_program
+        from_comp_name encoding line_encoding) line_strings.old result
+        (texts_in strings.new line_strings.new) }
     ensures stays { KeepsTexts line_strings.old line_strings.new }
     ensures strings { strings.new ≡ strings.old }
 {

@@ -9,13 +9,15 @@ use Rattle.gimli_write.proofs.convert.program.convert_program.Goals as goal
 
 pub returns-in_err-header-clause-outcome : goal.returns-in_err-header-clause-outcome
 returns-in_err-header-clause-outcome g c =
-    let source : Source = source_of g.R.Reader.bytes c.args.debug_str c.args.debug_line_str c.args.from_program c.args.from_comp_name c.args.encoding c.args.line_encoding in
+    let source : Source =
+    source_of g.R.Reader.bytes c.args.debug_str c.args.debug_line_str c.args.from_program c.args.from_comp_name c.args.encoding c.args.line_encoding in
     let p = err_from_is_err_and c.from_residual.result c.from_residual.ensures.1 in
     rw (p.1, p.2) (λ m says. header_refused m source c.args.line_strings.now c.in_err-header.field-0.0 c.in_err-header.ensures.err)
 
 pub returns-clause-outcome : goal.returns-clause-outcome
 returns-clause-outcome g c =
-    let source : Source = source_of g.R.Reader.bytes c.args.debug_str c.args.debug_line_str c.args.from_program c.args.from_comp_name c.args.encoding c.args.line_encoding in
+    let source : Source =
+    source_of g.R.Reader.bytes c.args.debug_str c.args.debug_line_str c.args.from_program c.args.from_comp_name c.args.encoding c.args.line_encoding in
     let before = c.args.line_strings.now in
     let header = c.in_ok-header.header in
     let line_strings = c.new.new.line_strings in

@@ -11,7 +11,8 @@ returns-in_err-row_or_end-clause-stopped g c =
     let p = err_from_is_err_and c.from_residual.result c.from_residual.ensures.1 in
     rw (← c.self.view_is) (rw p.1 (λ other.
     held_stops a.sections a.source a.tables a.address c.take.new.self a.held c.take-2.new.self a.failed c.args.line_strings.now c.in-Some-take.row
-    (sym c.in-Some-take.ensures.value) (subst (λ (s : Conversion). s.failed ≡ None) (sym c.self.view_is) c.requires) (c.in_err-row_or_end.ensures.lacks c.args.line_strings.now)))
+    (sym c.in-Some-take.ensures.value) (subst (λ (s : Conversion). s.failed ≡ None) (sym c.self.view_is) c.requires)
+    (c.in_err-row_or_end.ensures.lacks c.args.line_strings.now)))
 
 pub returns-in-Some-take-clause-last : goal.returns-in-Some-take-clause-last
 returns-in-Some-take-clause-last g c =

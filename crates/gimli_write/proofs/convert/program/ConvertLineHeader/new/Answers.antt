@@ -28,7 +28,8 @@ returns-clause-reads g c =
     let is = rw c.header.ensures at c.in_ok-tables.ensures.ok in
     let same : without_built tables ≡ tables = prepared_plain sections h given c.args.line_strings.now tables is in
     rw c.start-conversion.ensures
-    (subst (λ (x : TablesAndTexts). ReadsItems notation sections h tables h.program (reading_left sections (start_of_source h (record { bytes = h.program; notation = notation })) x))
+    (subst (λ (x : TablesAndTexts).
+    ReadsItems notation sections h tables h.program (reading_left sections (start_of_source h (record { bytes = h.program; notation = notation })) x))
     (sym same) (start_reads notation sections h tables h.program))
 
 pub returns-clause-unread : goal.returns-clause-unread

@@ -6,4 +6,5 @@ use Rattle.gimli_write.proofs.convert.program.ConvertLineProgram+R+Conversion+R.
 pub returns-clause-writable : goal.returns-clause-writable
 returns-clause-writable g c =
     rw (← c.self.view_is)
-    (writable_built c.begin_sequence.result c.self.inside.0.1.1.0.tables c.begin_sequence.new.self c.self.inside.0.0.now (after_begin c.args.address c.self.inside.0.1.1.0.tables.program) refl c.begin_sequence.ensures.ok c.begin_sequence.ensures.kept)
+    (writable_built c.begin_sequence.result c.self.inside.0.1.1.0.tables c.begin_sequence.new.self c.self.inside.0.0.now
+    (after_begin c.args.address c.self.inside.0.1.1.0.tables.program) refl c.begin_sequence.ensures.ok c.begin_sequence.ensures.kept)

@@ -6,4 +6,5 @@ use Rattle.gimli_write.proofs.convert.program.ConvertLineProgram+R+Conversion+R.
 pub returns-clause-writable : goal.returns-clause-writable
 returns-clause-writable g c =
     rw (← c.self.view_is)
-    (writable_built c.generate_row.result c.self.inside.0.1.1.0.tables c.generate_row.new.self c.self.inside.0.0.now (after_row c.args.row c.self.inside.0.1.1.0.tables.program) refl c.generate_row.ensures.ok c.generate_row.ensures.kept)
+    (writable_built c.generate_row.result c.self.inside.0.1.1.0.tables c.generate_row.new.self c.self.inside.0.0.now
+    (after_row c.args.row c.self.inside.0.1.1.0.tables.program) refl c.generate_row.ensures.ok c.generate_row.ensures.kept)
