@@ -8,6 +8,14 @@ ghost use Rattle.gimli_core.specs.Reading.{result_map, offset_of, sized_sum};
 use crate::error::{Error, Result};
 
 /// A number of bytes in a reader, or an offset into a section. Each number of 32 bits has one.
+///
+/// <!-- part of crates/uses/src/where_is.rt -->
+/// ```rust
+/// let offset = header.offset().0.into_u64();
+/// let Some(directory) = self.compilations.directory_of(offset) else {
+///     return Paths::new(header, self.strings, None).of_row(alloc, row);
+/// };
+/// ```
 pub trait ReaderOffset: Copy + Eq + Ord {
     /// The number that it stands for.
     ghost number: { Self → ℕ };
@@ -69,6 +77,16 @@ impl ReaderOffset for usize {
 }
 
 /// An address of a machine, whose size is given in bytes: 1, 2, 4 or 8.
+///
+/// <!-- part of crates/rows_calls/src/numbers.rt -->
+/// ```rust
+/// fn add_sized(address: u64, length: u64, size: u8) -> Result<Answer<'static>, Stop> {
+///     match size {
+///         1 | 2 | 4 | 8 => Ok(Answer::of_number("u64", address.add_sized(length, size))),
+///         _ => Err(Stop::Condition),
+///     }
+/// }
+/// ```
 pub trait ReaderAddress: Copy {
     /// The number that it stands for.
     ghost number: { Self → ℕ };

@@ -33,7 +33,8 @@ steps-preserved g c =
     let leaves = rw c.in-Defines.is at c.in_ok-step.ensures.tables in
     record {
       left =
-          sym (ap after_definitions (read a.sections (without_built before) ∙ ap defines (file_taken a.sections c.step.new.self before f after c.in_ok-add_file-in-Defines.ensures.ok)))
+          sym (ap after_definitions
+          (read a.sections (without_built before) ∙ ap defines (file_taken a.sections c.step.new.self before f after c.in_ok-add_file-in-Defines.ensures.ok)))
           ∙ c.steps.invariant.left;
       first = λ more. c.steps.invariant.first (ap defines_first (read a.sections (without_built before)));
       version = ap (λ (h : Header). h.parameters.encoding.version) c.in_ok-step.ensures.header ∙ c.steps.invariant.version;
@@ -49,7 +50,8 @@ steps-preserved g c =
       });
       last =
           sym (leaves a.sections before
-          ∙ ap (λ (there : Result TablesAndTexts ConvertError). unless_refused before there (λ next. tables_at_end a.sections c.step.new.self next)) c.in_ok-add_file-in-Defines.ensures.ok)
+          ∙ ap (λ (there : Result TablesAndTexts ConvertError). unless_refused before there (λ next. tables_at_end a.sections c.step.new.self next))
+          c.in_ok-add_file-in-Defines.ensures.ok)
           ∙ c.steps.invariant.last;
     }
 
@@ -62,7 +64,8 @@ returns-in_err-add_file-in-Defines-clause-err g c =
     let now = conversion a.sections a.source a.tables a.address a.held a.failed in
     let p = err_from_is_err_and c.from_residual-in_err-add_file-in-Defines.result c.from_residual-in_err-add_file-in-Defines.ensures.1 in
     rw (p.1, p.2)
-    (file_refusal a.sections c.step.new.self before f (source_left now c.steps.line_strings) (source_left c.args.self.now c.args.line_strings.now) c.in_err-add_file-in-Defines.field-0.0
+    (file_refusal a.sections c.step.new.self before f (source_left now c.steps.line_strings) (source_left c.args.self.now c.args.line_strings.now)
+    c.in_err-add_file-in-Defines.field-0.0
     (read a.sections (without_built before)) c.steps.invariant.left c.steps.invariant.first c.in_err-add_file-in-Defines.ensures.err)
 
 pub returns-in-Done-clause-last : goal.returns-in-Done-clause-last
@@ -87,7 +90,8 @@ returns-in_err-add_file-in-Defines-clause-stopped g c =
     let leaves = rw c.in-Defines.is at c.in_ok-step.ensures.tables in
     let p = err_from_is_err_and c.from_residual-in_err-add_file-in-Defines.result c.from_residual-in_err-add_file-in-Defines.ensures.1 in
     rw (p.1, p.2) (λ other.
-    file_stopped before (tables_with c.add_file.new.line_strings c.add_file.new.self) (final_tables_of_source c.args.self.now c.args.line_strings.now) (file_added a.sections before f)
+    file_stopped before (tables_with c.add_file.new.line_strings c.add_file.new.self) (final_tables_of_source c.args.self.now c.args.line_strings.now)
+    (file_added a.sections before f)
     (λ next. tables_at_end a.sections c.step.new.self next) c.in_err-add_file-in-Defines.field-0.0 c.in_err-add_file-in-Defines.ensures.err other
     (ap (λ (l : List (List ℕ)). tables_with l c.add_file.new.self) (c.in_err-add_file-in-Defines.ensures.texts other)
     ∙ ap (λ (x : SourceTables). tables_with c.steps.line_strings x) (c.in_err-add_file-in-Defines.ensures.kept other))
