@@ -11,7 +11,8 @@ use Rattle.gimli_write.specs.convert.Outcome.{without_items}
 use Rattle.gimli_write.specs.convert.Converter.{Builds}
 use Rattle.gimli_write.proofs.Writable.{writable_built}
 
-module _ {R Endian Offset A : Type 0} (result : Result A ConvertError) (built : Built) (old : ConvertLineProgram R Conversion Endian Offset) (tables : SourceTables) where
+module _ {R Endian Offset A : Type 0} (result : Result A ConvertError) (built : Built) (old : ConvertLineProgram R Conversion Endian Offset)
+    (tables : SourceTables) where
   abbrev with_tables : SourceTables → Conversion
   with_tables t = record old.conversion { tables = t }
 

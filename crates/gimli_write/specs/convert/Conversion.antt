@@ -1,5 +1,6 @@
 -- A conversion, as far as it got, and what it has still to read.
-use Rattle.std.specs.Prelude.{◌≡◌, ◌⊎◌, ℕ, true, List, Option, Some, None, Result, Ok, Err, IfErr, OnOk, MatchResult}
+use Rattle.std.specs.Prelude.{◌≡◌, ◌⊎◌, ℕ, true, List, Option, Some, None, Result, Ok, Err, IfErr}
+use Rattle.std.specs.Prelude.{OnOk, MatchResult}
 use Rattle.std.specs.declared.vec.Vec.{Vec}
 use Rattle.std.specs.declared.alloc.Global.{Global}
 use Rattle.gimli_bytes.specs.declared.address.Address.{Address}
@@ -9,11 +10,16 @@ use Rattle.gimli_build.specs.declared.built.row.LineRow.{LineRow}
 use Rattle.gimli_build.specs.declared.built.items.BuiltItem.TheVariants.{Row}
 use Rattle.gimli_build.specs.Texts.{Sections}
 use Rattle.gimli_write.specs.declared.convert_error.ConvertError.{ConvertError}
-use Rattle.gimli_write.specs.declared.convert_error.ConvertError.TheVariants.{OutOfMemory, UnsupportedLineInstruction}
+use Rattle.gimli_write.specs.declared.convert_error.ConvertError.TheVariants.{
+  OutOfMemory,
+  UnsupportedLineInstruction,
+}
 use Rattle.gimli_write.specs.declared.convert.run.SourceRow.{SourceRow}
 use Rattle.gimli_write.specs.declared.convert.rows.ConvertLineRow.{ConvertLineRow}
 use Rattle.gimli_write.specs.convert.SourceTables.{SourceTables, TablesAndTexts, tables_with}
-use Rattle.gimli_write.specs.convert.Items.{Reading, ends, stops, offers, address_offered, row_or_end_offered, defines_first, after_definitions, ReadsItems}
+use Rattle.gimli_write.specs.convert.Items.{Reading, ends, stops, offers, address_offered}
+use Rattle.gimli_write.specs.convert.Items.{row_or_end_offered, defines_first, after_definitions}
+use Rattle.gimli_write.specs.convert.Items.{ReadsItems}
 use Rattle.gimli_write.specs.convert.SourceRun.{SourceRun, start_of_source, reading_left}
 use Rattle.gimli_write.specs.convert.Outcome.{Outcome, outcome_of, without_items}
 use Rattle.gimli_write.specs.convert.Preparation.{tables_of_header}
@@ -91,16 +97,17 @@ reading_of p = still_to_read p.conversion p.line_strings
 
 -- ---- reads
 
--- a read hands this out, after the files that are defined before it, and finds these tables; the rest is then still to be
--- read
+-- a read hands this out, after the files that are defined before it, and finds these tables; the
+-- rest is then still to be read
 abbrev pub HandsOut : Reading → Option ConvertLineRow → TablesAndTexts → Reading → Type 0
 HandsOut old (Some row) tables rest = after_definitions old ≡ offers row tables rest
 HandsOut old None tables rest = (after_definitions old ≡ ends tables) × (rest ≡ ends tables)
 
--- a read is refused: as what was to be read is, after the files that are defined before it, or for `OutOfMemory` where
--- a file is defined before anything else is read
+-- a read is refused: as what was to be read is, after the files that are defined before it, or for
+-- `OutOfMemory` where a file is defined before anything else is read
 abbrev pub IsReadRefusal : Reading → ConvertError → Type 0
-IsReadRefusal old e = (after_definitions old ≡ stops e) ⊎ ((e ≡ OutOfMemory) × (defines_first old ≡ true))
+IsReadRefusal old e =
+    (after_definitions old ≡ stops e) ⊎ ((e ≡ OutOfMemory) × (defines_first old ≡ true))
 
 -- a read adds files to the program, and changes nothing else in it
 abbrev pub AddsFiles : Built → Built → Type 0
@@ -127,24 +134,31 @@ with_program p c = record c { tables = record c.tables { program = p } }
 
 -- ---- a conversion from its start on
 
--- the directories and files of a source are added, by the steps of its header; these are the line strings before it
+-- the directories and files of a source are added, by the steps of its header; these are the line
+-- strings before it
 abbrev pub IsPrepared : Source → List (List ℕ) → Progress → Type 0
 IsPrepared s old new =
-    tables_of_header s.sections s.header s.given old ≡ Ok (tables_with new.line_strings new.conversion.tables)
+    tables_of_header s.sections s.header s.given old
+    ≡ Ok (tables_with new.line_strings new.conversion.tables)
 
 -- why they aren't added: what refuses a step, or `OutOfMemory`
 abbrev pub IsHeaderRefusal : Source → List (List ℕ) → ConvertError → Type 0
-IsHeaderRefusal s line_strings = IsRefusedBy (tables_of_header s.sections s.header s.given line_strings)
+IsHeaderRefusal s line_strings =
+    IsRefusedBy (tables_of_header s.sections s.header s.given line_strings)
 
 -- the whole program of a source is still to be read, with these tables at its start
 abbrev pub ReadsWhole : Source → Progress → Type 0
 ReadsWhole s p =
-    ReadsItems s.notation s.sections s.header (tables_with p.line_strings p.conversion.tables) s.header.program
+    ReadsItems s.notation s.sections s.header (tables_with p.line_strings p.conversion.tables)
+    s.header.program
     (reading_of p)
 
 -- nothing of the program of a source is read yet
 abbrev pub IsUnread : Source → Conversion → Type 0
-IsUnread s c = c ≡ start_of_conversion s.sections (start_of_source s.header (record { bytes = s.header.program; notation = s.notation })) c.tables
+IsUnread s c =
+    c
+    ≡ start_of_conversion s.sections
+    (start_of_source s.header (record { bytes = s.header.program; notation = s.notation })) c.tables
 
 -- a conversion of a source is begun, which had these line strings
 pub record IsBegun (s : Source) (old : List (List ℕ)) (new : Progress) : Type 0 where
@@ -155,12 +169,14 @@ pub record IsBegun (s : Source) (old : List (List ℕ)) (new : Progress) : Type 
   -- nothing of it was read
   pub unread : IsUnread s new.conversion
 
--- what comes of a source, where nothing is built before: the refusal of a step of its header, else what comes of reading
--- its program
-abbrev pub IsConverted : (ℕ → Option Address) → Source → List (List ℕ) → Result Outcome ConvertError → Type 0
+-- what comes of a source, where nothing is built before: the refusal of a step of its header, else
+-- what comes of reading its program
+abbrev pub IsConverted : (ℕ → Option Address) → Source → List (List ℕ) → Result Outcome ConvertError
+    → Type 0
 IsConverted convert_address s line_strings outcome =
     (reading : Reading) × MatchResult (tables_of_header s.sections s.header s.given line_strings)
-    (λ first. ReadsItems s.notation s.sections s.header first s.header.program reading × (outcome_of convert_address reading first.program ≡ outcome))
+    (λ first. ReadsItems s.notation s.sections s.header first s.header.program reading
+    × (outcome_of convert_address reading first.program ≡ outcome))
     (λ e. outcome ≡ Err e)
 
 -- ---- reads, from one state to the next
@@ -178,26 +194,36 @@ AnswersAs map convert_address = (a : ℕ) (r : Option Address) → map a r → r
 
 -- what was answered of a conversion, and the line strings after it
 abbrev pub outcome_with : Built × Vec ℕ Global → List (List ℕ) → Outcome
-outcome_with answer line_strings = record { program = answer.0; file_ids = answer.1.items; line_strings = line_strings }
+outcome_with answer line_strings = record {
+  program = answer.0;
+  file_ids = answer.1.items;
+  line_strings = line_strings;
+}
 
--- by such a map a source is converted to this answer; the old line strings are those before it, the new ones those after it
-abbrev pub ConvertsTo : (ℕ → Option Address → Type 0) → Source → List (List ℕ) → Built × Vec ℕ Global → List (List ℕ) → Type 0
+-- by such a map a source is converted to this answer; the old line strings are those before it, the
+-- new ones those after it
+abbrev pub ConvertsTo : (ℕ → Option Address → Type 0) → Source → List (List ℕ)
+    → Built × Vec ℕ Global → List (List ℕ) → Type 0
 ConvertsTo map s old answer new =
     (g : ℕ → Option Address) → AnswersAs map g → IsConverted g s old (Ok (outcome_with answer new))
 
 -- why a source isn't converted by such a map: what refuses it, or `OutOfMemory`
-abbrev pub IsConvertRefusal : (ℕ → Option Address → Type 0) → Source → List (List ℕ) → ConvertError → Type 0
+abbrev pub IsConvertRefusal : (ℕ → Option Address → Type 0) → Source → List (List ℕ) → ConvertError
+    → Type 0
 IsConvertRefusal map s line_strings e =
-    (g : ℕ → Option Address) → AnswersAs map g → (e ≡ OutOfMemory) ⊎ IsConverted g s line_strings (Err e)
+    (g : ℕ → Option Address) → AnswersAs map g
+    → (e ≡ OutOfMemory) ⊎ IsConverted g s line_strings (Err e)
 
 -- what comes of all that is still to be read
 abbrev pub outcome_of_rest : (ℕ → Option Address) → Progress → Result Outcome ConvertError
 outcome_of_rest convert_address p = outcome_of convert_address (reading_of p) (built_so_far p)
 
 -- by such a map all that is still to be read is converted to this answer
-abbrev pub RestConvertsTo : (ℕ → Option Address → Type 0) → Progress → Built × Vec ℕ Global → List (List ℕ) → Type 0
+abbrev pub RestConvertsTo : (ℕ → Option Address → Type 0) → Progress → Built × Vec ℕ Global
+    → List (List ℕ) → Type 0
 RestConvertsTo map old answer new =
-    (g : ℕ → Option Address) → AnswersAs map g → outcome_of_rest g old ≡ Ok (outcome_with answer new)
+    (g : ℕ → Option Address) → AnswersAs map g
+    → outcome_of_rest g old ≡ Ok (outcome_with answer new)
 
 -- why it isn't: what refuses it, or `OutOfMemory`
 abbrev pub IsRestRefusal : (ℕ → Option Address → Type 0) → Progress → ConvertError → Type 0

@@ -101,8 +101,9 @@ impl<R: Reader> Conversion<R> {
         (tables.program, tables.files)
     }
 
-    /// Reads up to the next row, end, or address that one of these follows. Refused as the source is read, or by
-    /// `OutOfMemory` where it defines a file; every later read repeats the refusal. The line strings keep their texts.
+    /// Reads up to the next row, end, or address that one of these follows. Refused as the source
+    /// is read, or by `OutOfMemory` where it defines a file; every later read repeats the refusal.
+    /// The line strings keep their texts.
     pub(crate) fn read_row(
         &mut self,
         line_strings: &mut LineStringTable,
@@ -165,19 +166,26 @@ impl<R: Reader> Conversion<R> {
         }
     }
 
-    /// A row or an end of the source, as it is handed out. Refused as `InvalidFileIndex` where the source has no file of
-    /// the row's number so far.
+    /// A row or an end of the source, as it is handed out. Refused as `InvalidFileIndex` where the
+    /// source has no file of the row's number so far.
     fn row_or_end(&self, row: &SourceRow) -> ConvertResult<ConvertLineRow>
         ensures ok { IfOk result (λ offered. (line_strings : List (List ℕ)) (rest : Reading) →
-            row_or_end_offered (version_of_source self.now) (tables_of self.now line_strings) row.now rest
+            row_or_end_offered (version_of_source self.now) (tables_of self.now line_strings)
+            row.now rest
             ≡ offers offered (tables_of self.now line_strings) rest) }
         ensures err { IfErr result (λ e. (line_strings : List (List ℕ)) (rest : Reading) →
-            row_or_end_offered (version_of_source self.now) (tables_of self.now line_strings) row.now rest ≡ stops e) }
+            row_or_end_offered (version_of_source self.now) (tables_of self.now line_strings)
+            row.now rest
+            ≡ stops e) }
         // Whether its file is there.
         ensures found { OnOk result ((line_strings : List (List ℕ)) →
-            lacks_file (version_of_source self.now) (tables_with line_strings self.now.tables) row.now ≡ false) }
+            lacks_file (version_of_source self.now) (tables_with line_strings self.now.tables)
+            row.now
+            ≡ false) }
         ensures lacks { OnErr result ((line_strings : List (List ℕ)) →
-            lacks_file (version_of_source self.now) (tables_with line_strings self.now.tables) row.now ≡ true) }
+            lacks_file (version_of_source self.now) (tables_with line_strings self.now.tables)
+            row.now
+            ≡ true) }
     {
         if row.row.end_sequence() {
             return Ok(ConvertLineRow::EndSequence(row.address_offset));
@@ -188,7 +196,8 @@ impl<R: Reader> Conversion<R> {
         Ok(ConvertLineRow::Row(row.built_row(file)))
     }
 
-    /// Executes the source up to the next row that isn't under a tombstone, and adds the files that it defines.
+    /// Executes the source up to the next row that isn't under a tombstone, and adds the files that
+    /// it defines.
     fn next_source_row(
         &mut self,
         line_strings: &mut LineStringTable,
@@ -206,12 +215,15 @@ impl<R: Reader> Conversion<R> {
             (beside line_strings.new self.new) }
         // The tables that the source leaves.
         ensures last { IfOk result (λ row. tables_after_row (version_of_source self.new)
-            (tables_with line_strings.new self.new.tables) row (final_tables_of_source self.new line_strings.new)
+            (tables_with line_strings.new self.new.tables) row
+            (final_tables_of_source self.new line_strings.new)
             ≡ final_tables_of_source self.old line_strings.old) }
         ensures ended { IfOk result (λ row. row ≡ None →
-            tables_with line_strings.new self.new.tables ≡ final_tables_of_source self.old line_strings.old) }
+            tables_with line_strings.new self.new.tables
+            ≡ final_tables_of_source self.old line_strings.old) }
         ensures stopped { IfErr result (λ e. e ≢ ConvertError.OutOfMemory →
-            tables_with line_strings.new self.new.tables ≡ final_tables_of_source self.old line_strings.old) }
+            tables_with line_strings.new self.new.tables
+            ≡ final_tables_of_source self.old line_strings.old) }
     {
         'steps: loop {
             match self.source.step()? {
@@ -225,9 +237,10 @@ impl<R: Reader> Conversion<R> {
         }
     }
 
-    /// Reads up to the end of a sequence, or to an address that is set after a row, which the next read returns first.
-    /// Refused as `read_row` is, as `MissingLineEndSequence` for rows without an end, or by `OutOfMemory`; every later
-    /// read repeats the refusal. The line strings keep their texts.
+    /// Reads up to the end of a sequence, or to an address that is set after a row, which the next
+    /// read returns first. Refused as `read_row` is, as `MissingLineEndSequence` for rows without
+    /// an end, or by `OutOfMemory`; every later read repeats the refusal. The line strings keep
+    /// their texts.
     pub(crate) fn read_sequence(
         &mut self,
         line_strings: &mut LineStringTable,
@@ -299,8 +312,8 @@ impl<R: Reader> Conversion<R> {
         self.address = Some(address);
     }
 
-    /// Builds what was read. Refused as `InvalidAddress` where there is no other address, as `UnsupportedLineInstruction`
-    /// where it can't be built, or by `OutOfMemory`.
+    /// Builds what was read. Refused as `InvalidAddress` where there is no other address, as
+    /// `UnsupportedLineInstruction` where it can't be built, or by `OutOfMemory`.
     fn feed<F: Fn(u64) -> Option<Address>>(
         &mut self,
         row: ConvertLineRow,
@@ -312,7 +325,8 @@ impl<R: Reader> Conversion<R> {
         ensures err { (g : ℕ → Option Address) → AnswersAs (F.post convert_address.now) g
             → IfErr result (IsRefusedBy (after_item g row self.old.tables.program)) }
         ensures kept { OnOk result (self.new ≡ with_program self.new.tables.program self.old) }
-        ensures items { OnOk result (without_items self.new.tables.program ≡ without_items self.old.tables.program) }
+        ensures items { OnOk result
+            (without_items self.new.tables.program ≡ without_items self.old.tables.program) }
     {
         match row {
             ConvertLineRow::SetAddress(address) => match convert_address(address) {
@@ -346,7 +360,8 @@ impl<R: Reader> Conversion<R> {
             })) }
         ensures err { IfErr result
             (IsRestRefusal (F.post convert_address.now) (beside line_strings.old self.old)) }
-        ensures writable { OnOk result (StaysWritable self.old.tables line_strings.old self.new.tables line_strings.new) }
+        ensures writable { OnOk result
+            (StaysWritable self.old.tables line_strings.old self.new.tables line_strings.new) }
         ensures stays { KeepsTexts line_strings.old line_strings.new }
     {
         'rows: loop {
@@ -359,10 +374,10 @@ impl<R: Reader> Conversion<R> {
     }
 }
 
-/// Reads and builds all that is still to be read. Refused by the first of these: an address that has no other, as
-/// `InvalidAddress`; what can't be built, as `UnsupportedLineInstruction`; a refusal of reading; a sequence that is left
-/// open, as `MissingLineEndSequence`; or by `OutOfMemory`. The line strings keep their texts, and what could be written
-/// still can be.
+/// Reads and builds all that is still to be read. Refused by the first of these: an address that
+/// has no other, as `InvalidAddress`; what can't be built, as `UnsupportedLineInstruction`; a
+/// refusal of reading; a sequence that is left open, as `MissingLineEndSequence`; or by
+/// `OutOfMemory`. The line strings keep their texts, and what could be written still can be.
 pub(crate) fn convert_all<R: Reader, F: Fn(u64) -> Option<Address>>(
     mut conversion: Conversion<R>,
     line_strings: &mut LineStringTable,

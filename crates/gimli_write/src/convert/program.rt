@@ -33,8 +33,8 @@ use std::marker::{Model, PhantomData};
 
 /// A line program that is read and built again.
 ///
-/// It holds the tables of strings until it is dropped. What owns memory stands at the last type parameter, which is
-/// never written.
+/// It holds the tables of strings until it is dropped. What owns memory stands at the last type
+/// parameter, which is never written.
 ///
 /// <!-- part of crates/checks_writing/src/conversions.rt -->
 /// ```rust
@@ -65,7 +65,8 @@ impl<R: Reader, P: Drop> Drop for ConvertLineProgram<'_, '_, R, P> {
     }
 }
 
-/// The header of a source, made into the directories and files of a program that is to be built. It borrows no table.
+/// The header of a source, made into the directories and files of a program that is to be built. It
+/// borrows no table.
 ///
 /// <!-- part of crates/uses/src/converting.rt -->
 /// ```rust
@@ -87,17 +88,20 @@ impl<R: Reader> Model for ConvertLineHeader<R> {
 }
 
 impl<R: Reader> ConvertLineHeader<R> {
-    /// The first half of `ConvertLineProgram::new`: all of it that can be refused. The directories and files of the
-    /// source are added to the program that is built, by the encodings that are handed, else by the source's own.
-    /// Requires encodings that a program may have, where they are handed. The program that is begun meets what `write`
-    /// asks. The table keeps its texts, also where it is refused.
+    /// The first half of `ConvertLineProgram::new`: all of it that can be refused. The directories
+    /// and files of the source are added to the program that is built, by the encodings that are
+    /// handed, else by the source's own. Requires encodings that a program may have, where they are
+    /// handed. The program that is begun meets what `write` asks. The table keeps its texts, also
+    /// where it is refused.
     ///
-    /// Refused by the first of these that is, or by `OutOfMemory`: the working directory, as `MissingCompilationDirectory`
-    /// where a program from version 5 on would have none; the source file, as `MissingCompilationName` there, and as
-    /// `InvalidDirectoryIndex` in a directory that isn't there; the encoding of lines, as `InvalidLineBase`; the
-    /// directories; the files, as `InvalidDirectoryIndex` too. A text is refused as `Read` where it isn't there, as
-    /// `UnsupportedLineStringForm` in a supplementary file, and as `InvalidAttributeValue` for a zero byte, or where it is
-    /// an empty path of the source's tables and the program is of version 4 or less.
+    /// Refused by the first of these that is, or by `OutOfMemory`: the working directory, as
+    /// `MissingCompilationDirectory` where a program from version 5 on would have none; the source
+    /// file, as `MissingCompilationName` there, and as `InvalidDirectoryIndex` in a directory that
+    /// isn't there; the encoding of lines, as `InvalidLineBase`; the directories; the files, as
+    /// `InvalidDirectoryIndex` too. A text is refused as `Read` where it isn't there, as
+    /// `UnsupportedLineStringForm` in a supplementary file, and as `InvalidAttributeValue` for a
+    /// zero byte, or where it is an empty path of the source's tables and the program is of version
+    /// 4 or less.
     pub fn new(
         debug_str: R,
         debug_line_str: R,
@@ -134,10 +138,11 @@ impl<R: Reader> ConvertLineHeader<R> {
         Ok(ConvertLineHeader { conversion })
     }
 
-    /// The second half of `ConvertLineProgram::new`, which is never refused: the conversion of the program after the
-    /// header. It holds both tables until it is dropped, and so far they are as they were. The line strings have to be
-    /// the table that `new` was handed, since directories and files name texts by their index there: with another table
-    /// the program that is built has other names.
+    /// The second half of `ConvertLineProgram::new`, which is never refused: the conversion of the
+    /// program after the header. It holds both tables until it is dropped, and so far they are as
+    /// they were. The line strings have to be the table that `new` was handed, since directories
+    /// and files name texts by their index there: with another table the program that is built has
+    /// other names.
     pub fn converter<'a, 'b>(
         self,
         line_strings: &'a mut LineStringTable,
@@ -164,11 +169,13 @@ impl<R: Reader> ConvertLineHeader<R> {
 }
 
 impl<'a, 'b, R: Reader> ConvertLineProgram<'a, 'b, R, Conversion<R>> {
-    /// A conversion of a source, over the sections that hold its texts. Its directories and files are added to the
-    /// program that is built, by the encodings that are handed, else by the source's own. The name is that of the source
-    /// file, where the source is of version 4 or less; else file 0 is it. Requires encodings that a program may have, where
-    /// they are handed. The program that is begun meets what `write` asks. Refused as `ConvertLineHeader::new` is. Where it
-    /// isn't refused, the tables keep their texts; where it is, only the clauses of `ConvertLineHeader::new` say so.
+    /// A conversion of a source, over the sections that hold its texts. Its directories and files
+    /// are added to the program that is built, by the encodings that are handed, else by the
+    /// source's own. The name is that of the source file, where the source is of version 4 or less;
+    /// else file 0 is it. Requires encodings that a program may have, where they are handed. The
+    /// program that is begun meets what `write` asks. Refused as `ConvertLineHeader::new` is. Where
+    /// it isn't refused, the tables keep their texts; where it is, only the clauses of
+    /// `ConvertLineHeader::new` say so.
     pub fn new(
         debug_str: R,
         debug_line_str: R,
@@ -203,8 +210,8 @@ impl<'a, 'b, R: Reader> ConvertLineProgram<'a, 'b, R, Conversion<R>> {
         Ok(header.converter(line_strings, strings))
     }
 
-    /// Begins a sequence in the program that is built. Refused as `UnsupportedLineInstruction` where one has begun, or
-    /// by `OutOfMemory`; then nothing changes.
+    /// Begins a sequence in the program that is built. Refused as `UnsupportedLineInstruction`
+    /// where one has begun, or by `OutOfMemory`; then nothing changes.
     pub fn begin_sequence(&mut self, address: Option<Address>) -> ConvertResult<()>
         ensures builds { Builds (after_begin address (program_of self.old))
             self.old result self.new }
@@ -213,8 +220,8 @@ impl<'a, 'b, R: Reader> ConvertLineProgram<'a, 'b, R, Conversion<R>> {
         self.conversion.tables.begin_sequence(address)
     }
 
-    /// Sets the address in the program that is built, where a sequence begins if none has. Refused by `OutOfMemory`
-    /// alone; then nothing changes.
+    /// Sets the address in the program that is built, where a sequence begins if none has. Refused
+    /// by `OutOfMemory` alone; then nothing changes.
     pub fn set_address(&mut self, address: Address) -> ConvertResult<()>
         ensures builds { Builds (after_address address (program_of self.old))
             self.old result self.new }
@@ -224,8 +231,8 @@ impl<'a, 'b, R: Reader> ConvertLineProgram<'a, 'b, R, Conversion<R>> {
     }
 
     /// Makes this row the current one of the program that is built, and builds it. Refused as
-    /// `UnsupportedLineInstruction` where it can't be generated after the row before it, or by `OutOfMemory`; then
-    /// nothing changes, nor does the current row.
+    /// `UnsupportedLineInstruction` where it can't be generated after the row before it, or by
+    /// `OutOfMemory`; then nothing changes, nor does the current row.
     pub fn generate_row(&mut self, row: LineRow) -> ConvertResult<()>
         ensures builds { Builds (after_row row (program_of self.old)) self.old result self.new }
         ensures asks { Asks (CanBuildRow (program_of self.old) row) result }
@@ -233,8 +240,9 @@ impl<'a, 'b, R: Reader> ConvertLineProgram<'a, 'b, R, Conversion<R>> {
         self.conversion.tables.generate_row(row)
     }
 
-    /// Ends a sequence of the program that is built, so many bytes after the address that was last set. Refused as
-    /// `UnsupportedLineInstruction` where it can't end there, or by `OutOfMemory`; then nothing changes.
+    /// Ends a sequence of the program that is built, so many bytes after the address that was last
+    /// set. Refused as `UnsupportedLineInstruction` where it can't end there, or by `OutOfMemory`;
+    /// then nothing changes.
     pub fn end_sequence(&mut self, address_offset: u64) -> ConvertResult<()>
         ensures builds { Builds (after_end address_offset (program_of self.old))
             self.old result self.new }
@@ -250,8 +258,8 @@ impl<'a, 'b, R: Reader> ConvertLineProgram<'a, 'b, R, Conversion<R>> {
         self.conversion.tables.in_sequence()
     }
 
-    /// The program that was built so far, and for each file number of the source its id there; up to version 4 of the
-    /// source none has number 0.
+    /// The program that was built so far, and for each file number of the source its id there; up
+    /// to version 4 of the source none has number 0.
     pub fn program(self) -> (LineProgram, Vec<FileId>)
         ensures program { result.0 ≡ program_of self.entry }
         ensures files { result.1.items ≡ (progress self.entry).conversion.tables.file_ids }
@@ -267,14 +275,15 @@ impl<'a, 'b, R: Reader> ConvertLineProgram<'a, 'b, R, Conversion<R>> {
         conversion.into_program()
     }
 
-    /// Reads up to the next row, end, or address that one of these follows. An address that is a tombstone, and what
-    /// is under it, gives nothing. Files that are defined on the way are added to the program that is built. Refused
-    /// as `Read` for a fault of the source, and as `InvalidFileIndex` for a row of no file. A file that is defined is
-    /// refused as `InvalidDirectoryIndex` in a directory that isn't there, as `InvalidAttributeValue` for an empty
-    /// path where the program is of version 4 or less, or by `OutOfMemory`. Every later read repeats the refusal. The
-    /// tables keep their texts. So do files their ids and their numbers in the source; after a refusal for another
-    /// cause than memory, and at the end, all files are there that the source defines before. A program that met what
-    /// `write` asks still does.
+    /// Reads up to the next row, end, or address that one of these follows. An address that is a
+    /// tombstone, and what is under it, gives nothing. Files that are defined on the way are added
+    /// to the program that is built. Refused as `Read` for a fault of the source, and as
+    /// `InvalidFileIndex` for a row of no file. A file that is defined is refused as
+    /// `InvalidDirectoryIndex` in a directory that isn't there, as `InvalidAttributeValue` for an
+    /// empty path where the program is of version 4 or less, or by `OutOfMemory`. Every later read
+    /// repeats the refusal. The tables keep their texts. So do files their ids and their numbers in
+    /// the source; after a refusal for another cause than memory, and at the end, all files are
+    /// there that the source defines before. A program that met what `write` asks still does.
     pub fn read_row(&mut self) -> ConvertResult<Option<ConvertLineRow>>
         ensures ok { IfOk result (λ row. GivesNext (progress self.old) row (progress self.new)) }
         ensures err { IfErr result (IsReadRefusal (reading_of (progress self.old))) }
@@ -287,11 +296,12 @@ impl<'a, 'b, R: Reader> ConvertLineProgram<'a, 'b, R, Conversion<R>> {
         self.conversion.read_row(self.line_strings)
     }
 
-    /// Reads up to the end of a sequence, or to an address that is set after a row; the next read gives that address
-    /// first. Refused as `read_row` is, as `MissingLineEndSequence` for rows without an end, or by `OutOfMemory`; every
-    /// later read repeats the refusal. The tables keep their texts.
-    /// So do files their ids and their numbers in the source; after a refusal for another cause than memory, and at the
-    /// end, all files are there that the source defines before. A program that met what `write` asks still does.
+    /// Reads up to the end of a sequence, or to an address that is set after a row; the next read
+    /// gives that address first. Refused as `read_row` is, as `MissingLineEndSequence` for rows
+    /// without an end, or by `OutOfMemory`; every later read repeats the refusal. The tables keep
+    /// their texts. So do files their ids and their numbers in the source; after a refusal for
+    /// another cause than memory, and at the end, all files are there that the source defines
+    /// before. A program that met what `write` asks still does.
     pub fn read_sequence(&mut self) -> ConvertResult<Option<ConvertLineSequence>>
         ensures ok { IfOk result (λ sequence.
             GathersNext (progress self.old) sequence (progress self.new)) }
@@ -305,11 +315,13 @@ impl<'a, 'b, R: Reader> ConvertLineProgram<'a, 'b, R, Conversion<R>> {
         self.conversion.read_sequence(self.line_strings)
     }
 
-    /// Reads and builds all that is still to be read: what `read_row` gives is handed to the builder, each before the next
-    /// is read. The map gives for each address of the source the one that is set in its place. Refused by the first of
-    /// these: an address that has no other, as `InvalidAddress`; what can't be built, as `UnsupportedLineInstruction`; a
-    /// refusal of reading; a sequence that is left open, as `MissingLineEndSequence`; or by `OutOfMemory`. The tables keep
-    /// their texts. Where the program met what `write` asks, the new one does. Requires a map that may always be called.
+    /// Reads and builds all that is still to be read: what `read_row` gives is handed to the
+    /// builder, each before the next is read. The map gives for each address of the source the one
+    /// that is set in its place. Refused by the first of these: an address that has no other, as
+    /// `InvalidAddress`; what can't be built, as `UnsupportedLineInstruction`; a refusal of
+    /// reading; a sequence that is left open, as `MissingLineEndSequence`; or by `OutOfMemory`. The
+    /// tables keep their texts. Where the program met what `write` asks, the new one does. Requires
+    /// a map that may always be called.
     pub fn convert<F: Fn(u64) -> Option<Address>>(
         self,
         convert_address: F,
@@ -334,11 +346,12 @@ impl<'a, 'b, R: Reader> ConvertLineProgram<'a, 'b, R, Conversion<R>> {
     }
 }
 
-/// A conversion that is begun and done in one call: `ConvertLineProgram::new`, and then its `convert`. Requires
-/// encodings that a program may have, where they are handed, and a map that may always be called. Refused as these
-/// are; the tables keep their texts, also then. Where each address is mapped to itself, addresses are at least as wide
-/// as the source's, and no sequence that gave a row ends under a tombstone, the program says what its source says, and
-/// so do the rows that are read back of it.
+/// A conversion that is begun and done in one call: `ConvertLineProgram::new`, and then its
+/// `convert`. Requires encodings that a program may have, where they are handed, and a map that may
+/// always be called. Refused as these are; the tables keep their texts, also then. Where each
+/// address is mapped to itself, addresses are at least as wide as the source's, and no sequence
+/// that gave a row ends under a tombstone, the program says what its source says, and so do the
+/// rows that are read back of it.
 pub fn convert_program<R: Reader, F: Fn(u64) -> Option<Address>>(
     debug_str: R,
     debug_line_str: R,

@@ -9,13 +9,15 @@ use Rattle.gimli_write.proofs.convert.program.convert_program.Goals as goal
 
 pub returns-in_err-header-clause-refusal : goal.returns-in_err-header-clause-refusal
 returns-in_err-header-clause-refusal g c =
-    let source : Source = source_of g.R.Reader.bytes c.args.debug_str c.args.debug_line_str c.args.from_program c.args.from_comp_name c.args.encoding c.args.line_encoding in
+    let source : Source =
+    source_of g.R.Reader.bytes c.args.debug_str c.args.debug_line_str c.args.from_program c.args.from_comp_name c.args.encoding c.args.line_encoding in
     let p = err_from_is_err_and c.from_residual.result c.from_residual.ensures.1 in
     rw (p.1, p.2) (λ m says. header_refused m source c.args.line_strings.now c.in_err-header.field-0.0 c.in_err-header.ensures.err)
 
 pub returns-clause-outcome : goal.returns-clause-outcome
 returns-clause-outcome g c =
-    let source : Source = source_of g.R.Reader.bytes c.args.debug_str c.args.debug_line_str c.args.from_program c.args.from_comp_name c.args.encoding c.args.line_encoding in
+    let source : Source =
+    source_of g.R.Reader.bytes c.args.debug_str c.args.debug_line_str c.args.from_program c.args.from_comp_name c.args.encoding c.args.line_encoding in
     let before = c.args.line_strings.now in
     let first = tables_with c.new.new.line_strings c.in_ok-header.header.tables in
     let reading = still_to_read c.in_ok-header.header c.new.new.line_strings in
@@ -24,16 +26,19 @@ returns-clause-outcome g c =
       converts = λ m says. all_converted m source before first reading _ c.in_ok-header.ensures.ok.prepared c.in_ok-header.ensures.ok.reads (comes m says);
       faithful = λ m says can.
           conversion_faithful m source before _
-          (all_converted m source before first reading _ c.in_ok-header.ensures.ok.prepared c.in_ok-header.ensures.ok.reads (comes m says)) can c.args.strings.now;
+          (all_converted m source before first reading _ c.in_ok-header.ensures.ok.prepared c.in_ok-header.ensures.ok.reads (comes m says)) can
+          c.args.strings.now;
     })
     (rw c.into_conversion.ensures at c.convert_all.ensures.ok)
 
 pub returns-clause-refusal : goal.returns-clause-refusal
 returns-clause-refusal g c =
-    let source : Source = source_of g.R.Reader.bytes c.args.debug_str c.args.debug_line_str c.args.from_program c.args.from_comp_name c.args.encoding c.args.line_encoding in
+    let source : Source =
+    source_of g.R.Reader.bytes c.args.debug_str c.args.debug_line_str c.args.from_program c.args.from_comp_name c.args.encoding c.args.line_encoding in
     IfErr-weaker c.convert_all.result _ _
     (λ e refused m says.
-    rows_refused m source c.args.line_strings.now (tables_with c.new.new.line_strings c.in_ok-header.header.tables) (still_to_read c.in_ok-header.header c.new.new.line_strings) e
+    rows_refused m source c.args.line_strings.now (tables_with c.new.new.line_strings c.in_ok-header.header.tables)
+    (still_to_read c.in_ok-header.header c.new.new.line_strings) e
     c.in_ok-header.ensures.ok.prepared c.in_ok-header.ensures.ok.reads (refused m says))
     (rw c.into_conversion.ensures at c.convert_all.ensures.err)
 

@@ -37,7 +37,8 @@ rows-preserved-in-Continue-branch-4 g c =
     let hands = rw c.in-Some-Row.field-0-is at found in
     record {
       same =
-          row_gathered c.rows.start c.rows.rows.items c.push.new.self.items c.in-Some-Row.row (still_to_read c.rows.self c.rows.line_strings) (still_to_read c.read_row.new.self c.read_row.new.line_strings)
+          row_gathered c.rows.start c.rows.rows.items c.push.new.self.items c.in-Some-Row.row (still_to_read c.rows.self c.rows.line_strings)
+          (still_to_read c.read_row.new.self c.read_row.new.line_strings)
           (tables_of c.read_row.new.self c.read_row.new.line_strings) hands c.in_ok-push-in-Some-Row.ensures.items
           ∙ c.rows.invariant.same;
       reads_on = reads_then c.rows.invariant.reads_on c.in_ok-row.ensures.reads_on;
@@ -48,7 +49,8 @@ pub rows-smaller : goal.rows-smaller
 rows-smaller g c =
     let found = rw c.in-Some-SetAddress.is at c.in_ok-row.ensures.ok in
     let hands = rw c.in-Some-SetAddress.field-0-is at found in
-    one_fewer (still_to_read c.rows.self c.rows.line_strings) (still_to_read c.read_row.new.self c.read_row.new.line_strings) (SetAddress c.in-Some-SetAddress.address)
+    one_fewer (still_to_read c.rows.self c.rows.line_strings) (still_to_read c.read_row.new.self c.read_row.new.line_strings)
+    (SetAddress c.in-Some-SetAddress.address)
     (tables_of c.read_row.new.self c.read_row.new.line_strings) hands
 
 pub rows-preserved : goal.rows-preserved
@@ -58,7 +60,8 @@ rows-preserved g c =
     let none = nil_from_length c.rows.rows.items (sym c.rows.rows.ok.0 ∙ eqb-true c.rows.rows.len 0 (sym c.is_empty.ensures ∙ c.if-is_empty.true)) in
     record {
       same =
-          address_gathered c.rows.start c.rows.rows.items c.in-Some-SetAddress.address (still_to_read c.rows.self c.rows.line_strings) (still_to_read c.read_row.new.self c.read_row.new.line_strings)
+          address_gathered c.rows.start c.rows.rows.items c.in-Some-SetAddress.address (still_to_read c.rows.self c.rows.line_strings)
+          (still_to_read c.read_row.new.self c.read_row.new.line_strings)
           (tables_of c.read_row.new.self c.read_row.new.line_strings) hands none
           ∙ c.rows.invariant.same;
       reads_on = reads_then c.rows.invariant.reads_on c.in_ok-row.ensures.reads_on;
@@ -72,10 +75,14 @@ returns-in-Some-SetAddress-2-clause-ok g c =
     let a = c.in-Some-SetAddress.address in
     let some = ap (λ (n : ℕ). nat_eq n 0) (sym c.rows.rows.ok.0) ∙ sym c.is_empty.ensures ∙ c.if-is_empty.false in
     sym c.rows.invariant.same
-    ∙ address_ends c.rows.start c.rows.rows.items a (still_to_read c.rows.self c.rows.line_strings) (still_to_read c.read_row.new.self c.read_row.new.line_strings)
+    ∙ address_ends c.rows.start c.rows.rows.items a (still_to_read c.rows.self c.rows.line_strings)
+    (still_to_read c.read_row.new.self c.read_row.new.line_strings)
     (tables_of c.read_row.new.self c.read_row.new.line_strings) hands some
-    ∙ ap (λ (r : Reading). let answer : Result (Option SequenceRead × Reading) ConvertError = Ok (Some (sequence_with c.rows.start c.rows.rows.items (Address a)), r) in answer)
-    (given_back c.read_row.new.self c.give_back.new.self c.read_row.new.line_strings a c.in_ok-row.ensures.repeats.well c.in_ok-row.ensures.given c.give_back.ensures)
+    ∙ ap (λ (r : Reading).
+    let answer : Result (Option SequenceRead × Reading) ConvertError = Ok (Some (sequence_with c.rows.start c.rows.rows.items (Address a)), r) in
+    answer)
+    (given_back c.read_row.new.self c.give_back.new.self c.read_row.new.line_strings a c.in_ok-row.ensures.repeats.well c.in_ok-row.ensures.given
+    c.give_back.ensures)
 
 pub returns-in-Some-EndSequence-clause-ok : goal.returns-in-Some-EndSequence-clause-ok
 returns-in-Some-EndSequence-clause-ok g c =
@@ -83,14 +90,17 @@ returns-in-Some-EndSequence-clause-ok g c =
     let hands = rw c.in-Some-EndSequence.field-0-is at found in
     sym c.rows.invariant.same
     ∙ gathered_first c.rows.start c.rows.rows.items (still_to_read c.rows.self c.rows.line_strings)
-    (offers (EndSequence c.in-Some-EndSequence.length) (tables_of c.read_row.new.self c.read_row.new.line_strings) (still_to_read c.read_row.new.self c.read_row.new.line_strings)) hands
+    (offers (EndSequence c.in-Some-EndSequence.length) (tables_of c.read_row.new.self c.read_row.new.line_strings)
+    (still_to_read c.read_row.new.self c.read_row.new.line_strings))
+    hands
 
 pub returns-in-None-clause-ok : goal.returns-in-None-clause-ok
 returns-in-None-clause-ok g c =
     let end = rw c.in-None.is at c.in_ok-row.ensures.ok in
     let none = nil_from_length c.rows.rows.items (sym c.rows.rows.ok.0 ∙ eqb-true c.rows.rows.len 0 (sym c.if-is_empty-2.ensures)) in
     sym c.rows.invariant.same
-    ∙ nothing_gathered c.rows.start c.rows.rows.items (still_to_read c.rows.self c.rows.line_strings) (still_to_read c.read_row.new.self c.read_row.new.line_strings)
+    ∙ nothing_gathered c.rows.start c.rows.rows.items (still_to_read c.rows.self c.rows.line_strings)
+    (still_to_read c.read_row.new.self c.read_row.new.line_strings)
     (tables_of c.read_row.new.self c.read_row.new.line_strings) end.0 end.1 none
 
 pub returns-in-None-2-clause-err : goal.returns-in-None-2-clause-err
@@ -98,7 +108,8 @@ returns-in-None-2-clause-err g c =
     let end = rw c.in-None.is at c.in_ok-row.ensures.ok in
     let some = ap (λ (n : ℕ). nat_eq n 0) (sym c.rows.rows.ok.0) ∙ sym c.if-is_empty-2.ensures in
     inr (sym c.rows.invariant.same
-    ∙ rows_left c.rows.start c.rows.rows.items (still_to_read c.rows.self c.rows.line_strings) (tables_of c.read_row.new.self c.read_row.new.line_strings) end.0 some)
+    ∙ rows_left c.rows.start c.rows.rows.items (still_to_read c.rows.self c.rows.line_strings) (tables_of c.read_row.new.self c.read_row.new.line_strings) end.0
+    some)
 
 pub returns-in_err-row-clause-reads_on : goal.returns-in_err-row-clause-reads_on
 returns-in_err-row-clause-reads_on g c = reads_then c.rows.invariant.reads_on c.in_err-row.ensures.reads_on

@@ -14,7 +14,8 @@ returns-in_err-row_or_end-clause-leaves g c =
       ended = tt;
       stopped = λ other.
           held_stops a.sections a.source a.tables a.address c.take.new.self a.held c.take-2.new.self a.failed c.args.line_strings.now c.in-Some-take.row
-          (sym c.in-Some-take.ensures.value) (subst (λ (s : Conversion). s.failed ≡ None) (sym c.self.view_is) c.requires) (c.in_err-row_or_end.ensures.lacks c.args.line_strings.now);
+          (sym c.in-Some-take.ensures.value) (subst (λ (s : Conversion). s.failed ≡ None) (sym c.self.view_is) c.requires)
+          (c.in_err-row_or_end.ensures.lacks c.args.line_strings.now);
     }))
 
 pub returns-in-Some-take-clause-leaves : goal.returns-in-Some-take-clause-leaves

@@ -30,7 +30,8 @@ returns-clause-ok g c =
     rw c.start-conversion.ensures (record {
       prepared = is;
       reads =
-          subst (λ (x : TablesAndTexts). ReadsItems notation sections h tables h.program (reading_left sections (start_of_source h (record { bytes = h.program; notation = notation })) x))
+          subst (λ (x : TablesAndTexts).
+          ReadsItems notation sections h tables h.program (reading_left sections (start_of_source h (record { bytes = h.program; notation = notation })) x))
           (sym same) (start_reads notation sections h tables h.program);
       unread = refl;
     })
