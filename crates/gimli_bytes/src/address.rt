@@ -14,7 +14,8 @@
 pub enum Address {
     /// An address that is known.
     Constant(u64),
-    /// An address that is known when the sections are linked. Only a writer that knows of symbols takes it.
+    /// An address that is known when the sections are linked. Only a writer that knows of symbols
+    /// takes it.
     Symbol {
         /// The symbol, by a number that the writer gives a meaning to.
         symbol: usize,

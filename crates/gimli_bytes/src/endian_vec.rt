@@ -9,8 +9,8 @@ use gimli_core::Endianity;
 use std::alloc::{AllocError, Global};
 use std::marker::Model;
 
-/// A section in one vector, and the order of its numbers. It keeps exactly its bytes and fails for memory alone, and a refused `write`
-/// changes nothing.
+/// A section in one vector, and the order of its numbers. It keeps exactly its bytes and fails for
+/// memory alone, and a refused `write` changes nothing.
 ///
 /// <!-- part of crates/uses/src/make_unit.rt -->
 /// ```rust

@@ -1,7 +1,8 @@
 //! The shortest LEB128 of a number (DWARF 5, 7.6), in an array on the stack.
 
 ghost use Rattle.std.specs.Prelude.{◌≡◌, ◌<◌};
-ghost use Rattle.gimli_bytes.specs.Number.{uleb, sleb, low_bits as low_bits_of, has_seven_bits as holds_seven_bits};
+ghost use Rattle.gimli_bytes.specs.Number.{uleb, sleb, low_bits as low_bits_of};
+ghost use Rattle.gimli_bytes.specs.Number.{has_seven_bits as holds_seven_bits};
 
 use std::marker::Model;
 

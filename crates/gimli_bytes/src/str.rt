@@ -1,7 +1,9 @@
 //! The tables of texts of `.debug_str` and `.debug_line_str`: each text once, at a fixed offset.
 
-ghost use Rattle.std.specs.Prelude.{◌≡◌, ◌≢◌, ℕ, ◌<◌, ◌^◌, List, [], length, IfOk, IfErr, OnOk, OnErr, Ok, Some, IsOk, IsTrue, All, Contains, slice_get};
-ghost use Rattle.gimli_bytes.specs.Texts.{AreTexts, KeepsTexts, with_text, index_of_text, offset_of, table_bytes, byte_count};
+ghost use Rattle.std.specs.Prelude.{◌≡◌, ◌≢◌, ℕ, ◌<◌, ◌^◌, List, [], length, IfOk, IfErr, OnOk};
+ghost use Rattle.std.specs.Prelude.{OnErr, Ok, Some, IsOk, IsTrue, All, Contains, slice_get};
+ghost use Rattle.gimli_bytes.specs.Texts.{AreTexts, KeepsTexts, with_text, index_of_text};
+ghost use Rattle.gimli_bytes.specs.Texts.{offset_of, table_bytes, byte_count};
 ghost use Rattle.gimli_bytes.specs.Written.{IsAppendInParts};
 
 use crate::error::{Error, Result};
@@ -187,8 +189,8 @@ impl StringTable {
         self.texts.get(id.0)
     }
 
-    /// Where the text of an id begins in the section, if the table is written to an empty one. Requires an id
-    /// of this table: below `count`.
+    /// Where the text of an id begins in the section, if the table is written to an empty one.
+    /// Requires an id of this table: below `count`.
     pub fn offset(&self, id: StringId) -> DebugStrOffset
         requires { id.0 < length self.now }
         ensures offset { result.0 ≡ offset_of self.now id.0 }
@@ -291,8 +293,8 @@ impl LineStringTable {
         self.texts.get(id.0)
     }
 
-    /// Where the text of an id begins in the section, if the table is written to an empty one. Requires an id
-    /// of this table: below `count`.
+    /// Where the text of an id begins in the section, if the table is written to an empty one.
+    /// Requires an id of this table: below `count`.
     pub fn offset(&self, id: LineStringId) -> DebugLineStrOffset
         requires { id.0 < length self.now }
         ensures offset { result.0 ≡ offset_of self.now id.0 }

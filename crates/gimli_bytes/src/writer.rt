@@ -3,7 +3,9 @@
 ghost use Rattle.std.specs.Prelude.{◌≡◌, ◌+◌, ◌≤◌, IsTrue, IfOk, Ok, Err, length};
 ghost use Rattle.gimli_core.specs.Numbers.{number_bytes, SpellsUleb128, SpellsSleb128, IsShortest};
 ghost use Rattle.gimli_bytes.specs.Written.{IsAppend, IsAppendInParts, IsOverwrite};
-ghost use Rattle.gimli_bytes.specs.Number.{udata, sdata, twos_complement, uleb, sleb, address_bytes, escape_size, open_length, length_word, pointer_data, pointer_at_end};
+ghost use Rattle.gimli_bytes.specs.Number.{udata, sdata, twos_complement, uleb, sleb};
+ghost use Rattle.gimli_bytes.specs.Number.{address_bytes, escape_size, open_length, length_word};
+ghost use Rattle.gimli_bytes.specs.Number.{pointer_data, pointer_at_end};
 
 use crate::address::Address;
 use crate::error::{Error, Result};

@@ -10,7 +10,8 @@ use Rattle.gimli_line.specs.declared.run.from_bytes.Executed.{Executed}
 use Rattle.gimli_line.specs.declared.run.from_bytes.Executed.TheVariants.{No, Quiet, Address, Row}
 use Rattle.gimli_line.specs.declared.run.row.LineRow.{LineRow}
 use Rattle.gimli_line.specs.declared.run.rows.Step.TheVariants.{Made, More}
-use Rattle.gimli_line.specs.declared.run.instruction.LineInstruction.TheVariants.{Special, Copy, AdvanceLine, SetFile, SetColumn, NegateStatement, EndSequence, SetAddress, DefineFile}
+use Rattle.gimli_line.specs.declared.run.instruction.LineInstruction.TheVariants.{Special, Copy, AdvanceLine, SetFile, SetColumn, NegateStatement, EndSequence}
+use Rattle.gimli_line.specs.declared.run.instruction.LineInstruction.TheVariants.{SetAddress, DefineFile}
 use Rattle.gimli_line.specs.header.Orders.{HeaderOrders}
 use Rattle.gimli_line.specs.header.Header.{Header}
 use Rattle.gimli_line.specs.header.Parameters.{Parameters}
@@ -40,7 +41,8 @@ module _ (notation : Notation) (h : Header) (bytes rest : List ℕ) (r : LineRow
   pub advances_line : opcode ≡ 3 → (advance : ℤ) → (Ok advance, rest) ≡ signed_at bytes
       → IsExecutedAs h.parameters (standard_at notation h opcode bytes) rest r (record r { line = advanced_line advance r.line }) Quiet
   unfolding standard_at
-  advances_line is advance read = rw is (record { instruction = AdvanceLine advance; reading = rw (← read) refl; defines = refl; refusal = refl; registers = refl }, refl)
+  advances_line is advance read =
+      rw is (record { instruction = AdvanceLine advance; reading = rw (← read) refl; defines = refl; refusal = refl; registers = refl }, refl)
 
   pub sets_file : opcode ≡ 4 → (file : ℕ) → (Ok file, rest) ≡ unsigned_at bytes
       → IsExecutedAs h.parameters (standard_at notation h opcode bytes) rest r (record r { file = file }) Quiet
@@ -50,7 +52,8 @@ module _ (notation : Notation) (h : Header) (bytes rest : List ℕ) (r : LineRow
   pub sets_column : opcode ≡ 5 → (column : ℕ) → (Ok column, rest) ≡ unsigned_at bytes
       → IsExecutedAs h.parameters (standard_at notation h opcode bytes) rest r (record r { column = column }) Quiet
   unfolding standard_at
-  sets_column is column read = rw is (record { instruction = SetColumn column; reading = rw (← read) refl; defines = refl; refusal = refl; registers = refl }, refl)
+  sets_column is column read =
+      rw is (record { instruction = SetColumn column; reading = rw (← read) refl; defines = refl; refusal = refl; registers = refl }, refl)
 
 -- ---- a program whose first byte was taken
 
@@ -67,7 +70,8 @@ module _ (notation : Notation) (h : Header) (bytes rest : List ℕ) where
   standard_first zero some standard read = absurd (omega (arith, some))
   standard_first (suc o) some standard read = rw (← read, eqb-suc-zero o, standard) refl
 
-  abbrev pub special_executed : (opcode base : ℕ) (k : Parameters) → k ≡ h.parameters → base ≡ h.parameters.opcode_base → 0 < opcode → base ≤ opcode → (Ok opcode, rest) ≡ byte_at bytes
+  abbrev pub special_executed : (opcode base : ℕ) (k : Parameters) → k ≡ h.parameters → base ≡ h.parameters.opcode_base → 0 < opcode → base ≤ opcode
+      → (Ok opcode, rest) ≡ byte_at bytes
       → (old new : LineRow) (refused : Bool) → new ≡ step_of k (Special opcode) old → is_refused k (Special opcode) old ≡ refused
       → IsExecuted h.parameters (ins_at notation h bytes) rest old new refused
   special_executed opcode base k same is some le read old new refused step refusal =

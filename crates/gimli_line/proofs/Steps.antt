@@ -27,7 +27,8 @@ use Rattle.gimli_line.specs.run.Rows.{IsOfOneOrder, WantsMemory}
 use Rattle.gimli_line.specs.run.Unread.{Unread}
 use Rattle.gimli_line.proofs.Executions.{told_row, told_quiet, told_address}
 use Rattle.gimli_line.proofs.InstructionLaws.{reads_instruction}
-use Rattle.gimli_line.proofs.Runs.{state, keeps_order, none_made, after_fault, after_quiet, after_made, after_overflow, is_shorter, only_overflow, passes_none, passes_both, passes_quiet, passes_made, source_same, wants, any_refused_after}
+use Rattle.gimli_line.proofs.Runs.{state, keeps_order, none_made, after_fault, after_quiet, after_made, after_overflow, is_shorter, only_overflow, passes_none}
+use Rattle.gimli_line.proofs.Runs.{passes_both, passes_quiet, passes_made, source_same, wants, any_refused_after}
 
 -- ---- the state of a run whose program has a header
 
@@ -48,7 +49,8 @@ by_headers a h h2 old new from to P p =
 -- ---- what is kept
 
 -- the header is still that of the run, but for its files; what is added fits the order of the instructions to come
-pub keeps_run : (a : Bool) (h h2 : Header) (old new : RunState) → Has a h old → Has a h2 new → without_files h2 ≡ without_files h → new.notation ≡ old.notation → new.offset ≡ old.offset
+pub keeps_run : (a : Bool) (h h2 : Header) (old new : RunState) → Has a h old → Has a h2 new → without_files h2 ≡ without_files h → new.notation ≡ old.notation
+    → new.offset ≡ old.offset
     → new.orders.handed ≡ old.orders.handed → new.unread.notation ≡ old.unread.notation → (Fits : Bool → Type 0)
     → ((order : Bool) → (a ≡ true → Fits order) → AreOneOrder order old.orders → AreOneOrder order new.orders) → Fits old.unread.notation.big → KeepsRun old new
 keeps_run a h h2 old new from to fixed notation offset handed unread Fits order fits = record {
@@ -130,12 +132,14 @@ module _ (a : Bool) (h k : Header) (same : k ≡ h) (old new : RunState) (from :
     ok = tt;
     err =
         inr (by_headers a h h old new from to (λ x y. AnyFaultComes x y e)
-        (after_fault a h k same old.notation new.notation old.offset new.offset old.orders new.orders old.row old.unread new.unread e fault.0 fault.1 fault.2 new.row));
+        (after_fault a h k same old.notation new.notation old.offset new.offset old.orders new.orders old.row old.unread new.unread e fault.0 fault.1 fault.2
+        new.row));
     keeps = keeps;
   }
 
   -- memory is missing for the file that it defines
-  pub step_wants : (i : Ins) (rest : Unread) → TakesNext k old.unread rest (Some i) → defines_file i ≡ true → (h2 : Header) → h2 ≡ h → a ≡ true → new.unread.bytes ≡ []
+  pub step_wants : (i : Ins) (rest : Unread) → TakesNext k old.unread rest (Some i) → defines_file i ≡ true → (h2 : Header) → h2 ≡ h → a ≡ true
+      → new.unread.bytes ≡ []
       → Has a h2 new → KeepsRun old new → StepsTo old new (Err OutOfMemory)
   step_wants i rest taken defines h2 kept appends empty to keeps = record {
     ok = tt;
@@ -143,7 +147,8 @@ module _ (a : Bool) (h k : Header) (same : k ≡ h) (old new : RunState) (from :
         inl (
           refl,
           by_headers a h h2 old new from to WantsMemory
-              (wants a h k same old.notation new.notation old.offset new.offset old.orders new.orders old.row old.unread i taken.0 rest.bytes taken.1 taken.2 defines h2 new.row new.unread empty kept appends),
+              (wants a h k same old.notation new.notation old.offset new.offset old.orders new.orders old.row old.unread i taken.0 rest.bytes taken.1 taken.2
+              defines h2 new.row new.unread empty kept appends),
         );
     keeps = keeps;
   }
@@ -154,9 +159,12 @@ module _ (a : Bool) (h k : Header) (same : k ≡ h) (old new : RunState) (from :
         → Has a h2 new → KeepsRun old new → StepsTo old new (Ok More)
     step_quiet after fits made row to keeps = record {
       ok = by_headers a h h2 old new from to (λ x y. StepIs x y More) (
-        after_quiet a h k same old.notation new.notation old.offset new.offset old.orders new.orders old.row old.unread new.unread notation i taken.0 taken.1 taken.2 h2 new.row after fits made row,
-        is_shorter a h k same old.notation new.notation old.offset new.offset old.orders new.orders old.row old.unread new.unread notation i taken.0 taken.1 taken.2,
-        passes_quiet a h k same old.notation new.notation old.offset new.offset old.orders new.orders old.row old.unread new.unread notation i taken.0 taken.1 taken.2 h2 new.row after fits made row,
+        after_quiet a h k same old.notation new.notation old.offset new.offset old.orders new.orders old.row old.unread new.unread notation i taken.0 taken.1
+            taken.2 h2 new.row after fits made row,
+        is_shorter a h k same old.notation new.notation old.offset new.offset old.orders new.orders old.row old.unread new.unread notation i taken.0 taken.1
+            taken.2,
+        passes_quiet a h k same old.notation new.notation old.offset new.offset old.orders new.orders old.row old.unread new.unread notation i taken.0 taken.1
+            taken.2 h2 new.row after fits made row,
       );
       err = tt;
       keeps = keeps;
@@ -166,8 +174,10 @@ module _ (a : Bool) (h k : Header) (same : k ≡ h) (old new : RunState) (from :
         → Has a h2 new → KeepsRun old new → StepsTo old new (Ok Made)
     step_made after fits made row to keeps = record {
       ok = by_headers a h h2 old new from to (λ x y. StepIs x y Made) (
-        after_made a h k same old.notation new.notation old.offset new.offset old.orders new.orders old.row old.unread new.unread notation i taken.0 taken.1 taken.2 h2 new.row after fits made row,
-        passes_made a h k same old.notation new.notation old.offset new.offset old.orders new.orders old.row old.unread new.unread notation i taken.0 taken.1 taken.2 h2 new.row after fits made row,
+        after_made a h k same old.notation new.notation old.offset new.offset old.orders new.orders old.row old.unread new.unread notation i taken.0 taken.1
+            taken.2 h2 new.row after fits made row,
+        passes_made a h k same old.notation new.notation old.offset new.offset old.orders new.orders old.row old.unread new.unread notation i taken.0 taken.1
+            taken.2 h2 new.row after fits made row,
       );
       err = tt;
       keeps = keeps;
@@ -179,7 +189,8 @@ module _ (a : Bool) (h k : Header) (same : k ≡ h) (old new : RunState) (from :
       ok = tt;
       err =
           inr (by_headers a h h2 old new from to (λ x y. AnyFaultComes x y AddressOverflow)
-          (after_overflow a h k same old.notation new.notation old.offset new.offset old.orders new.orders old.row old.unread new.unread notation i taken.0 taken.1 taken.2 h2 new.row kept over row));
+          (after_overflow a h k same old.notation new.notation old.offset new.offset old.orders new.orders old.row old.unread new.unread notation i taken.0
+          taken.1 taken.2 h2 new.row kept over row));
       keeps = keeps;
     }
 
@@ -199,18 +210,23 @@ keeps_rest old row unread notation = record {
 }
 
 -- none was
-pub none_executed : (k : Header) (old : RunState) (row : LineRow) (unread : Unread) → ExecutesNext k old.unread unread old.row row No → ReadsOn old (with_rest old row unread)
+pub none_executed : (k : Header) (old : RunState) (row : LineRow) (unread : Unread) → ExecutesNext k old.unread unread old.row row No
+    → ReadsOn old (with_rest old row unread)
 none_executed k old row unread same = reads_none old (with_rest old row unread) (rw (same.0, same.1) refl)
 
-module _ (a : Bool) (h k : Header) (same : k ≡ h) (old : RunState) (row : LineRow) (unread : Unread) (from : Has a h old) (notation : unread.notation ≡ old.unread.notation) where
-  executed_quiet : (x : IsExecuted k.parameters (ins_at old.unread.notation k old.unread.bytes) unread.bytes old.row row false) → makes_row x.instruction ≡ false
+module _ (a : Bool) (h k : Header) (same : k ≡ h) (old : RunState) (row : LineRow) (unread : Unread) (from : Has a h old)
+    (notation : unread.notation ≡ old.unread.notation) where
+  executed_quiet : (x : IsExecuted k.parameters (ins_at old.unread.notation k old.unread.bytes) unread.bytes old.row row false)
+      → makes_row x.instruction ≡ false
       → StepsTo old (with_rest old row unread) (Ok More)
   executed_quiet x quiet =
-      step_quiet a h k same old (with_rest old row unread) from x.instruction ((reads_instruction old.unread.notation k).found old.unread.bytes x.instruction unread.bytes x.reading) notation h
+      step_quiet a h k same old (with_rest old row unread) from x.instruction
+      ((reads_instruction old.unread.notation k).found old.unread.bytes x.instruction unread.bytes x.reading) notation h
       (files_kept a h x.instruction x.defines) (subst (λ (j : Header). is_refused j.parameters x.instruction old.row ≡ false) same x.refusal) quiet
       (subst (λ (j : Header). row ≡ step_of j.parameters x.instruction old.row) same x.registers) from (keeps_rest old row unread notation)
 
-  pub executed_more : (told : Executed) → ExecutesNext k old.unread unread old.row row told → told ≢ No → told ≢ Row → StepsTo old (with_rest old row unread) (Ok More)
+  pub executed_more : (told : Executed) → ExecutesNext k old.unread unread old.row row told → told ≢ No → told ≢ Row
+      → StepsTo old (with_rest old row unread) (Ok More)
   executed_more No x some quiet = absurd (some refl)
   executed_more Row x some quiet = absurd (quiet refl)
   executed_more Quiet x some quiet = executed_quiet x.0 (told_quiet x.0.instruction x.1)
@@ -219,13 +235,16 @@ module _ (a : Bool) (h k : Header) (same : k ≡ h) (old : RunState) (row : Line
   pub executed_row : ExecutesNext k old.unread unread old.row row Row → StepsTo old (with_rest old row unread) (Ok Made)
   executed_row executed =
       let x = executed.0 in
-      step_made a h k same old (with_rest old row unread) from x.instruction ((reads_instruction old.unread.notation k).found old.unread.bytes x.instruction unread.bytes x.reading) notation h
-      (files_kept a h x.instruction x.defines) (subst (λ (j : Header). is_refused j.parameters x.instruction old.row ≡ false) same x.refusal) (told_row x.instruction executed.1)
+      step_made a h k same old (with_rest old row unread) from x.instruction
+      ((reads_instruction old.unread.notation k).found old.unread.bytes x.instruction unread.bytes x.reading) notation h
+      (files_kept a h x.instruction x.defines) (subst (λ (j : Header). is_refused j.parameters x.instruction old.row ≡ false) same x.refusal)
+      (told_row x.instruction executed.1)
       (subst (λ (j : Header). row ≡ step_of j.parameters x.instruction old.row) same x.registers) from (keeps_rest old row unread notation)
 
   pub executed_refused : (e : Error) → RefusesNext k old.unread unread old.row row e → StepsTo old (with_rest old row unread) (Err e)
   executed_refused e refused =
       let x = refused.1 in
-      rw refused.0 (step_overflows a h k same old (with_rest old row unread) from x.instruction ((reads_instruction old.unread.notation k).found old.unread.bytes x.instruction unread.bytes x.reading) notation h
+      rw refused.0 (step_overflows a h k same old (with_rest old row unread) from x.instruction
+      ((reads_instruction old.unread.notation k).found old.unread.bytes x.instruction unread.bytes x.reading) notation h
       refl (subst (λ (j : Header). is_refused j.parameters x.instruction old.row ≡ true) same x.refusal)
       (subst (λ (j : Header). row ≡ step_of j.parameters x.instruction old.row) same x.registers) from (keeps_rest old row unread notation))

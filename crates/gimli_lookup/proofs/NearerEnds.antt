@@ -1,5 +1,6 @@
 -- The nearer of two ends, and the indices of the sequences that go down.
-use Rattle.std.proofs.Common.{◌≡◌, ℕ, zero, suc, ◌+◌, ◌<◌, Bool, true, false, cond, List, [], ◌∷◌, length, Option, None, Some, refl, sym, ap, subst, ◌∙◌, inl, inr, arith}
+use Rattle.std.proofs.Common.{◌≡◌, ℕ, zero, suc, ◌+◌, ◌<◌, Bool, true, false, cond, List, [], ◌∷◌, length, Option, None, Some, refl, sym, ap, subst, ◌∙◌, inl}
+use Rattle.std.proofs.Common.{inr, arith}
 use Rattle.std.specs.Prelude.{slice_get, slice_index_or, IfSome}
 use Rattle.std.proofs.lemmas.Bool.{cases_lt, true≢false}
 use Rattle.gimli_line.specs.declared.run.row.LineRow.{LineRow}
@@ -13,7 +14,8 @@ pub clear_nearer : (a at : ℕ) (end new : Option ℕ) → ((b : ℕ) → IsBefo
 clear_nearer a at end new before (inl low) = inl low
 clear_nearer a at end new before (inr high) = inr (λ b is. high b (before b is))
 
-pub rows_nearer : (a : ℕ) (rows : List LineRow) (end new : Option ℕ) → ((b : ℕ) → IsBefore b new → IsBefore b end) → AreRowsClear a end rows → AreRowsClear a new rows
+pub rows_nearer : (a : ℕ) (rows : List LineRow) (end new : Option ℕ) → ((b : ℕ) → IsBefore b new → IsBefore b end) → AreRowsClear a end rows
+    → AreRowsClear a new rows
 rows_nearer a rows end new before clear k r is = clear_nearer a r.address end new before (clear k r is)
 
 pub apart_of : (a b at : ℕ) (end : Option ℕ) → IsBefore b end → IsClear a end at → IsApart a b at
@@ -27,7 +29,8 @@ pub record StandsAt (indexes : List ℕ) (index : ℕ) : Type 0 where
   pub is : (d : ℕ) → slice_index_or indexes place d ≡ index
 
 -- the sequence at an index goes down, so its index is listed
-pub is_listed : (first : ℕ) (sequences : List (List LineRow)) (k : ℕ) (d : List LineRow) → k < length sequences → never_go_down (slice_index_or sequences k d) ≡ false
+pub is_listed : (first : ℕ) (sequences : List (List LineRow)) (k : ℕ) (d : List LineRow) → k < length sequences
+    → never_go_down (slice_index_or sequences k d) ≡ false
     → StandsAt (indexes_out_of_order first sequences) (first + k)
 is_listed first [] k d lt down = absurd (omega arith)
 is_listed first (rows ∷ later) k d lt down = by_order k lt down (never_go_down rows) refl (λ j less goes_down. is_listed (first + 1) later j d less goes_down)
@@ -52,7 +55,8 @@ listed_within first [] j d lt = absurd (omega arith)
 listed_within first (rows ∷ later) j d lt = by_order j (never_go_down rows) lt (λ i less. listed_within (first + 1) later i d less)
   where
     by_order : (j : ℕ) (b : Bool) → j < length (cond b (indexes_out_of_order (first + 1) later) (first ∷ indexes_out_of_order (first + 1) later))
-        → ((i : ℕ) → i < length (indexes_out_of_order (first + 1) later) → slice_index_or (indexes_out_of_order (first + 1) later) i d < first + 1 + length later)
+        → ((i : ℕ) → i < length (indexes_out_of_order (first + 1) later)
+        → slice_index_or (indexes_out_of_order (first + 1) later) i d < first + 1 + length later)
         → slice_index_or (cond b (indexes_out_of_order (first + 1) later) (first ∷ indexes_out_of_order (first + 1) later)) j d < first + length (rows ∷ later)
     by_order j true lt within = omega (arith, within j lt)
     by_order zero false lt within = omega arith

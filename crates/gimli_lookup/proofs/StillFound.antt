@@ -1,5 +1,6 @@
 -- What is found at an address is found up to the next address of a step, of a row that goes down, and of the found row.
-use Rattle.std.proofs.Common.{◌≡◌, ◌⊎◌, ℕ, suc, ◌+◌, ◌-◌, ◌<◌, ◌≤◌, Bool, true, false, leb, cond, List, [], ◌∷◌, length, take, Option, None, Some, MatchOption, refl, sym, ap, subst, ◌∙◌, inl, inr, arith}
+use Rattle.std.proofs.Common.{◌≡◌, ◌⊎◌, ℕ, suc, ◌+◌, ◌-◌, ◌<◌, ◌≤◌, Bool, true, false, leb, cond, List, [], ◌∷◌, length, take, Option, None, Some, MatchOption}
+use Rattle.std.proofs.Common.{refl, sym, ap, subst, ◌∙◌, inl, inr, arith}
 use Rattle.std.specs.Prelude.{All, IfSome, slice_get, slice_index_or, fold, nat_le, if◌then◌else◌}
 use Rattle.std.proofs.lemmas.Bool.{cases_lt, cases_Bool, le-leb, lt-leb, true≢false}
 use Rattle.std.proofs.lemmas.List.{get_or-take, length-take-le, take_all}
@@ -31,10 +32,12 @@ same_test a b at le (inl low) = le-leb at a low ∙ sym (le-leb at b (omega arit
 same_test a b at le (inr high) = lt-leb at a (omega arith) ∙ sym (lt-leb at b high)
 
 same_fold : (a b : ℕ) (steps : List Step) (current : Option ℕ) → a ≤ b → ((k : ℕ) (d : Step) → k < length steps → IsApart a b (slice_index_or steps k d).from)
-    → fold (λ (c : Option ℕ) (s : Step). if nat_le s.from a then s.sequence else c) current steps ≡ fold (λ (c : Option ℕ) (s : Step). if nat_le s.from b then s.sequence else c) current steps
+    → fold (λ (c : Option ℕ) (s : Step). if nat_le s.from a then s.sequence else c) current steps
+    ≡ fold (λ (c : Option ℕ) (s : Step). if nat_le s.from b then s.sequence else c) current steps
 same_fold a b [] current le apart = refl
 same_fold a b (s ∷ steps) current le apart =
-    ap (λ (t : Bool). fold (λ (c : Option ℕ) (s : Step). if nat_le s.from a then s.sequence else c) (cond t s.sequence current) steps) (same_test a b s.from le (apart 0 s (omega arith)))
+    ap (λ (t : Bool). fold (λ (c : Option ℕ) (s : Step). if nat_le s.from a then s.sequence else c) (cond t s.sequence current) steps)
+    (same_test a b s.from le (apart 0 s (omega arith)))
     ∙ same_fold a b steps (cond (leb s.from b) s.sequence current) le (λ k d lt. apart (suc k) d (omega arith))
 
 -- ---- the pairs of rows
@@ -53,7 +56,8 @@ pair_before a b rows k x y le apart p = record {
     low (inr above) = absurd (omega (arith, p.from))
 
 -- the first pair at a is the first one at b, which isn't past it
-still_first : (a b : ℕ) (rows : List LineRow) (x y : LineRow) → a ≤ b → b < y.address → IsUnorderedApart a b rows → IsFirstPairOf a rows x y → IsFirstPairOf b rows x y
+still_first : (a b : ℕ) (rows : List LineRow) (x y : LineRow) → a ≤ b → b < y.address → IsUnorderedApart a b rows → IsFirstPairOf a rows x y
+    → IsFirstPairOf b rows x y
 still_first a b rows x y le before apart f = record {
   index = f.index;
   is_pair = record { first = f.is_pair.first; second = f.is_pair.second; from = omega (arith, f.is_pair.from); before = before };
@@ -77,7 +81,8 @@ module _ (a b : ℕ) (sequences : List (List LineRow)) (le : a ≤ b) (same : co
       → covers b (slice_index_or sequences k d) ≡ true → ⊥
   not_covered n k d lt within none covering =
       at_index (covering_index b 0 sequences) (cases_covering b 0 sequences)
-      (subst (λ (o : Option ℕ). MatchOption o (All (λ (rows : List LineRow). covers a rows ≡ false) sequences) (IsFirstCovering a 0 sequences)) same (cases_covering a 0 sequences))
+      (subst (λ (o : Option ℕ). MatchOption o (All (λ (rows : List LineRow). covers a rows ≡ false) sequences) (IsFirstCovering a 0 sequences)) same
+      (cases_covering a 0 sequences))
     where
       at_index : (o : Option ℕ) → MatchOption o (All (λ (rows : List LineRow). covers b rows ≡ false) sequences) (IsFirstCovering b 0 sequences)
           → MatchOption o (All (λ (rows : List LineRow). covers a rows ≡ false) sequences) (IsFirstCovering a 0 sequences) → ⊥

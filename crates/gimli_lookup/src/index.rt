@@ -1,6 +1,9 @@
-//! An index of sequences: few stored addresses are looked at to find the first sequence that covers an address.
+//! An index of sequences: few stored addresses are looked at to find the first sequence that covers
+//! an address.
 
-ghost use Rattle.std.specs.Prelude.{◌≡◌, ◌≤◌, ◌<◌, ◌+◌, ◌*◌, ◌^◌, ℕ, true, false, length, slice_index_or, sum_by, take, All, Any, IfErr, IfOk, IfSome, MatchOption};
+ghost use Rattle.std.specs.Prelude.{◌≡◌, ◌≤◌, ◌<◌, ◌+◌, ◌*◌, ◌^◌, ℕ, true, false, length};
+ghost use Rattle.std.specs.Prelude.{slice_index_or, sum_by, take, All, Any, IfErr, IfOk, IfSome};
+ghost use Rattle.std.specs.Prelude.{MatchOption};
 ghost use Rattle.gimli_line.specs.declared.run.row.LineRow.{LineRow};
 ghost use Rattle.gimli_lookup.specs.declared.steps.Step.{Step};
 ghost use Rattle.gimli_lookup.specs.FirstPair.{HasNoPair};
@@ -28,8 +31,8 @@ pub(crate) struct Found {
     pub(crate) next: LineRow,
 }
 
-/// Which of some sequences is the first that covers an address. Sequences whose addresses go down stand beside, and are
-/// searched row by row.
+/// Which of some sequences is the first that covers an address. Sequences whose addresses go down
+/// stand beside, and are searched row by row.
 #[derive(Debug, Drop)]
 pub(crate) struct Index {
     steps: Vec<Step>,
@@ -117,8 +120,8 @@ fn sequence_at(steps: &[Step], a: u64, probes: &mut u64) -> Option<usize>
     steps[count - 1].sequence
 }
 
-/// The first rows that cover `a`, of the sequences whose addresses go down and that stand before `end`; None where there
-/// are none. Each is searched row by row.
+/// The first rows that cover `a`, of the sequences whose addresses go down and that stand before
+/// `end`; None where there are none. Each is searched row by row.
 fn find_unordered(
     indexes: &[usize],
     sequences: &[KeptRows],
@@ -165,9 +168,9 @@ impl Index {
         Ok(Index { steps, unordered })
     }
 
-    /// The first rows that cover `a` of the first of these sequences that has some, with its index; None where no
-    /// sequence has any. And the number of probes: of stored addresses that were looked at, of steps and of rows.
-    /// Requires the sequences that the index was made of.
+    /// The first rows that cover `a` of the first of these sequences that has some, with its index;
+    /// None where no sequence has any. And the number of probes: of stored addresses that were
+    /// looked at, of steps and of rows. Requires the sequences that the index was made of.
     pub(crate) fn find(&self, sequences: &[KeptRows], a: u64) -> (Option<Found>, u64)
         requires { IsIndexOf self.now sequences.now }
         ensures found { MatchOption result.0 (All (HasNoPair a) sequences.now)
@@ -196,8 +199,8 @@ impl Index {
         (Some(found), probes)
     }
 
-    /// What `find` returns at `a`, and the address up to which it returns the same; None where it does so at all addresses
-    /// from `a` on. Requires the sequences that the index was made of.
+    /// What `find` returns at `a`, and the address up to which it returns the same; None where it
+    /// does so at all addresses from `a` on. Requires the sequences that the index was made of.
     pub(crate) fn find_with_end(
         &self,
         sequences: &[KeptRows],
@@ -212,7 +215,8 @@ impl Index {
         (found, end)
     }
 
-    /// The address up to which what is found at `a` is found. Requires the sequences that the index was made of.
+    /// The address up to which what is found at `a` is found. Requires the sequences that the index
+    /// was made of.
     fn end_after(&self, sequences: &[KeptRows], a: u64, found: &Option<Found>) -> Option<u64>
         requires index { IsIndexOf self.now sequences.now }
         requires found { IsFoundIn a sequences.now found.now }

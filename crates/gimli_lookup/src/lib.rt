@@ -1,10 +1,10 @@
-//! The rows of line programs that cover an address, the paths of their files, and the addresses of a line, in DWARF
-//! versions 2 to 5.
+//! The rows of line programs that cover an address, the paths of their files, and the addresses of
+//! a line, in DWARF versions 2 to 5.
 //!
-//! [`Lookup`] keeps the rows of each sequence of a program, and finds the two between which an address stands.
-//! [`SectionLookup`] does so for all units of a section. [`find_in_run`] returns what a lookup does for one address,
-//! and keeps no rows. [`Paths`] gives the whole path of a row's file. The way back, from a line of a file to
-//! [`Addresses`], goes by the same rows.
+//! [`Lookup`] keeps the rows of each sequence of a program, and finds the two between which an
+//! address stands. [`SectionLookup`] does so for all units of a section. [`find_in_run`] returns
+//! what a lookup does for one address, and keeps no rows. [`Paths`] gives the whole path of a row's
+//! file. The way back, from a line of a file to [`Addresses`], goes by the same rows.
 #![tactic(auto)]
 
 mod ends;

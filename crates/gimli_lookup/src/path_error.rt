@@ -17,7 +17,8 @@ use std::fmt;
 /// ```
 #[derive(Clone, Copy, Debug, PartialEq, Eq)]
 pub enum PathError {
-    /// A string by its index into the string offsets (`DW_FORM_strx` and its like), which aren't among the sections.
+    /// A string by its index into the string offsets (`DW_FORM_strx` and its like), which aren't
+    /// among the sections.
     UnsupportedStringIndex,
     /// A string of the supplementary file (`DW_FORM_strp_sup`), which isn't among the sections.
     UnsupportedSupplementaryString,

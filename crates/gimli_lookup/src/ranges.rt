@@ -12,13 +12,15 @@ use std::marker::Model;
 pub struct CoveredRange {
     /// The first address.
     pub start: u64,
-    /// The first address of the next range. None in the last one, which has all addresses that are left.
+    /// The first address of the next range. None in the last one, which has all addresses that are
+    /// left.
     pub end: Option<u64>,
     /// The rows that are found. None where no rows cover the addresses.
     pub rows: Option<CoveringRows>,
 }
 
-/// The ranges of a [`SectionLookup`], from the address 0 on, each from the end of the one before it.
+/// The ranges of a [`SectionLookup`], from the address 0 on, each from the end of the one before
+/// it.
 #[derive(Drop)]
 pub struct Ranges<'a, R: Reader> {
     lookup: &'a SectionLookup<R>,

@@ -1,4 +1,5 @@
-//! Texts of directories and files: in the table itself, or references to `.debug_str` and `.debug_line_str`.
+//! Texts of directories and files: in the table itself, or references to `.debug_str` and
+//! `.debug_line_str`.
 
 ghost use Rattle.std.specs.Prelude.{◌≡◌, ◌≢◌, ℕ, List, IfOk, IfErr, OnOk, OnErr, All};
 
@@ -27,7 +28,8 @@ pub enum LineString {
 }
 
 impl LineString {
-    ghost use Rattle.gimli_build.specs.LineText.{line_text, made_text, made_table, IsWithin, bytes_in, HasNoZero};
+    ghost use Rattle.gimli_build.specs.LineText.{line_text, made_text, made_table, IsWithin};
+    ghost use Rattle.gimli_build.specs.LineText.{bytes_in, HasNoZero};
     ghost use Rattle.gimli_bytes.specs.Texts.{KeepsTexts, texts_in};
     ghost use Rattle.gimli_build.specs.Version5Tables.{text_form};
 

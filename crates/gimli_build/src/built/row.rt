@@ -21,8 +21,8 @@ use gimli_core::{Encoding, LineEncoding};
 /// ```
 #[derive(Clone, Copy, Debug, PartialEq, Eq)]
 pub struct LineRow {
-    /// How many bytes the machine instruction is after the address that was last set in the sequence, or
-    /// after 0 where none was.
+    /// How many bytes the machine instruction is after the address that was last set in the
+    /// sequence, or after 0 where none was.
     pub address_offset: u64,
     /// Which operation of the machine instruction, from 0 on.
     pub op_index: u64,

@@ -84,7 +84,8 @@ where
 
     /// A file of which the path alone is known.
     pub(crate) fn of_path(path_name: R) -> Self
-        ensures file { file_seen R.bytes Offset.number result ≡ plain_file (R.bytes path_name) 0 0 0 }
+        ensures file { file_seen R.bytes Offset.number result
+            ≡ plain_file (R.bytes path_name) 0 0 0 }
         ensures path { result.path_name ≡ String path_name }
         ensures order { FileHasOrder R.big (R.big path_name) result }
     {
@@ -120,13 +121,14 @@ where
         })
     }
 
-    /// Takes in a value of an entry of version 5. A value that isn't of use for its content type changes
-    /// nothing, and neither does an unknown content type.
+    /// Takes in a value of an entry of version 5. A value that isn't of use for its content type
+    /// changes nothing, and neither does an unknown content type.
     pub(crate) fn update(&mut self, content_type: DwLnct, value: AttributeValue<R, Offset>)
         ensures file { file_seen R.bytes Offset.number self.new
             ≡ file_with (file_seen R.bytes Offset.number self.old) content_type.0
             (value_seen R.bytes Offset.number value) }
-        ensures order { (order : Bool) → FileHasOrder R.big order self.old → ValueHasOrder R.big order value
+        ensures order { (order : Bool) → FileHasOrder R.big order self.old
+            → ValueHasOrder R.big order value
             → FileHasOrder R.big order self.new }
     {
         match content_type {
@@ -205,7 +207,8 @@ where
         &self.md5
     }
 
-    /// The text of the file, where the header's `file_has_source` holds. An empty one may stand for none.
+    /// The text of the file, where the header's `file_has_source` holds. An empty one may stand for
+    /// none.
     pub fn source(&self) -> Option<AttributeValue<R, Offset>>
         ensures { result ≡ self.now.source }
     {

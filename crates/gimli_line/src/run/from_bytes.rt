@@ -1,15 +1,16 @@
 //! Instructions that are executed from their bytes.
 //!
-//! There are two ways to execute an instruction. `LineInstructions::next_instruction` parses it into a
-//! `LineInstruction`, and `LineRow::execute` executes that: this stands for any opcode. A value of that
-//! type is large, and its opcode is looked at twice. So the opcodes that nearly all of a program is made
-//! of are executed straight from their bytes, by three calls: `execute_common` for special opcodes and
-//! the standard ones that are met most, `next_defined_file` for a definition of a file, and
-//! `execute_other` for the rest of those that are met at all often. Each gives up, with nothing changed,
-//! where an instruction is another one, has an operand of more than two bytes or isn't there as a
-//! whole; then it is parsed. What an opcode does stands in `row.rt` alone, and here which bytes say it.
-//! What joins the two ways is one definition: by `IsExecuted` the registers are those after the
-//! instruction that `ins_at` reads from these bytes, which is the one that `next_instruction` returns.
+//! There are two ways to execute an instruction. `LineInstructions::next_instruction` parses it
+//! into a `LineInstruction`, and `LineRow::execute` executes that: this stands for any opcode. A
+//! value of that type is large, and its opcode is looked at twice. So the opcodes that nearly all
+//! of a program is made of are executed straight from their bytes, by three calls: `execute_common`
+//! for special opcodes and the standard ones that are met most, `next_defined_file` for a
+//! definition of a file, and `execute_other` for the rest of those that are met at all often. Each
+//! gives up, with nothing changed, where an instruction is another one, has an operand of more than
+//! two bytes or isn't there as a whole; then it is parsed. What an opcode does stands in `row.rt`
+//! alone, and here which bytes say it. What joins the two ways is one definition: by `IsExecuted`
+//! the registers are those after the instruction that `ins_at` reads from these bytes, which is the
+//! one that `next_instruction` returns.
 
 ghost use Rattle.std.specs.Prelude.{◌≡◌, ◌<◌, IfErr, IfOk, IfSome, IsNone, IsTrue, Ok};
 ghost use Rattle.gimli_core.specs.Notation.{Notation, notation_of};
@@ -18,7 +19,8 @@ ghost use Rattle.gimli_line.specs.declared.run.instruction.LineInstruction.TheVa
 ghost use Rattle.gimli_line.specs.header.File.{file_seen, FileHasOrder};
 ghost use Rattle.gimli_line.specs.header.FormReading.{offset_at};
 ghost use Rattle.gimli_line.specs.header.Header.{Header};
-ghost use Rattle.gimli_line.specs.run.Execution.{is_executed, ExecutesNext, IsExecutedAs, RefusesNext};
+ghost use Rattle.gimli_line.specs.run.Execution.{is_executed, ExecutesNext, IsExecutedAs};
+ghost use Rattle.gimli_line.specs.run.Execution.{RefusesNext};
 ghost use Rattle.gimli_line.specs.run.InstructionReading.{extended_at, ins_at, standard_at};
 
 use crate::header::file_entry::FileEntry;
@@ -75,13 +77,14 @@ fn read_short_offset<R: Reader>(input: &mut R) -> Option<R::Offset>
 /// Takes the operand of a set address.
 fn read_set_address<R: Reader>(operands: &mut R, parameters: &Parameters) -> Result<u64>
     ensures read { (result, R.bytes operands.new)
-        ≡ number_at (R.big operands.old) parameters.now.encoding.address_size (R.bytes operands.old) }
+        ≡ number_at (R.big operands.old) parameters.now.encoding.address_size
+        (R.bytes operands.old) }
 {
     operands.read_address(parameters.encoding.address_size)
 }
 
-/// Takes a definition of a file, from the bytes after the zero byte. None at another opcode, or where
-/// its length is long or its operands aren't there.
+/// Takes a definition of a file, from the bytes after the zero byte. None at another opcode, or
+/// where its length is long or its operands aren't there.
 #[inline(always)]
 fn read_defined_file<R: Reader>(
     header: &LineProgramHeader<R>,
@@ -89,7 +92,8 @@ fn read_defined_file<R: Reader>(
 ) -> Option<FileEntry<R>>
     ensures read { IfSome result (λ file.
         extended_at (notation_of (R.big input.old) R.Offset.limit) header.now.meaning
-        (R.bytes input.old) ≡ (Ok (DefineFile (file_seen R.bytes R.Offset.number file)), R.bytes input.new)) }
+        (R.bytes input.old)
+        ≡ (Ok (DefineFile (file_seen R.bytes R.Offset.number file)), R.bytes input.new)) }
     ensures order { R.big input.new ≡ R.big input.old }
     ensures file { IfSome result (FileHasOrder R.big (R.big input.old)) }
 {
@@ -117,8 +121,8 @@ fn read_defined_file<R: Reader>(
 }
 
 impl LineRow {
-    /// Executes one of the standard opcodes that are met most, from the bytes after it. Not executed
-    /// is another opcode, or one whose operand isn't short; no register changes then.
+    /// Executes one of the standard opcodes that are met most, from the bytes after it. Not
+    /// executed is another opcode, or one whose operand isn't short; no register changes then.
     #[inline(always)]
     fn exec_common_opcode<R: Reader>(&mut self, opcode: DwLns, input: &mut R) -> Executed
         ensures executed { IsTrue (is_executed result) → (n : Notation) → (h : Header) →
@@ -204,11 +208,11 @@ impl LineRow {
 }
 
 impl<R: Reader> LineInstructions<R> {
-    /// Executes the next instruction on the registers, from its bytes, where it is one of those that
-    /// are met often and has short operands: what [`LineInstructions::next_instruction`] and
-    /// [`LineRow::execute`] do of it, in less time. `Executed::No`, and nothing is changed, where it is
-    /// another one, defines a file, or isn't there as a whole: it has to be parsed then. Refused by
-    /// `AddressOverflow`, as `execute` is (DWARF 5, 6.2.5).
+    /// Executes the next instruction on the registers, from its bytes, where it is one of those
+    /// that are met often and has short operands: what [`LineInstructions::next_instruction`] and
+    /// [`LineRow::execute`] do of it, in less time. `Executed::No`, and nothing is changed, where
+    /// it is another one, defines a file, or isn't there as a whole: it has to be parsed then.
+    /// Refused by `AddressOverflow`, as `execute` is (DWARF 5, 6.2.5).
     #[inline(always)]
     pub fn execute_next(
         &mut self,
@@ -231,10 +235,11 @@ impl<R: Reader> LineInstructions<R> {
         }
     }
 
-    /// Executes the next instruction on the registers, from its bytes, where it is a special opcode,
-    /// a copy, or an advance of the line, a file, a column or a turn of is_stmt with a short operand.
-    /// `Executed::No`, and nothing is changed, where it is another one or isn't there as a whole.
-    /// Refused by `AddressOverflow`, as `LineRow::execute` is (DWARF 5, 6.2.5.1 and 6.2.5.2).
+    /// Executes the next instruction on the registers, from its bytes, where it is a special
+    /// opcode, a copy, or an advance of the line, a file, a column or a turn of is_stmt with a
+    /// short operand. `Executed::No`, and nothing is changed, where it is another one or isn't
+    /// there as a whole. Refused by `AddressOverflow`, as `LineRow::execute` is (DWARF 5, 6.2.5.1
+    /// and 6.2.5.2).
     #[inline(always)]
     pub(crate) fn execute_common(
         &mut self,
@@ -293,11 +298,11 @@ impl<R: Reader> LineInstructions<R> {
         Some(file)
     }
 
-    /// Executes the next instruction on the registers, from its bytes, where it is a set address, an
-    /// end, a discriminator, or one of the two other advances of the address by operations.
+    /// Executes the next instruction on the registers, from its bytes, where it is a set address,
+    /// an end, a discriminator, or one of the two other advances of the address by operations.
     /// `Executed::No`, and nothing is changed, where it is another one, has a long operand or isn't
-    /// there as a whole. Refused by `AddressOverflow`, as `LineRow::execute` is (DWARF 5, 6.2.5.2 and
-    /// 6.2.5.3).
+    /// there as a whole. Refused by `AddressOverflow`, as `LineRow::execute` is (DWARF 5, 6.2.5.2
+    /// and 6.2.5.3).
     pub(super) fn execute_other(
         &mut self,
         header: &LineProgramHeader<R>,

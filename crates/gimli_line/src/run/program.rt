@@ -47,8 +47,8 @@ pub trait LineProgram<R: Reader> {
         ensures offset { R.Offset.number result.now.offset.0 ≡ offset self.now }
         ensures orders { header_orders R.big result.now ≡ orders self.now };
 
-    /// Adds a file that the program defines, where the list of files isn't complete. Refused by `OutOfMemory`
-    /// alone; nothing is changed then.
+    /// Adds a file that the program defines, where the list of files isn't complete. Refused by
+    /// `OutOfMemory` alone; nothing is changed then.
     fn add_file(&mut self, file: FileEntry<R>) -> Result<()>
         ensures ok { OnOk result (meaning self.new ≡ with_defined_file appends
             (file_seen R.bytes R.Offset.number file) (meaning self.old)) }
@@ -100,7 +100,8 @@ where
     ghost use Rattle.std.specs.Prelude.{◌≡◌, IfErr, IfOk};
     ghost use Rattle.gimli_line.specs.header.HeaderParts.{parts_of};
 
-    /// A copy, which agrees with the program in all its parts and says what it says. Refused by `OutOfMemory` alone.
+    /// A copy, which agrees with the program in all its parts and says what it says. Refused by
+    /// `OutOfMemory` alone.
     pub fn clone(&self) -> Result<Self>
         ensures parts { IfOk result (λ copy. parts_of copy ≡ parts_of self.now) }
         ensures meaning { IfOk result (λ copy. copy.meaning ≡ self.now.meaning) }
@@ -149,8 +150,10 @@ impl<R: Reader> LineProgram<R> for IncompleteLineProgram<R> {
         ensures notation { self.new.notation ≡ self.old.notation }
         ensures offset { R.Offset.number self.new.offset.0 ≡ R.Offset.number self.old.offset.0 }
         ensures order { (order : Bool) → (true ≡ true → FileHasOrder R.big order file)
-            → AreOneOrder order (header_orders R.big self.old) → AreOneOrder order (header_orders R.big self.new) }
-        ensures handed { (header_orders R.big self.new).handed ≡ (header_orders R.big self.old).handed }
+            → AreOneOrder order (header_orders R.big self.old)
+            → AreOneOrder order (header_orders R.big self.new) }
+        ensures handed { (header_orders R.big self.new).handed
+            ≡ (header_orders R.big self.old).handed }
     {
         self.header.add_file(file)
     }
@@ -198,7 +201,8 @@ where
     ghost use Rattle.std.specs.Prelude.{◌≡◌, IfErr, IfOk};
     ghost use Rattle.gimli_line.specs.header.HeaderParts.{parts_of};
 
-    /// A copy, which agrees with the program in all its parts and says what it says. Refused by `OutOfMemory` alone.
+    /// A copy, which agrees with the program in all its parts and says what it says. Refused by
+    /// `OutOfMemory` alone.
     pub fn clone(&self) -> Result<Self>
         ensures parts { IfOk result (λ copy. parts_of copy ≡ parts_of self.now) }
         ensures meaning { IfOk result (λ copy. copy.meaning ≡ self.now.meaning) }
@@ -247,8 +251,10 @@ impl<'program, R: Reader> LineProgram<R> for &'program CompleteLineProgram<R> {
         ensures offset { R.Offset.number self.new.now.offset.0
             ≡ R.Offset.number self.old.now.offset.0 }
         ensures order { (order : Bool) → (false ≡ true → FileHasOrder R.big order _file)
-            → AreOneOrder order (header_orders R.big self.old.now) → AreOneOrder order (header_orders R.big self.new.now) }
-        ensures handed { (header_orders R.big self.new.now).handed ≡ (header_orders R.big self.old.now).handed }
+            → AreOneOrder order (header_orders R.big self.old.now)
+            → AreOneOrder order (header_orders R.big self.new.now) }
+        ensures handed { (header_orders R.big self.new.now).handed
+            ≡ (header_orders R.big self.old.now).handed }
         ensures only { IsOk result }
     {
         Ok(())

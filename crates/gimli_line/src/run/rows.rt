@@ -68,25 +68,30 @@ trait Lent {
 impl<R: Reader, P: LineProgram<R>> Lent for LineRows<R, P> {
     ghost use Rattle.gimli_line.specs.contracts.run.rows.LineRows.{the_row};
 
-    ghost lent = { the_row R.row P.row R.Endian.row R.Offset.row R.Reader.own R.Endian.Endianity.own R.Endian.PartialEq.own R.Offset.ReaderOffset.own R.Offset.PartialEq.own R.Offset.Ord.own R.Offset.PartialOrd.own P.LineProgram.own };
+    ghost lent = { the_row R.row P.row R.Endian.row R.Offset.row R.Reader.own R.Endian.Endianity.own
+        R.Endian.PartialEq.own R.Offset.ReaderOffset.own R.Offset.PartialEq.own R.Offset.Ord.own
+        R.Offset.PartialOrd.own P.LineProgram.own };
 }
 
 impl<R: Reader, P: LineProgram<R>> LineRows<R, P> {
-    ghost use Rattle.std.specs.Prelude.{◌≡◌, [], ◌∷◌, None, Ok, IfErr, IfOk, IfSome, IsOk, MatchBool};
+    ghost use Rattle.std.specs.Prelude.{◌≡◌, [], ◌∷◌, None, Ok, IfErr, IfOk, IfSome, IsOk};
+    ghost use Rattle.std.specs.Prelude.{MatchBool};
     ghost use Rattle.std.specs.Borrow.{sem};
     ghost use Rattle.std.specs.Io.BufRead.{Rests};
     ghost use Rattle.gimli_line.specs.run.Events.{row as row_event};
     ghost use Rattle.gimli_line.specs.header.Header.{without_files, HasOneOrder};
     ghost use Rattle.gimli_line.specs.header.Orders.{header_orders};
     ghost use Rattle.gimli_line.specs.run.Progress.{with_reset_row, Progress};
-    ghost use Rattle.gimli_line.specs.run.Rows.{start_of_run, GivesRowsAlone, IsOfOneOrder, KeepsHeader, NextIs, RowIs, EndIs, FaultIs};
+    ghost use Rattle.gimli_line.specs.run.Rows.{start_of_run, GivesRowsAlone, IsOfOneOrder};
+    ghost use Rattle.gimli_line.specs.run.Rows.{KeepsHeader, NextIs, RowIs, EndIs, FaultIs};
     ghost use Rattle.gimli_line.specs.run.Made.{given_of};
     ghost use Rattle.gimli_line.specs.run.AnyRows.{AnyFaultIs, AnyRowIs, NextAnyIs, NoneIs};
     ghost use Rattle.gimli_line.specs.inside.run.Rows.{KeepsRun, StepsTo};
 
     /// The rows of these instructions of a program, from the start of a sequence on.
     pub(crate) fn start(program: P, instructions: LineInstructions<R>) -> Self
-        ensures { result ≡ start_of_run P.appends (P.meaning program) (P.notation program) (P.offset program)
+        ensures { result
+            ≡ start_of_run P.appends (P.meaning program) (P.notation program) (P.offset program)
             (P.orders program) instructions }
     {
         let row = LineRow::new(program.header());
@@ -109,10 +114,11 @@ impl<R: Reader, P: LineProgram<R>> LineRows<R, P> {
         self.program.header()
     }
 
-    /// The next row that isn't under a tombstone, with the header as it is there; None where the program has no more,
-    /// and the header has all files then. Refused as an instruction is, or by `OutOfMemory` where it defines a file:
-    /// it returns None after such a refusal, as it is after the end. Refused by `AddressOverflow` too, and then
-    /// goes on after it. A program whose files are complete isn't refused for memory.
+    /// The next row that isn't under a tombstone, with the header as it is there; None where the
+    /// program has no more, and the header has all files then. Refused as an instruction is, or by
+    /// `OutOfMemory` where it defines a file: it returns None after such a refusal, as it is after
+    /// the end. Refused by `AddressOverflow` too, and then goes on after it. A program whose files
+    /// are complete isn't refused for memory.
     #[inline(always)]
     pub fn next_row(&mut self) -> Result<Option<(&LineProgramHeader<R>, &LineRow)>>
         ensures* after { sem 𝓛 (Rests ⟦<LineRows<R, P> as Lent>⟧.lent self.entry
@@ -187,7 +193,8 @@ impl<R: Reader, P: LineProgram<R>> LineRows<R, P> {
         self.program
     }
 
-    /// Executes instructions up to the next row that isn't under a tombstone, and says whether there is one.
+    /// Executes instructions up to the next row that isn't under a tombstone, and says whether
+    /// there is one.
     #[inline(always)]
     pub(crate) fn advance(&mut self) -> Result<bool>
         ensures row { IfOk result (λ found. MatchBool found
@@ -196,7 +203,8 @@ impl<R: Reader, P: LineProgram<R>> LineRows<R, P> {
         ensures err { IfErr result (FaultIs (with_reset_row self.old) self.new) }
         ensures keeps { KeepsRun self.old self.new }
         ensures passes { IfOk result (λ found. MatchBool found
-            (Progress (with_reset_row self.old) (with_reset_row self.new) (row_event self.new.row ∷ []))
+            (Progress (with_reset_row self.old) (with_reset_row self.new)
+            (row_event self.new.row ∷ []))
             ((self.new.unread.bytes ≡ []) × Progress (with_reset_row self.old) self.new [])) }
     {
         'rows: loop {
@@ -236,9 +244,9 @@ impl<R: Reader, P: LineProgram<R>> LineRows<R, P> {
         }
     }
 
-    /// Executes common instructions from their bytes, up to the first that makes a row or is another
-    /// one, and that one too. What is read from stands in a variable of its own over the loop, so
-    /// that it stays in the processor's registers.
+    /// Executes common instructions from their bytes, up to the first that makes a row or is
+    /// another one, and that one too. What is read from stands in a variable of its own over the
+    /// loop, so that it stays in the processor's registers.
     #[inline(always)]
     fn execute_some(&mut self) -> Result<Step>
         ensures { StepsTo self.old self.new result }
@@ -266,8 +274,8 @@ impl<R: Reader, P: LineProgram<R>> LineRows<R, P> {
         self.execute_one()
     }
 
-    /// Executes one instruction, from its bytes or as it is parsed. In line, so that the room for the
-    /// answer of the call is cleared here alone, and not in front of the loop above.
+    /// Executes one instruction, from its bytes or as it is parsed. In line, so that the room for
+    /// the answer of the call is cleared here alone, and not in front of the loop above.
     #[inline(always)]
     fn execute_one(&mut self) -> Result<Step>
         ensures { StepsTo self.old self.new result }
@@ -284,8 +292,8 @@ impl<R: Reader, P: LineProgram<R>> LineRows<R, P> {
         }
     }
 
-    /// Adds the file that the next instruction defines, from its bytes; an instruction of another kind
-    /// is executed as it is parsed.
+    /// Adds the file that the next instruction defines, from its bytes; an instruction of another
+    /// kind is executed as it is parsed.
     fn define_file(&mut self) -> Result<Step>
         ensures { StepsTo self.old self.new result }
     {

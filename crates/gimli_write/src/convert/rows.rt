@@ -13,7 +13,8 @@ use std::marker::Model;
 /// ```
 #[derive(Clone, Copy, Debug, PartialEq, Eq)]
 pub enum ConvertLineRow {
-    /// An address is set. The offsets of the rows and of the end that follow in the sequence count from it.
+    /// An address is set. The offsets of the rows and of the end that follow in the sequence count
+    /// from it.
     SetAddress(u64),
     /// A row.
     Row(LineRow),

@@ -10,8 +10,8 @@ use Rattle.gimli_line.specs.run.Progress.{with_reset_row, Progress}
 use Rattle.gimli_line.specs.run.Rows.{event_of, IsOfOneOrder}
 use Rattle.gimli_line.specs.run.AnyRows.{live_made, made_left, AnyFaultIs}
 
--- the header is the same but for its files, whose readers keep the order of its program; readers that were handed in keep
--- theirs
+-- the header is the same but for its files, whose readers keep the order of its program; readers
+-- that were handed in keep theirs
 pub record KeepsRun (old new : RunState) : Type 0 where
   pub fixed : new.fixed ≡ old.fixed
   pub appends : new.appends ≡ old.appends
@@ -29,8 +29,12 @@ pub record ReadsOn (old new : RunState) : Type 0 where
 -- what instructions did up to a row, which may be under a tombstone, or to the end
 abbrev pub StepIs : RunState → RunState → Step → Type 0
 StepIs old new Done = (live_made old ≡ []) × (new.unread.bytes ≡ []) × Progress old new []
-StepIs old new Made = (live_made old ≡ event_of (row new.row) new ∷ made_left new) × Progress old (with_reset_row new) (given_of new.row)
-StepIs old new More = (live_made old ≡ live_made new) × (length new.unread.bytes < length old.unread.bytes) × Progress old new []
+StepIs old new Made =
+    (live_made old ≡ event_of (row new.row) new ∷ made_left new)
+    × Progress old (with_reset_row new) (given_of new.row)
+StepIs old new More =
+    (live_made old ≡ live_made new) × (length new.unread.bytes < length old.unread.bytes)
+    × Progress old new []
 
 -- an answer says what was done, or is a refusal; and the run is kept
 pub record StepsTo (old new : RunState) (answer : Result Step Error) : Type 0 where

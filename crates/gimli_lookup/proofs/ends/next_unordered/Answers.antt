@@ -35,7 +35,8 @@ loop-index-preserved c =
     record {
       above = near.above a i.above c.next_row.ensures.above;
       clear = λ j d e lt. elim (cases_lt j c.loop-index.index-index) [
-        | inl earlier ↦ rows_nearer a (slice_index_or sequences (slice_index_or indexes j d) e) c.loop-index.end c.nearer-end.result near.first (i.clear j d e earlier)
+        | inl earlier ↦
+            rows_nearer a (slice_index_or sequences (slice_index_or indexes j d) e) c.loop-index.end c.nearer-end.result near.first (i.clear j d e earlier)
         | inr later ↦
             let same : c.loop-index.index-index ≡ j = omega arith in
             let within = inside indexes sequences c.loop-index.index-index 0 c.requires c.loop-index-test.true in
@@ -52,6 +53,7 @@ pub returns-clause-clear : goal.returns-clause-clear
 returns-clause-clear c = λ i e lt down.
     let listed = is_listed 0 c.args.sequences.now i e lt down in
     let place : listed.place < length c.args.indexes.now = omega (arith, listed.within, ap (λ (is : List ℕ). length is) c.requires) in
-    let there : slice_index_or c.args.indexes.now listed.place 0 ≡ i = omega (arith, ap (λ (is : List ℕ). slice_index_or is listed.place 0) c.requires, listed.is 0) in
+    let there : slice_index_or c.args.indexes.now listed.place 0
+    ≡ i = omega (arith, ap (λ (is : List ℕ). slice_index_or is listed.place 0) c.requires, listed.is 0) in
     subst (λ (n : ℕ). AreRowsClear c.args.a c.loop-index.end (slice_index_or c.args.sequences.now n e)) there
     (c.loop-index.invariant.clear listed.place 0 e (omega (arith, place, c.loop-index-test.false)))

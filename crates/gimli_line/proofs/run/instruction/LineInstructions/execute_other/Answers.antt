@@ -23,23 +23,41 @@ returns-in-Err-clause-err g c =
     let same = ap (λ (m : Header). m.parameters) (ap (λ v. v.meaning) c.header.view_is) in
     let is : c.in-Ok.opcode ≡ 2 = search rules in
     let over = c.in-Err.ensures.overflow in
-    rw (← c.self.view_is) (over.0, below_executed _ _ _ _ _ _ _ same c.opcode_base.ensures (omega (arith, is)) c.if-opcode-opcode_base.false c.in-Ok.ensures.read (AdvancePc c.in-Some.advance) _ (advance_read _ _ _ _ is _ _ c.in-Some.ensures.read) refl _ _ _ c.apply_operation_advance.ensures.step over.1)
+    rw (← c.self.view_is) (
+      over.0,
+      below_executed _ _ _ _ _ _ _ same c.opcode_base.ensures (omega (arith, is)) c.if-opcode-opcode_base.false c.in-Ok.ensures.read
+          (AdvancePc c.in-Some.advance)
+          _ (advance_read _ _ _ _ is _ _ c.in-Some.ensures.read) refl _ _ _ c.apply_operation_advance.ensures.step over.1,
+    )
 
 pub returns-in-Ok-apply_operation_advance-clause-ok : goal.returns-in-Ok-apply_operation_advance-clause-ok
 returns-in-Ok-apply_operation_advance-clause-ok g c =
     let same = ap (λ (m : Header). m.parameters) (ap (λ v. v.meaning) c.header.view_is) in
     let is : c.in-Ok.opcode ≡ 2 = search rules in
-    rw (← c.self.view_is) (below_executed _ _ _ _ _ _ _ same c.opcode_base.ensures (omega (arith, is)) c.if-opcode-opcode_base.false c.in-Ok.ensures.read (AdvancePc c.in-Some.advance) _ (advance_read _ _ _ _ is _ _ c.in-Some.ensures.read) refl _ _ _ c.apply_operation_advance.ensures.step c.in-Ok-apply_operation_advance.ensures.fits, refl)
+    rw (← c.self.view_is) (
+      below_executed _ _ _ _ _ _ _ same c.opcode_base.ensures (omega (arith, is)) c.if-opcode-opcode_base.false c.in-Ok.ensures.read
+          (AdvancePc c.in-Some.advance) _ (advance_read _ _ _ _ is _ _ c.in-Some.ensures.read) refl _ _ _ c.apply_operation_advance.ensures.step
+          c.in-Ok-apply_operation_advance.ensures.fits,
+      refl,
+    )
 
 pub returns-in-Err-exec_const_add_pc-clause-err : goal.returns-in-Err-exec_const_add_pc-clause-err
 returns-in-Err-exec_const_add_pc-clause-err g c =
     let same = ap (λ (m : Header). m.parameters) (ap (λ v. v.meaning) c.header.view_is) in
     let is : c.in-Ok.opcode ≡ 8 = search rules in
     let over = c.in-Err-exec_const_add_pc.ensures.overflow in
-    rw (← c.self.view_is) (over.0, below_executed _ _ _ _ _ _ _ same c.opcode_base.ensures (omega (arith, is)) c.if-opcode-opcode_base.false c.in-Ok.ensures.read ConstAddPc _ (const_add_read _ _ _ _ is) refl _ _ _ c.exec_const_add_pc.ensures.step over.1)
+    rw (← c.self.view_is) (
+      over.0,
+      below_executed _ _ _ _ _ _ _ same c.opcode_base.ensures (omega (arith, is)) c.if-opcode-opcode_base.false c.in-Ok.ensures.read ConstAddPc _
+          (const_add_read _ _ _ _ is) refl _ _ _ c.exec_const_add_pc.ensures.step over.1,
+    )
 
 pub returns-in-Ok-exec_const_add_pc-clause-ok : goal.returns-in-Ok-exec_const_add_pc-clause-ok
 returns-in-Ok-exec_const_add_pc-clause-ok g c =
     let same = ap (λ (m : Header). m.parameters) (ap (λ v. v.meaning) c.header.view_is) in
     let is : c.in-Ok.opcode ≡ 8 = search rules in
-    rw (← c.self.view_is) (below_executed _ _ _ _ _ _ _ same c.opcode_base.ensures (omega (arith, is)) c.if-opcode-opcode_base.false c.in-Ok.ensures.read ConstAddPc _ (const_add_read _ _ _ _ is) refl _ _ _ c.exec_const_add_pc.ensures.step c.in-Ok-exec_const_add_pc.ensures.fits, refl)
+    rw (← c.self.view_is) (
+      below_executed _ _ _ _ _ _ _ same c.opcode_base.ensures (omega (arith, is)) c.if-opcode-opcode_base.false c.in-Ok.ensures.read
+          ConstAddPc _ (const_add_read _ _ _ _ is) refl _ _ _ c.exec_const_add_pc.ensures.step c.in-Ok-exec_const_add_pc.ensures.fits,
+      refl,
+    )

@@ -40,7 +40,8 @@ returns-then-not-is_under_tombstone g c =
       err = tt;
       keeps = keeps_both _ c.rows.self _ i.keeps c.in-Ok-true.ensures.keeps;
       passes = subst (λ (es : List Event). Progress (with_reset_row c.args.self.now) (with_reset_row c.advance_any.new.self) es) given
-          (passes_both (with_reset_row c.args.self.now) (with_reset_row c.rows.self) (with_reset_row c.advance_any.new.self) [] (given_of c.advance_any.new.self.row) i.passes passes);
+          (passes_both (with_reset_row c.args.self.now) (with_reset_row c.rows.self) (with_reset_row c.advance_any.new.self) []
+          (given_of c.advance_any.new.self.row) i.passes passes);
     }
 
 pub rows-smaller : goal.rows-smaller
@@ -58,7 +59,8 @@ rows-preserved g c =
     record {
       events = i.events ∙ hidden c.rows.self c.advance_any.new.self _ _ next under;
       passes = subst (λ (es : List Event). Progress (with_reset_row c.args.self.now) (with_reset_row c.advance_any.new.self) es) given
-          (passes_both (with_reset_row c.args.self.now) (with_reset_row c.rows.self) (with_reset_row c.advance_any.new.self) [] (given_of c.advance_any.new.self.row) i.passes passes);
+          (passes_both (with_reset_row c.args.self.now) (with_reset_row c.rows.self) (with_reset_row c.advance_any.new.self) []
+          (given_of c.advance_any.new.self.row) i.passes passes);
       keeps = keeps_both _ c.rows.self _ i.keeps c.in-Ok-true.ensures.keeps;
     }
 

@@ -1,5 +1,6 @@
 use Rattle.std.proofs.Common.{ap, refl, ◌∙◌}
-use Rattle.gimli_line.proofs.Steps.{Has, executed_more, executed_refused, executed_row, none_executed, reads_both, reads_more, reads_none, steps_after, with_rest}
+use Rattle.gimli_line.proofs.Steps.{Has, executed_more, executed_refused, executed_row, none_executed, reads_both, reads_more, reads_none, steps_after}
+use Rattle.gimli_line.proofs.Steps.{with_rest}
 use Rattle.gimli_line.proofs.run.rows.LineRows.execute_some.Goals as goal
 
 pub common-init : goal.common-init

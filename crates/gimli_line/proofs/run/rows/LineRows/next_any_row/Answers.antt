@@ -60,7 +60,9 @@ returns-in-Err g c =
       offset = c.in-Err.ensures.keeps.offset;
       order = c.in-Err.ensures.keeps.order;
       handed = c.in-Err.ensures.keeps.handed;
-      alone = λ alone. absurd (never_refused_alone c.args.self.now c.advance_any.new.self c.in-Err.e c.in-Err.ensures.keeps.appends (fault_given (with_reset_row c.args.self.now) c.advance_any.new.self c.in-Err.e c.in-Err.ensures.err) alone);
+      alone = λ alone.
+          absurd (never_refused_alone c.args.self.now c.advance_any.new.self c.in-Err.e c.in-Err.ensures.keeps.appends
+          (fault_given (with_reset_row c.args.self.now) c.advance_any.new.self c.in-Err.e c.in-Err.ensures.err) alone);
     } in (
       (refl, λ _. tt, (keeps, c.in-Err.ensures.err)),
       record {

@@ -49,7 +49,8 @@ returns-in-Err g c =
         offset = tt;
         order = λ so. tt;
         handed = tt;
-        unrefused = λ alone. absurd (never_refused_alone c.args.self.now c.advance.new.self c.in-Err.e c.in-Err.ensures.keeps.appends c.in-Err.ensures.err alone);
+        unrefused =
+            λ alone. absurd (never_refused_alone c.args.self.now c.advance.new.self c.in-Err.e c.in-Err.ensures.keeps.appends c.in-Err.ensures.err alone);
         ended = λ empty. absurd (never_refused (with_reset_row c.args.self.now) c.advance.new.self c.in-Err.e empty c.in-Err.ensures.err);
       },
     )
