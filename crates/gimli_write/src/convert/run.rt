@@ -7,7 +7,8 @@ use crate::convert_error::{ConvertError, ConvertResult};
 use gimli_build::{FileId, LineRow as BuiltRow};
 use gimli_core::Reader;
 use gimli_line::{
-    ColumnType, FileEntry, IncompleteLineProgram, LineInstruction, LineInstructions, LineRow,
+    ColumnType, Executed, FileEntry, IncompleteLineProgram, LineInstruction, LineInstructions,
+    LineRow,
 };
 use std::marker::Model;
 
@@ -124,7 +125,7 @@ impl<R: Reader> SourceRun<R> {
     ghost use Rattle.gimli_write.specs.convert.TablesAtEnd.{tables_at_end};
     ghost use Rattle.gimli_write.specs.inside.convert.TablesAtEnd.{step_tables};
     ghost use Rattle.gimli_write.specs.convert.SourceRun.{start_of_source, state_after, reading_left};
-    ghost use Rattle.gimli_write.specs.inside.convert.SourceRun.{step_made, step_reading, Shortens};
+    ghost use Rattle.gimli_write.specs.inside.convert.SourceRun.{source_row, step_made, step_reading, Shortens, StepsSource};
 
     /// The source, from its start on.
     pub(crate) fn start(program: IncompleteLineProgram<R>) -> Self
@@ -155,6 +156,7 @@ impl<R: Reader> SourceRun<R> {
 
     /// Takes the next instruction and executes it, unless it defines a file. Refused by `Read`, as the instruction
     /// is, or by `AddressOverflow`. Takes no memory.
+    #[inline(always)]
     pub(crate) fn step(&mut self) -> ConvertResult<SourceStep<R>>
         ensures reading { IfOk result (λ step. (sections : Sections) (tables : TablesAndTexts)
             → reading_left sections self.old tables
@@ -169,6 +171,31 @@ impl<R: Reader> SourceRun<R> {
         ensures shorter { IfOk result (λ step. Shortens step self.old self.new) }
         ensures header { self.new.header ≡ self.old.header }
         ensures notation { self.new.unread.notation ≡ self.old.unread.notation }
+    {
+        let header = self.program.header();
+        let executed = match self.instructions.execute_next(header, &mut self.row) {
+            Ok(executed) => executed,
+            Err(e) => return Err(ConvertError::Read(e)),
+        };
+        match executed {
+            Executed::No => self.step_parsed(),
+            Executed::Quiet => Ok(SourceStep::More),
+            Executed::Address(address) => {
+                self.base = address;
+                self.pending = Some(address);
+                Ok(SourceStep::More)
+            }
+            Executed::Row => {
+                let row = self.row;
+                self.row.reset(self.program.header());
+                Ok(self.made(row))
+            }
+        }
+    }
+
+    /// Does what `step` does, of an instruction as it is parsed.
+    fn step_parsed(&mut self) -> ConvertResult<SourceStep<R>>
+        ensures { StepsSource R.bytes R.Offset.number self.old self.new result }
     {
         let instruction = match self.instructions.next_instruction(self.program.header()) {
             Err(e) => return Err(ConvertError::Read(e)),
@@ -217,17 +244,29 @@ impl<R: Reader> SourceRun<R> {
         if !made {
             return Ok(SourceStep::More);
         }
-        let address = self.row.address();
-        let ends = self.row.end_sequence();
+        let row = self.row;
+        self.row.reset(self.program.header());
+        Ok(self.made(row))
+    }
+
+    /// The step of an instruction that made this row, which may be under a tombstone and may end its
+    /// sequence; the registers are ready for what follows it.
+    #[inline(always)]
+    fn made(&mut self, row: LineRow) -> SourceStep<R>
+        ensures step { result ≡ (if row.tombstone then SourceStep.More
+            else SourceStep.Made (source_row self.old row)) }
+        ensures new { self.new ≡ record self.old {
+          base = if row.end_sequence then 0 else self.old.base;
+          pending = None;
+        } }
+    {
         let source_row = SourceRow {
             set_address: self.pending,
-            address_offset: address.saturating_sub(self.base),
-            row: self.row,
+            address_offset: row.address().saturating_sub(self.base),
+            row,
         };
-        let step = SourceStep::of_row(source_row);
-        self.base = base_after_row(self.base, ends);
+        self.base = base_after_row(self.base, row.end_sequence());
         self.pending = None;
-        self.row.reset(self.program.header());
-        Ok(step)
+        SourceStep::of_row(source_row)
     }
 }
