@@ -7,6 +7,7 @@ pub mod ConvertSteps
 pub mod ConvertHeader
 pub mod SourceReadings
 pub mod SourceSteps
+pub mod SourceFromBytes
 pub mod MappedAddresses
 pub mod MappedRows
 pub mod MappedTables
