@@ -23,7 +23,8 @@ use Rattle.gimli_write.specs.declared.convert.run.SourceStep.TheVariants.{More, 
 use Rattle.gimli_write.specs.convert.Items.{address_operand}
 use Rattle.gimli_write.specs.convert.SourceRun.{SourceRun, state_after}
 use Rattle.gimli_write.specs.inside.convert.SourceRun.{source_row, step_made, StepsSource}
-use Rattle.gimli_write.proofs.SourceSteps.{state, IsReady, address_state, executed_reading, executed_refusal, executed_shortens, is_shorter, made_is, quiet_state, ready_at_refusal, row_state, spelled_as, with_unread}
+use Rattle.gimli_write.proofs.SourceSteps.{state, IsReady, address_state, executed_reading, executed_refusal, executed_shortens, is_shorter, made_is}
+use Rattle.gimli_write.proofs.SourceSteps.{quiet_state, ready_at_refusal, row_state, spelled_as, with_unread}
 use Rattle.gimli_write.proofs.TablesAtEnd.{executed_last, executed_stop}
 
 -- nothing is added to the files
@@ -37,13 +38,16 @@ no_address i told is other = refl
 
 -- an instruction that was taken and executed, or refused
 module _ {R Offset Endian : Type 0} (bytes : R → List ℕ) (number : Offset → ℕ) (s new : SourceRun) (u : Unread) (notation : u.notation ≡ s.unread.notation)
-    (i : Ins) (taken : TakesNext s.header s.unread u (Some i)) (answer : Result (SourceStep R Endian Offset) ConvertError) (header : new.header ≡ s.header) (unread : new.unread ≡ u) where
+    (i : Ins) (taken : TakesNext s.header s.unread u (Some i)) (answer : Result (SourceStep R Endian Offset) ConvertError) (header : new.header ≡ s.header)
+    (unread : new.unread ≡ u) where
   pub steps_source : defines_file i ≡ false → OnOk answer (is_refused s.header.parameters i s.row ≡ false) → OnOk answer (new ≡ state_after i (with_unread s u))
-      → IfOk answer (λ step. step ≡ step_made (with_unread s u) i) → IfErr answer (λ e. (e ≡ Read AddressOverflow) × (is_refused s.header.parameters i s.row ≡ true))
+      → IfOk answer (λ step. step ≡ step_made (with_unread s u) i)
+      → IfErr answer (λ e. (e ≡ Read AddressOverflow) × (is_refused s.header.parameters i s.row ≡ true))
       → StepsSource bytes number s new answer
   steps_source file fits step made over =
       let shorter : length new.unread.bytes < length s.unread.bytes =
-      subst (λ (v : Unread). length v.bytes < length s.unread.bytes) (sym unread) (is_shorter s.unread.notation s.header s.unread.bytes i taken.0 u.bytes taken.1 taken.2) in
+      subst (λ (v : Unread). length v.bytes < length s.unread.bytes) (sym unread)
+      (is_shorter s.unread.notation s.header s.unread.bytes i taken.0 u.bytes taken.1 taken.2) in
       record {
         reading = executed_reading Endian bytes number s u notation i taken.0 taken.1 taken.2 new answer file fits step made;
         refusal = executed_refusal Endian bytes number s u notation i taken.0 taken.1 taken.2 answer over;
@@ -77,14 +81,17 @@ module _ (s : SourceRun) (k : Header) (lent : k ≡ s.header) (r2 : LineRow) (u 
       let x = refused.1 in
       ready_at_refusal x.instruction s.row r2 ready s.header.parameters AddressOverflow x.defines (λ n. absurd (n refl)) (λ _. (fits true x, steps true x))
 
-module _ {R Offset Endian : Type 0} (bytes : R → List ℕ) (number : Offset → ℕ) (s : SourceRun) (k : Header) (lent : k ≡ s.header) (r2 : LineRow) (u : Unread) (notation : u.notation ≡ s.unread.notation) where
+module _ {R Offset Endian : Type 0} (bytes : R → List ℕ) (number : Offset → ℕ) (s : SourceRun) (k : Header) (lent : k ≡ s.header) (r2 : LineRow) (u : Unread)
+    (notation : u.notation ≡ s.unread.notation) where
   module _ (x : IsExecuted k.parameters (ins_at s.unread.notation k s.unread.bytes) u.bytes s.row r2 false) where
     pub quiet_steps : Quiet ≡ told_of x.instruction → StepsSource {Endian = Endian} bytes number s (state s.header r2 s.base s.pending u) (Ok More)
     quiet_steps told =
         let i = x.instruction in
         let address = no_address i Quiet told (λ a is. absurd cc) in
-        steps_source bytes number s (state s.header r2 s.base s.pending u) u notation i (taken s k lent r2 u false x) (Ok More) refl refl x.defines (fits s k lent r2 u false x)
-        (quiet_state i s.header s.header s.row r2 s.base s.pending u address x.defines (fits s k lent r2 u false x) (files_kept s.header i x.defines) (steps s k lent r2 u false x) (told_quiet i told))
+        steps_source bytes number s (state s.header r2 s.base s.pending u) u notation i (taken s k lent r2 u false x) (Ok More) refl refl x.defines
+        (fits s k lent r2 u false x)
+        (quiet_state i s.header s.header s.row r2 s.base s.pending u address x.defines (fits s k lent r2 u false x) (files_kept s.header i x.defines)
+        (steps s k lent r2 u false x) (told_quiet i told))
         (rw (told_quiet i told) refl) tt
 
     pub address_steps : (a : ℕ) → Address a ≡ told_of x.instruction → StepsSource {Endian = Endian} bytes number s (state s.header r2 a (Some a) u) (Ok More)
@@ -95,22 +102,29 @@ module _ {R Offset Endian : Type 0} (bytes : R → List ℕ) (number : Offset �
 
     -- a row was made, and the registers were reset after it
     pub row_steps : IsReady s.row → Row ≡ told_of x.instruction → (j : Header) → j ≡ s.header → (r3 : LineRow) → r3 ≡ reset_row j.parameters r2
-        → (t : SourceRun) (given : SourceStep R Endian Offset) → given ≡ (if r2.tombstone then More else Made (source_row (state s.header r3 s.base s.pending u) r2))
+        → (t : SourceRun) (given : SourceStep R Endian Offset)
+        → given ≡ (if r2.tombstone then More else Made (source_row (state s.header r3 s.base s.pending u) r2))
         → t ≡ state s.header r3 (if r2.end_sequence then 0 else s.base) None u → StepsSource bytes number s t (Ok given)
     row_steps ready told j same r3 reset t given is t_is =
         let i = x.instruction in
         let loud = told_row i told in
         let address = no_address i Row told (λ a is. absurd cc) in
         let kept = files_kept s.header i x.defines in
-        steps_source bytes number s t u notation i (taken s k lent r2 u false x) (Ok given) (ap (λ (q : SourceRun). q.header) t_is) (ap (λ (q : SourceRun). q.unread) t_is)
+        steps_source bytes number s t u notation i (taken s k lent r2 u false x) (Ok given) (ap (λ (q : SourceRun). q.header) t_is)
+        (ap (λ (q : SourceRun). q.unread) t_is)
         x.defines (fits s k lent r2 u false x)
-        (t_is ∙ row_state i s.header s.header s.row r2 s.base s.pending u address x.defines (fits s k lent r2 u false x) kept (steps s k lent r2 u false x) loud ready j same r3 reset
+        (t_is
+        ∙ row_state i s.header s.header s.row r2 s.base s.pending u address x.defines (fits s k lent r2 u false x) kept (steps s k lent r2 u false x) loud
+        ready j same r3 reset
         r2.end_sequence refl (if r2.end_sequence then 0 else s.base) refl)
-        (made_is i s.header s.header s.row r2 s.base s.pending u address x.defines (fits s k lent r2 u false x) kept (steps s k lent r2 u false x) given (r2.address - s.base) is loud refl) tt
+        (made_is i s.header s.header s.row r2 s.base s.pending u address x.defines (fits s k lent r2 u false x) kept (steps s k lent r2 u false x) given
+        (r2.address - s.base) is loud refl)
+        tt
 
   pub refused_steps : (e : Error) → RefusesNext k s.unread u s.row r2 e
       → StepsSource {R = R} {Offset = Offset} {Endian = Endian} bytes number s (state s.header r2 s.base s.pending u) (Err (Read e))
   refused_steps e refused =
       let x = refused.1 in
-      steps_source bytes number s (state s.header r2 s.base s.pending u) u notation x.instruction (taken s k lent r2 u true x) (Err (Read e)) refl refl x.defines tt tt tt
+      steps_source bytes number s (state s.header r2 s.base s.pending u) u notation x.instruction (taken s k lent r2 u true x) (Err (Read e)) refl refl
+      x.defines tt tt tt
       (ap Read refused.0, fits s k lent r2 u true x)

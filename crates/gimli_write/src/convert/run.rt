@@ -17,7 +17,8 @@ use std::marker::Model;
 pub(crate) struct SourceRow {
     /// The address that was set after the row before it, if one was.
     pub(crate) set_address: Option<u64>,
-    /// How many bytes it is after the address that was last set in the sequence, or after 0 where none was.
+    /// How many bytes it is after the address that was last set in the sequence, or after 0 where
+    /// none was.
     pub(crate) address_offset: u64,
     /// The registers.
     pub(crate) row: LineRow,
@@ -124,8 +125,18 @@ impl<R: Reader> SourceRun<R> {
     ghost use Rattle.gimli_write.specs.convert.Items.{stops, address_operand, ReadsItems};
     ghost use Rattle.gimli_write.specs.convert.TablesAtEnd.{tables_at_end};
     ghost use Rattle.gimli_write.specs.inside.convert.TablesAtEnd.{step_tables};
-    ghost use Rattle.gimli_write.specs.convert.SourceRun.{start_of_source, state_after, reading_left};
-    ghost use Rattle.gimli_write.specs.inside.convert.SourceRun.{source_row, step_made, step_reading, Shortens, StepsSource};
+    ghost use Rattle.gimli_write.specs.convert.SourceRun.{
+      start_of_source,
+      state_after,
+      reading_left,
+    };
+    ghost use Rattle.gimli_write.specs.inside.convert.SourceRun.{
+      source_row,
+      step_made,
+      step_reading,
+      Shortens,
+      StepsSource,
+    };
 
     /// The source, from its start on.
     pub(crate) fn start(program: IncompleteLineProgram<R>) -> Self
@@ -154,8 +165,8 @@ impl<R: Reader> SourceRun<R> {
         self.program.header().version()
     }
 
-    /// Takes the next instruction and executes it, unless it defines a file. Refused by `Read`, as the instruction
-    /// is, or by `AddressOverflow`. Takes no memory.
+    /// Takes the next instruction and executes it, unless it defines a file. Refused by `Read`, as
+    /// the instruction is, or by `AddressOverflow`. Takes no memory.
     #[inline(always)]
     pub(crate) fn step(&mut self) -> ConvertResult<SourceStep<R>>
         ensures reading { IfOk result (λ step. (sections : Sections) (tables : TablesAndTexts)
@@ -222,15 +233,19 @@ impl<R: Reader> SourceRun<R> {
         let _never_refused = self.row.execute(set_address, &mut self.program);
     }
 
-    /// Executes an instruction, which doesn't set an address and defines no file. Refused by `AddressOverflow`.
+    /// Executes an instruction, which doesn't set an address and defines no file. Refused by
+    /// `AddressOverflow`.
     fn execute(&mut self, instruction: LineInstruction<R>) -> ConvertResult<SourceStep<R>>
-        requires allowed { IsAllowed self.old.header.parameters (ins_seen R.bytes R.Offset.number instruction) }
+        requires allowed { IsAllowed self.old.header.parameters
+            (ins_seen R.bytes R.Offset.number instruction) }
         requires address { address_operand (ins_seen R.bytes R.Offset.number instruction) ≡ None }
         requires file { defines_file (ins_seen R.bytes R.Offset.number instruction) ≡ false }
         ensures fits { OnOk result (is_refused self.old.header.parameters
             (ins_seen R.bytes R.Offset.number instruction) self.old.row ≡ false) }
-        ensures step { OnOk result (self.new ≡ state_after (ins_seen R.bytes R.Offset.number instruction) self.old) }
-        ensures made { IfOk result (λ step. step ≡ step_made self.old (ins_seen R.bytes R.Offset.number instruction)) }
+        ensures step { OnOk result
+            (self.new ≡ state_after (ins_seen R.bytes R.Offset.number instruction) self.old) }
+        ensures made { IfOk result (λ step.
+            step ≡ step_made self.old (ins_seen R.bytes R.Offset.number instruction)) }
         ensures overflow { IfErr result (λ e. (e ≡ ConvertError.Read AddressOverflow)
             × (is_refused self.old.header.parameters
             (ins_seen R.bytes R.Offset.number instruction) self.old.row ≡ true)) }
@@ -249,8 +264,8 @@ impl<R: Reader> SourceRun<R> {
         Ok(self.made(row))
     }
 
-    /// The step of an instruction that made this row, which may be under a tombstone and may end its
-    /// sequence; the registers are ready for what follows it.
+    /// The step of an instruction that made this row, which may be under a tombstone and may end
+    /// its sequence; the registers are ready for what follows it.
     #[inline(always)]
     fn made(&mut self, row: LineRow) -> SourceStep<R>
         ensures step { result ≡ (if row.tombstone then SourceStep.More

@@ -1,5 +1,6 @@
 -- What a run over a source has still to read.
-use Rattle.std.specs.Prelude.{◌≡◌, ◌<◌, ◌-◌, ℕ, not, ◌&&◌, if◌then◌else◌, List, [], length, IfErr, IfOk, Result}
+use Rattle.std.specs.Prelude.{◌≡◌, ◌<◌, ◌-◌, ℕ, not, ◌&&◌, if◌then◌else◌, List, [], length, IfErr}
+use Rattle.std.specs.Prelude.{IfOk, Result}
 use Rattle.gimli_line.specs.header.File.{file_seen}
 use Rattle.gimli_line.specs.run.Instruction.{Ins, makes_row}
 use Rattle.gimli_line.specs.declared.run.row.LineRow.{LineRow}
@@ -28,7 +29,11 @@ module _ {R Offset Endian : Type 0} (bytes : R → List ℕ) (number : Offset �
 
 -- a row that was made, from where addresses count
 abbrev pub source_row : SourceRun → LineRow → SourceRow
-source_row s row = record { set_address = s.pending; address_offset = row.address - s.base; row = row }
+source_row s row = record {
+  set_address = s.pending;
+  address_offset = row.address - s.base;
+  row = row;
+}
 
 -- the step of an instruction that defines no file
 abbrev pub step_made : {R Endian Offset : Type 0} → SourceRun → Ins → SourceStep R Endian Offset
@@ -42,11 +47,20 @@ Shortens step old new = length new.unread.bytes < length old.unread.bytes
 
 module _ {R Offset Endian : Type 0} (bytes : R → List ℕ) (number : Offset → ℕ) where
   -- a step: what its answer says of what is to be read, and of the tables at the end
-  pub record StepsSource (old new : SourceRun) (answer : Result (SourceStep R Endian Offset) ConvertError) : Type 0 where
-    pub reading : IfOk answer (λ step. (sections : Sections) (tables : TablesAndTexts) → reading_left sections old tables ≡ step_reading bytes number sections tables step new)
-    pub refusal : IfErr answer (λ e. (sections : Sections) (tables : TablesAndTexts) → reading_left sections old tables ≡ stops e)
-    pub tables : IfOk answer (λ step. (sections : Sections) (tables : TablesAndTexts) → tables_at_end sections old tables ≡ step_tables bytes number sections tables step new)
-    pub stopped : IfErr answer (λ e. (sections : Sections) (tables : TablesAndTexts) → tables_at_end sections old tables ≡ tables)
+  pub record StepsSource (old new : SourceRun)
+      (answer : Result (SourceStep R Endian Offset) ConvertError) : Type 0 where
+    pub reading : IfOk answer (λ step.
+        (sections : Sections) (tables : TablesAndTexts)
+        → reading_left sections old tables ≡ step_reading bytes number sections tables step new)
+    pub refusal : IfErr answer (λ e.
+        (sections : Sections) (tables : TablesAndTexts)
+        → reading_left sections old tables ≡ stops e)
+    pub tables : IfOk answer (λ step.
+        (sections : Sections) (tables : TablesAndTexts)
+        → tables_at_end sections old tables ≡ step_tables bytes number sections tables step new)
+    pub stopped : IfErr answer (λ e.
+        (sections : Sections) (tables : TablesAndTexts)
+        → tables_at_end sections old tables ≡ tables)
     pub shorter : IfOk answer (λ step. Shortens step old new)
     pub header : new.header ≡ old.header
     pub notation : new.unread.notation ≡ old.unread.notation

@@ -55,7 +55,9 @@ returns-in-Row g c =
     let s = state c.self.inside.program.meaning c.self.inside.row c.self.inside.base c.self.inside.pending c.self.inside.instructions in
     let lent : c.header-header.result.now.meaning ≡ c.self.inside.program.meaning = rw c.header-header.ensures refl in
     let q = rw c.in-Row.is at c.in-Ok.ensures.ok in
-    let x = row_steps g.R.Reader.bytes g.R.Offset.ReaderOffset.number s _ lent _ _ c.in-Ok.ensures.notation q.0 c.self.invariant q.1 c.header.result.now.meaning (rw c.header.ensures refl) _ c.reset.ensures _ _ c.made.ensures.step c.made.ensures.new in
+    let x =
+    row_steps g.R.Reader.bytes g.R.Offset.ReaderOffset.number s _ lent _ _ c.in-Ok.ensures.notation q.0 c.self.invariant q.1 c.header.result.now.meaning
+    (rw c.header.ensures refl) _ c.reset.ensures _ _ c.made.ensures.step c.made.ensures.new in
     rw (← c.self.view_is) (record {
       reading = x.reading;
       refusal = x.refusal;

@@ -64,7 +64,8 @@ returns-in-SetAddress g c =
     let s = state c.self.inside.program.meaning c.self.inside.row c.self.inside.base c.self.inside.pending c.self.inside.instructions in
     let u = c.next_instruction.new.self in
     let lent : c.header.result.now.meaning ≡ c.self.inside.program.meaning = rw c.header.ensures refl in
-    let is : ins_seen g.R.Reader.bytes g.R.Offset.ReaderOffset.number c.in-Ok-Some.instruction ≡ SetAddress c.in-SetAddress.address = rw c.in-SetAddress.is refl in
+    let is : ins_seen g.R.Reader.bytes g.R.Offset.ReaderOffset.number c.in-Ok-Some.instruction
+    ≡ SetAddress c.in-SetAddress.address = rw c.in-SetAddress.is refl in
     let spelled = spelled_as s.unread.notation s.header c.header.result.now.meaning n.0 _ _ lent is n.2 in
     rw (← c.self.view_is) (steps_source _ _ s c.set_address.new.self u c.in-Ok-Some.ensures.notation (SetAddress c.in-SetAddress.address) (n.0, n.1, spelled) _
     (ap (λ (q : SourceRun). q.header) c.set_address.ensures) (ap (λ (q : SourceRun). q.unread) c.set_address.ensures) refl refl c.set_address.ensures refl tt)
@@ -77,6 +78,8 @@ returns-in_default g c =
     let u = c.next_instruction.new.self in
     let lent : c.header.result.now.meaning ≡ c.self.inside.program.meaning = rw c.header.ensures refl in
     let spelled = spelled_as s.unread.notation s.header c.header.result.now.meaning n.0 i i lent refl n.2 in
-    let file : defines_file i ≡ false = other_kind g.R.Reader.bytes g.R.Offset.ReaderOffset.number c.in-Ok-Some.instruction (λ f is. c.in_default.not-DefineFile f is) in
-    rw (← c.self.view_is) (steps_source _ _ s c.execute.new.self u c.in-Ok-Some.ensures.notation i (n.0, n.1, spelled) _ c.execute.ensures.header c.execute.ensures.unread file
+    let file : defines_file i
+    ≡ false = other_kind g.R.Reader.bytes g.R.Offset.ReaderOffset.number c.in-Ok-Some.instruction (λ f is. c.in_default.not-DefineFile f is) in
+    rw (← c.self.view_is)
+    (steps_source _ _ s c.execute.new.self u c.in-Ok-Some.ensures.notation i (n.0, n.1, spelled) _ c.execute.ensures.header c.execute.ensures.unread file
     c.execute.ensures.fits c.execute.ensures.step c.execute.ensures.made c.execute.ensures.overflow)
