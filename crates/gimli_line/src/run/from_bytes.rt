@@ -32,6 +32,18 @@ use crate::run::row::LineRow;
 use gimli_core::{DwLne, DwLns, Reader, ReaderOffset, Result, constants};
 
 /// What was done with the next instruction of a program.
+///
+/// <!-- part of crates/gimli_write/src/convert/run.rt -->
+/// ```rust
+/// match executed {
+///     Executed::No => self.step_parsed(),
+///     Executed::Quiet => Ok(SourceStep::More),
+///     Executed::Address(address) => {
+///         self.base = address;
+///         self.pending = Some(address);
+///         Ok(SourceStep::More)
+///     }
+/// ```
 #[derive(Clone, Copy, Debug, PartialEq, Eq)]
 pub enum Executed {
     /// Nothing: it is another instruction, has a long operand, or isn't there as a whole.
