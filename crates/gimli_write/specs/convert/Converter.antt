@@ -4,7 +4,7 @@ use Rattle.std.specs.Prelude.{◌≡◌, Result, OnErr, OnOk}
 use Rattle.gimli_build.specs.Built.{Built}
 use Rattle.gimli_write.specs.declared.convert_error.ConvertError.{ConvertError}
 use Rattle.gimli_write.specs.declared.convert.program.ConvertLineProgram.{ConvertLineProgram}
-use Rattle.gimli_write.specs.convert.Conversion.{Conversion, Progress, built_so_far, with_program, IsBuildRefusal}
+use Rattle.gimli_write.specs.convert.Conversion.{Conversion, Progress, built_so_far, with_program}
 use Rattle.gimli_write.specs.convert.KeptTables.{StaysWritable}
 use Rattle.gimli_write.specs.convert.LentTables.{LentTables, SameStringTables}
 
