@@ -5,7 +5,6 @@ use Rattle.gimli_build.specs.Built.{Built}
 use Rattle.gimli_write.specs.declared.convert_error.ConvertError.{ConvertError}
 use Rattle.gimli_write.specs.declared.convert.program.ConvertLineProgram.{ConvertLineProgram}
 use Rattle.gimli_write.specs.convert.Conversion.{Conversion, Progress, built_so_far, with_program}
-use Rattle.gimli_write.specs.convert.Conversion.{IsBuildRefusal}
 use Rattle.gimli_write.specs.convert.KeptTables.{StaysWritable}
 use Rattle.gimli_write.specs.convert.LentTables.{LentTables, SameStringTables}
 
