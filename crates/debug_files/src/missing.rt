@@ -29,6 +29,8 @@ pub enum Missing {
     NotLinked,
     /// It has no section `.debug_line`.
     NoLines,
+    /// It is the memory of a program that ended (`ET_CORE`).
+    Core,
     /// Its build id isn't the program's.
     OtherBuildId,
     /// Its checksum isn't the one in the program's link.
@@ -46,6 +48,7 @@ impl fmt::Display for Missing {
             Missing::NotRegular => f.write_str("not a regular file"),
             Missing::NotLinked => f.write_str("an object file, which is not linked"),
             Missing::NoLines => f.write_str("there is no section .debug_line"),
+            Missing::Core => f.write_str("a core file, which has no line programs"),
             Missing::OtherBuildId => f.write_str("its build id is not the program's"),
             Missing::OtherChecksum => {
                 f.write_str("its checksum is not the one that the program has")

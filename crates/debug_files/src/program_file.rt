@@ -8,10 +8,10 @@ use crate::outline::{Outline, checksum, whole};
 use crate::source::{PathSections, Source, Wanted};
 use elf_sections::ElfError;
 use std::alloc::Global;
-use std::fs;
 use std::fs::File;
 use std::io::{Read, Seek};
 use std::rt::Files;
+use std::{fs, io};
 
 /// The name and the checksum of a debug file.
 #[derive(Drop)]
@@ -161,6 +161,23 @@ pub(crate) fn open<R: Files + AllocGlobal>(
         return Err(Missing::NotRegular);
     }
     let mut file = File::open(rt, path)?;
+    if is_core(&mut file)? {
+        return Err(Missing::Core);
+    }
     let outline = Outline::read(rt.alloc(), &mut file)?;
     Ok(ProgramFile { file, outline })
+}
+
+/// Whether a file begins as the memory of a program that ended does (System V ABI, chapter 4:
+/// `e_type` is `ET_CORE`, 4, in the order of bytes that `EI_DATA` says).
+fn is_core<F: Read>(file: &mut F) -> io::Result<bool> {
+    let mut start = [0; 18];
+    if file.read(&mut start)? < start.len() {
+        return Ok(false);
+    }
+    Ok(match start {
+        [0x7f, b'E', b'L', b'F', _, 2, ..] => start[16..] == [0, 4],
+        [0x7f, b'E', b'L', b'F', ..] => start[16..] == [4, 0],
+        _ => false,
+    })
 }

@@ -3,7 +3,9 @@
 use crate::components::{components_of, ends_with};
 use crate::fields::{ShownColumn, column_of, line_of};
 use crate::input::Input;
+use crate::json_text::path_fields;
 use crate::lookup::look_up;
+use crate::names::{NameText, bytes_of_word};
 use crate::output::Output;
 use crate::path_sources::{PathSources, path_sources};
 use crate::path_text::PathText;
@@ -14,6 +16,7 @@ use gimli_line::{LineProgramHeader, LineRow};
 use gimli_lookup::{Addresses, PathError, SectionLookup};
 use std::alloc::{AllocError, Global};
 use std::collections::BTreeMap;
+use std::fmt;
 use std::io::Write;
 
 /// Prints the addresses of a line in each file whose whole path ends with the components that are
@@ -37,7 +40,7 @@ pub(crate) fn print_addresses<R: Reader, O: Write, E: Write>(
     let Some(sources) = path_sources(alloc, input, output) else {
         return;
     };
-    let Ok(end) = components_of(alloc, asked.path.as_bytes()) else {
+    let Ok(end) = end_of(alloc, asked.path) else {
         return output.fail_for_memory();
     };
     let search = Search {
@@ -51,6 +54,12 @@ pub(crate) fn print_addresses<R: Reader, O: Write, E: Write>(
     let mut seen = PathsSeen::new(alloc);
     search.find_files(&mut seen, output);
     search.print_of_paths(seen.files(), output);
+}
+
+/// The components of the path that a word names.
+fn end_of(alloc: Global, word: &str) -> Result<Vec<u8>, AllocError> {
+    let path = bytes_of_word(alloc, word)?;
+    components_of(alloc, &path)
 }
 
 /// A search for the addresses of a line.
@@ -125,7 +134,7 @@ impl<R: Reader> Search<'_, R> {
         output: &mut Output<'_, O, E>,
     ) {
         if paths.is_empty() {
-            let end = PathText(self.asked.path.as_bytes());
+            let end = NameText(self.asked.path);
             output.note(format_args!("no file's path ends with {end}"));
         }
         let mut is_found = false;
@@ -182,15 +191,66 @@ impl<R: Reader> Search<'_, R> {
         found: &[Addresses],
         output: &mut Output<'_, O, E>,
     ) -> Result<(), AllocError> {
-        let columns = if self.asked.has_column {
+        let columns = if self.asked.has_column || self.asked.is_json {
             self.columns_of(files, line, true)?
         } else {
             BTreeMap::new(self.alloc)
         };
+        let place = Place {
+            path: self.shown_path(path)?,
+            line,
+            is_stmt: true,
+        };
         for found in found.iter().filter(|found| found.line == line) {
-            print_each(path, line, &found.addresses, &columns, output);
+            for address in &found.addresses {
+                self.print_address(&place, *address, columns.get(address).copied(), output);
+            }
         }
         Ok(())
+    }
+
+    /// How a path is printed.
+    fn shown_path(self, path: &[u8]) -> Result<String, AllocError> {
+        if self.asked.is_json {
+            return path_fields(self.alloc, Some(path));
+        }
+        let path = PathText(path);
+        format!(in self.alloc; "{path}")
+    }
+
+    /// Prints an address of a place.
+    fn print_address<O: Write, E: Write>(
+        self,
+        place: &Place,
+        address: u64,
+        column: Option<u64>,
+        output: &mut Output<'_, O, E>,
+    ) {
+        let Place {
+            path,
+            line,
+            is_stmt,
+        } = place;
+        let end = self.end_of_row(address);
+        if self.asked.is_json {
+            let column = column.unwrap_or(0);
+            return output.print(format_args!(
+                "{{\"address\":\"0x{address:x}\",{path},\"line\":{line},\"column\":{column},\
+                 \"range\":[\"0x{address:x}\",\"0x{end:x}\"],\"is_stmt\":{is_stmt}}}"
+            ));
+        }
+        let end = ShownEnd(self.asked.has_range.then_some(end));
+        let column = ShownColumn(column.filter(|_| self.asked.has_column));
+        let note = if *is_stmt { "" } else { "  not a statement" };
+        output.print(format_args!("0x{address:x}{end}  {path}:{line}{column}{note}"));
+    }
+
+    /// Where the row ends that covers the addresses from one on; there where none does.
+    fn end_of_row(self, address: u64) -> u64 {
+        match self.lookup.find(address) {
+            Some(found) if found.row.address() == address => found.next.address(),
+            _ => address,
+        }
     }
 
     /// Prints the rows of the line that are no statements, and returns whether there is any.
@@ -200,12 +260,14 @@ impl<R: Reader> Search<'_, R> {
         files: &[SeenFile],
         output: &mut Output<'_, O, E>,
     ) -> Result<bool, AllocError> {
-        let path = PathText(path);
-        let line = self.asked.line;
-        let columns = self.columns_of(files, line, false)?;
+        let place = Place {
+            path: self.shown_path(path)?,
+            line: self.asked.line,
+            is_stmt: false,
+        };
+        let columns = self.columns_of(files, place.line, false)?;
         for (address, column) in &columns {
-            let column = ShownColumn(self.asked.has_column.then_some(*column));
-            output.print(format_args!("0x{address:x}  {path}:{line}{column}  not a statement"));
+            self.print_address(&place, *address, Some(*column), output);
         }
         Ok(!columns.is_empty())
     }
@@ -314,17 +376,25 @@ impl<R: Reader> Search<'_, R> {
     }
 }
 
-/// Prints addresses of a line, with their columns where these are known.
-fn print_each<O: Write, E: Write>(
-    path: &[u8],
+/// The line of a file whose addresses are printed.
+#[derive(Drop)]
+struct Place {
+    /// How the path is printed.
+    path: String,
     line: u64,
-    addresses: &[u64],
-    columns: &BTreeMap<u64, u64>,
-    output: &mut Output<'_, O, E>,
-) {
-    let path = PathText(path);
-    for address in addresses {
-        let column = ShownColumn(columns.get(address).copied());
-        output.print(format_args!("0x{address:x}  {path}:{line}{column}"));
+    /// Whether the rows are statements.
+    is_stmt: bool,
+}
+
+/// The end of a range after its beginning, where it is shown.
+#[derive(Clone, Copy)]
+struct ShownEnd(Option<u64>);
+
+impl fmt::Display for ShownEnd {
+    fn fmt<W: fmt::Write>(&self, f: &mut fmt::Formatter<W>) -> fmt::Result {
+        match self.0 {
+            Some(end) => write!(f, "-0x{end:x}"),
+            None => Ok(()),
+        }
     }
 }

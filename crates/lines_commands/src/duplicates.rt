@@ -55,7 +55,10 @@ fn digest_files<R: Reader, O: Write, E: Write>(
                 }
             }
             Err(PathError::OutOfMemory) => output.fail_for_memory(),
-            Err(error) => output.print_finding(unit, Finding::NoPath { file: index, error }),
+            Err(error) => {
+                let error = sources.fault(error);
+                output.print_finding(unit, Finding::NoPath { file: index, error });
+            }
         }
         if output.has_failed() {
             break;

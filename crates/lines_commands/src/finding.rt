@@ -1,9 +1,9 @@
 //! What a check finds, its kind, and the sentence that tells it.
 
 use crate::kinds::FindingKind;
+use crate::path_fault::PathFault;
 use crate::row_count::RowCount;
 use gimli_core::Error;
-use gimli_lookup::PathError;
 use std::fmt;
 
 /// What a check finds in a unit. Rows are counted from 1, those that are left out not among them.
@@ -22,7 +22,7 @@ pub(crate) enum Finding {
     /// A file has no path.
     NoPath {
         file: u64,
-        error: PathError,
+        error: PathFault,
     },
     /// Two files have one path.
     SamePath {

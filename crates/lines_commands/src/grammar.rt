@@ -33,19 +33,24 @@ const COMMANDS: [Entry; 6] = [
         name: "at",
         about: "Prints the addresses to break at for a line, or for the next one that has code",
         example: "Example: lines at a.out src/main.c:12",
-        arguments: &[Argument::Target, Argument::Columns],
+        arguments: &[
+            Argument::Target,
+            Argument::Columns,
+            Argument::Range,
+            Argument::Json,
+        ],
     },
     Entry {
         name: "units",
         about: "Prints a line for each unit",
         example: "Example: lines units a.out",
-        arguments: &[],
+        arguments: &[Argument::Json],
     },
     Entry {
         name: "files",
         about: "Prints the directories and files of the units",
         example: "Example: lines files a.out 0x8d",
-        arguments: &[Argument::Unit],
+        arguments: &[Argument::Unit, Argument::Json],
     },
     Entry {
         name: "rows",
@@ -161,6 +166,8 @@ enum Argument {
     Bias,
     /// The choice of columns.
     Columns,
+    /// The choice of ranges.
+    Range,
     /// The choice of JSON.
     Json,
     /// Kinds of findings that are denied.
@@ -197,7 +204,7 @@ impl Argument {
             Argument::File => word(
                 alloc,
                 "FILE",
-                "An ELF file, or with --raw a section .debug_line",
+                "An ELF file, or with --raw a section .debug_line; - is standard input",
             )
             .required(true),
             Argument::Raw => option(
@@ -263,6 +270,11 @@ impl Argument {
                 "Subtracts this from each address, for a program that was loaded elsewhere",
             ),
             Argument::Columns => flag(alloc, "columns", "Prints the column after the line"),
+            Argument::Range => flag(
+                alloc,
+                "range",
+                "Prints where the row of each address ends, after its beginning",
+            ),
             _ => flag(alloc, "json", "Prints a JSON object a line"),
         }
     }

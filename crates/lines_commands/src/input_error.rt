@@ -11,6 +11,23 @@ pub enum InputError {
     Elf(ElfError),
     /// The file has no section `.debug_line`.
     NoLines,
+    /// The file is the memory of a program that ended.
+    Core,
+}
+
+impl InputError {
+    /// Why a file has no section `.debug_line`, by its first bytes (System V ABI, chapter 4:
+    /// `ET_CORE` is 4).
+    pub fn no_lines(file: &[u8]) -> InputError {
+        let kind = match file.get(5) {
+            Some(2) => [0, 4],
+            _ => [4, 0],
+        };
+        match file.get(16..18) {
+            Some(found) if found == kind.as_slice() => InputError::Core,
+            _ => InputError::NoLines,
+        }
+    }
 }
 
 impl fmt::Display for InputError {
@@ -21,9 +38,13 @@ impl fmt::Display for InputError {
                 --address-size",
             ),
             InputError::Elf(error) => write!(f, "{error}"),
-            InputError::NoLines => {
-                f.write_str("there is no section .debug_line; compile and link with -g")
-            }
+            InputError::NoLines => f.write_str(
+                "there is no section .debug_line; compile and link with -g, and of a stripped \
+                 program name the file with its debug information",
+            ),
+            InputError::Core => f.write_str(
+                "a core file, which has no line programs; name the program that it is of",
+            ),
         }
     }
 }

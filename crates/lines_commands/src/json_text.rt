@@ -1,24 +1,46 @@
-//! Texts in JSON (RFC 8259, section 7).
+//! Texts and paths in JSON (RFC 8259).
 
+use rows_reading::Digits;
+use std::alloc::{AllocError, Global};
 use std::fmt;
 
-/// A path as a JSON string, or null where there is none. In a path that isn't UTF-8 each byte that
-/// isn't ASCII stands as U+FFFD.
-#[derive(Clone, Copy)]
-pub(crate) struct JsonPath<'p>(pub(crate) Option<&'p [u8]>);
-
-impl fmt::Display for JsonPath<'_> {
-    fn fmt<W: fmt::Write>(&self, f: &mut fmt::Formatter<W>) -> fmt::Result {
-        let Some(path) = self.0 else {
-            return f.write_str("null");
-        };
-        f.write_char('"')?;
-        match str::from_utf8(path) {
-            Ok(text) => write_text(text, f)?,
-            Err(_) => write_lossy(path, f)?,
-        }
-        f.write_char('"')
+/// A text in quotes.
+pub(crate) fn quoted(alloc: Global, text: &str) -> Result<String, AllocError> {
+    match serde_json::to_string(alloc, &text) {
+        Ok(text) => Ok(text),
+        Err(_) => Err(AllocError),
     }
+}
+
+/// The field `path` of an object, null where there is no path. Where the path isn't UTF-8, each of
+/// its bytes that isn't ASCII stands as U+FFFD, and the field `path_bytes` has its bytes in
+/// hexadecimal digits.
+pub(crate) fn path_fields(alloc: Global, path: Option<&[u8]>) -> Result<String, AllocError> {
+    let Some(path) = path else {
+        return String::from_str(alloc, "\"path\":null");
+    };
+    if let Ok(text) = str::from_utf8(path) {
+        let text = quoted(alloc, text)?;
+        return format!(in alloc; "\"path\":{text}");
+    }
+    let text = lossy(alloc, path)?;
+    let text = quoted(alloc, &text)?;
+    let bytes = Digits(path);
+    format!(in alloc; "\"path\":{text},\"path_bytes\":\"{bytes}\"")
+}
+
+/// Bytes as text, with U+FFFD in the place of each that isn't ASCII.
+fn lossy(alloc: Global, bytes: &[u8]) -> Result<String, AllocError> {
+    let mut text = String::new(alloc);
+    for byte in bytes {
+        let character = if byte.is_ascii() {
+            char::from(*byte)
+        } else {
+            '\u{fffd}'
+        };
+        text.push(character)?;
+    }
+    Ok(text)
 }
 
 /// An offset as a JSON string, or null where there is none.
@@ -31,38 +53,5 @@ impl fmt::Display for JsonOffset {
             Some(offset) => write!(f, "\"0x{offset:x}\""),
             None => f.write_str("null"),
         }
-    }
-}
-
-/// Writes the characters of a text.
-fn write_text<W: fmt::Write>(text: &str, f: &mut fmt::Formatter<W>) -> fmt::Result {
-    for character in text.chars() {
-        write_character(character, f)?;
-    }
-    Ok(())
-}
-
-/// Writes bytes that aren't UTF-8.
-fn write_lossy<W: fmt::Write>(bytes: &[u8], f: &mut fmt::Formatter<W>) -> fmt::Result {
-    for byte in bytes {
-        if byte.is_ascii() {
-            write_character(char::from(*byte), f)?;
-        } else {
-            f.write_char('\u{fffd}')?;
-        }
-    }
-    Ok(())
-}
-
-/// Writes a character, or its escape where JSON wants one.
-fn write_character<W: fmt::Write>(character: char, f: &mut fmt::Formatter<W>) -> fmt::Result {
-    match character {
-        '"' => f.write_str("\\\""),
-        '\\' => f.write_str("\\\\"),
-        '\u{0}'..='\u{1f}' => {
-            let number = u32::from(character);
-            write!(f, "\\u{number:04x}")
-        }
-        _ => f.write_char(character),
     }
 }

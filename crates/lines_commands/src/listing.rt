@@ -17,7 +17,7 @@ use std::io::Write;
 #[derive(Clone, Copy, Debug, PartialEq, Eq)]
 pub(crate) enum Listing {
     /// Its directories and files.
-    Files,
+    Files { is_json: bool },
     /// Its rows.
     Rows(Form),
 }
@@ -27,16 +27,19 @@ pub(crate) enum Listing {
 pub(crate) fn print_units<R: Reader, O: Write, E: Write>(
     alloc: Global,
     input: &Input<R>,
+    is_json: bool,
     output: &mut Output<'_, O, E>,
 ) {
-    print_headings(output);
+    if !is_json {
+        print_headings(output);
+    }
     let screen = output.screen();
     let mut walk = Walk::new(alloc, input, UnitChoice::All, screen, Printing::Steady);
     for _ in 0..u64::MAX {
         let Some((offset, program)) = walk.next_program(output) else {
             break;
         };
-        print_unit(offset, program, output);
+        print_unit(offset, program, is_json, output);
     }
 }
 
@@ -58,7 +61,9 @@ pub(crate) fn print_each<R: Reader, O: Write, E: Write>(
             break;
         };
         match listing {
-            Listing::Files => print_files(alloc, offset, program, &sources, output),
+            Listing::Files { is_json } => {
+                print_files(alloc, offset, program, &sources, is_json, output);
+            }
             Listing::Rows(form) => print_rows(alloc, offset, form, program, &sources, output),
         }
     }

@@ -4,8 +4,9 @@ ghost use Rattle.std.specs.Prelude.{◌≡◌};
 
 use crate::fields::{JsonFlags, column_of, line_of};
 use crate::input::{Files, Input};
-use crate::json_text::JsonPath;
+use crate::json_text::path_fields;
 use crate::lookup::look_up;
+use crate::names::bytes_of_word;
 use crate::output::Output;
 use crate::path_sources::{PathSources, path_sources};
 use crate::path_text::{PathText, last_part, relative_to};
@@ -128,6 +129,8 @@ struct Places<'f, R: Reader> {
     lookup: SectionLookup<R>,
     sources: PathSources<R>,
     form: PlaceForm<'f>,
+    /// The directory that paths are printed from; empty where none is named.
+    directory: Vec<u8>,
 }
 
 impl<'f, R: Reader> Places<'f, R> {
@@ -140,11 +143,20 @@ impl<'f, R: Reader> Places<'f, R> {
     ) -> Option<Places<'f, R>> {
         let lookup = look_up(alloc, input, output)?;
         let sources = path_sources(alloc, input, output)?;
+        let directory = match form.paths {
+            PathForm::From(directory) => bytes_of_word(alloc, directory),
+            _ => Ok(Vec::new(alloc)),
+        };
+        let Ok(directory) = directory else {
+            output.fail_for_memory();
+            return None;
+        };
         Some(Places {
             alloc,
             lookup,
             sources,
             form,
+            directory,
         })
     }
 
@@ -198,6 +210,7 @@ impl<'f, R: Reader> Places<'f, R> {
             Err(PathError::OutOfMemory) => output.fail_for_memory(),
             Err(fault) => {
                 self.print_found(address, &found, None, output);
+                let fault = self.sources.fault(fault);
                 output.tell_of_unit(
                     unit.offset().0.into_u64(),
                     format_args!("at address 0x{address:x}: {fault}"),
@@ -222,13 +235,25 @@ impl<'f, R: Reader> Places<'f, R> {
         path: Option<&[u8]>,
         output: &mut Output<'_, O, E>,
     ) {
-        let path = path.map(|path| shown_path(path, self.form.paths));
+        let path = path.map(|path| self.shown_path(path));
         if self.form.is_json {
-            return print_json(address, self.form.bias, found, path, output);
+            return match path_fields(self.alloc, path) {
+                Ok(fields) => print_json(address, self.form.bias, found, &fields, output),
+                Err(_) => output.fail_for_memory(),
+            };
         }
         let path = PathText(path.unwrap_or(b"??"));
         let (line, column) = line_and_column(found);
         output.print(format_args!("{path}:{line}:{column}"));
+    }
+
+    /// What is printed of a path.
+    fn shown_path<'p>(&self, path: &'p [u8]) -> &'p [u8] {
+        match self.form.paths {
+            PathForm::Whole => path,
+            PathForm::LastPart => last_part(path),
+            PathForm::From(_) => relative_to(path, &self.directory),
+        }
     }
 }
 
@@ -247,31 +272,21 @@ fn print_unknown<O: Write, E: Write>(
     }
 }
 
-/// What is printed of a path.
-fn shown_path<'p>(path: &'p [u8], form: PathForm<'_>) -> &'p [u8] {
-    match form {
-        PathForm::Whole => path,
-        PathForm::LastPart => last_part(path),
-        PathForm::From(directory) => relative_to(path, directory.as_bytes()),
-    }
-}
-
 /// Prints the place of rows as a JSON object. The range is moved by the bias, as the address is.
 fn print_json<O: Write, E: Write>(
     address: u64,
     bias: u64,
     found: &CoveringRows,
-    path: Option<&[u8]>,
+    path: &str,
     output: &mut Output<'_, O, E>,
 ) {
-    let path = JsonPath(path);
     let (line, column) = line_and_column(found);
     let start = found.row.address().saturating_add(bias);
     let end = found.next.address().saturating_add(bias);
     let discriminator = found.row.discriminator();
     let flags = JsonFlags(found.row);
     output.print(format_args!(
-        "{{\"address\":\"0x{address:x}\",\"path\":{path},\"line\":{line},\
+        "{{\"address\":\"0x{address:x}\",{path},\"line\":{line},\
          \"column\":{column},\"range\":[\"0x{start:x}\",\"0x{end:x}\"],\
          \"discriminator\":{discriminator},\"flags\":{flags}}}"
     ));

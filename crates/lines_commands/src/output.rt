@@ -7,6 +7,7 @@ use crate::finding::Finding;
 use crate::input_error::InputError;
 use crate::json_text::JsonOffset;
 use crate::kinds::{CheckChoice, FindingKind};
+use crate::names::NameText;
 use crate::report::Verdict;
 use crate::request::Form;
 use crate::row_count::RowCount;
@@ -195,7 +196,7 @@ impl<'o, O: Write, E: Write> Output<'o, O, E> {
     /// Says a sentence on the file on standard error, which is no fault of it.
     pub(crate) fn note(&mut self, sentence: impl fmt::Display + Drop) {
         if self.failure.is_ok() {
-            let name = self.name;
+            let name = NameText(self.name);
             let Style { begin, end } = self.screen.fault();
             // Where standard error can't be written to, the status still says it.
             let _ = writeln!(self.err, "lines: {name}: {begin}{sentence}{end}");

@@ -16,6 +16,7 @@ ghost use Rattle.lines_commands.specs.WholePaths.{paths_by};
 
 use crate::input::Input;
 use crate::output::Output;
+use crate::path_fault::PathFault;
 use gimli_compilation::Compilations;
 use gimli_core::{Reader, ReaderOffset};
 use gimli_line::{FileEntry, LineProgramHeader, LineRow};
@@ -62,6 +63,14 @@ impl<R: Reader> PathSources<R> {
             strings: input.strings,
             compilations,
         })
+    }
+
+    /// Why a path can't be told, as it is printed.
+    pub(crate) fn fault(&self, error: PathError) -> PathFault {
+        PathFault {
+            error,
+            is_without_texts: self.strings.debug_line_str.is_empty(),
+        }
     }
 
     /// The sections of texts.

@@ -77,7 +77,7 @@ pub fn run_on<I: BufRead, O: Write, E: Write>(
 impl Command<'_> {
     /// Whether paths are printed: the texts and the sections of units are read for these alone.
     pub fn prints_paths(&self) -> bool {
-        !matches!(self, Command::Units)
+        !matches!(self, Command::Units { .. })
     }
 }
 
@@ -99,8 +99,11 @@ fn perform<I: BufRead, O: Write, E: Write>(
             print_places_in_sections(alloc, files, addresses, *form, input, output);
         }
         Command::At(line) => print_addresses(alloc, sections, *line, output),
-        Command::Units => print_units(alloc, sections, output),
-        Command::Files(units) => print_each(alloc, sections, *units, Listing::Files, output),
+        Command::Units { is_json } => print_units(alloc, sections, *is_json, output),
+        Command::Files { units, is_json } => {
+            let is_json = *is_json;
+            print_each(alloc, sections, *units, Listing::Files { is_json }, output);
+        }
         Command::Rows { units, form } => {
             print_each(alloc, sections, *units, Listing::Rows(*form), output);
         }

@@ -59,7 +59,12 @@ impl<'i> Program<'i> {
             return Ok(None);
         };
         let place = SectionPlace::Only(index);
-        let source = SectionSource { alloc, elf, place };
+        let source = SectionSource {
+            alloc,
+            file: files.file,
+            elf,
+            place,
+        };
         let lines = source.lines()?;
         let program = Program::with_lines(source, lines, files)?;
         Ok(Some(program))
@@ -71,7 +76,12 @@ impl<'i> Program<'i> {
     {
         let elf = Elf::parse(files.file)?;
         let place = SectionPlace::AllAtZero;
-        let source = SectionSource { alloc, elf, place };
+        let source = SectionSource {
+            alloc,
+            file: files.file,
+            elf,
+            place,
+        };
         let lines = source.lines()?;
         let program = Program::with_lines(source, lines, files)?;
         Ok(program)

@@ -31,9 +31,14 @@ pub enum Command<'w> {
     /// The addresses of a line.
     At(CodeLine<'w>),
     /// A line for each unit.
-    Units,
+    Units {
+        is_json: bool,
+    },
     /// The directories and files of units.
-    Files(UnitChoice),
+    Files {
+        units: UnitChoice,
+        is_json: bool,
+    },
     /// The rows of units.
     Rows {
         units: UnitChoice,
@@ -61,6 +66,10 @@ pub struct CodeLine<'w> {
     pub line: u64,
     /// Whether columns are printed.
     pub has_column: bool,
+    /// Whether the addresses of each row are printed, and not its first one alone.
+    pub has_range: bool,
+    /// Whether each address is a JSON object.
+    pub is_json: bool,
 }
 
 /// How places are printed.

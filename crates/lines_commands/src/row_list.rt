@@ -1,7 +1,7 @@
 //! The command `rows`: the rows of a unit.
 
 use crate::fields::{FlagLetters, JsonFlags, column_of, line_of};
-use crate::json_text::JsonPath;
+use crate::json_text::path_fields;
 use crate::output::Output;
 use crate::path_sources::PathSources;
 use crate::path_text::{PathText, last_part};
@@ -10,7 +10,7 @@ use crate::row_count::RowCount;
 use gimli_core::Reader;
 use gimli_line::{IncompleteLineProgram, LineProgramHeader, LineRow};
 use gimli_lookup::PathError;
-use std::alloc::Global;
+use std::alloc::{AllocError, Global};
 use std::io::Write;
 
 /// Prints the rows of a program up to its end or its first fault, which is reported.
@@ -30,7 +30,7 @@ pub(crate) fn print_rows<R: Reader, O: Write, E: Write>(
         offset,
         form,
         file: None,
-        path: None,
+        path: String::new(alloc),
         rows: 0,
     };
     printer.print_program(program, sources, output);
@@ -42,7 +42,8 @@ fn print_headings<O: Write, E: Write>(offset: u64, version: u16, output: &mut Ou
     output.print_heading("           address     line  column  discr  isa  flags  file");
 }
 
-/// What prints the rows of a unit one after the other, and keeps the path of the last one's file.
+/// What prints the rows of a unit one after the other, and keeps how the path of the last one's
+/// file is printed.
 #[derive(Drop)]
 struct RowPrinter {
     alloc: Global,
@@ -50,8 +51,8 @@ struct RowPrinter {
     form: Form,
     /// The file of the last row.
     file: Option<u64>,
-    /// None where that file has no path.
-    path: Option<Vec<u8>>,
+    /// How the path of that file is printed.
+    path: String,
     /// How many rows were printed.
     rows: u64,
 }
@@ -98,47 +99,51 @@ impl RowPrinter {
             return;
         }
         self.file = Some(row.file_index());
-        self.path = match sources.of_row(self.alloc, header, row) {
-            Ok(path) => Some(path),
-            Err(PathError::OutOfMemory) => {
-                output.fail_for_memory();
-                None
-            }
+        let shown = match sources.of_row(self.alloc, header, row) {
+            Ok(path) => shown_path(self.alloc, self.form, Some(&path)),
+            Err(PathError::OutOfMemory) => Err(AllocError),
             Err(fault) => {
+                let fault = sources.fault(fault);
                 let rows = RowCount(self.rows);
                 output.tell_of_unit(self.offset, format_args!("after {rows}: {fault}"));
-                None
+                shown_path(self.alloc, self.form, None)
             }
         };
+        match shown {
+            Ok(path) => self.path = path,
+            Err(_) => output.fail_for_memory(),
+        }
     }
 
     /// Prints a row.
     fn print<O: Write, E: Write>(&self, row: &LineRow, output: &mut Output<'_, O, E>) {
-        let path = match &self.path {
-            Some(path) => Some(path.as_slice()),
-            None => None,
-        };
         match self.form {
-            Form::Json => print_json(self.offset, row, path, output),
-            Form::Text => print_text(row, path.map(last_part), output),
-            Form::WholePaths => print_text(row, path, output),
+            Form::Json => print_json(self.offset, row, &self.path, output),
+            _ => print_text(row, &self.path, output),
         }
     }
 }
 
+/// How a path is printed; `??` or null where there is none.
+fn shown_path(alloc: Global, form: Form, path: Option<&[u8]>) -> Result<String, AllocError> {
+    let path = match (form, path) {
+        (Form::Json, path) => return path_fields(alloc, path),
+        (_, None) => return String::from_str(alloc, "??"),
+        (Form::Text, Some(path)) => last_part(path),
+        (Form::WholePaths, Some(path)) => path,
+    };
+    let path = PathText(path);
+    format!(in alloc; "{path}")
+}
+
 /// Prints a row for people.
-fn print_text<O: Write, E: Write>(
-    row: &LineRow,
-    path: Option<&[u8]>,
-    output: &mut Output<'_, O, E>,
-) {
+fn print_text<O: Write, E: Write>(row: &LineRow, path: &str, output: &mut Output<'_, O, E>) {
     let address = row.address();
     let line = line_of(row);
     let column = column_of(row);
     let discriminator = row.discriminator();
     let isa = row.isa();
     let flags = FlagLetters(*row);
-    let path = PathText(path.unwrap_or(b"??"));
     output.print(format_args!(
         "0x{address:016x}  {line:>7}  {column:>6}  {discriminator:>5}  {isa:>3}  {flags}  {path}"
     ));
@@ -148,12 +153,11 @@ fn print_text<O: Write, E: Write>(
 fn print_json<O: Write, E: Write>(
     offset: u64,
     row: &LineRow,
-    path: Option<&[u8]>,
+    path: &str,
     output: &mut Output<'_, O, E>,
 ) {
     let address = row.address();
     let op_index = row.op_index();
-    let path = JsonPath(path);
     let file = row.file_index();
     let line = line_of(row);
     let column = column_of(row);
@@ -162,7 +166,7 @@ fn print_json<O: Write, E: Write>(
     let flags = JsonFlags(*row);
     output.print(format_args!(
         "{{\"unit\":\"0x{offset:x}\",\"address\":\"0x{address:x}\",\"op_index\":{op_index},\
-         \"path\":{path},\"file\":{file},\"line\":{line},\"column\":{column},\
+         {path},\"file\":{file},\"line\":{line},\"column\":{column},\
          \"discriminator\":{discriminator},\"isa\":{isa},\"flags\":{flags}}}"
     ));
 }

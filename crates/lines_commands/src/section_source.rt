@@ -17,6 +17,8 @@ use std::alloc::Global;
 pub(crate) struct SectionSource<'i> {
     /// Makes memory for what isn't lent by the file.
     pub(crate) alloc: Global,
+    /// The bytes of the file.
+    pub(crate) file: &'i [u8],
     /// The file.
     pub(crate) elf: Elf<'i>,
     /// Which addresses count where it is an object file.
@@ -40,7 +42,7 @@ impl<'i> SectionSource<'i> {
     {
         match self.section(b".debug_line") {
             Ok(Some(section)) => Ok(section),
-            Ok(None) => Err(InputError::NoLines),
+            Ok(None) => Err(InputError::no_lines(self.file)),
             Err(e) => Err(InputError::Elf(e)),
         }
     }

@@ -11,6 +11,7 @@ ghost use Rattle.lines_commands.specs.Choice.{ChoosesUnits, NamesBias};
 use crate::grammar::{command, program};
 use crate::input::{Kind, Notation};
 use crate::kinds::{CheckChoice, KindSet};
+use crate::names::{MessageText, NameText};
 use crate::numbers::{parse_address, parse_code_address, parse_offset, parse_target};
 use crate::request::{
     CodeAddress, CodeLine, Command, Form, PathForm, PlaceForm, Request, UnitChoice,
@@ -27,10 +28,21 @@ pub fn parse<'w>(alloc: Global, words: &'w [&'w str]) -> Result<Request<'w>, Err
     let mistake = match request_of(alloc, &matches) {
         Ok(request) => return Ok(request),
         Err(Mistake::Memory) => return Err(Error::from(AllocError)),
-        Err(Mistake::Word(word, wanted)) => format!(in alloc; "'{word}' is not {wanted}")?,
+        Err(Mistake::Word(word, wanted)) => {
+            let word = NameText(word);
+            format!(in alloc; "'{word}' is not {wanted}")?
+        }
     };
     let mut command = command(alloc, matches.subcommand_name().unwrap_or(""))?;
     Err(command.error(ErrorKind::ValueValidation, &mistake)?)
+}
+
+/// What is said of words that ask for nothing, or of help. A control character, and a byte that is
+/// no UTF-8, stands as `\x` and two hexadecimal digits.
+pub fn message_of(alloc: Global, error: &Error) -> Result<String, AllocError> {
+    let message = format!(in alloc; "{error}")?;
+    let message = MessageText(&message);
+    format!(in alloc; "{message}")
 }
 
 /// Why words that the grammar takes ask for nothing.
@@ -106,10 +118,17 @@ fn command_of<'w>(
                 path,
                 line,
                 has_column: matches.get_flag("columns"),
+                has_range: matches.get_flag("range"),
+                is_json: matches.get_flag("json"),
             }))
         }
-        "units" => Ok(Command::Units),
-        "files" => Ok(Command::Files(units_of(matches)?)),
+        "units" => Ok(Command::Units {
+            is_json: matches.get_flag("json"),
+        }),
+        "files" => Ok(Command::Files {
+            units: units_of(matches)?,
+            is_json: matches.get_flag("json"),
+        }),
         "rows" => Ok(Command::Rows {
             units: units_of(matches)?,
             form: form_of(matches),

@@ -33,11 +33,11 @@ pub fn run_lines<'r>(
             }
         }
         Err(error) if error.use_stderr() => {
-            print(&error, &mut err)?;
+            print(alloc, &error, &mut err)?;
             2
         }
         Err(error) => {
-            print(&error, out)?;
+            print(alloc, &error, out)?;
             0
         }
     };
@@ -46,8 +46,9 @@ pub fn run_lines<'r>(
 }
 
 /// Prints what is said of words that ask for nothing, or of help.
-fn print(error: &Error, out: &mut Vec<u8>) -> Result<(), Stop> {
-    match write!(out, "{error}") {
+fn print(alloc: Global, error: &Error, out: &mut Vec<u8>) -> Result<(), Stop> {
+    let message = lines_commands::message_of(alloc, error)?;
+    match write!(out, "{message}") {
         Ok(()) => Ok(()),
         Err(_) => Err(Stop::Memory),
     }

@@ -1,0 +1,147 @@
+#!/usr/bin/env python3
+"""Holds the JSON of `lines` to the tables of docs/LINES.md, over programs. Outside the gate.
+
+    compare/json.py [PROGRAM..]
+
+A program whose unit has a path that is no UTF-8 is made here by gcc, and asked too. Each line of each command with --json has
+to be one object, whose fields stand in the order of their table, each of the type that it says. The bytes of `path_bytes` have
+to be those of `path`. LINES_PROGRAM=FILE is asked in place of crates/lines. The last line is 'json: N lines as they have to be,
+M not'; the status is 1 where one isn't.
+"""
+import json
+import os
+import re
+import subprocess
+import sys
+import tempfile
+
+TOP = os.path.dirname(os.path.dirname(os.path.realpath(__file__)))
+LINES = os.environ.get("LINES_PROGRAM", f"{TOP}/crates/lines/out/lines")
+HEX = re.compile("0x[0-9a-f]+")
+FLAGS = ["is_stmt", "basic_block", "end_sequence", "prologue_end", "epilogue_begin"]
+counts = {"good": 0, "bad": 0}
+
+
+def is_number(value):
+    return type(value) is int and value >= 0
+
+
+def is_address(value):
+    return isinstance(value, str) and bool(HEX.fullmatch(value))
+
+
+def is_range(value):
+    return isinstance(value, list) and len(value) == 2 and all(map(is_address, value))
+
+
+def is_text(value):
+    return isinstance(value, str)
+
+
+def is_flags(value):
+    return isinstance(value, list) and value == [it for it in FLAGS if it in value]
+
+
+def or_null(test):
+    return lambda value: value is None or test(value)
+
+
+def one_of(*words):
+    return lambda value: value in words
+
+
+PLACE = [("line", is_number), ("column", is_number)]
+PATH = ("path", or_null(is_text))
+BYTES = ("path_bytes", lambda value: bool(re.fullmatch("([0-9a-f]{2})+", value)))
+UNIT = ("unit", is_address)
+FOUND = [*PLACE, ("range", is_range), ("discriminator", is_number), ("flags", is_flags)]
+COUNT = [("severity", one_of("fault", "lost", "odd", "usual")), ("kind", is_text), ("count", is_number)]
+DETAILS = [("time", is_number), ("size", is_number), ("md5", or_null(is_text)), ("source_bytes", or_null(is_number))]
+# The forms that a line of a command may have.
+FORMS = {
+    "where": [[("address", or_null(is_address)), PATH], [("address", is_address), PATH, *FOUND]],
+    "at": [[("address", is_address), PATH, *PLACE, ("range", is_range), ("is_stmt", lambda value: type(value) is bool)]],
+    "units": [
+        [UNIT, ("version", one_of(2, 3, 4, 5)), ("format", one_of(32, 64)), ("address_size", is_number)]
+        + [(it, is_number) for it in ("files", "sequences", "rows", "bytes")]
+    ],
+    "files": [[UNIT, ("directory", is_number), PATH], [UNIT, ("file", is_number), PATH, *DETAILS]],
+    "rows": [
+        [UNIT, ("address", is_address), ("op_index", is_number), PATH, ("file", is_number), *PLACE]
+        + [("discriminator", is_number), ("isa", is_number), ("flags", is_flags)]
+    ],
+    "check": [
+        [UNIT, COUNT[0], ("kind", is_text), ("byte", or_null(is_address)), ("message", is_text)],
+        COUNT,
+        [("units", is_number), ("findings", is_number)],
+    ],
+}
+
+
+def has_form(value, form):
+    """Whether an object has the fields of a form, and no others."""
+    fields = list(form)
+    if "path_bytes" in value:
+        fields.insert([it[0] for it in fields].index("path") + 1, BYTES)
+    return [it[0] for it in fields] == list(value) and all(test(value[name]) for name, test in fields)
+
+
+def are_bytes_of(value):
+    """Whether the bytes of a path are those of its text: U+FFFD for each that isn't ASCII."""
+    if "path_bytes" not in value:
+        return True
+    found = bytes.fromhex(value["path_bytes"])
+    return value["path"] == "".join(chr(it) if it < 128 else "\ufffd" for it in found)
+
+
+def check(program, name, words):
+    ran = subprocess.run([LINES, *name.split(), "--json", *words], capture_output=True)
+    for line in ran.stdout.splitlines():
+        try:
+            value = json.loads(line.decode("utf-8"))
+            good = any(has_form(value, it) for it in FORMS[name]) and are_bytes_of(value)
+        except ValueError:
+            good = False
+        counts["good" if good else "bad"] += 1
+        if not good and counts["bad"] < 20:
+            print(f"{program}: {name}: {line!r}")
+    if not ran.stdout and name != "at":
+        counts["bad"] += 1
+        print(f"{program}: {name}: nothing was printed: {ran.stderr!r}")
+    return ran.stdout
+
+
+def check_program(program):
+    rows = check(program, "rows", [program]).splitlines()
+    found = [json.loads(it) for it in rows[:2000]]
+    addresses = sorted({it["address"] for it in found})[:200]
+    check(program, "where", [program, *addresses, "0"])
+    for it in [it for it in found if it["path"]][:: max(1, len(found) // 20)]:
+        check(program, "at", [program, f"{it['path']}:{it['line']}"])
+    for name in ("units", "files"):
+        check(program, name, [program])
+    check(program, "check", ["--all", program])
+
+
+def made(folder):
+    """A program with a path that is no UTF-8, where gcc is there."""
+    source = os.path.join(os.fsencode(folder), b"a\xff\x1b.c")
+    with open(source, "wb") as file:
+        file.write(b"int main(void)\n{\n    return 0;\n}\n")
+    program = os.path.join(folder, "a.out")
+    try:
+        subprocess.run(["gcc", "-g", "-o", program, source], check=True)
+    except (OSError, subprocess.CalledProcessError):
+        return []
+    return [program]
+
+
+def main(programs):
+    with tempfile.TemporaryDirectory() as folder:
+        for program in [*made(folder), *programs]:
+            check_program(program)
+    print(f"json: {counts['good']} lines as they have to be, {counts['bad']} not")
+    sys.exit(1 if counts["bad"] or not counts["good"] else 0)
+
+
+main(sys.argv[1:])

@@ -1,0 +1,176 @@
+//! The bytes of the files that a request names.
+
+use debug_files::{Found, Missing, PathSections, Source, Wanted};
+use lines_commands::{Files, InputError, Kind, NameText, Notation, Request, UnitFiles};
+use std::io::{Read, Write};
+use std::{fmt, fs, io};
+
+/// The name that stands for standard input.
+const STANDARD_INPUT: &str = "-";
+
+/// The bytes of the files that a request names, and how they are read.
+#[derive(Drop)]
+pub(crate) struct Inputs {
+    pub(crate) kind: Kind,
+    found: Found,
+    line_str: Vec<u8>,
+    strings: Vec<u8>,
+}
+
+/// Reads the files that a request names; None where there is one that can't be read, which is
+/// reported.
+pub(crate) fn inputs_of(rt: &HostRuntime, request: &Request<'_>) -> io::Result<Option<Inputs>> {
+    let found = match request.kind {
+        Kind::Raw(_) => read(rt, request.file)?.map(Found::Whole),
+        Kind::Elf if request.file == STANDARD_INPUT => read(rt, request.file)?.map(Found::Whole),
+        Kind::Elf => sections_of(rt, request)?,
+    };
+    let line_str = read_named(rt, request.line_str)?;
+    let strings = read_named(rt, request.strings)?;
+    match (found, line_str, strings) {
+        (Some(found), Some(line_str), Some(strings)) => {
+            let kind = match &found {
+                Found::Whole(_) => request.kind,
+                Found::Sections(source) => Kind::Raw(notation_of(source)),
+            };
+            Ok(Some(Inputs {
+                kind,
+                found,
+                line_str,
+                strings,
+            }))
+        }
+        _ => Ok(None),
+    }
+}
+
+impl Inputs {
+    /// The bytes of the files.
+    pub(crate) fn files(&self) -> Files<'_> {
+        match &self.found {
+            Found::Whole(file) => Files {
+                file,
+                line_str: &self.line_str,
+                strings: &self.strings,
+                units: UnitFiles::NONE,
+            },
+            Found::Sections(source) => files_of(source, &self.line_str, &self.strings),
+        }
+    }
+}
+
+/// The sections of the program that a request names, of its own file or of its debug file; None
+/// where there are none, which is reported.
+fn sections_of(rt: &HostRuntime, request: &Request<'_>) -> io::Result<Option<Found>> {
+    let wanted = if request.command.prints_paths() {
+        Wanted::Paths
+    } else {
+        Wanted::Lines
+    };
+    let Some(path) = path_of(rt, request.file)? else {
+        return Ok(None);
+    };
+    match debug_files::source_of(rt, path.as_str(), wanted) {
+        Ok(found) => Ok(Some(found)),
+        Err(missing) => {
+            report_missing(rt, request.file, &missing);
+            Ok(None)
+        }
+    }
+}
+
+/// Reports why a program has no sections that are read.
+fn report_missing(rt: &HostRuntime, name: &str, missing: &Missing) {
+    match missing {
+        Missing::Elf(error) => report(rt, name, InputError::Elf(*error)),
+        Missing::NoLines => report(rt, name, InputError::NoLines),
+        Missing::Core => report(rt, name, InputError::Core),
+        Missing::NotRegular => report(
+            rt,
+            name,
+            format_args!("{missing}; for a raw section say --raw, and - for standard input"),
+        ),
+        missing => report(rt, name, missing),
+    }
+}
+
+/// Reports why a file isn't read.
+fn report(rt: &HostRuntime, name: &str, reason: impl fmt::Display + Drop) {
+    let name = NameText(name);
+    // Where standard error can't be written to, the status still says it.
+    let _ = writeln!(rt.stderr(), "lines: {name}: {reason}");
+}
+
+/// How the numbers of a program's sections are read.
+fn notation_of(source: &Source) -> Notation {
+    Notation::new(source.is_big_endian, source.address_size, source.lowest)
+}
+
+/// The sections of a program. Those of texts that are named apart take the place of its own.
+fn files_of<'i>(source: &'i Source, line_str: &'i [u8], strings: &'i [u8]) -> Files<'i> {
+    let paths = &source.paths;
+    Files {
+        file: &source.lines,
+        line_str: named_or(line_str, &paths.line_str),
+        strings: named_or(strings, &paths.strings),
+        units: units_of(paths),
+    }
+}
+
+/// The sections of units.
+fn units_of(paths: &PathSections) -> UnitFiles<'_> {
+    UnitFiles {
+        info: &paths.info,
+        abbreviations: &paths.abbreviations,
+        string_offsets: &paths.string_offsets,
+    }
+}
+
+/// A section that is named apart, or else the program's own.
+fn named_or<'s>(named: &'s [u8], own: &'s [u8]) -> &'s [u8] {
+    if named.is_empty() { own } else { named }
+}
+
+/// The path by which a file is opened. One that isn't UTF-8 is opened here, and named by its number
+/// among those of this process. None where it can't be opened, which is reported.
+fn path_of(rt: &HostRuntime, name: &str) -> io::Result<Option<String>> {
+    let alloc = rt.alloc();
+    let bytes = lines_commands::bytes_of_word(alloc, name)?;
+    if bytes.as_slice() == name.as_bytes() {
+        return Ok(Some(String::from_str(alloc, name)?));
+    }
+    let file = os::open_read(&bytes);
+    if file < 0 {
+        report(rt, name, io::Error::from_raw_os_error(os::errno()));
+        return Ok(None);
+    }
+    let path = format!(in alloc; "/proc/self/fd/{file}")?;
+    Ok(Some(path))
+}
+
+/// The bytes of a file; None where it can't be read, which is reported.
+fn read(rt: &HostRuntime, name: &str) -> io::Result<Option<Vec<u8>>> {
+    if name == STANDARD_INPUT {
+        let mut bytes = Vec::new(rt.alloc());
+        rt.stdin().read_to_end(&mut bytes)?;
+        return Ok(Some(bytes));
+    }
+    let Some(path) = path_of(rt, name)? else {
+        return Ok(None);
+    };
+    match fs::read(rt, path.as_str()) {
+        Ok(bytes) => Ok(Some(bytes)),
+        Err(error) => {
+            report(rt, name, error);
+            Ok(None)
+        }
+    }
+}
+
+/// The bytes of a file that may be named; none where it isn't.
+fn read_named(rt: &HostRuntime, name: Option<&str>) -> io::Result<Option<Vec<u8>>> {
+    match name {
+        Some(name) => read(rt, name),
+        None => Ok(Some(Vec::new(rt.alloc()))),
+    }
+}

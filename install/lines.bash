@@ -1,0 +1,32 @@
+# Completion of `lines` for bash.
+_lines() {
+    local word=${COMP_WORDS[COMP_CWORD]} before=${COMP_WORDS[COMP_CWORD-1]} command=${COMP_WORDS[1]}
+    local kinds="fault lost odd usual header program no-path no-file goes-down below-code no-end same-path overlap file-0 merged dropped"
+    local of_file="--raw --address-size --line-str --str --help" options
+    COMPREPLY=()
+    if [ "$COMP_CWORD" = 1 ]; then
+        COMPREPLY=($(compgen -W "where at units files rows check help --help --version" -- "$word"))
+        return
+    fi
+    case $before in
+        --raw) COMPREPLY=($(compgen -W "little big" -- "$word")); return ;;
+        --address-size) COMPREPLY=($(compgen -W "1 2 4 8" -- "$word")); return ;;
+        --deny | --allow) COMPREPLY=($(compgen -W "$kinds" -- "$word")); return ;;
+        --relative-to) COMPREPLY=($(compgen -d -- "$word")); return ;;
+        --bias) return ;;
+    esac
+    case $command in
+        where) options="$of_file --basenames --relative-to --bias --json" ;;
+        at) options="$of_file --columns --range --json" ;;
+        rows) options="$of_file --whole-paths --json" ;;
+        check) options="$of_file --deny --allow --all --json" ;;
+        units | files) options="$of_file --json" ;;
+        help) COMPREPLY=($(compgen -W "where at units files rows check" -- "$word")); return ;;
+        *) return ;;
+    esac
+    case $word in
+        -*) COMPREPLY=($(compgen -W "$options" -- "$word")) ;;
+        *) COMPREPLY=($(compgen -f -- "$word")) ;;
+    esac
+}
+complete -o filenames -F _lines lines
