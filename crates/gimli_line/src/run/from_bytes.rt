@@ -38,11 +38,6 @@ use gimli_core::{DwLne, DwLns, Reader, ReaderOffset, Result, constants};
 /// match executed {
 ///     Executed::No => self.step_parsed(),
 ///     Executed::Quiet => Ok(SourceStep::More),
-///     Executed::Address(address) => {
-///         self.base = address;
-///         self.pending = Some(address);
-///         Ok(SourceStep::More)
-///     }
 /// ```
 #[derive(Clone, Copy, Debug, PartialEq, Eq)]
 pub enum Executed {
