@@ -37,6 +37,7 @@ opened_32 format short word = rw short (record {
   ordered = word.ordered;
   ok = word.ok;
   err = λ memory_alone. tt;
+  own = tt;
 })
 
 pub opened_64 : {W X Y Z : Type 0} {sink : Ghosts W} {old mid new : W} {x : X} {y : Y} {z : Z} (format : Format) → format ≡ Dwarf64 → IsAppend sink old mid (Ok x) (Ok (number_bytes (sink.big old) 4 0xffff_ffff)) → IsAppend sink mid new (Ok y) (Ok (number_bytes (sink.big mid) 8 0)) → IsAppendInParts sink old new (Ok z) (Ok (open_length (sink.big old) format))
@@ -46,4 +47,5 @@ opened_64 {sink = sink} {old = old} {mid = mid} {new = new} format long escape w
   ok = λ keeps_bytes. both (sink.contents old) (number_bytes (sink.big old) 4 0xffff_ffff) (number_bytes (sink.big old) 8 0) (sink.contents mid) (sink.contents new)
       (escape.ok keeps_bytes) (word.ok keeps_bytes ∙ ap (λ (b : Bool). sink.contents mid ++ number_bytes b 8 0) escape.ordered);
   err = λ memory_alone. tt;
+  own = tt;
 })

@@ -1,6 +1,6 @@
 -- What a call of a writer leaves. The bytes that a call is to write are "wanted": the bytes, or the refusal of the
 -- value or the size.
-use Rattle.std.specs.Prelude.{◌≡◌, ℕ, List, ◌++◌, length, Result, Ok, Err, ◌+◌, nat_lt, take, drop, if◌then◌else◌, IsTrue, OnOk, OnErr, IfErr}
+use Rattle.std.specs.Prelude.{◌≡◌, ◌⊎◌, ℕ, List, ◌++◌, length, Result, Ok, Err, ◌+◌, nat_lt, take, drop, if◌then◌else◌, IsTrue, OnOk, OnErr, IfErr}
 use Rattle.gimli_bytes.specs.declared.error.Error.{Error}
 use Rattle.gimli_bytes.specs.declared.error.Error.TheVariants.{OutOfMemory, OffsetOutOfBounds, LengthOutOfBounds}
 use Rattle.gimli_bytes.specs.declared.sink.Sink.{Ghosts}
@@ -61,6 +61,8 @@ pub record IsAppend {W X : Type 0} (sink : Ghosts W) (old new : W) (result : Res
   pub ok : IsTrue sink.keeps_bytes → OnOk result (Appends wanted (sink.contents old) (sink.contents new))
   -- where it refuses, it is for memory, or for what is wanted
   pub err : IsTrue sink.fails_for_memory_alone → IfErr result (Refuses wanted)
+  -- whatever the writer, where it refuses, it is for what is wanted, or with what a `write` of its own refused
+  pub own : IfErr result (λ e. sink.refuses e ⊎ (wanted ≡ Err e))
   -- where the value or the size is refused, the bytes are as they were
   pub untouched : IsTrue sink.keeps_bytes → Untouched wanted (sink.contents old) (sink.contents new)
   -- where it refuses, no byte is appended
@@ -72,6 +74,7 @@ pub record IsAppendInParts {W X : Type 0} (sink : Ghosts W) (old new : W) (resul
   pub ordered : sink.big new ≡ sink.big old
   pub ok : IsTrue sink.keeps_bytes → OnOk result (Appends wanted (sink.contents old) (sink.contents new))
   pub err : IsTrue sink.fails_for_memory_alone → IfErr result (Refuses wanted)
+  pub own : IfErr result (λ e. sink.refuses e ⊎ (wanted ≡ Err e))
 
 -- a call that writes over bytes that are there, from a place on
 pub record IsOverwrite {W X : Type 0} (sink : Ghosts W) (old new : W) (result : Result X Error) (at : ℕ) (wanted : Result (List ℕ) Error) : Type 0 where
@@ -85,3 +88,4 @@ pub record IsOverwrite {W X : Type 0} (sink : Ghosts W) (old new : W) (result : 
   pub ok : IsTrue sink.keeps_bytes → OnOk result (Overwrites at wanted (sink.contents old) (sink.contents new))
   -- where it refuses, it is for what is wanted, else for the place
   pub err : IsTrue sink.fails_for_memory_alone → IfErr result (RefusesAt at wanted (sink.contents old))
+  pub own : IfErr result (λ e. sink.refuses e ⊎ RefusesAt at wanted (sink.contents old) e)

@@ -46,6 +46,7 @@ returns-clause-appends g c =
       ok = λ keeps. all_put c.as_slice-text-items.result.now c.self.inside.strings.keys c.loop-text.text-index c.args.self.now
           (contents c.args.w.now) (contents c.loop-text.w) c.loop-text-test.false c.as_slice-text-items.ensures.keys c.self.view_is (c.loop-text.invariant.put keeps);
       err = λ memory_alone. tt;
+      own = tt;
     }
 
 pub returns-clause-texts : goal.returns-clause-texts
