@@ -7,7 +7,7 @@ use Rattle.gimli_bytes.specs.declared.sink.Sink.{Ghosts}
 use Rattle.gimli_build.specs.Joined.{result_append, result_concat}
 use Rattle.gimli_build.specs.inside.Joined.{RefusesFor}
 use Rattle.gimli_build.specs.inside.Writes.{Writes}
-use Rattle.gimli_build.proofs.writing.Joined.{SoFar, none_so_far, one_more, one_refused, all_done, on_ok, if_err, appends_joined, refuses_second, begins_self, begins_then}
+use Rattle.gimli_build.proofs.writing.Joined.{SoFar, none_so_far, one_more, one_refused, all_done, on_ok, if_err, or_wanted, handed_on, part_refused, second_refused, appends_joined, refuses_second, begins_self, begins_then}
 
 -- two calls
 pub joins : {W X Y : Type 0} {sink : Ghosts W} {old mid new : W} {x : X} {r : Result Y Error} {a b : Result (List ℕ) Error} → Writes sink old mid (Ok x) a → Writes sink mid new r b → Writes sink old new r (result_append a b)
@@ -16,6 +16,7 @@ joins {sink = sink} {old = old} {mid = mid} {new = new} {r = r} {a = a} {b = b} 
   ordered = second.ordered ∙ first.ordered;
   ok = λ keeps_bytes. on_ok r (appends_joined a b (sink.contents old) (sink.contents mid) (sink.contents new) (first.ok keeps_bytes)) (second.ok keeps_bytes);
   err = λ keeps_bytes fails_for_memory_alone. if_err r (λ e. refuses_second a b (sink.contents old) (sink.contents mid) e (first.ok keeps_bytes)) (second.err keeps_bytes fails_for_memory_alone);
+  own = λ keeps_bytes. if_err r (λ e. or_wanted (second_refused a b (sink.contents old) (sink.contents mid) e (first.ok keeps_bytes))) (second.own keeps_bytes);
 }
 
 -- a call of the writer itself
@@ -25,6 +26,7 @@ writes {r = r} wanted append = record {
   ordered = append.ordered;
   ok = append.ok;
   err = λ keeps_bytes fails_for_memory_alone. if_err r (for_it wanted) (append.err fails_for_memory_alone);
+  own = λ keeps_bytes. append.own;
 }
   where
     for_it : (wanted : Result (List ℕ) Error) (e : Error) → Refuses wanted e → RefusesFor wanted e
@@ -38,6 +40,7 @@ unwritten {sink = sink} {old = old} {mid = mid} {new = new} {e = e} {ys = ys} zs
   ordered = refused.ordered ∙ first.ordered;
   ok = λ keeps_bytes. tt;
   err = λ keeps_bytes fails_for_memory_alone. memory (refused.err keeps_bytes fails_for_memory_alone);
+  own = λ keeps_bytes. handed_on (refused.own keeps_bytes);
 }
   where
     memory : RefusesFor (Ok ys) e → RefusesFor (Ok zs) e
@@ -68,6 +71,7 @@ one_unwritten {sink = sink} {part = part} {all = all} {left = left} {x = x} {old
   ordered = refused.ordered ∙ so.ordered;
   ok = λ keeps_bytes. tt;
   err = λ keeps_bytes fails_for_memory_alone. one_refused part all left x (sink.contents old) (sink.contents mid) e (so.put keeps_bytes) (refused.err keeps_bytes fails_for_memory_alone);
+  own = λ keeps_bytes. or_wanted (part_refused part all left x (sink.contents old) (sink.contents mid) e (so.put keeps_bytes)) (refused.own keeps_bytes);
 }
 
 pub all_written : {W A X : Type 0} {sink : Ghosts W} {part : A → Result (List ℕ) Error} {all : List A} {old new : W} {y : X} → WritesSoFar sink part all [] old new → Writes sink old new (Ok y) (result_concat part all)
@@ -76,4 +80,5 @@ all_written {sink = sink} {part = part} {all = all} {old = old} {new = new} so =
   ordered = so.ordered;
   ok = λ keeps_bytes. all_done part all (sink.contents old) (sink.contents new) (so.put keeps_bytes);
   err = λ keeps_bytes fails_for_memory_alone. tt;
+  own = λ keeps_bytes. tt;
 }

@@ -1,5 +1,5 @@
 -- What a call leaves that appends wanted bytes to a writer.
-use Rattle.std.specs.Prelude.{◌≡◌, ℕ, List, Result, IsTrue, OnOk, IfErr}
+use Rattle.std.specs.Prelude.{◌≡◌, ◌⊎◌, ℕ, List, Result, Err, IsTrue, OnOk, IfErr}
 use Rattle.gimli_bytes.specs.Written.{Begins, Appends}
 use Rattle.gimli_bytes.specs.declared.error.Error.{Error}
 use Rattle.gimli_bytes.specs.declared.sink.Sink.{Ghosts}
@@ -12,3 +12,5 @@ pub record Writes {W X : Type 0} (sink : Ghosts W) (old new : W) (result : Resul
   pub ordered : sink.big new ≡ sink.big old
   pub ok : IsTrue sink.keeps_bytes → OnOk result (Appends wanted (sink.contents old) (sink.contents new))
   pub err : IsTrue sink.keeps_bytes → IsTrue sink.fails_for_memory_alone → IfErr result (RefusesFor wanted)
+  -- the same of any writer that keeps its bytes, or what a call of its own refused
+  pub own : IsTrue sink.keeps_bytes → IfErr result (λ e. sink.refuses e ⊎ (wanted ≡ Err e))

@@ -1,11 +1,11 @@
-use Rattle.std.proofs.Common.{rules, ◌≡◌, ◌<◌, ◌^◌, false, length, Ok, ap, ◌∙◌, arith, length-append}
+use Rattle.std.proofs.Common.{rules, ◌≡◌, ◌⊎◌, ◌<◌, ◌^◌, false, length, Ok, Err, inr, ap, ◌∙◌, arith, length-append}
 use Rattle.std.proofs.lemmas.Result.{err_from_is_err_and}
 use Rattle.gimli_bytes.specs.Written.{Appends}
 use Rattle.gimli_bytes.specs.Texts.{AreTexts, byte_count, texts_in}
 use Rattle.gimli_build.specs.inside.Joined.{RefusesFor}
 use Rattle.gimli_build.specs.Version5Tables.{texts_after}
 use Rattle.gimli_build.specs.Unit.{whole_bytes, unit_bytes, is_incompatible}
-use Rattle.gimli_build.proofs.writing.Joined.{appended_bytes}
+use Rattle.gimli_build.proofs.writing.Joined.{appended_bytes, or_wanted}
 use Rattle.gimli_build.proofs.building.EmptySource.{can-write-after}
 use Rattle.gimli_build.proofs.reading.ReadBack.{reads-back}
 use Rattle.gimli_build.proofs.refusals.Causes.{no-cause, refused-for}
@@ -61,3 +61,14 @@ returns-in_err-write_whole-clause-err g c = λ keeps_bytes fails_for_memory_alon
     let for_it = rw (c.in_ok-empty.ensures.tables.strings, c.in_ok-empty.ensures.tables.line_strings) at (c.in_err-write_whole.ensures.writes.err keeps_bytes fails_for_memory_alone) in
     let refused : RefusesFor (unit_bytes big unit p (texts_in c.args.strings.now c.args.line_strings.now)) c.in_err-write_whole.field-0.0 = rw compatible for_it in
     rw (q.1, q.2) (refused-for big unit p (texts_in c.args.strings.now c.args.line_strings.now) (c.encoding.ensures.accepted c.requires.program).address_size c.in_err-write_whole.field-0.0 refused)
+
+pub returns-in_err-write_whole-clause-own : goal.returns-in_err-write_whole-clause-own
+returns-in_err-write_whole-clause-own g c = λ keeps_bytes.
+    let big = g.W.Sink.big c.args.w.now.0 in
+    let p = c.args.self.now in
+    let unit = c.args.encoding in
+    let compatible : is_incompatible unit p.encoding ≡ false = search rules in
+    let q = err_from_is_err_and c.from_residual-in_err-write_whole.result c.from_residual-in_err-write_whole.ensures.1 in
+    let for_it = rw (c.in_ok-empty.ensures.tables.strings, c.in_ok-empty.ensures.tables.line_strings) at (c.in_err-write_whole.ensures.writes.own keeps_bytes) in
+    let refused : g.W.Sink.refuses c.in_err-write_whole.field-0.0 ⊎ (unit_bytes big unit p (texts_in c.args.strings.now c.args.line_strings.now) ≡ Err c.in_err-write_whole.field-0.0) = rw compatible for_it in
+    rw (q.1, q.2) (or_wanted (λ is. refused-for big unit p (texts_in c.args.strings.now c.args.line_strings.now) (c.encoding.ensures.accepted c.requires.program).address_size c.in_err-write_whole.field-0.0 (inr is)) refused)
