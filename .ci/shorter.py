@@ -16,7 +16,7 @@ INDENT = "    "
 # A clause is shared where that saves more characters than these.
 MUCH = 80
 # A type has a heading of its own where it has so many calls.
-SEVERAL = 3
+SEVERAL = 4
 # How to read the short form: what a page says of it where it has a line of this kind.
 SAID = (
     ("", "`x` is before the call, `x'` after it, `S` is `self`; `≡ X`: the answer is X"),
@@ -27,6 +27,7 @@ SAID = (
     (r"\[\w+\]$", "`[a]`: the clause given first"),
     (r"\bNAME\b", "`NAME`: the call's own"),
     (r"\w/\w.*\(|`\w+/\w", "`a/b`: two calls, in order"),
+    (r"; [a-z_][\w/, ]*[<(].*\)", "`;` parts calls"),
     (r"\w>?\.(eq|Clone)\b", "`T.eq`: the `eq` of T"),
     (r" _\.\w+ \(|_ \(\w+: ", "`P _ (a: X, b: Y)`: P X and P Y"),
 )
@@ -393,6 +394,10 @@ def lines_of(head, mine, marks):
     if parts[:1] and parts[0].startswith("requires ") and has_room(f"{head} | {parts[0]}"):
         head += " | " + parts.pop(0)
     lines, line = filled("", [head]), ""
+    between = " " if parts and parts[0].startswith("≡") else " | " if " | requires " in head else ": "
+    while parts and has_room(lines[-1] + between + parts[0]):
+        lines[-1] += between + parts.pop(0)
+        between = " | "
     for part in parts:
         if line and has_room(f"  {line} | {part}"):
             line += " | " + part
@@ -444,7 +449,20 @@ def with_joined(calls):
     for call in calls:
         line = joined(lines[-1], call[0], WIDTH) if lines and len(call) == 1 and not lines[-1].startswith(" ") else None
         lines = lines[:-1] + [line] if line else lines + call
-    return lines
+    return packed(lines)
+
+
+def packed(lines):
+    """The same with calls side by side, `;` between, where a line holds several that have no further line."""
+    found, was_whole = [], False
+    for line, later in zip(lines, lines[1:] + [""]):
+        is_whole = not line.startswith(" ") and not later.startswith(" ")
+        if is_whole and was_whole and has_room(f"{found[-1]}; {line}"):
+            found[-1] += f"; {line}"
+        else:
+            found.append(line)
+        was_whole = is_whole
+    return found
 
 
 # ---- a crate

@@ -21,7 +21,9 @@ pub mod Conversions
 mod TablesAtEnd
 mod KeptFiles
 mod Writable
+mod BuilderCalls
 pub mod Outcomes
 pub mod MappedLaws
 mod WorkedConversions
 pub mod Gathers
+mod ReadLemmas

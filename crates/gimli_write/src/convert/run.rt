@@ -16,7 +16,8 @@ use std::marker::Model;
 pub(crate) struct SourceRow {
     /// The address that was set after the row before it, if one was.
     pub(crate) set_address: Option<u64>,
-    /// How many bytes it is after the address that was last set in the sequence, or after 0 where none was.
+    /// How many bytes it is after the address that was last set in the sequence, or after 0 where
+    /// none was.
     pub(crate) address_offset: u64,
     /// The registers.
     pub(crate) row: LineRow,
@@ -123,7 +124,11 @@ impl<R: Reader> SourceRun<R> {
     ghost use Rattle.gimli_write.specs.convert.Items.{stops, address_operand, ReadsItems};
     ghost use Rattle.gimli_write.specs.convert.TablesAtEnd.{tables_at_end};
     ghost use Rattle.gimli_write.specs.inside.convert.TablesAtEnd.{step_tables};
-    ghost use Rattle.gimli_write.specs.convert.SourceRun.{start_of_source, state_after, reading_left};
+    ghost use Rattle.gimli_write.specs.convert.SourceRun.{
+      start_of_source,
+      state_after,
+      reading_left,
+    };
     ghost use Rattle.gimli_write.specs.inside.convert.SourceRun.{step_made, step_reading, Shortens};
 
     /// The source, from its start on.
@@ -153,8 +158,8 @@ impl<R: Reader> SourceRun<R> {
         self.program.header().version()
     }
 
-    /// Takes the next instruction and executes it, unless it defines a file. Refused by `Read`, as the instruction
-    /// is, or by `AddressOverflow`. Takes no memory.
+    /// Takes the next instruction and executes it, unless it defines a file. Refused by `Read`, as
+    /// the instruction is, or by `AddressOverflow`. Takes no memory.
     pub(crate) fn step(&mut self) -> ConvertResult<SourceStep<R>>
         ensures reading { IfOk result (λ step. (sections : Sections) (tables : TablesAndTexts)
             → reading_left sections self.old tables
@@ -195,15 +200,19 @@ impl<R: Reader> SourceRun<R> {
         let _never_refused = self.row.execute(set_address, &mut self.program);
     }
 
-    /// Executes an instruction, which doesn't set an address and defines no file. Refused by `AddressOverflow`.
+    /// Executes an instruction, which doesn't set an address and defines no file. Refused by
+    /// `AddressOverflow`.
     fn execute(&mut self, instruction: LineInstruction<R>) -> ConvertResult<SourceStep<R>>
-        requires allowed { IsAllowed self.old.header.parameters (ins_seen R.bytes R.Offset.number instruction) }
+        requires allowed { IsAllowed self.old.header.parameters
+            (ins_seen R.bytes R.Offset.number instruction) }
         requires address { address_operand (ins_seen R.bytes R.Offset.number instruction) ≡ None }
         requires file { defines_file (ins_seen R.bytes R.Offset.number instruction) ≡ false }
         ensures fits { OnOk result (is_refused self.old.header.parameters
             (ins_seen R.bytes R.Offset.number instruction) self.old.row ≡ false) }
-        ensures step { OnOk result (self.new ≡ state_after (ins_seen R.bytes R.Offset.number instruction) self.old) }
-        ensures made { IfOk result (λ step. step ≡ step_made self.old (ins_seen R.bytes R.Offset.number instruction)) }
+        ensures step { OnOk result
+            (self.new ≡ state_after (ins_seen R.bytes R.Offset.number instruction) self.old) }
+        ensures made { IfOk result (λ step.
+            step ≡ step_made self.old (ins_seen R.bytes R.Offset.number instruction)) }
         ensures overflow { IfErr result (λ e. (e ≡ ConvertError.Read AddressOverflow)
             × (is_refused self.old.header.parameters
             (ins_seen R.bytes R.Offset.number instruction) self.old.row ≡ true)) }

@@ -11,17 +11,22 @@ use Rattle.gimli_write.specs.convert.SourceRun.{SourceRun, row_made, reading_upo
 
 module _ {R Offset Endian : Type 0} (bytes : R → List ℕ) (number : Offset → ℕ) where
   -- what is read from a step on, after which this state is
-  abbrev pub step_reading : Sections → TablesAndTexts → SourceStep R Endian Offset → SourceRun → Reading
+  abbrev pub step_reading : Sections → TablesAndTexts → SourceStep R Endian Offset → SourceRun
+      → Reading
   step_reading sections tables Done s = ends tables
   step_reading sections tables More s = reading_left sections s tables
-  step_reading sections tables (Defines f) s = defines (reading_upon sections s (file_added sections tables (file_seen bytes number f)))
-  step_reading sections tables (Made r) s = source_row_offered s.header.parameters.encoding.version tables r (reading_left sections s tables)
+  step_reading sections tables (Defines f) s =
+      defines (reading_upon sections s (file_added sections tables (file_seen bytes number f)))
+  step_reading sections tables (Made r) s =
+      source_row_offered s.header.parameters.encoding.version tables r
+      (reading_left sections s tables)
 
 -- the step of an instruction that defines no file
 abbrev pub step_made : {R Endian Offset : Type 0} → SourceRun → Ins → SourceStep R Endian Offset
 step_made s i = if makes_row i && not s.row.tombstone then Made (row_made s i) else More
 
 -- fewer bytes are unread after a step, and none after the end
-abbrev pub Shortens : {R Endian Offset : Type 0} → SourceStep R Endian Offset → SourceRun → SourceRun → Type 0
+abbrev pub Shortens : {R Endian Offset : Type 0} → SourceStep R Endian Offset → SourceRun
+    → SourceRun → Type 0
 Shortens Done old new = new.unread.bytes ≡ []
 Shortens step old new = length new.unread.bytes < length old.unread.bytes
