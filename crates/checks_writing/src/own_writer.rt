@@ -37,6 +37,8 @@ impl Sink for OwnWriter {
 
     ghost fails_for_memory_alone = { false };
 
+    ghost refuses = { λ e. Unit {0} };
+
     ghost all_or_none = { false };
 }
 

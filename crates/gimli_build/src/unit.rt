@@ -1,6 +1,6 @@
 //! The unit of a line program as it is written.
 
-ghost use Rattle.std.specs.Prelude.{◌≡◌, ◌<◌, ◌^◌, length, IsTrue, IfOk, IfErr, OnOk, Err, None};
+ghost use Rattle.std.specs.Prelude.{◌≡◌, ◌⊎◌, ◌<◌, ◌^◌, length, IsTrue, IfOk, IfErr, OnOk, Err, None};
 ghost use Rattle.gimli_bytes.specs.Written.{Begins, Appends, AppendsThat};
 ghost use Rattle.gimli_bytes.specs.Texts.{texts_in};
 ghost use Rattle.gimli_build.specs.LineText.{line_text};
@@ -64,6 +64,9 @@ impl LineProgram {
         ensures err { IsTrue W.keeps_bytes → IsTrue W.fails_for_memory_alone → IfErr result
             (IsWriteRefusal (W.big w.old.0) encoding self.now
             (texts_in strings.old line_strings.old)) }
+        ensures own { IsTrue W.keeps_bytes → IfErr result (λ e. W.refuses e
+            ⊎ IsWriteRefusal (W.big w.old.0) encoding self.now
+            (texts_in strings.old line_strings.old) e) }
         ensures incompatible { IsTrue (is_incompatible encoding self.now.encoding) →
             (result ≡ Err Error.IncompatibleLineProgramEncoding) × (w.new ≡ w.old) }
         ensures tables { OnOk result (HaveEmptySource self.now

@@ -39,6 +39,7 @@ opened_32 format short word = rw short (record {
   ordered = word.ordered;
   ok = word.ok;
   err = λ memory_alone. tt;
+  own = tt;
 })
 
 pub opened_64 : {W X Y Z : Type 0} {sink : Ghosts W} {old mid new : W} {x : X} {y : Y} {z : Z} (format : Format) → format ≡ Dwarf64
@@ -52,4 +53,5 @@ opened_64 {sink = sink} {old = old} {mid = mid} {new = new} format long escape w
       both (sink.contents old) (number_bytes (sink.big old) 4 0xffff_ffff) (number_bytes (sink.big old) 8 0) (sink.contents mid) (sink.contents new)
       (escape.ok keeps_bytes) (word.ok keeps_bytes ∙ ap (λ (b : Bool). sink.contents mid ++ number_bytes b 8 0) escape.ordered);
   err = λ memory_alone. tt;
+  own = tt;
 })

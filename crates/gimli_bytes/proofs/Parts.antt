@@ -1,6 +1,7 @@
 -- Appends one after the other.
-use Rattle.std.proofs.Common.{◌≡◌, ℕ, ◌≤◌, min, List, length, take, Ok, Err, refl, sym, ap, ◌∙◌, arith}
+use Rattle.std.proofs.Common.{◌≡◌, ◌⊎◌, inl, inr, ℕ, ◌≤◌, min, List, length, take, Ok, Err, refl, sym, ap, ◌∙◌, arith}
 use Rattle.std.proofs.lemmas.List.{take-take, length-take, take_all}
+use Rattle.std.specs.Prelude.{Result}
 use Rattle.gimli_bytes.specs.Written.{Begins, IsAppend, IsAppendInParts}
 use Rattle.gimli_bytes.specs.declared.error.Error.{Error}
 use Rattle.gimli_bytes.specs.declared.sink.Sink.{Ghosts}
@@ -15,6 +16,12 @@ begins_then a b c first second =
     let le : length a ≤ length b = omega (arith, size) in
     sym (take-take (length a) (length b) c le) ∙ ap (λ (l : List ℕ). take (length a) l) second ∙ first
 
+-- where bytes are wanted, the refusal is the writer's own
+handed_on : {A : Type 0} {e : Error} {xs ys : List ℕ} → A ⊎ ((let r : Result (List ℕ) Error = Ok xs in r) ≡ Err e)
+    → A ⊎ ((let r : Result (List ℕ) Error = Ok ys in r) ≡ Err e)
+handed_on (inl own) = inl own
+handed_on (inr is) = absurd cc
+
 -- one that is refused, after what is written so far: for memory, whatever bytes are wanted of it and of the whole
 pub refused_after : {W X Y : Type 0} {sink : Ghosts W} {old mid new : W} {e : Error} (part whole : List ℕ) → Begins (sink.contents old) (sink.contents mid)
     → sink.big mid ≡ sink.big old → IsAppend {X = X} sink mid new (Err e) (Ok part) → IsAppendInParts {X = Y} sink old new (Err e) (Ok whole)
@@ -23,6 +30,7 @@ refused_after {sink = sink} {old = old} {mid = mid} {new = new} part whole keeps
   ordered = refused.ordered ∙ ordered;
   ok = λ keeps_bytes. tt;
   err = refused.err;
+  own = handed_on refused.own;
 }
 
 -- the first one refused

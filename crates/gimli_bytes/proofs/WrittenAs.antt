@@ -1,5 +1,5 @@
 -- A call that passes its numbers on to another: what is wanted of it is what is wanted of that other.
-use Rattle.std.proofs.Common.{◌≡◌, ◌≢◌, ℕ, List, Ok, Err, refl, ap, sym, length, of_z, SFits, w64, arith}
+use Rattle.std.proofs.Common.{◌≡◌, ◌≢◌, ℕ, List, Ok, Err, refl, ap, sym, inr, length, of_z, SFits, w64, arith}
 use Rattle.std.proofs.lemmas.Bool.{ne_eqb, lt-ltb}
 use Rattle.std.specs.Prelude.{Bool, true, Result, ◌+◌, ◌-◌, ◌^◌, ◌%◌, bit_and, nat_eq, ◌||◌, ℤ, pos, negsuc}
 use Rattle.gimli_core.specs.Numbers.{number_bytes}
@@ -27,6 +27,7 @@ refused_at_once {sink = sink} old is = rw is (record {
   ordered = refl;
   ok = λ keeps_bytes. tt;
   err = λ memory_alone. refl;
+  own = inr refl;
   untouched = λ keeps_bytes. refl;
   none = λ all_or_none. refl;
 })

@@ -105,6 +105,9 @@ impl<E: Endianity> Clone for EndianVec<E> {
 }
 
 impl<E: Endianity> Sink for EndianVec<E> {
+    ghost use Rattle.std.specs.Prelude.{◌≡◌};
+    ghost use Rattle.gimli_bytes.specs.declared.error.Error.TheVariants.{OutOfMemory};
+
     ghost contents = { λ v. v.bytes };
 
     ghost big = { λ v. E.big v.endian };
@@ -112,6 +115,8 @@ impl<E: Endianity> Sink for EndianVec<E> {
     ghost keeps_bytes = { true };
 
     ghost fails_for_memory_alone = { true };
+
+    ghost refuses = { λ e. e ≡ OutOfMemory };
 
     ghost all_or_none = { true };
 }

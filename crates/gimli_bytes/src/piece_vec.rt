@@ -189,6 +189,9 @@ impl<E: Endianity, const N: usize> PieceVec<E, N> {
 }
 
 impl<E: Endianity, const N: usize> Sink for PieceVec<E, N> {
+    ghost use Rattle.std.specs.Prelude.{◌≡◌};
+    ghost use Rattle.gimli_bytes.specs.declared.error.Error.TheVariants.{OutOfMemory};
+
     ghost contents = { λ v. v.bytes };
 
     ghost big = { λ v. E.big v.endian };
@@ -196,6 +199,8 @@ impl<E: Endianity, const N: usize> Sink for PieceVec<E, N> {
     ghost keeps_bytes = { true };
 
     ghost fails_for_memory_alone = { true };
+
+    ghost refuses = { λ e. e ≡ OutOfMemory };
 
     ghost all_or_none = { true };
 }

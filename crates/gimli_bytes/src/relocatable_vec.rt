@@ -232,6 +232,8 @@ impl<E: Endianity> Sink for RelocatableVec<E> {
 
     ghost fails_for_memory_alone = { false };
 
+    ghost refuses = { λ e. Unit {0} };
+
     ghost all_or_none = { true };
 }
 

@@ -1,6 +1,7 @@
 //! What a writer means, apart from its calls.
 
 ghost use Rattle.std.specs.Prelude.{ℕ, Bool, List};
+ghost use Rattle.gimli_bytes.specs.declared.error.Error.{Error};
 
 /// What a [`Writer`](crate::Writer) means: its bytes, their order, and three facts of its type.
 ///
@@ -28,6 +29,10 @@ pub trait Sink {
     /// its two bounds alone, and any other call for what is said there, or as the `write` or
     /// `write_at` under it.
     ghost fails_for_memory_alone: { Bool };
+
+    /// What a `write` or `write_at` of this type may refuse with, but for the bounds of a
+    /// `write_at`. Any other call hands such a refusal on as it is.
+    ghost refuses: { Error → Type 0 };
 
     /// Whether a writer of this type appends either all bytes of a `write` or none. Then each call
     /// that makes at most one `write` does so too: all that append but `write_initial_length`.

@@ -1,7 +1,8 @@
 //! What a writer of a section does: appends, and writes over bytes that are there.
 
-ghost use Rattle.std.specs.Prelude.{◌≡◌, ◌+◌, ◌≤◌, IsTrue, IfOk, Ok, Err, length};
-ghost use Rattle.gimli_core.specs.Numbers.{number_bytes, SpellsUleb128, SpellsSleb128, IsShortest};
+ghost use Rattle.std.specs.Prelude.{◌≡◌, ◌+◌, ◌≤◌, Bool, true, false, IsTrue, IfOk, Ok, Err, length};
+ghost use Rattle.gimli_core.specs.Numbers.{number_bytes, word_size};
+ghost use Rattle.gimli_core.specs.Numbers.{SpellsUleb128, SpellsSleb128, IsShortest};
 ghost use Rattle.gimli_bytes.specs.Written.{IsAppend, IsAppendInParts, IsOverwrite};
 ghost use Rattle.gimli_bytes.specs.Number.{udata, sdata, twos_complement, uleb, sleb};
 ghost use Rattle.gimli_bytes.specs.Number.{address_bytes, escape_size, open_length, length_word};
@@ -370,7 +371,7 @@ pub trait Writer: Sink {
         ensures { IsOverwrite Self.Sink self.old self.new result
             offset.0 (length_word (Self.big self.old) format val) }
     {
-        if format == Format::Dwarf32 && (0xffff_fff0..=0xffff_ffff).contains(&val) {
+        if is_reserved(format, val) {
             return Err(Error::InitialLengthOverflow);
         }
         self.write_udata_at(offset.0, val, format.word_size())
@@ -387,6 +388,16 @@ pub trait Writer: Sink {
 /// ```
 #[derive(Clone, Copy, Debug)]
 pub struct InitialLengthOffset(pub usize);
+
+/// Whether a length is one that the 32-bit format reserves.
+fn is_reserved(format: Format, val: u64) -> bool
+    ensures reserved { (big : Bool) → result ≡ true →
+        length_word big format val ≡ Err Error.InitialLengthOverflow }
+    ensures other { (big : Bool) → result ≡ false →
+        length_word big format val ≡ udata big val (word_size format) }
+{
+    format == Format::Dwarf32 && (0xffff_fff0..=0xffff_ffff).contains(&val)
+}
 
 /// The two bytes of a number in an order.
 fn bytes_of_u16<E: Endianity>(endian: E, val: u16) -> [u8; 2]

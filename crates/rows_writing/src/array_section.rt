@@ -48,6 +48,8 @@ impl Sink for ArraySection {
 
     ghost fails_for_memory_alone = { false };
 
+    ghost refuses = { λ e. Unit {0} };
+
     ghost all_or_none = { false };
 }
 

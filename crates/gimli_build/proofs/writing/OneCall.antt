@@ -5,7 +5,7 @@ use Rattle.gimli_bytes.specs.declared.error.Error.{Error}
 use Rattle.gimli_bytes.specs.declared.sink.Sink.{Ghosts}
 use Rattle.gimli_build.specs.inside.Joined.{RefusesFor}
 use Rattle.gimli_build.specs.inside.Writes.{Writes}
-use Rattle.gimli_build.proofs.writing.Joined.{begins_self}
+use Rattle.gimli_build.proofs.writing.Joined.{begins_self, handed_on}
 
 -- where nothing is wanted, nothing is called
 pub none_called : {W X : Type 0} {sink : Ghosts W} {w : W} {x : X} → Writes sink w w (Ok x) (Ok [])
@@ -14,21 +14,21 @@ none_called {sink = sink} {w = w} = record {
   ordered = refl;
   ok = λ keeps_bytes. sym (append-nil (sink.contents w));
   err = λ keeps_bytes fails_for_memory_alone. tt;
+  own = λ keeps_bytes. tt;
 }
 
 -- the same bytes under another answer
-pub answered : {W X Y : Type 0} {sink : Ghosts W} {old new : W} {x : X} {y : Y} {xs : List ℕ} → Writes sink old new (Ok x) (Ok xs)
-    → Writes sink old new (Ok y) (Ok xs)
-answered so = record { keeps = so.keeps; ordered = so.ordered; ok = so.ok; err = λ keeps_bytes fails_for_memory_alone. tt }
+pub answered : {W X Y : Type 0} {sink : Ghosts W} {old new : W} {x : X} {y : Y} {xs : List ℕ} → Writes sink old new (Ok x) (Ok xs) → Writes sink old new (Ok y) (Ok xs)
+answered so = record { keeps = so.keeps; ordered = so.ordered; ok = so.ok; err = λ keeps_bytes fails_for_memory_alone. tt; own = λ keeps_bytes. tt }
 
 -- where bytes are wanted, a refusal is for memory, whatever they are
-pub refused_alike : {W X Y : Type 0} {sink : Ghosts W} {old new : W} {e : Error} {xs : List ℕ} (ys : List ℕ) → Writes {X = X} sink old new (Err e) (Ok xs)
-    → Writes {X = Y} sink old new (Err e) (Ok ys)
+pub refused_alike : {W X Y : Type 0} {sink : Ghosts W} {old new : W} {e : Error} {xs : List ℕ} (ys : List ℕ) → Writes {X = X} sink old new (Err e) (Ok xs) → Writes {X = Y} sink old new (Err e) (Ok ys)
 refused_alike {e = e} {xs = xs} ys refused = record {
   keeps = refused.keeps;
   ordered = refused.ordered;
   ok = λ keeps_bytes. tt;
   err = λ keeps_bytes fails_for_memory_alone. memory (refused.err keeps_bytes fails_for_memory_alone);
+  own = λ keeps_bytes. handed_on (refused.own keeps_bytes);
 }
   where
     memory : RefusesFor (Ok xs) e → RefusesFor (Ok ys) e

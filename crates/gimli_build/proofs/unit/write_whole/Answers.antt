@@ -6,7 +6,7 @@ use Rattle.gimli_bytes.specs.declared.error.Error.{Error}
 use Rattle.gimli_bytes.specs.Texts.{texts_in}
 use Rattle.gimli_build.specs.Joined.{result_append}
 use Rattle.gimli_build.specs.Unit.{escape_bytes, inside_bytes}
-use Rattle.gimli_build.proofs.writing.Joined.{on_ok, if_err, begins_then, begins_before}
+use Rattle.gimli_build.proofs.writing.Joined.{on_ok, if_err, or_wanted, begins_then, begins_before}
 use Rattle.gimli_build.proofs.writing.Frames.{framed, frame_refused, open_word, escape_is, escape_long, length_word_long}
 use Rattle.gimli_build.proofs.unit.write_whole.Goals as goal
 
@@ -45,4 +45,7 @@ returns-clause-writes g c =
           (λ e refused. inr (frame_refused whole (length_word big format) (escape_bytes big format) (open_word big format) old c1 c2 c3 start n bytes
           (λ k. refl) (opened keeps_bytes) (at keeps_bytes) (written keeps_bytes) counted (λ word is. length_word_long big format n word is) e refused))
           (rw (ordered, c.format-format.ensures) at (c.write_initial_length_at.ensures.err fails_for_memory_alone));
+      own = λ keeps_bytes. if_err c.write_initial_length_at.result
+          (λ e. or_wanted (λ refused. frame_refused whole (length_word big format) (escape_bytes big format) (open_word big format) old c1 c2 c3 start n bytes (λ k. refl) (opened keeps_bytes) (at keeps_bytes) (written keeps_bytes) counted (λ word is. length_word_long big format n word is) e refused))
+          (rw (ordered, c.format-format.ensures) at (c.write_initial_length_at.ensures.own));
     }

@@ -6,7 +6,7 @@ use Rattle.gimli_bytes.specs.declared.error.Error.{Error}
 use Rattle.gimli_bytes.specs.Texts.{texts_in}
 use Rattle.gimli_build.specs.FormatWord.{format_word}
 use Rattle.gimli_build.specs.Unit.{fields_bytes}
-use Rattle.gimli_build.proofs.writing.Joined.{on_ok, if_err, begins_then, begins_before}
+use Rattle.gimli_build.proofs.writing.Joined.{on_ok, if_err, or_wanted, begins_then, begins_before}
 use Rattle.gimli_build.proofs.writing.Frames.{framed, frame_refused, open_word, word_is, zero_word, no_escape, header_word_long}
 use Rattle.gimli_build.proofs.unit.header.write_header.Goals as goal
 
@@ -45,4 +45,7 @@ returns-clause-writes g c =
           (λ e refused. inr (frame_refused word word [] (open_word big format) old c1 c2 c3 start n bytes (λ k. no_escape (word k)) (opened keeps_bytes) at
           (written keeps_bytes) counted (λ w is. header_word_long big format n w is) e refused))
           (rw (ordered, c.word_size-size.ensures, c.format.ensures, known) at (c.write_udata_at.ensures.err fails_for_memory_alone));
+      own = λ keeps_bytes. if_err c.write_udata_at.result
+          (λ e. or_wanted (λ refused. frame_refused word word [] (open_word big format) old c1 c2 c3 start n bytes (λ k. no_escape (word k)) (opened keeps_bytes) at (written keeps_bytes) counted (λ w is. header_word_long big format n w is) e refused))
+          (rw (ordered, c.word_size-size.ensures, c.format.ensures, known) at (c.write_udata_at.ensures.own));
     }

@@ -1,4 +1,4 @@
-use Rattle.std.proofs.Common.{arith, ◌≡◌, ◌∙◌, ◌+◌, ◌≤◌, length, take, List, ℕ, refl, ap, sym}
+use Rattle.std.proofs.Common.{arith, ◌≡◌, ◌∙◌, ◌+◌, ◌≤◌, length, take, List, ℕ, refl, ap, sym, inr}
 use Rattle.std.specs.List.{concat}
 use Rattle.gimli_bytes.proofs.PieceLemmas.{HoldPieces-same, bytes-within, bytes-length, bytes-over, take-before, patched-inside, patched-past}
 use Rattle.gimli_bytes.proofs.piece_vec.PieceVecWriter.write_at.Goals as goal
@@ -13,6 +13,7 @@ returns-then-bytes-self g c =
       refused = refl;
       ok = λ _. tt;
       err = λ _. patched-past (take c.self.inside.len (concat c.self.inside.pieces.items)) c.args.offset c.args.bytes.now (omega arith) (omega arith);
+      own = inr (patched-past (take c.self.inside.len (concat c.self.inside.pieces.items)) c.args.offset c.args.bytes.now (omega arith) (omega arith));
     })
 
 pub put-requires-clause-fits : goal.put-requires-clause-fits
@@ -32,4 +33,5 @@ returns g c =
       refused = tt;
       ok = λ _. patched-inside old c.args.offset c.args.bytes.now (take c.self.inside.len (concat c.put.new.pieces.items)) (omega arith) over;
       err = λ _. tt;
+      own = tt;
     })

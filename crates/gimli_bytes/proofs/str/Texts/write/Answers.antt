@@ -51,6 +51,7 @@ returns-clause-appends g c =
           (contents c.args.w.now) (contents c.loop-text.w) c.loop-text-test.false c.as_slice-text-items.ensures.keys c.self.view_is
           (c.loop-text.invariant.put keeps);
       err = λ memory_alone. tt;
+      own = tt;
     }
 
 pub returns-clause-texts : goal.returns-clause-texts
