@@ -6,6 +6,7 @@
 //! | `where_is FILE ADDRESS..` | `path:line:column` of each address of an ELF file |
 //! | `ends LINES` | all units of a section, and their sequences |
 //! | `make_unit` | the bytes of a unit of version 5 that it builds, and those of its texts |
+//! | `make_object` | the bytes of an object file whose line program has symbols and relocations |
 //! | `shift LINES OFFSET BY [DIRECTORY [NAME]]` | the rows of a unit up to version 4 in version 5, each address moved |
 //!
 //! After the word `then` another command may follow. A command that is refused says why, and the
@@ -16,6 +17,7 @@ mod comparing;
 mod converting;
 mod ends;
 mod lookup;
+mod make_object;
 mod make_unit;
 mod numbers;
 mod reading;
@@ -47,6 +49,7 @@ fn run(rt: &HostRuntime, command: &[String]) -> Result<()> {
     match program.as_str() {
         "where_is" => where_is::start(rt, words),
         "ends" => ends::start(rt, words),
+        "make_object" => make_object::start(rt, words),
         "make_unit" => make_unit::start(rt, words),
         "shift" => shift::start(rt, words),
         _ => bail!("no command {program}"),
